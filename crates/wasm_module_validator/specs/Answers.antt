@@ -1,0 +1,29 @@
+-- What an answer tells.
+use Rattle.std.specs.Prelude.{◌≡◌, ◌↔◌, ℕ, Bool, List, length, Result, Ok, Err, IsOk}
+use Rattle.wasm_types_reader.specs.ErrorValue.{ErrorValue}
+use Rattle.wasm_types_reader.specs.declared.error.ErrorKind.{ErrorKind}
+use Rattle.wasm_types_reader.specs.declared.error.ErrorKind.TheVariants as kinds
+use Rattle.wasm_module_validator.specs.Syntax.{Module}
+
+-- the fact doesn't hold, unless memory was wanted
+abbrev pub Denies : ErrorKind → Type 0 → Type 0
+Denies (kinds.EndOfData h) P = ¬ P
+Denies (kinds.MissingFeature f) P = ¬ P
+Denies kinds.OutOfMemory P = Unit {0}
+Denies kinds.Failed P = ¬ P
+Denies kinds.Other P = ¬ P
+
+-- Ok exactly where the fact holds, unless memory was wanted
+abbrev pub Tells : {X : Type 0} → Result X ErrorValue → Type 0 → Type 0
+Tells (Ok x) P = P
+Tells (Err e) P = Denies e.kind P
+
+-- how many entries each space of a module has
+pub record Counts : Type 0 where
+  pub types : ℕ
+  pub functions : ℕ
+
+-- these are a module's
+pub record Shows (c : Counts) (m : Module) : Type 0 where
+  pub types : c.types ≡ length m.types
+  pub functions : c.functions ≡ length m.functions

@@ -1,0 +1,10 @@
+-- The rules, in reading order.
+pub mod Syntax
+pub mod Binary
+pub mod Validation
+pub mod Accepts
+-- What contracts say beside them.
+pub mod Answers
+-- How bytes are read, and why that is exact.
+pub mod Types
+pub mod TypeLaws

@@ -1,0 +1,8 @@
+//! A validator of WebAssembly modules.
+#![tactic(auto)]
+
+pub mod types;
+mod validator;
+
+pub use types::{FuncType, ValType};
+pub use validator::{Types, TypesRef, Validator, ValidatorId, validate};

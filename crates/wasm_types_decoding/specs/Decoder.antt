@@ -1,0 +1,168 @@
+-- Decoders of bytes: what they answer, how they are put together, and their laws.
+use Rattle.std.specs.Prelude.{◌≡◌, ℕ, zero, suc, ◌+◌, ◌-◌, ◌<◌, ◌≤◌, List, [], ◌∷◌, ◌++◌, length, take, drop, nat_lt, ◌==◌, if◌then◌else◌}
+use Rattle.wasm_types_decoding.specs.declared.Refusal.{Refusal}
+
+-- Where a reader stands: the bytes that are left, the place of the first of them, the features that are allowed, as the
+-- number of their bits, and the place where its data began.
+pub record State : Type 0 where
+  pub rest : List ℕ
+  pub place : ℕ
+  pub features : ℕ
+  pub start : ℕ
+
+-- the same, with more bytes at the end of the buffer
+abbrev pub extended : State → List ℕ → State
+extended s more = record { rest = s.rest ++ more; place = s.place; features = s.features; start = s.start }
+
+pub data Outcome (A : Type 0) : Type 0 where
+  -- a value, and where the reader stands behind it
+  Done : A → State → Outcome A
+  -- the bytes end at this place, and at least so many more are wanted there
+  Short : ℕ → ℕ → Outcome A
+  -- what no further byte mends, and its place
+  Fault : Refusal → ℕ → Outcome A
+
+abbrev pub Decoder : Type 0 → Type 0
+Decoder A = State → Outcome A
+
+abbrev pub continue_with : {A B : Type 0} → Outcome A → (A → Decoder B) → Outcome B
+continue_with (Done x s) f = f x s
+continue_with (Short p h) f = Short p h
+continue_with (Fault k p) f = Fault k p
+
+-- ---- decoders
+
+infixl 10 ◌>>=◌
+-- d, and then what f makes of its value
+abbrev pub ◌>>=◌ : {A B : Type 0} → Decoder A → (A → Decoder B) → Decoder B
+(d >>= f) s = continue_with (d s) f
+
+abbrev pub pure : {A : Type 0} → A → Decoder A
+pure x s = Done x s
+
+-- a fault at this many bytes before the place reached
+abbrev pub refuse : {A : Type 0} → Refusal → ℕ → Decoder A
+refuse k back s = Fault k (s.place - back)
+
+abbrev pub first_of_rest : List ℕ → State → Outcome ℕ
+first_of_rest [] s = Short s.place 1
+first_of_rest (b ∷ rest) s = Done b (record { rest = rest; place = s.place + 1; features = s.features; start = s.start })
+
+abbrev pub byte : Decoder ℕ
+byte s = first_of_rest s.rest s
+
+-- n bytes as they stand
+abbrev pub bytes : ℕ → Decoder (List ℕ)
+bytes n s = if nat_lt (length s.rest) n then Short s.place (n - length s.rest) else Done (take n s.rest) (record { rest = drop n s.rest; place = s.place + n; features = s.features; start = s.start })
+
+-- n values, one after the other
+unfoldable pub repeated : {A : Type 0} → ℕ → Decoder A → Decoder (List A)
+repeated zero d = pure []
+repeated (suc n) d = d >>= λ x. repeated n d >>= λ xs. pure (x ∷ xs)
+
+-- what stands for a byte in the list, or else what is last
+abbrev pub choice : {A : Type 0} → List (ℕ × Decoder A) → Decoder A → ℕ → Decoder A
+choice [] other b = other
+choice (c ∷ cs) other b = if b == c.0 then c.1 else choice cs other b
+
+-- ---- laws
+
+-- from s a reader took this text, and stands at t
+pub record Takes (s : State) (text : List ℕ) (t : State) : Type 0 where
+  pub parts : s.rest ≡ text ++ t.rest
+  pub place : t.place ≡ s.place + length text
+  pub features : t.features ≡ s.features
+  pub start : t.start ≡ s.start
+
+-- t stands at s or further on, in the same bytes
+pub record Reaches (s t : State) : Type 0 where
+  pub text : List ℕ
+  pub taken : Takes s text t
+
+-- it has gone on beyond a place
+abbrev pub IsBeyond : {A : Type 0} → ℕ → Outcome A → Type 0
+IsBeyond p (Done x s) = p < s.place
+IsBeyond p (Short q h) = p < q
+IsBeyond p (Fault k q) = Unit {0}
+
+-- What a decoder answers once more bytes stand behind the buffer. A value and a fault stay. Where the bytes end, it
+-- stays there until as many have come as were wanted, and then no longer.
+abbrev pub GoesOn : {A : Type 0} → Outcome A → List ℕ → Outcome A → Type 0
+GoesOn (Done x s) more after = after ≡ Done x (extended s more)
+GoesOn (Short p h) more after = (length more < h → after ≡ Short p (h - length more)) × (h ≤ length more → IsBeyond p after)
+GoesOn (Fault k p) more after = after ≡ Fault k p
+
+abbrev pub IsSteady : {A : Type 0} → Decoder A → Type 0
+IsSteady d = (s : State) (more : List ℕ) → GoesOn (d s) more (d (extended s more))
+
+-- a value is taken from the front; the bytes end no earlier than here, and one more is wanted at least
+abbrev pub GoesForward : {A : Type 0} → State → Outcome A → Type 0
+GoesForward s (Done x t) = (text : List ℕ) × Takes s text t
+GoesForward s (Short p h) = (s.place ≤ p) × (0 < h)
+GoesForward s (Fault k p) = Unit {0}
+
+abbrev pub IsForward : {A : Type 0} → Decoder A → Type 0
+IsForward d = (s : State) → GoesForward s (d s)
+
+pub record IsLawful {A : Type 0} (d : Decoder A) : Type 0 where
+  pub forward : IsForward d
+  pub steady : IsSteady d
+
+-- ---- grammars
+
+abbrev pub Grammar : Type 0 → Type 1
+Grammar A = A → List ℕ → Type 0
+
+-- d answers x exactly where a front of the bytes spells x
+pub record Decides {A : Type 0} (d : Decoder A) (g : Grammar A) : Type 0 where
+  pub sound : (s t : State) (x : A) → d s ≡ Done x t → (text : List ℕ) × Takes s text t × g x text
+  pub complete : (s t : State) (x : A) (text : List ℕ) → Takes s text t → g x text → d s ≡ Done x t
+
+-- x by g, and then y by what x asks for
+pub record Then {A B : Type 0} (g : Grammar A) (h : A → Grammar B) (y : B) (text : List ℕ) : Type 0 where
+  pub value : A
+  pub front : List ℕ
+  pub back : List ℕ
+  pub first : g value front
+  pub second : h value y back
+  pub whole : text ≡ front ++ back
+
+-- each of the values, one after the other, n of them
+abbrev pub Many : {A : Type 0} → Grammar A → ℕ → Grammar (List A)
+Many g zero [] text = text ≡ []
+Many g zero (x ∷ xs) text = ⊥
+Many g (suc n) [] text = ⊥
+Many g (suc n) (x ∷ xs) text = (front : List ℕ) × (back : List ℕ) × g x front × Many g n xs back × (text ≡ front ++ back)
+
+-- ---- parts and looks ahead
+
+-- What was said of a part of its own, and the reader stands behind the part. Where it ended too early that is a fault,
+-- and so it is where bytes of the part are left.
+abbrev pub ended : {A : Type 0} → Refusal → Refusal → State → Outcome A → Outcome A
+ended early late t (Done x u) = if length u.rest == 0 then Done x t else Fault late u.place
+ended early late t (Short p h) = Fault early p
+ended early late t (Fault k p) = Fault k p
+
+-- the next n bytes, all of them, by d
+abbrev pub inside : {A : Type 0} → Refusal → Refusal → ℕ → Decoder A → List ℕ → Decoder A
+inside early late n d part t = ended early late t (d (record { rest = part; place = t.place - n; features = t.features; start = t.place - n }))
+
+unfoldable pub within : {A : Type 0} → Refusal → Refusal → ℕ → Decoder A → Decoder A
+within early late n d = bytes n >>= inside early late n d
+
+-- f of the next byte, which stays
+abbrev pub look_first : {A : Type 0} → List ℕ → State → (ℕ → Decoder A) → Outcome A
+look_first [] s f = Short s.place 1
+look_first (b ∷ rest) s f = f b s
+
+abbrev pub look : {A : Type 0} → (ℕ → Decoder A) → Decoder A
+look f s = look_first s.rest s f
+
+-- with a byte there it does not end here
+abbrev pub TakesOne : {A : Type 0} → Decoder A → Type 0
+TakesOne d = (s : State) → 0 < length s.rest → IsBeyond s.place (d s)
+
+-- a choice that another goes on with
+abbrev pub choice_or : {A : Type 0} → List (ℕ × Decoder A) → (ℕ → Decoder A) → ℕ → Decoder A
+choice_or [] next b = next b
+choice_or (c ∷ cs) next b = if b == c.0 then c.1 else choice_or cs next b

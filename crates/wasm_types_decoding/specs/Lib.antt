@@ -1,0 +1,10 @@
+pub mod Decoder
+pub mod Laws
+pub mod Exact
+pub mod Leb
+pub mod LebLaws
+pub mod SignedLaws
+pub mod Text
+pub mod TextLaws
+pub mod Lists
+pub mod ListLaws

@@ -1,0 +1,4 @@
+pub mod Cut
+pub mod Groups
+pub mod Rows
+pub mod Sizes

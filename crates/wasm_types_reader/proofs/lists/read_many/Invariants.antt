@@ -1,0 +1,10 @@
+use Rattle.std.proofs.Common.{◌≡◌, ◌-◌, map}
+use Rattle.wasm_types_decoding.specs.Decoder.{repeated, Reaches}
+use Rattle.wasm_types_reader.proofs.Rows.{with_front}
+use Rattle.wasm_types_reader.proofs.lists.read_many.Given as goal
+
+-- what was read, and what is still read, is what all of it is read as
+abbrev pub invariant-loop : goal.invariant-loop
+invariant-loop g l =
+    let d = g.T.FromReader.decoder in
+    record { read : with_front (map g.T.FromReader.view l.items.items) (repeated (l.count - l.counter) d l.reader) ≡ repeated l.count d l.fn.reader; forward : Reaches l.fn.reader l.reader }

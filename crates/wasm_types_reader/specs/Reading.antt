@@ -1,0 +1,52 @@
+-- What a read answers, by its decoder.
+use Rattle.std.specs.Prelude.{◌≡◌, ℕ, ◌+◌, ◌<◌, Result, Ok, Err, Option, Some, None}
+use Rattle.wasm_types_decoding.specs.declared.Refusal.TheVariants as refusals
+use Rattle.wasm_types_decoding.specs.Decoder.{State, Outcome, Done, Short, Fault, Decoder}
+use Rattle.wasm_types_reader.specs.declared.error.ErrorKind.{ErrorKind}
+use Rattle.wasm_types_reader.specs.declared.error.ErrorKind.TheVariants.{EndOfData, MissingFeature, OutOfMemory, Failed, Other}
+use Rattle.wasm_types_reader.specs.ErrorValue.{ErrorValue}
+
+-- an error of this kind at this place is the outcome, unless memory ran out
+abbrev pub FailsAt : {Y : Type 0} → ErrorKind → ℕ → Outcome Y → Type 0
+FailsAt (EndOfData h) p o = o ≡ Short p h
+FailsAt (MissingFeature f) p o = o ≡ Fault (refusals.MissingFeature f.0) p
+FailsAt OutOfMemory p o = Unit {0}
+FailsAt Failed p o = ⊥
+FailsAt Other p o = o ≡ Fault refusals.Other p
+
+abbrev pub Fails : {Y : Type 0} → ErrorValue → Outcome Y → Type 0
+Fails e o = FailsAt e.kind e.offset o
+
+-- What a call returned, seen by view, and where it left the reader, are the outcome.
+abbrev pub Gives : {X Y : Type 0} → (X → Y) → Result X ErrorValue → State → Outcome Y → Type 0
+Gives view (Ok x) after o = o ≡ Done (view x) after
+Gives view (Err e) after o = Fails e o
+
+-- The same, and a refused read leaves the reader where it was.
+abbrev pub Answers : {X Y : Type 0} → (X → Y) → Result X ErrorValue → State → State → Outcome Y → Type 0
+Answers view (Ok x) before after o = o ≡ Done (view x) after
+Answers view (Err e) before after o = Fails e o × (after ≡ before)
+
+-- The next of n values: none where n is 0, and else what the decoder says. m are left, and none after an error.
+abbrev pub NextItem : {X Y : Type 0} → (X → Y) → Decoder Y → ℕ → State → Option (Result X ErrorValue) → ℕ → State → Type 0
+NextItem view d n before None m after = (n ≡ 0) × (m ≡ 0) × (after ≡ before)
+NextItem view d n before (Some (Ok x)) m after = (n ≡ m + 1) × (d before ≡ Done (view x) after)
+NextItem view d n before (Some (Err e)) m after = (0 < n) × (m ≡ 0) × Fails e (d before) × (after ≡ before)
+
+-- What was read, and where it is not said the reader stands.
+abbrev pub Collects : {X Y : Type 0} → (X → Y) → Result X ErrorValue → Outcome Y → Type 0
+Collects view (Ok x) o = (t : State) × (o ≡ Done (view x) t)
+Collects view (Err e) o = Fails e o
+
+-- this is another kind than want of memory
+abbrev pub IsNotMemory : ErrorKind → Type 0
+IsNotMemory (EndOfData h) = Unit {0}
+IsNotMemory (MissingFeature f) = Unit {0}
+IsNotMemory OutOfMemory = ⊥
+IsNotMemory Failed = Unit {0}
+IsNotMemory Other = Unit {0}
+
+-- memory is no reason for it to fail
+abbrev pub NeedsNoMemory : {X : Type 0} → Result X ErrorValue → Type 0
+NeedsNoMemory (Err e) = IsNotMemory e.kind
+NeedsNoMemory (Ok x) = Unit {0}

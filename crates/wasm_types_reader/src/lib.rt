@@ -1,0 +1,18 @@
+//! Bytes, numbers and texts of a WebAssembly binary, the faults that they may have, and the trait of all that is read.
+//!
+//! A [`BinaryReader`] is seen by contracts as the state of a decoder: the bytes that are left, the place of the first of
+//! them, the allowed features, and where its bytes begin. What each `read` answers is what a decoder of
+//! `wasm_types_decoding` says of the state before it. A refused `read` leaves its reader where it was.
+#![tactic(auto, using(wasm_types_decoding::specs::Laws::reaches_self, wasm_types_decoding::specs::Laws::reaches_then))]
+
+mod binary_reader;
+mod error;
+mod from_reader;
+mod leb;
+pub mod limits;
+mod lists;
+
+pub use binary_reader::BinaryReader;
+pub use error::{BinaryReaderError, Error, ErrorKind, Result};
+pub use from_reader::{FromReader, reading_is_lawful};
+pub use lists::read_list;

@@ -1,0 +1,41 @@
+//! Lists that are counted within a limit.
+
+ghost use Rattle.std.specs.Prelude.{◌≡◌, map};
+ghost use Rattle.wasm_types_decoding.specs.Decoder.{repeated, Reaches};
+ghost use Rattle.wasm_types_decoding.specs.Lists.{listed_within};
+ghost use Rattle.wasm_types_reader.specs.Reading.{Gives};
+
+use crate::{BinaryReader, FromReader, Result};
+use std::alloc::Global;
+
+/// The values that follow, as many as are counted before them, which are at most `limit`; a larger count is refused at
+/// its own place, as `desc`. The list grows as it is read. Where it is refused the reader may have gone on.
+#[tactic(auto, using(wasm_types_decoding::specs::Laws::reaches_self, wasm_types_decoding::specs::Laws::reaches_then), unfolding(wasm_types_decoding::specs::Lists::listed_within))]
+pub fn read_list<'a, T: FromReader<'a>>(
+    alloc: Global,
+    limit: usize,
+    desc: &str,
+    reader: &mut BinaryReader<'a>,
+) -> Result<Vec<T>>
+    ensures answer { Gives (λ v. map T.view v.items) result reader.new (listed_within limit T.decoder reader.old) }
+    ensures forward { Reaches reader.old reader.new }
+{
+    let count = reader.read_size(limit, desc)?;
+    read_many(alloc, count, reader)
+}
+
+fn read_many<'a, T: FromReader<'a>>(
+    alloc: Global,
+    count: usize,
+    reader: &mut BinaryReader<'a>,
+) -> Result<Vec<T>>
+    ensures answer { Gives (λ v. map T.view v.items) result reader.new (repeated count T.decoder reader.old) }
+    ensures forward { Reaches reader.old reader.new }
+{
+    let mut items = Vec::new(alloc);
+    for _ in 0..count {
+        let item = reader.read::<T>(alloc)?;
+        items.push(item)?;
+    }
+    Ok(items)
+}
