@@ -2,14 +2,11 @@
 use Rattle.std.specs.Prelude.{◌≡◌, ℕ, ℤ, ◌≤◌, ◌⊎◌, List, [], ◌∷◌, ◌++◌, length}
 use Rattle.wasm_types_decoding.specs.Decoder.{Grammar}
 use Rattle.wasm_types_decoding.specs.Leb.{IsUnsigned, IsSigned, IsListed}
+use Rattle.wasm_types_decoding.specs.Lists.{IsListedWithin}
+use Rattle.wasm_types_decoding.specs.Text.{IsSized}
 use Rattle.wasm_module_validator.specs.declared.types.ValType.{ValType}
 use Rattle.wasm_module_validator.specs.declared.types.ValType.TheVariants.{I32, I64, F32, F64}
 use Rattle.wasm_module_validator.specs.Syntax.{FunctionType, Instruction, unreachable, nop, drop, local_get, i32_const, i64_const, i32_add, i64_add, Code, done, plain, LocalGroup, Function, Module}
-
--- a list: how many items, and each of them (binary format, lists), here at most a limit of them
-pub record SpellsList {A : Type 0} (limit : ℕ) (g : Grammar A) (xs : List A) (text : List ℕ) : Type 0 where
-  pub within : length xs ≤ limit
-  pub listed : IsListed g xs text
 
 -- number types (binary format, types)
 abbrev pub SpellsValType : Grammar ValType
@@ -22,8 +19,8 @@ SpellsValType F64 text = text ≡ 0x7c ∷ []
 pub record SpellsFunctionType (f : FunctionType) (text : List ℕ) : Type 0 where
   pub params : List ℕ
   pub results : List ℕ
-  pub taken : SpellsList 1000 SpellsValType f.params params
-  pub given : SpellsList 1000 SpellsValType f.results results
+  pub taken : IsListedWithin 1000 SpellsValType f.params params
+  pub given : IsListedWithin 1000 SpellsValType f.results results
   pub whole : text ≡ 0x60 ∷ (params ++ results)
 
 -- instructions (binary format, instructions)
@@ -58,14 +55,6 @@ pub record SpellsFunction (f : Function) (text : List ℕ) : Type 0 where
   pub expressed : SpellsExpression f.body body
   pub whole : text ≡ locals ++ body
 
--- a size in bytes, and so much that spells x
-pub record SpellsSized {A : Type 0} (g : Grammar A) (x : A) (text : List ℕ) : Type 0 where
-  pub size : List ℕ
-  pub contents : List ℕ
-  pub sized : IsUnsigned 32 (length contents) size
-  pub spelled : g x contents
-  pub whole : text ≡ size ++ contents
-
 -- at most so many bytes
 pub record SpellsWithin {A : Type 0} (limit : ℕ) (g : Grammar A) (x : A) (text : List ℕ) : Type 0 where
   pub within : length text ≤ limit
@@ -73,11 +62,11 @@ pub record SpellsWithin {A : Type 0} (limit : ℕ) (g : Grammar A) (x : A) (text
 
 -- an entry of the code section: the size of a function, which is at most 7,654,321 bytes, and the function
 abbrev pub SpellsEntry : Grammar Function
-SpellsEntry = SpellsSized (SpellsWithin 7654321 SpellsFunction)
+SpellsEntry = IsSized (SpellsWithin 7654321 SpellsFunction)
 
 -- a section: its id, its size and its contents; or none, for an empty list (binary format, sections)
 abbrev pub SpellsSection : {A : Type 0} → ℕ → Grammar (List A) → Grammar (List A)
-SpellsSection id g xs text = ((xs ≡ []) × (text ≡ [])) ⊎ ((sized : List ℕ) × SpellsSized g xs sized × (text ≡ id ∷ sized))
+SpellsSection id g xs text = ((xs ≡ []) × (text ≡ [])) ⊎ ((sized : List ℕ) × IsSized g xs sized × (text ≡ id ∷ sized))
 
 -- the magic number and version 1 (binary format, modules)
 abbrev pub header : List ℕ
@@ -89,7 +78,7 @@ pub record SpellsModule (m : Module) (text : List ℕ) : Type 0 where
   pub types : List ℕ
   pub functions : List ℕ
   pub code : List ℕ
-  pub typed : SpellsSection 1 (SpellsList 1000000 SpellsFunctionType) m.types types
-  pub declared : SpellsSection 3 (SpellsList 1000000 (IsUnsigned 32)) m.functions functions
+  pub typed : SpellsSection 1 (IsListedWithin 1000000 SpellsFunctionType) m.types types
+  pub declared : SpellsSection 3 (IsListedWithin 1000000 (IsUnsigned 32)) m.functions functions
   pub defined : SpellsSection 10 (IsListed SpellsEntry) m.code code
   pub whole : text ≡ header ++ (types ++ (functions ++ code))

@@ -8,3 +8,11 @@ pub mod Answers
 -- How bytes are read, and why that is exact.
 pub mod Types
 pub mod TypeLaws
+pub mod Rows
+pub mod Frames
+pub mod Bodies
+pub mod FrameLaws
+pub mod SectionLaws
+pub mod ModuleLaws
+pub mod Entries
+pub mod Judged

@@ -9,7 +9,7 @@ use Rattle.wasm_types_decoding.specs.ListLaws.{lawful-listed_within, decides-lis
 use Rattle.wasm_module_validator.specs.declared.types.ValType.{ValType}
 use Rattle.wasm_module_validator.specs.declared.types.ValType.TheVariants.{I32, I64, F32, F64}
 use Rattle.wasm_module_validator.specs.Syntax.{FunctionType}
-use Rattle.wasm_module_validator.specs.Binary.{SpellsList, SpellsValType, SpellsFunctionType}
+use Rattle.wasm_module_validator.specs.Binary.{SpellsValType, SpellsFunctionType}
 use Rattle.wasm_module_validator.specs.Types.{val_types, val_type, signature, function_type}
 
 pub head_is : (a b : ℕ) (s t : List ℕ) → a ∷ s ≡ b ∷ t → a ≡ b
@@ -99,27 +99,21 @@ lawful-function_type = lawful->>= byte _ lawful-byte (λ b. lawful-choice ((0x60
 abbrev types : Grammar (List ValType)
 types = IsListedWithin 1000 SpellsValType
 
-to_list : (xs : List ValType) (text : List ℕ) → types xs text → SpellsList 1000 SpellsValType xs text
-to_list xs text h = record { within = h.within; listed = h.listed }
-
-from_list : (xs : List ValType) (text : List ℕ) → SpellsList 1000 SpellsValType xs text → types xs text
-from_list xs text h = record { within = h.within; listed = h.listed }
-
 abbrev two_lists : Grammar FunctionType
 two_lists = Then types (λ p. Mapped (λ (r : List ValType). record { params = p; results = r }) types)
 
 signature_to : (f : FunctionType) (text : List ℕ) → two_lists f text → SpellsFunctionType f (0x60 ∷ text)
 signature_to f text h =
     subst (λ (y : FunctionType). SpellsFunctionType y (0x60 ∷ text)) (sym h.second.2)
-    (record { params = h.front; results = h.back; taken = to_list h.value h.front h.first; given = to_list h.second.0 h.back h.second.1; whole = ap (λ (t : List ℕ). 0x60 ∷ t) h.whole })
+    (record { params = h.front; results = h.back; taken = h.first; given = h.second.1; whole = ap (λ (t : List ℕ). 0x60 ∷ t) h.whole })
 
 signature_from : (f : FunctionType) (text : List ℕ) → SpellsFunctionType f (0x60 ∷ text) → two_lists f text
 signature_from f text h = record {
   value = f.params;
   front = h.params;
   back = h.results;
-  first = from_list f.params h.params h.taken;
-  second = (f.results, from_list f.results h.results h.given, refl);
+  first = h.taken;
+  second = (f.results, h.given, refl);
   whole = tail_is 0x60 0x60 text (h.params ++ h.results) h.whole;
 }
 

@@ -1,6 +1,7 @@
 //! A validator of WebAssembly modules.
 #![tactic(auto)]
 
+mod sections;
 pub mod types;
 mod validator;
 

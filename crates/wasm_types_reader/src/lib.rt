@@ -15,4 +15,4 @@ mod lists;
 pub use binary_reader::BinaryReader;
 pub use error::{BinaryReaderError, Error, ErrorKind, Result};
 pub use from_reader::{FromReader, reading_is_lawful};
-pub use lists::read_list;
+pub use lists::{read_list, read_many};

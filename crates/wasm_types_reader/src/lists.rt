@@ -24,7 +24,7 @@ pub fn read_list<'a, T: FromReader<'a>>(
     read_many(alloc, count, reader)
 }
 
-fn read_many<'a, T: FromReader<'a>>(
+pub fn read_many<'a, T: FromReader<'a>>(
     alloc: Global,
     count: usize,
     reader: &mut BinaryReader<'a>,

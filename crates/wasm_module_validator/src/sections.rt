@@ -1,0 +1,260 @@
+//! The sections of a module, in their order.
+
+ghost use Rattle.std.specs.Prelude.{◌≡◌, ◌∷◌, map, length};
+ghost use Rattle.wasm_types_decoding.specs.Decoder.{Reaches, repeated};
+ghost use Rattle.wasm_types_decoding.specs.Text.{IsCounted};
+ghost use Rattle.wasm_types_reader.specs.Reading.{Gives};
+ghost use Rattle.wasm_module_validator.specs.Frames.{begins, entered, ended, items, type_index, entries, type_section, function_section, code_section};
+ghost use Rattle.wasm_module_validator.specs.Types.{function_type};
+ghost use Rattle.wasm_module_validator.specs.Entries.{bodies};
+ghost use Rattle.wasm_types_reader.specs.declared.error.ErrorKind.TheVariants.{Other};
+
+use crate::types::FuncType;
+use std::alloc::Global;
+use wasm_types_reader::limits::MAX_WASM_TYPES;
+use wasm_types_reader::{BinaryReader, Error, FromReader, Result, read_many};
+
+/// How many functions a module has at the most.
+pub const MAX_WASM_FUNCTIONS: usize = 1_000_000;
+
+/// How many bytes an entry of the code section has at the most.
+pub const MAX_WASM_FUNCTION_SIZE: usize = 7_654_321;
+
+const TYPE_SECTION: u8 = 1;
+const FUNCTION_SECTION: u8 = 3;
+const CODE_SECTION: u8 = 10;
+
+/// An entry of the code section: the bytes of a function.
+#[derive(Drop)]
+pub struct FunctionBody<'a> {
+    pub reader: BinaryReader<'a>,
+}
+
+impl<'a> FromReader<'a> for FunctionBody<'a> {
+    ghost use Rattle.std.specs.Prelude.{ℕ, List};
+    ghost use Rattle.wasm_module_validator.specs.Frames.{body};
+    ghost use Rattle.wasm_module_validator.specs.FrameLaws.{lawful-body, decides-body};
+
+    ghost Value = { List ℕ };
+
+    ghost view = { λ b. b.reader.rest };
+
+    ghost decoder = { body };
+
+    ghost grammar = { IsCounted 7654321 };
+
+    ghost lawful = { lawful-body };
+
+    ghost exact = { decides-body };
+
+    #[tactic(auto, using(wasm_types_decoding::specs::Laws::reaches_self, wasm_types_decoding::specs::Laws::reaches_then), unfolding(crate::specs::Frames::body))]
+    fn from_reader(_alloc: Global, reader: &mut BinaryReader<'a>) -> Result<FunctionBody<'a>> {
+        let reader = reader.read_reader()?;
+        if reader.bytes_remaining() > MAX_WASM_FUNCTION_SIZE {
+            return Err(body_error(reader.original_position()));
+        }
+        Ok(FunctionBody { reader })
+    }
+}
+
+#[cold]
+fn body_error(place: u64) -> Error
+    ensures kind { result.kind ≡ Other }
+    ensures offset { result.offset ≡ place }
+{
+    Error::fmt(
+        format_args!("function body size count exceeds limit of {MAX_WASM_FUNCTION_SIZE}"),
+        place,
+    )
+}
+
+/// Whether a section of this id stands next.
+#[inline]
+fn next_is(reader: &BinaryReader<'_>, id: u8) -> bool
+    ensures { result ≡ begins id reader.now.rest }
+{
+    match reader.peek() {
+        Ok(next) => next == id,
+        Err(_) => false,
+    }
+}
+
+/// The id of a section and its size: a reader over its contents.
+#[tactic(auto, using(wasm_types_decoding::specs::Laws::reaches_self, wasm_types_decoding::specs::Laws::reaches_then))]
+fn enter<'a>(reader: &mut BinaryReader<'a>) -> Result<BinaryReader<'a>>
+    ensures answer { Gives (λ r. r) result reader.new (entered reader.old) }
+    ensures forward { Reaches reader.old reader.new }
+{
+    reader.read_u8()?;
+    reader.read_reader()
+}
+
+/// Whether nothing is left of a section's contents.
+fn finish(contents: &BinaryReader<'_>) -> Result<()>
+    ensures { Gives (λ u. u) result contents.now (ended contents.now) }
+{
+    if contents.eof() {
+        return Ok(());
+    }
+    Err(Error::new(
+        "section size mismatch: unexpected data at the end of the section",
+        contents.original_position(),
+    ))
+}
+
+#[cold]
+fn count_error(desc: &str, limit: usize, place: u64) -> Error
+    ensures kind { result.kind ≡ Other }
+    ensures offset { result.offset ≡ place }
+{
+    Error::fmt(format_args!("{desc} count exceeds limit of {limit}"), place)
+}
+
+/// The function types of a module; none where there is no type section. Where it is refused the reader may have gone on.
+#[tactic(auto, using(wasm_types_decoding::specs::Laws::reaches_self, wasm_types_decoding::specs::Laws::reaches_then), unfolding(crate::specs::Frames::section, crate::specs::Frames::contents, crate::specs::Frames::type_section))]
+pub fn read_type_section<'a>(
+    alloc: Global,
+    reader: &mut BinaryReader<'a>,
+) -> Result<Vec<FuncType>>
+    ensures answer { Gives (λ v. v.items) result reader.new (type_section reader.old) }
+    ensures forward { Reaches reader.old reader.new }
+{
+    if !next_is(reader, TYPE_SECTION) {
+        return Ok(Vec::new(alloc));
+    }
+    let mut contents = enter(reader)?;
+    let types = read_types(alloc, &mut contents)?;
+    finish(&contents)?;
+    Ok(types)
+}
+
+#[tactic(auto, using(wasm_types_decoding::specs::Laws::reaches_self, wasm_types_decoding::specs::Laws::reaches_then), unfolding(crate::specs::Frames::items))]
+fn read_types<'a>(alloc: Global, contents: &mut BinaryReader<'a>) -> Result<Vec<FuncType>>
+    ensures { Gives (λ v. v.items) result contents.new (items 1000000 function_type contents.old) }
+{
+    let place = contents.original_position();
+    let count = contents.read_var_u32()? as usize;
+    if count > MAX_WASM_TYPES {
+        return Err(count_error("types", MAX_WASM_TYPES, place));
+    }
+    read_many(alloc, count, contents)
+}
+
+/// The place of each function's type, where there are so many types; none where there is no function section. Where it is
+/// refused the reader may have gone on.
+#[tactic(auto, using(wasm_types_decoding::specs::Laws::reaches_self, wasm_types_decoding::specs::Laws::reaches_then), unfolding(crate::specs::Frames::section, crate::specs::Frames::contents, crate::specs::Frames::function_section))]
+pub fn read_function_section<'a>(
+    alloc: Global,
+    types: usize,
+    reader: &mut BinaryReader<'a>,
+) -> Result<Vec<u32>>
+    ensures answer { Gives (λ v. v.items) result reader.new (function_section types reader.old) }
+    ensures forward { Reaches reader.old reader.new }
+{
+    if !next_is(reader, FUNCTION_SECTION) {
+        return Ok(Vec::new(alloc));
+    }
+    let mut contents = enter(reader)?;
+    let functions = read_functions(alloc, types, &mut contents)?;
+    finish(&contents)?;
+    Ok(functions)
+}
+
+#[tactic(auto, using(wasm_types_decoding::specs::Laws::reaches_self, wasm_types_decoding::specs::Laws::reaches_then), unfolding(crate::specs::Frames::items))]
+fn read_functions<'a>(
+    alloc: Global,
+    types: usize,
+    contents: &mut BinaryReader<'a>,
+) -> Result<Vec<u32>>
+    ensures { Gives (λ v. v.items) result contents.new (items 1000000 (type_index types) contents.old) }
+{
+    let place = contents.original_position();
+    let count = contents.read_var_u32()? as usize;
+    if count > MAX_WASM_FUNCTIONS {
+        return Err(count_error("functions", MAX_WASM_FUNCTIONS, place));
+    }
+    read_type_indices(alloc, types, count, contents)
+}
+
+fn read_type_indices<'a>(
+    alloc: Global,
+    types: usize,
+    count: usize,
+    contents: &mut BinaryReader<'a>,
+) -> Result<Vec<u32>>
+    ensures { Gives (λ v. v.items) result contents.new (repeated count (type_index types) contents.old) }
+{
+    let mut functions = Vec::new(alloc);
+    for _ in 0..count {
+        let index = read_type_index(types, contents)?;
+        functions.push(index)?;
+    }
+    Ok(functions)
+}
+
+#[tactic(auto, using(wasm_types_decoding::specs::Laws::reaches_self, wasm_types_decoding::specs::Laws::reaches_then), unfolding(crate::specs::Frames::type_index))]
+fn read_type_index<'a>(types: usize, contents: &mut BinaryReader<'a>) -> Result<u32>
+    ensures { Gives (λ x. x) result contents.new (type_index types contents.old) }
+{
+    let place = contents.original_position();
+    let index = contents.read_var_u32()?;
+    if index as usize >= types {
+        return Err(index_error(index, place));
+    }
+    Ok(index)
+}
+
+#[cold]
+fn index_error(index: u32, place: u64) -> Error
+    ensures kind { result.kind ≡ Other }
+    ensures offset { result.offset ≡ place }
+{
+    Error::fmt(format_args!("unknown type {index}: type index out of bounds"), place)
+}
+
+/// The entries of the code section, which has as many as there are functions; none where there is neither. Where it is
+/// refused the reader may have gone on.
+#[tactic(auto, using(wasm_types_decoding::specs::Laws::reaches_self, wasm_types_decoding::specs::Laws::reaches_then), unfolding(crate::specs::Frames::section, crate::specs::Frames::contents, crate::specs::Frames::code_section))]
+pub fn read_code_section<'a>(
+    alloc: Global,
+    functions: usize,
+    reader: &mut BinaryReader<'a>,
+) -> Result<Vec<FunctionBody<'a>>>
+    ensures answer { Gives (λ v. bodies v.items) result reader.new (code_section functions reader.old) }
+    ensures forward { Reaches reader.old reader.new }
+{
+    if !next_is(reader, CODE_SECTION) {
+        if functions != 0 {
+            return Err(inconsistent_error(reader.original_position()));
+        }
+        return Ok(Vec::new(alloc));
+    }
+    let mut contents = enter(reader)?;
+    let entries = read_entries(alloc, functions, &mut contents)?;
+    finish(&contents)?;
+    Ok(entries)
+}
+
+#[tactic(auto, using(wasm_types_decoding::specs::Laws::reaches_self, wasm_types_decoding::specs::Laws::reaches_then), unfolding(crate::specs::Frames::entries))]
+fn read_entries<'a>(
+    alloc: Global,
+    functions: usize,
+    contents: &mut BinaryReader<'a>,
+) -> Result<Vec<FunctionBody<'a>>>
+    ensures { Gives (λ v. bodies v.items) result contents.new (entries functions contents.old) }
+{
+    let place = contents.original_position();
+    let count = contents.read_var_u32()? as usize;
+    if count != functions {
+        return Err(inconsistent_error(place));
+    }
+    read_many(alloc, count, contents)
+}
+
+#[cold]
+fn inconsistent_error(place: u64) -> Error
+    ensures kind { result.kind ≡ Other }
+    ensures offset { result.offset ≡ place }
+{
+    Error::new("function and code section have inconsistent lengths", place)
+}
