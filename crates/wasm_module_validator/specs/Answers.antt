@@ -13,6 +13,22 @@ Denies kinds.OutOfMemory P = Unit {0}
 Denies kinds.Failed P = ¬ P
 Denies kinds.Other P = ¬ P
 
+-- what implies what is denied is denied
+pub denies_from : (k : ErrorKind) (P Q : Type 0) → (Q → P) → Denies k P → Denies k Q
+denies_from (kinds.EndOfData h) P Q f d = λ q. d (f q)
+denies_from (kinds.MissingFeature h) P Q f d = λ q. d (f q)
+denies_from kinds.OutOfMemory P Q f d = tt
+denies_from kinds.Failed P Q f d = λ q. d (f q)
+denies_from kinds.Other P Q f d = λ q. d (f q)
+
+-- what doesn't hold is denied
+pub denies : (k : ErrorKind) (P : Type 0) → (P → ⊥) → Denies k P
+denies (kinds.EndOfData h) P n = n
+denies (kinds.MissingFeature h) P n = n
+denies kinds.OutOfMemory P n = tt
+denies kinds.Failed P n = n
+denies kinds.Other P n = n
+
 -- Ok exactly where the fact holds, unless memory was wanted
 abbrev pub Tells : {X : Type 0} → Result X ErrorValue → Type 0 → Type 0
 Tells (Ok x) P = P

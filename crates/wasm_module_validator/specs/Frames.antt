@@ -1,12 +1,23 @@
 -- How the sections of a module are read, before the functions in them are judged: what the reader answers, as decoders.
 use Rattle.std.specs.Prelude.{ℕ, ◌+◌, Bool, false, List, [], ◌∷◌, length, nat_lt, ◌==◌, if◌then◌else◌}
+use Rattle.std.specs.Str.{bytes_eq}
 use Rattle.wasm_types_decoding.specs.declared.Refusal.TheVariants.{Other}
-use Rattle.wasm_types_decoding.specs.Decoder.{State, Outcome, Done, Short, Fault, Decoder, ◌>>=◌, pure, refuse, byte, repeated}
+use Rattle.wasm_types_decoding.specs.Decoder.{State, Outcome, Done, Short, Fault, Decoder, ◌>>=◌, pure, byte, bytes, repeated}
 use Rattle.wasm_types_decoding.specs.Leb.{u32}
 use Rattle.wasm_types_decoding.specs.Lists.{refuse_at}
 use Rattle.wasm_types_reader.specs.Parts.{counted_part}
 use Rattle.wasm_module_validator.specs.Syntax.{FunctionType}
 use Rattle.wasm_module_validator.specs.Types.{function_type}
+
+-- the magic number and version 1, each of four bytes; else the place where they begin is refused
+abbrev pub magic_or : ℕ → Decoder (Unit {0}) → List ℕ → Decoder (Unit {0})
+magic_or place next text = if bytes_eq text (0x00 ∷ 0x61 ∷ 0x73 ∷ 0x6d ∷ []) then next else refuse_at Other place
+
+abbrev pub version_or : ℕ → List ℕ → Decoder (Unit {0})
+version_or place text = if bytes_eq text (0x01 ∷ 0x00 ∷ 0x00 ∷ 0x00 ∷ []) then pure tt else refuse_at Other place
+
+unfoldable pub preamble : Decoder (Unit {0})
+preamble s = (bytes 4 >>= magic_or s.place (bytes 4 >>= version_or s.place)) s
 
 -- a module with each entry of its code section as the bytes of a function
 pub record Frames : Type 0 where
@@ -92,3 +103,7 @@ unfoldable pub frames : Decoder Frames
 frames =
     type_section >>= λ types. function_section (length types) >>= λ functions. code_section (length functions) >>= λ entries.
     at_end (record { types = types; functions = functions; entries = entries })
+
+-- a module: the header and the sections
+unfoldable pub module_frames : Decoder Frames
+module_frames = preamble >>= λ _. frames

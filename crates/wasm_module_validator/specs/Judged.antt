@@ -5,8 +5,12 @@ use Rattle.std.proofs.lemmas.List.{append-nil, length-append}
 use Rattle.std.proofs.lemmas.Bool.{eqb-true, eqb-false, eq-eqb}
 use Rattle.std.proofs.lemmas.Option.{slice_get_within}
 use Rattle.wasm_types_decoding.specs.declared.Refusal.TheVariants.{Other}
-use Rattle.wasm_types_decoding.specs.Decoder.{State, Outcome, Done, Short, Fault, Decoder, Grammar, ◌>>=◌, pure, continue_with, Many}
-use Rattle.wasm_types_decoding.specs.Exact.{done_then, value_is, state_is}
+use Rattle.wasm_types_decoding.specs.Decoder.{State, Outcome, Done, Short, Fault, Decoder, Grammar, ◌>>=◌, pure, bytes, continue_with, Many, Decides, Takes, Then}
+use Rattle.wasm_types_decoding.specs.Exact.{done_then, value_is, state_is, decides->>=, decides-same, decides-if, decides-pure, decides-bytes, Exactly}
+use Rattle.wasm_types_decoding.specs.ListLaws.{decides-refuse_at, decides-from_place}
+use Rattle.wasm_types_decoding.specs.Lists.{refuse_at}
+use Rattle.std.specs.Str.{bytes_eq}
+use Rattle.std.proofs.lemmas.Slice.Eq.{bytes_eq-Decides}
 use Rattle.wasm_types_decoding.specs.Leb.{IsUnsigned, IsListed}
 use Rattle.wasm_types_decoding.specs.Lists.{IsListedWithin}
 use Rattle.wasm_types_decoding.specs.Text.{IsCounted, IsSized}
@@ -17,7 +21,7 @@ use Rattle.wasm_module_validator.specs.Accepts.{Judges, Accepts}
 use Rattle.wasm_module_validator.specs.Bodies.{AcceptsBody}
 use Rattle.wasm_module_validator.specs.Types.{function_type}
 use Rattle.wasm_module_validator.specs.TypeLaws.{decides-function_type}
-use Rattle.wasm_module_validator.specs.Frames.{Frames, begins, items, type_index, entries, no_entries, at_end, type_section, function_section, code_section, frames}
+use Rattle.wasm_module_validator.specs.Frames.{Frames, begins, items, type_index, entries, no_entries, at_end, type_section, function_section, code_section, frames, preamble, magic_or, version_or, module_frames}
 use Rattle.wasm_module_validator.specs.ModuleLaws.{decides-items, decides-type_index, decides-entries, IsTypeIndex, AreEntries, IsSection, Followed, Reads, section_reads, section_followed, section_apart}
 
 -- ---- the frames, as they are spelled
@@ -272,6 +276,12 @@ to_module rest (f, (ts, front1, rest1, s1, (fs, front2, rest2, s2, (es, front3, 
       valid = r.2;
     })
 
+pub to_module_counts : (rest : List ℕ) (f : Frames) (s : AreSections f rest) (a : AreAccepted f.types f.functions f.entries)
+    → (length (to_module rest (f, s, a)).0.types ≡ length f.types) × (length (to_module rest (f, s, a)).0.functions ≡ length f.functions)
+unfolding to_module
+to_module_counts rest f (ts, front1, rest1, s1, (fs, front2, rest2, s2, (es, front3, rest3, s3, (e3, is), w3), w2), w1) a =
+    (ap (λ (g : Frames). length g.types) (sym is), ap (λ (g : Frames). length g.functions) (sym is))
+
 code_from : (types : List FunctionType) (xs : List ℕ) (fs : List Function) (front : List ℕ) → AreValidFunctions types xs fs → SpellsSection 10 (IsListed SpellsEntry) fs front
     → (es : List (List ℕ)) × IsSection 10 (AreEntries (length xs)) (HasNone (length xs)) es front × AreSpelled fs es
 code_from types [] [] front v (inl (h, e)) = ([], inl ((refl, refl), e), tt)
@@ -318,3 +328,144 @@ from_module bytes m j =
       (f, (m.types, s.types, s.functions ++ s.code, s.typed,
         (m.functions, s.functions, s.code, functions_from m.types m.functions m.code s.functions j.valid s.declared,
           (c.0, s.code, [], c.1, (refl, refl), sym (append-nil s.code)), refl), refl), accepted_from m.types m.functions m.code c.0 c.2 j.valid))
+
+-- ---- the header
+
+abbrev magic : List ℕ
+magic = 0x00 ∷ 0x61 ∷ 0x73 ∷ 0x6d ∷ []
+
+abbrev version : List ℕ
+version = 0x01 ∷ 0x00 ∷ 0x00 ∷ 0x00 ∷ []
+
+-- these bytes were read, and nothing follows them
+abbrev Is : List ℕ → List ℕ → Grammar (Unit {0})
+Is wanted text u rest = (text ≡ wanted) × (rest ≡ [])
+
+decides-version_or : (place : ℕ) (text : List ℕ) → Decides (version_or place text) (Is version text)
+decides-version_or place text = decides-if (bytes_eq text version) (pure tt) (refuse_at Other place) (Is version text)
+    (λ same. decides-pure tt (Is version text) ((bytes_eq-Decides text version).0 same, refl) (λ u rest h. (refl, h.1)))
+    (λ other. decides-refuse_at Other place (Is version text) (λ u rest h. let e = (bytes_eq-Decides text version).1 h.0 in absurd cc))
+
+abbrev Versioned : Grammar (Unit {0})
+Versioned = Then (Exactly 4) (Is version)
+
+abbrev AfterMagic : List ℕ → Grammar (Unit {0})
+AfterMagic text u rest = (text ≡ magic) × Versioned u rest
+
+decides-magic_or : (place : ℕ) (text : List ℕ) → Decides (magic_or place (bytes 4 >>= version_or place) text) (AfterMagic text)
+decides-magic_or place text = decides-if (bytes_eq text magic) (bytes 4 >>= version_or place) (refuse_at Other place) (AfterMagic text)
+    (λ same. decides-same (bytes 4 >>= version_or place) Versioned (AfterMagic text)
+      (decides->>= (bytes 4) (version_or place) (Exactly 4) (Is version) (decides-bytes 4) (decides-version_or place))
+      (λ u rest h. ((bytes_eq-Decides text magic).0 same, h)) (λ u rest h. h.1))
+    (λ other. decides-refuse_at Other place (AfterMagic text) (λ u rest h. let e = (bytes_eq-Decides text magic).1 h.0 in absurd cc))
+
+preamble_to : (u : Unit {0}) (text : List ℕ) → Then (Exactly 4) AfterMagic u text → text ≡ header
+preamble_to u text h =
+    let v = h.second.1 in
+    h.whole ∙ rw (h.first.1, h.second.0, v.whole, v.first.1, v.second.0, v.second.1) refl
+
+preamble_from : (u : Unit {0}) (text : List ℕ) → text ≡ header → Then (Exactly 4) AfterMagic u text
+preamble_from u text e = record {
+  value = magic;
+  front = magic;
+  back = version;
+  first = (refl, refl);
+  second = (refl, record { value = version; front = version; back = []; first = (refl, refl); second = (refl, refl); whole = refl });
+  whole = e;
+}
+
+pub decides-preamble : Decides preamble (λ u text. text ≡ header)
+unfolding preamble
+decides-preamble = decides-same (λ s. (bytes 4 >>= magic_or s.place (bytes 4 >>= version_or s.place)) s) (Then (Exactly 4) AfterMagic) (λ u text. text ≡ header)
+    (decides-from_place (λ place. bytes 4 >>= magic_or place (bytes 4 >>= version_or place)) (Then (Exactly 4) AfterMagic)
+      (λ place. decides->>= (bytes 4) (magic_or place (bytes 4 >>= version_or place)) (Exactly 4) AfterMagic (decides-bytes 4) (decides-magic_or place)))
+    preamble_to preamble_from
+
+-- ---- the whole
+
+-- what is read of these bytes as a module is accepted
+abbrev pub IsAcceptedAt : State → Type 0
+IsAcceptedAt s = (f : Frames) × (t : State) × (module_frames s ≡ Done f t) × AreAccepted f.types f.functions f.entries
+
+pub accepted_at : (s : State) → IsAcceptedAt s → Accepts s.rest
+unfolding module_frames
+accepted_at s (f, t, e, a) =
+    let h = done_then (preamble s) (λ _. frames) f t e in
+    let p = decides-preamble.sound s h.1 h.0 h.2 in
+    let r = frames_spelled f h.1 t h.3 in
+    let m = to_module h.1.rest (f, r, a) in
+    let w : header ++ h.1.rest ≡ s.rest = sym (p.1.parts ∙ ap (λ (z : List ℕ). z ++ h.1.rest) p.2) in
+    (m.0, subst (λ (z : List ℕ). Judges z m.0) w m.1)
+
+read_after : (s u t : State) (f : Frames) → preamble s ≡ Done tt u → frames u ≡ Done f t → module_frames s ≡ Done f t
+unfolding module_frames
+read_after s u t f a b = rw (a, b) refl
+
+pub at_accepted : (s : State) → Accepts s.rest → IsAcceptedAt s
+at_accepted s (m, j) =
+    let r = from_module s.rest m j in
+    let f = r.2.0 in
+    let u : State = record { rest = r.0; place = s.place + length header; features = s.features; start = s.start } in
+    let taken : Takes s header u = record { parts = r.1; place = refl; features = refl; start = refl } in
+    let a : preamble s ≡ Done tt u = decides-preamble.complete s u tt header taken refl in
+    let b = frames_read f u r.2.1 in
+    (f, b.0, read_after s u b.0 f a b.1, r.2.2)
+
+-- the module that is shown has the counts of what was read
+pub shown_at : (s : State) (f : Frames) (t : State) → module_frames s ≡ Done f t → AreAccepted f.types f.functions f.entries
+    → (m : Module) × Judges s.rest m × (length m.types ≡ length f.types) × (length m.functions ≡ length f.functions)
+unfolding module_frames
+shown_at s f t e a =
+    let h = done_then (preamble s) (λ _. frames) f t e in
+    let p = decides-preamble.sound s h.1 h.0 h.2 in
+    let r = frames_spelled f h.1 t h.3 in
+    let m = to_module h.1.rest (f, r, a) in
+    let n = to_module_counts h.1.rest f r a in
+    let w : header ++ h.1.rest ≡ s.rest = sym (p.1.parts ∙ ap (λ (z : List ℕ). z ++ h.1.rest) p.2) in
+    (m.0, subst (λ (z : List ℕ). Judges z m.0) w m.1, n.0, n.1)
+
+few_items : {A : Type 0} (id : ℕ) (g : Grammar A) (xs : List A) (text : List ℕ) → IsSection id (IsListedWithin 1000000 g) IsEmpty xs text → length xs ≤ 1000000
+few_items id g xs text (inl h) = rw h.0 (omega arith)
+few_items id g xs text (inr (rest, sized, e)) = sized.spelled.within
+
+few_sections : (f : Frames) (rest : List ℕ) → AreSections f rest → (length f.types ≤ 1000000) × (length f.functions ≤ 1000000)
+few_sections f rest (ts, front1, rest1, s1, (fs, front2, rest2, s2, (es, front3, rest3, s3, (e3, is), w3), w2), w1) =
+    (rw is (few_items 1 SpellsFunctionType ts front1 s1), rw is (few_items 3 (IsTypeIndex (length ts)) fs front2 s2))
+
+-- there are few of both
+pub few_frames : (s t : State) (f : Frames) → module_frames s ≡ Done f t → (length f.types ≤ 1000000) × (length f.functions ≤ 1000000)
+unfolding module_frames
+few_frames s t f e =
+    let h = done_then (preamble s) (λ _. frames) f t e in
+    few_sections f h.1.rest (frames_spelled f h.1 t h.3)
+
+-- ---- the functions, by their places
+
+-- the function at this place has a type, and its bytes are accepted
+abbrev pub AcceptsAt : List FunctionType → List ℕ → List (List ℕ) → ℕ → Type 0
+AcceptsAt types xs es i = (x : ℕ) × (type : FunctionType) × (e : List ℕ) × (slice_get xs i ≡ Some x) × (slice_get types x ≡ Some type) × (slice_get es i ≡ Some e) × AcceptsBody type e
+
+pub accepted_index : (types : List FunctionType) (xs : List ℕ) (es : List (List ℕ)) (i : ℕ) → i < length xs → AreAccepted types xs es → AcceptsAt types xs es i
+accepted_index types [] es i lt h = absurd (omega (arith, lt))
+accepted_index types (x ∷ xs) [] i lt h = absurd h
+accepted_index types (x ∷ xs) (e ∷ es) zero lt (type, at, a, more) = (x, type, e, refl, at, refl, a)
+accepted_index types (x ∷ xs) (e ∷ es) (suc i) lt (type, at, a, more) = accepted_index types xs es i (omega (arith, lt)) more
+
+pub index_accepted : (types : List FunctionType) (xs : List ℕ) (es : List (List ℕ)) → length xs ≡ length es → ((i : ℕ) → i < length xs → AcceptsAt types xs es i) → AreAccepted types xs es
+index_accepted types [] [] n h = tt
+index_accepted types [] (e ∷ es) n h = absurd (omega (arith, n))
+index_accepted types (x ∷ xs) [] n h = absurd (omega (arith, n))
+index_accepted types (x ∷ xs) (e ∷ es) n h =
+    let a = h 0 (omega arith) in
+    let same_x : x ≡ a.0 = some_is x a.0 a.3 in
+    let same_e : e ≡ a.2 = some_is e a.2 a.5 in
+    (a.1, rw same_x a.4, rw same_e a.6, index_accepted types xs es (omega (arith, n)) (λ i lt. h (suc i) (omega (arith, lt))))
+  where
+    some_is : {X : Type 0} (u v : X) → ◌≡◌ {A = Option X} (Some u) (Some v) → u ≡ v
+    some_is u v q = cc
+
+pub as_many_accepted : (types : List FunctionType) (xs : List ℕ) (es : List (List ℕ)) → AreAccepted types xs es → length xs ≡ length es
+as_many_accepted types [] [] h = refl
+as_many_accepted types [] (e ∷ es) h = absurd h
+as_many_accepted types (x ∷ xs) [] h = absurd h
+as_many_accepted types (x ∷ xs) (e ∷ es) (type, at, a, more) = ap suc (as_many_accepted types xs es more)

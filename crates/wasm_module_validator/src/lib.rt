@@ -1,6 +1,7 @@
 //! A validator of WebAssembly modules.
 #![tactic(auto)]
 
+mod body;
 mod sections;
 pub mod types;
 mod validator;

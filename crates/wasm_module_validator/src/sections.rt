@@ -4,9 +4,9 @@ ghost use Rattle.std.specs.Prelude.{◌≡◌, ◌∷◌, map, length};
 ghost use Rattle.wasm_types_decoding.specs.Decoder.{Reaches, repeated};
 ghost use Rattle.wasm_types_decoding.specs.Text.{IsCounted};
 ghost use Rattle.wasm_types_reader.specs.Reading.{Gives};
-ghost use Rattle.wasm_module_validator.specs.Frames.{begins, entered, ended, items, type_index, entries, type_section, function_section, code_section};
+ghost use Rattle.wasm_module_validator.specs.Frames.{begins, entered, ended, items, type_index, entries, type_section, function_section, code_section, preamble, module_frames};
 ghost use Rattle.wasm_module_validator.specs.Types.{function_type};
-ghost use Rattle.wasm_module_validator.specs.Entries.{bodies};
+ghost use Rattle.wasm_module_validator.specs.Entries.{bodies, frames_of};
 ghost use Rattle.wasm_types_reader.specs.declared.error.ErrorKind.TheVariants.{Other};
 
 use crate::types::FuncType;
@@ -66,6 +66,84 @@ fn body_error(place: u64) -> Error
         format_args!("function body size count exceeds limit of {MAX_WASM_FUNCTION_SIZE}"),
         place,
     )
+}
+
+/// A module, with each entry of its code section as it stands.
+#[derive(Drop)]
+pub struct ModuleFrames<'a> {
+    pub types: Vec<FuncType>,
+    pub functions: Vec<u32>,
+    pub bodies: Vec<FunctionBody<'a>>,
+}
+
+/// The header and the sections of a module, to the last byte; the bytes of its functions stay as they are. Where it is
+/// refused the reader may have gone on.
+#[tactic(auto, using(wasm_types_decoding::specs::Laws::reaches_self, wasm_types_decoding::specs::Laws::reaches_then), unfolding(crate::specs::Frames::module_frames, crate::specs::Frames::frames))]
+pub fn read_module<'a>(alloc: Global, reader: &mut BinaryReader<'a>) -> Result<ModuleFrames<'a>>
+    ensures { Gives frames_of result reader.new (module_frames reader.old) }
+{
+    read_header(reader)?;
+    let types = read_type_section(alloc, reader)?;
+    let functions = read_function_section(alloc, types.len(), reader)?;
+    let bodies = read_code_section(alloc, functions.len(), reader)?;
+    if !reader.eof() {
+        return Err(section_error(reader));
+    }
+    Ok(ModuleFrames {
+        types,
+        functions,
+        bodies,
+    })
+}
+
+/// That the section which stands next is unknown, or not in its place.
+#[cold]
+fn section_error(reader: &BinaryReader<'_>) -> Error
+    ensures kind { result.kind ≡ Other }
+    ensures offset { result.offset ≡ reader.now.place }
+{
+    let place = reader.original_position();
+    match reader.peek() {
+        Ok(TYPE_SECTION | FUNCTION_SECTION | CODE_SECTION) => {
+            Error::new("section out of order", place)
+        }
+        Ok(id) => Error::fmt(format_args!("malformed section id: {id}"), place),
+        Err(_) => Error::new("section out of order", place),
+    }
+}
+
+/// The magic number and the version.
+#[tactic(auto, using(wasm_types_decoding::specs::Laws::reaches_self, wasm_types_decoding::specs::Laws::reaches_then), unfolding(crate::specs::Frames::preamble))]
+fn read_header(reader: &mut BinaryReader<'_>) -> Result<()>
+    ensures { Gives (λ u. u) result reader.new (preamble reader.old) }
+{
+    let place = reader.original_position();
+    let magic = reader.read_bytes(4)?;
+    if magic != b"\0asm".as_slice() {
+        return Err(Error::new(
+            "magic header not detected: bad magic number - expected `00 61 73 6d`",
+            place,
+        ));
+    }
+    let version = reader.read_bytes(4)?;
+    if version != b"\x01\0\0\0".as_slice() {
+        return Err(version_error(version, place));
+    }
+    Ok(())
+}
+
+#[cold]
+fn version_error(version: &[u8], place: u64) -> Error
+    ensures kind { result.kind ≡ Other }
+    ensures offset { result.offset ≡ place }
+{
+    match version {
+        [low, high, 0, 0] => {
+            let number = u16::from_le_bytes([*low, *high]);
+            Error::fmt(format_args!("unknown binary version: {number:#x}"), place)
+        }
+        _ => Error::new("unknown binary version and encoding combination", place),
+    }
 }
 
 /// Whether a section of this id stands next.

@@ -5,10 +5,14 @@ ghost use Rattle.wasm_module_validator.specs.declared.validator.State.TheVariant
 ghost use Rattle.wasm_module_validator.specs.Accepts.{Accepts, Judges};
 ghost use Rattle.wasm_module_validator.specs.Answers.{Tells, Counts, Shows};
 ghost use Rattle.wasm_module_validator.specs.Syntax.{Module};
+ghost use Rattle.wasm_module_validator.specs.Entries.{bodies};
+ghost use Rattle.wasm_module_validator.specs.Judged.{AreAccepted, AcceptsAt};
 
+use crate::body::FuncValidator;
+use crate::sections::{ModuleFrames, read_module};
 use std::alloc::Global;
 use std::marker::Model;
-use wasm_types_reader::Error;
+use wasm_types_reader::{BinaryReader, Error};
 
 /// Tells a validator from others; the caller makes each number once.
 #[derive(Clone, Copy, Debug, PartialEq, Eq, PartialOrd, Ord, Hash)]
@@ -77,9 +81,13 @@ impl Validator {
         ensures ended { OnOk result (self.new ≡ states.Ended) }
         ensures failed { OnErr result (self.new ≡ states.Failed) }
     {
-        let _length = bytes.len();
-        self.state = State::Failed;
-        Err(Error::out_of_memory(0))
+        let judged = judge(self.alloc, bytes);
+        self.state = if judged.is_ok() {
+            State::Ended
+        } else {
+            State::Failed
+        };
+        judged
     }
 }
 
@@ -145,4 +153,56 @@ impl<'a> TypesRef<'a> {
         let types = self.types;
         types.functions
     }
+}
+
+/// Reads all of the bytes as a module, and then judges its functions.
+fn judge(alloc: Global, bytes: &[u8]) -> Result<Types, Error>
+    ensures verdict { Tells result (Accepts bytes.now) }
+    ensures shown { IfOk result (λ types. (m : Module) × Judges bytes.now m × Shows types m) }
+{
+    let mut reader = BinaryReader::new(bytes, 0);
+    let module = read_module(alloc, &mut reader)?;
+    validate_bodies(alloc, &module)?;
+    let types = module.types.as_slice();
+    let functions = module.functions.as_slice();
+    Ok(Types {
+        types: types.len() as u32,
+        functions: functions.len() as u32,
+    })
+}
+
+/// Judges each function by its type.
+fn validate_bodies(alloc: Global, module: &ModuleFrames<'_>) -> Result<(), Error>
+    ensures { Tells result (AreAccepted «module».now.types.items «module».now.functions.items (bodies «module».now.bodies.items)) }
+{
+    let functions = module.functions.as_slice();
+    let bodies = module.bodies.as_slice();
+    if functions.len() != bodies.len() {
+        return Err(Error::new("function and code section have inconsistent lengths", 0));
+    }
+    let mut validator = FuncValidator::new(alloc);
+    for place in 0..functions.len() {
+        validate_body(&mut validator, module, place)?;
+    }
+    Ok(())
+}
+
+/// Judges the function at a place by its type.
+fn validate_body(
+    validator: &mut FuncValidator,
+    module: &ModuleFrames<'_>,
+    place: usize,
+) -> Result<(), Error>
+    ensures { Tells result (AcceptsAt «module».now.types.items «module».now.functions.items (bodies «module».now.bodies.items) place) }
+{
+    let Some(index) = module.functions.get(place) else {
+        return Err(Error::new("unknown function: function index out of bounds", 0));
+    };
+    let Some(ty) = module.types.get(*index as usize) else {
+        return Err(Error::new("unknown type: type index out of bounds", 0));
+    };
+    let Some(body) = module.bodies.get(place) else {
+        return Err(Error::new("function and code section have inconsistent lengths", 0));
+    };
+    validator.validate(ty, body.reader.clone())
 }
