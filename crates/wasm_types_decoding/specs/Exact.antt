@@ -1,10 +1,10 @@
 -- Each way to put decoders together keeps them exact.
-use Rattle.std.proofs.Common.{◌≡◌, ℕ, zero, suc, ◌+◌, ◌-◌, ◌<◌, ◌≤◌, List, [], ◌∷◌, ◌++◌, length, take, drop, refl, sym, ap, ◌∙◌, subst, append_assoc, arith, cond, ltb, Bool, true, false, inl, inr}
+use Rattle.std.proofs.Common.{◌≡◌, ℕ, zero, suc, ◌+◌, ◌≤◌, List, [], ◌∷◌, ◌++◌, length, take, drop, refl, sym, ap, ◌∙◌, subst, append_assoc, arith, cond, Bool, true, false, inl, inr}
 use Rattle.std.specs.Prelude.{if◌then◌else◌, ◌==◌}
 use Rattle.std.proofs.lemmas.List.{length-append, append-nil, take-append-drop, length-take, take_at, drop_at}
-use Rattle.std.proofs.lemmas.Bool.{cases_lt, ltb-false, le-ltb, eqb-true}
+use Rattle.std.proofs.lemmas.Bool.{cases_lt, eqb-true}
 use Rattle.wasm_types_decoding.specs.declared.Refusal.{Refusal}
-use Rattle.wasm_types_decoding.specs.Decoder.{State, extended, Outcome, Done, Short, Fault, Decoder, continue_with, ◌>>=◌, pure, refuse, first_of_rest, byte, bytes, repeated, Takes, Grammar, Decides, Then, Many, choice, choice_or}
+use Rattle.wasm_types_decoding.specs.Decoder.{State, Outcome, Done, Short, Fault, Decoder, continue_with, ◌>>=◌, pure, refuse, first_of_rest, byte, bytes, repeated, Takes, Grammar, Decides, Then, Many, choice, choice_or, look_first, look}
 use Rattle.wasm_types_decoding.specs.Laws.{takes_none, Takes-then, bytes-enough, bytes-short}
 
 -- ---- what an outcome tells
@@ -273,3 +273,26 @@ decides-first f g sound complete = record {
       (m.0 ∷ q.0, Takes-then s m.1 t (m.0 ∷ []) q.0 p q.1, q.2);
   complete = λ s t x text p h. reads_first f s t x text p (complete x text h);
 }
+
+-- ---- a look ahead
+
+-- what g says of a text that begins with this byte
+abbrev pub Begins : {A : Type 0} → ℕ → Grammar A → Grammar A
+Begins b g x [] = ⊥
+Begins b g x (c ∷ text) = (c ≡ b) × g x (c ∷ text)
+
+module _ {A : Type 0} (f : ℕ → Decoder A) (g : Grammar A) (some : (x : A) → g x [] → ⊥) (decides : (b : ℕ) → Decides (f b) (Begins b g)) where
+  begun : (b : ℕ) (x : A) (text : List ℕ) → Begins b g x text → g x text
+  begun b x [] h = absurd h
+  begun b x (c ∷ text) h = h.1
+
+  look_sound : (rest : List ℕ) (s t : State) (x : A) → look_first rest s f ≡ Done x t → (text : List ℕ) × Takes s text t × g x text
+  look_sound [] s t x e = absurd cc
+  look_sound (b ∷ rest) s t x e = let p = (decides b).sound s t x e in (p.0, p.1, begun b x p.0 p.2)
+
+  look_complete : (s t : State) (x : A) (text : List ℕ) → Takes s text t → g x text → look f s ≡ Done x t
+  look_complete s t x [] p h = absurd (some x h)
+  look_complete s t x (b ∷ text) p h = ap (λ (rest : List ℕ). look_first rest s f) p.parts ∙ (decides b).complete s t x (b ∷ text) p (refl, h)
+
+  pub decides-look : Decides (look f) g
+  decides-look = record { sound = λ s t x e. look_sound s.rest s t x e; complete = look_complete }

@@ -1,10 +1,10 @@
 -- Each way to put decoders together hands their laws on.
-use Rattle.std.proofs.Common.{◌≡◌, ℕ, zero, suc, ◌+◌, ◌-◌, ◌<◌, ◌≤◌, List, [], ◌∷◌, ◌++◌, length, take, drop, refl, sym, ap, ◌∙◌, subst, append_assoc, arith, cond, ltb, Bool, true, false, inl, inr}
-use Rattle.std.proofs.lemmas.List.{length-append, length-take, append-nil, take-append-drop, take-append-le, drop-append-le}
+use Rattle.std.proofs.Common.{◌≡◌, ℕ, zero, suc, ◌+◌, ◌-◌, ◌<◌, ◌≤◌, List, [], ◌∷◌, ◌++◌, length, take, drop, refl, sym, ap, ◌∙◌, append_assoc, arith, cond, ltb, Bool, true, false, inl, inr}
+use Rattle.std.proofs.lemmas.List.{length-append, length-take, take-append-drop, take-append-le, drop-append-le}
 use Rattle.wasm_types_decoding.specs.declared.Refusal.{Refusal}
-use Rattle.wasm_types_decoding.specs.Decoder.{State, extended, Outcome, Done, Short, Fault, Decoder, continue_with, ◌>>=◌, pure, refuse, first_of_rest, byte, bytes, repeated, Takes, IsBeyond, Reaches, GoesOn, IsSteady, GoesForward, IsForward, IsLawful, choice, choice_or, ended, within, look, look_first, TakesOne}
-use Rattle.std.specs.Prelude.{if◌then◌else◌, ◌==◌, nat_lt}
-use Rattle.std.proofs.lemmas.Bool.{cases_lt, ltb-false, le-ltb, lt-ltb}
+use Rattle.wasm_types_decoding.specs.Decoder.{State, extended, Outcome, Done, Short, Fault, Decoder, continue_with, ◌>>=◌, pure, refuse, first_of_rest, byte, bytes, repeated, Takes, IsBeyond, Reaches, GoesOn, GoesForward, IsLawful, choice, choice_or, ended, within, look, look_first, TakesOne}
+use Rattle.std.specs.Prelude.{if◌then◌else◌, ◌==◌}
+use Rattle.std.proofs.lemmas.Bool.{cases_lt, le-ltb, lt-ltb}
 
 -- ---- what is taken
 

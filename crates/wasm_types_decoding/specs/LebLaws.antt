@@ -1,13 +1,13 @@
 -- The reader of numbers is lawful, and reads what the specification says.
-use Rattle.std.proofs.Common.{◌≡◌, ℕ, zero, suc, ◌+◌, ◌-◌, ◌*◌, ◌^◌, ◌<◌, ◌≤◌, List, [], ◌∷◌, ◌++◌, length, refl, sym, ap, ◌∙◌, subst, arith, ltb, Bool, true, false, ◌⊎◌, inl, inr}
-use Rattle.std.specs.Prelude.{nat_lt, if◌then◌else◌}
+use Rattle.std.proofs.Common.{◌≡◌, ℕ, zero, suc, ◌+◌, ◌-◌, ◌*◌, ◌^◌, ◌<◌, ◌≤◌, List, [], ◌∷◌, length, refl, ap, subst, arith, ltb, ◌⊎◌, inl, inr}
+use Rattle.std.specs.Prelude.{nat_lt}
 use Rattle.std.proofs.lemmas.Bool.{ltb-true, ltb-false}
 use Rattle.std.proofs.Math.Pow.{pow_mono}
 use Rattle.wasm_types_decoding.specs.declared.Refusal.{Refusal}
 use Rattle.wasm_types_decoding.specs.declared.Refusal.TheVariants.{Other}
 use Rattle.wasm_types_decoding.specs.Decoder.{Decoder, ◌>>=◌, pure, refuse, byte, IsLawful, Decides, Grammar, Then, repeated, Many}
 use Rattle.wasm_types_decoding.specs.Laws.{lawful-byte, lawful->>=, lawful-pure, lawful-refuse, lawful-if, lawful-repeated}
-use Rattle.wasm_types_decoding.specs.Exact.{decides->>=, decides-same, decides-pure, decides-refuse, decides-if, decides-byte, decides-map, Mapped, decides-repeated}
+use Rattle.wasm_types_decoding.specs.Exact.{decides->>=, decides-same, decides-pure, decides-refuse, decides-if, decides-byte, decides-map, decides-repeated}
 use Rattle.wasm_types_decoding.specs.Leb.{IsUnsigned, last, more, unsigned, u32, u64, listed, IsListed}
 
 pub lawful-unsigned : (k r : ℕ) → IsLawful (unsigned k r)

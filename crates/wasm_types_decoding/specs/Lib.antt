@@ -1,10 +1,12 @@
+-- what contracts cite
 pub mod Decoder
+pub mod Leb
+pub mod Lists
+pub mod Text
+-- what is proved of it
 pub mod Laws
 pub mod Exact
-pub mod Leb
 pub mod LebLaws
 pub mod SignedLaws
-pub mod Text
-pub mod TextLaws
-pub mod Lists
 pub mod ListLaws
+pub mod TextLaws

@@ -1,7 +1,7 @@
 -- The reader of signed numbers is lawful, and reads what the specification says.
-use Rattle.std.proofs.Common.{◌≡◌, ℕ, zero, suc, ◌+◌, ◌-◌, ◌*◌, ◌^◌, ◌<◌, ◌≤◌, List, [], ◌∷◌, ◌++◌, length, refl, sym, ap, ◌∙◌, subst, arith, ltb, cond, Bool, true, false, ◌⊎◌, inl, inr}
-use Rattle.std.specs.Prelude.{nat_lt, if◌then◌else◌, ℤ, pos, ◌+ℤ◌, ◌-ℤ◌, ◌*ℤ◌}
-use Rattle.std.proofs.lemmas.Bool.{ltb-true, ltb-false, lt-ltb, le-ltb}
+use Rattle.std.proofs.Common.{◌≡◌, ℕ, zero, suc, ◌+◌, ◌-◌, ◌*◌, ◌^◌, ◌<◌, ◌≤◌, List, [], ◌∷◌, refl, arith, ltb, cond, Bool, true, false, ◌⊎◌, inl, inr}
+use Rattle.std.specs.Prelude.{nat_lt, ℤ, pos, ◌+ℤ◌, ◌-ℤ◌, ◌*ℤ◌}
+use Rattle.std.proofs.lemmas.Bool.{ltb-true, ltb-false}
 use Rattle.std.proofs.Math.Pow.{pow_mono}
 use Rattle.wasm_types_decoding.specs.declared.Refusal.{Refusal}
 use Rattle.wasm_types_decoding.specs.declared.Refusal.TheVariants.{Other}
@@ -14,8 +14,8 @@ lawful-last_bits : (r b : ℕ) → IsLawful (last_bits r b)
 unfolding last_bits
 lawful-last_bits r b =
     lawful-if (ltb b (2 ^ (r - 1))) _ _ (lawful-pure (pos b)) (
-      lawful-if (ltb b (128 - 2 ^ (r - 1))) _ _ (lawful-refuse Other 1) (
-        lawful-if (ltb b 128) _ _ (lawful-pure (pos b -ℤ pos 128)) (lawful-refuse Other 1)))
+    lawful-if (ltb b (128 - 2 ^ (r - 1))) _ _ (lawful-refuse Other 1) (
+    lawful-if (ltb b 128) _ _ (lawful-pure (pos b -ℤ pos 128)) (lawful-refuse Other 1)))
 
 pub lawful-signed : (k r : ℕ) → IsLawful (signed k r)
 unfolding signed
@@ -104,12 +104,12 @@ module _ (N b : ℕ) where
       decides-if (ltb b (2 ^ (N - 1))) (pure (pos b)) _ after_byte
       (λ t. let small : b < 2 ^ (N - 1) = ltb-true _ _ t in ends_nonnegative (omega arith) small)
       (λ f. let above : 2 ^ (N - 1) ≤ b = ltb-false _ _ f in
-        decides-if (ltb b (128 - 2 ^ (N - 1))) (refuse Other 1) _ after_byte
-        (λ t. let below : b < 128 - 2 ^ (N - 1) = ltb-true _ _ t in refused Other (omega arith) above (inl below))
-        (λ f'. let enough : 128 - 2 ^ (N - 1) ≤ b = ltb-false _ _ f' in
-          decides-if (ltb b 128) (pure (pos b -ℤ pos 128)) (refuse Other 1) after_byte
-          (λ t. let small : b < 128 = ltb-true _ _ t in ends_negative (omega arith) small enough)
-          (λ f''. let large : 128 ≤ b = ltb-false _ _ f'' in refused Other (omega arith) above (inr large))))
+      decides-if (ltb b (128 - 2 ^ (N - 1))) (refuse Other 1) _ after_byte
+      (λ t. let below : b < 128 - 2 ^ (N - 1) = ltb-true _ _ t in refused Other (omega arith) above (inl below))
+      (λ f'. let enough : 128 - 2 ^ (N - 1) ≤ b = ltb-false _ _ f' in
+      decides-if (ltb b 128) (pure (pos b -ℤ pos 128)) (refuse Other 1) after_byte
+      (λ t. let small : b < 128 = ltb-true _ _ t in ends_negative (omega arith) small enough)
+      (λ f''. let large : 128 ≤ b = ltb-false _ _ f'' in refused Other (omega arith) above (inr large))))
 
   decides-seven_bits : 8 ≤ N → b < 128 → Decides (pure (seven_bits b)) after_byte
   decides-seven_bits wide small =

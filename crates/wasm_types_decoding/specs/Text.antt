@@ -1,5 +1,5 @@
 -- Words of some bytes, and what stands behind its size in bytes (WebAssembly 3.0, binary format, values).
-use Rattle.std.specs.Prelude.{◌≡◌, ℕ, zero, suc, ◌+◌, ◌*◌, ◌≤◌, List, [], ◌∷◌, ◌++◌, length, nat_lt, if◌then◌else◌}
+use Rattle.std.specs.Prelude.{◌≡◌, ℕ, ◌+◌, ◌*◌, ◌≤◌, List, [], ◌∷◌, ◌++◌, length, nat_lt, if◌then◌else◌}
 use Rattle.std.specs.Str.{IsUtf8, is_utf8}
 use Rattle.wasm_types_decoding.specs.declared.Refusal.{Refusal}
 use Rattle.wasm_types_decoding.specs.declared.Refusal.TheVariants.{Other}
@@ -14,40 +14,52 @@ little_endian [] = 0
 little_endian (b ∷ text) = b + 256 * little_endian text
 
 -- a number in n bytes, the lowest first
-abbrev pub IsWord : ℕ → Grammar ℕ
-IsWord n v text = (length text ≡ n) × (v ≡ little_endian text)
+pub record IsWord (n v : ℕ) (text : List ℕ) : Type 0 where
+  pub count : length text ≡ n
+  pub value : v ≡ little_endian text
 
-abbrev pub word : ℕ → Decoder ℕ
+unfoldable pub word : ℕ → Decoder ℕ
 word n = bytes n >>= λ text. pure (little_endian text)
 
--- ---- bytes behind their count
-
--- a count, and as many bytes, at most a limit
-pub record IsCounted (limit : ℕ) (content : List ℕ) (text : List ℕ) : Type 0 where
-  pub count : List ℕ
-  pub counted : IsUnsigned 32 (length content) count
-  pub few : length content ≤ limit
-  pub whole : text ≡ count ++ content
-
--- n bytes, if the limit lets them stand
-abbrev pub at_most : ℕ → ℕ → Decoder (List ℕ)
-at_most limit n = if nat_lt limit n then refuse Other 1 else bytes n
-
-unfoldable pub counted_bytes : ℕ → Decoder (List ℕ)
-counted_bytes limit = u32 >>= at_most limit
-
 -- ---- names (values, names)
-
--- name ::= b*:list(byte) => name  if utf8(name) = b*, at most limit bytes of it
-abbrev pub IsName : ℕ → Grammar (List ℕ)
-IsName limit content text = IsCounted limit content text × IsUtf8 content
 
 -- these bytes, if they are UTF-8
 abbrev pub if_utf8 : List ℕ → Decoder (List ℕ)
 if_utf8 content = if is_utf8 content then pure content else refuse Other 1
 
-unfoldable pub name : ℕ → Decoder (List ℕ)
-name limit = counted_bytes limit >>= if_utf8
+-- n bytes of UTF-8
+unfoldable pub text_of : ℕ → Decoder (List ℕ)
+text_of n = bytes n >>= if_utf8
+
+-- n bytes, whatever they are
+unfoldable pub skipped : ℕ → Decoder (Unit {0})
+skipped n = bytes n >>= λ text. pure tt
+
+-- a count of at most limit, and what f reads by it
+unfoldable pub counted_within : {A : Type 0} → ℕ → (ℕ → Decoder A) → Decoder A
+counted_within limit f = u32 >>= λ n. if nat_lt limit n then refuse Other 1 else f n
+
+-- name ::= b*:list(byte) => name  if utf8(name) = b*
+pub record IsAnyName (content text : List ℕ) : Type 0 where
+  pub count : List ℕ
+  pub counted : IsUnsigned 32 (length content) count
+  pub utf8 : IsUtf8 content
+  pub whole : text ≡ count ++ content
+
+-- the same, of at most limit bytes
+pub record IsName (limit : ℕ) (content text : List ℕ) : Type 0 where
+  pub name : IsAnyName content text
+  pub within : length content ≤ limit
+
+unfoldable pub any_name : Decoder (List ℕ)
+any_name = u32 >>= text_of
+
+abbrev pub name : ℕ → Decoder (List ℕ)
+name limit = counted_within limit text_of
+
+-- past a name, whatever its bytes are
+abbrev pub skipped_name : ℕ → Decoder (Unit {0})
+skipped_name limit = counted_within limit skipped
 
 -- ---- parts behind their size
 

@@ -1,29 +1,35 @@
 -- Words, texts and sized parts are read lawfully, and exactly.
-use Rattle.std.proofs.Common.{◌≡◌, ℕ, zero, suc, ◌+◌, ◌-◌, ◌*◌, ◌<◌, ◌≤◌, List, [], ◌∷◌, ◌++◌, length, take, drop, refl, sym, ap, ◌∙◌, subst, append-nil, arith, cond, ltb, eqb, Bool, true, false}
+use Rattle.std.proofs.Common.{◌≡◌, ℕ, ◌+◌, ◌-◌, ◌<◌, ◌≤◌, List, [], ◌∷◌, ◌++◌, length, refl, sym, ap, ◌∙◌, subst, append-nil, arith, cond, ltb, Bool, true, false}
 use Rattle.std.specs.Prelude.{if◌then◌else◌, nat_lt, ◌==◌}
 use Rattle.std.specs.Int.{w16, w32, w64, from_le_bytes}
 use Rattle.std.specs.Str.{IsUtf8, is_utf8}
 use Rattle.std.proofs.lemmas.Str.{IsUtf8-from_is_utf8, is_utf8-from_IsUtf8}
 use Rattle.std.proofs.lemmas.Bool.{ltb-true, ltb-false, eqb-true}
-use Rattle.std.proofs.lemmas.List.{length-append}
 use Rattle.wasm_types_decoding.specs.declared.Refusal.{Refusal}
 use Rattle.wasm_types_decoding.specs.declared.Refusal.TheVariants.{Other}
-use Rattle.wasm_types_decoding.specs.Decoder.{State, Outcome, Done, Short, Fault, Decoder, Grammar, continue_with, ◌>>=◌, pure, refuse, bytes, Takes, IsLawful, Decides, Then, ended, inside, within}
-use Rattle.wasm_types_decoding.specs.Laws.{takes_none, lawful->>=, lawful-pure, lawful-refuse, lawful-if, lawful-bytes, lawful-within}
+use Rattle.wasm_types_decoding.specs.Decoder.{State, Outcome, Done, Short, Fault, Decoder, Grammar, pure, refuse, bytes, Takes, IsLawful, Decides, Then, ended, inside, within}
+use Rattle.wasm_types_decoding.specs.Laws.{lawful->>=, lawful-pure, lawful-refuse, lawful-if, lawful-bytes, lawful-within}
 use Rattle.wasm_types_decoding.specs.Exact.{value_is, state_is, done_then, decides->>=, decides-same, decides-pure, decides-refuse, decides-if, decides-map, decides-bytes, Exactly, Mapped}
 use Rattle.wasm_types_decoding.specs.Leb.{IsUnsigned, u32}
 use Rattle.wasm_types_decoding.specs.LebLaws.{lawful-unsigned, decides-u32}
-use Rattle.wasm_types_decoding.specs.Text.{little_endian, IsWord, word, IsCounted, at_most, counted_bytes, IsName, if_utf8, name, Within, IsSized, sized}
+use Rattle.wasm_types_decoding.specs.Text.{little_endian, IsWord, word, if_utf8, text_of, skipped, counted_within, IsAnyName, IsName, any_name, name, skipped_name, Within, IsSized, sized}
 
 -- ---- words
 
-pub lawful-word : (n : ℕ) → IsLawful (word n)
-lawful-word n = lawful->>= (bytes n) _ (lawful-bytes n) (λ text. lawful-pure _)
+module _ (n : ℕ) where
+  pub lawful-word : IsLawful (word n)
+  unfolding word
+  lawful-word = lawful->>= (bytes n) (λ text. pure (little_endian text)) (lawful-bytes n) (λ text. lawful-pure (little_endian text))
 
-pub decides-word : (n : ℕ) → Decides (word n) (IsWord n)
-decides-word n = decides-same _ _ (IsWord n) (decides-map (bytes n) little_endian (Exactly n) (decides-bytes n))
-    (λ v text h. let e : text ≡ h.0 = h.1.1 in (ap length e ∙ h.1.0, h.2 ∙ ap little_endian (sym e)))
-    (λ v text h. (text, (h.0, refl), h.1))
+  word_to : (v : ℕ) (text : List ℕ) → Mapped little_endian (Exactly n) v text → IsWord n v text
+  word_to v text h = record { count = ap length h.1.1 ∙ h.1.0; value = h.2 ∙ ap little_endian (sym h.1.1) }
+
+  word_from : (v : ℕ) (text : List ℕ) → IsWord n v text → Mapped little_endian (Exactly n) v text
+  word_from v text h = (text, (h.count, refl), h.value)
+
+  pub decides-word : Decides (word n) (IsWord n)
+  unfolding word
+  decides-word = decides-same _ (Mapped little_endian (Exactly n)) (IsWord n) (decides-map (bytes n) little_endian (Exactly n) (decides-bytes n)) word_to word_from
 
 -- the words that std's types read: of four bytes, and of eight
 pub little_endian_2 : (text : List ℕ) → length text ≡ 2 → little_endian text ≡ from_le_bytes w16 text
@@ -38,50 +44,10 @@ pub little_endian_8 : (text : List ℕ) → length text ≡ 8 → little_endian 
 little_endian_8 (a ∷ b ∷ c ∷ d ∷ e ∷ f ∷ g ∷ h ∷ []) q = omega arith
 little_endian_8 _ e = absurd (omega arith)
 
--- ---- bytes behind their count
-
-lawful-at_most : (limit n : ℕ) → IsLawful (at_most limit n)
-lawful-at_most limit n = lawful-if (nat_lt limit n) (refuse Other 1) (bytes n) (lawful-refuse Other 1) (lawful-bytes n)
-
-pub lawful-counted_bytes : (limit : ℕ) → IsLawful (counted_bytes limit)
-unfolding counted_bytes
-lawful-counted_bytes limit = lawful->>= u32 (at_most limit) (lawful-unsigned 4 4) (lawful-at_most limit)
-
--- as many bytes, and few enough
-abbrev Few : ℕ → ℕ → Grammar (List ℕ)
-Few limit n content text = (n ≤ limit) × Exactly n content text
-
-decides-at_most : (limit n : ℕ) → Decides (at_most limit n) (Few limit n)
-decides-at_most limit n = decides-if (ltb limit n) (refuse Other 1) (bytes n) (Few limit n)
-    (λ t. let many : limit < n = ltb-true _ _ t in decides-refuse Other 1 (Few limit n) (λ content text h. omega (arith, h.0)))
-    (λ f. let few : n ≤ limit = ltb-false _ _ f in decides-same (bytes n) (Exactly n) (Few limit n) (decides-bytes n) (λ content text h. (few, h)) (λ content text h. h.1))
-
-module _ (limit : ℕ) where
-  counted_to : (content text : List ℕ) → Then (IsUnsigned 32) (Few limit) content text → IsCounted limit content text
-  counted_to content text h =
-      let n : h.value ≡ length content = sym h.second.1.0 in
-      record {
-        count = h.front;
-        counted = subst (λ (k : ℕ). IsUnsigned 32 k h.front) n h.first;
-        few = subst (λ (k : ℕ). k ≤ limit) n h.second.0;
-        whole = h.whole ∙ ap (λ (z : List ℕ). h.front ++ z) h.second.1.1;
-      }
-
-  counted_from : (content text : List ℕ) → IsCounted limit content text → Then (IsUnsigned 32) (Few limit) content text
-  counted_from content text h = record { value = length content; front = h.count; back = content; first = h.counted; second = (h.few, (refl, refl)); whole = h.whole }
-
-  pub decides-counted_bytes : Decides (counted_bytes limit) (IsCounted limit)
-  unfolding counted_bytes
-  decides-counted_bytes = decides-same _ _ (IsCounted limit) (decides->>= u32 (at_most limit) (IsUnsigned 32) (Few limit) decides-u32 (decides-at_most limit)) counted_to counted_from
-
--- ---- names
+-- ---- the bytes of a name
 
 lawful-if_utf8 : (content : List ℕ) → IsLawful (if_utf8 content)
 lawful-if_utf8 content = lawful-if (is_utf8 content) (pure content) (refuse Other 1) (lawful-pure content) (lawful-refuse Other 1)
-
-pub lawful-name : (limit : ℕ) → IsLawful (name limit)
-unfolding name
-lawful-name limit = lawful->>= (counted_bytes limit) if_utf8 (lawful-counted_bytes limit) lawful-if_utf8
 
 -- nothing more, of bytes that are UTF-8
 abbrev Utf8 : List ℕ → Grammar (List ℕ)
@@ -92,19 +58,97 @@ decides-if_utf8 content = decides-if (is_utf8 content) (pure content) (refuse Ot
     (λ t. decides-pure content (Utf8 content) (refl, refl, IsUtf8-from_is_utf8 content t) (λ value text h. (h.0, h.1)))
     (λ f. decides-refuse Other 1 (Utf8 content) (λ value text h. let t = is_utf8-from_IsUtf8 content h.2 in cc))
 
-module _ (limit : ℕ) where
-  name_to : (content text : List ℕ) → Then (IsCounted limit) Utf8 content text → IsName limit content text
-  name_to content text h =
-      let front : text ≡ h.front = h.whole ∙ ap (λ (z : List ℕ). h.front ++ z) h.second.1 ∙ append-nil h.front in
-      let first : IsCounted limit content h.front = subst (λ (z : List ℕ). IsCounted limit z h.front) (sym h.second.0) h.first in
-      (subst (λ (z : List ℕ). IsCounted limit content z) (sym front) first, subst IsUtf8 (sym h.second.0) h.second.2)
+module _ (n : ℕ) where
+  pub lawful-text_of : IsLawful (text_of n)
+  unfolding text_of
+  lawful-text_of = lawful->>= (bytes n) if_utf8 (lawful-bytes n) lawful-if_utf8
 
-  name_from : (content text : List ℕ) → IsName limit content text → Then (IsCounted limit) Utf8 content text
-  name_from content text h = record { value = content; front = text; back = []; first = h.0; second = (refl, refl, h.1); whole = sym (append-nil text) }
+  -- n bytes of UTF-8, which are the value
+  abbrev pub IsTextOf : Grammar (List ℕ)
+  IsTextOf content text = (length content ≡ n) × (text ≡ content) × IsUtf8 content
+
+  text_to : (content text : List ℕ) → Then (Exactly n) Utf8 content text → IsTextOf content text
+  text_to content text h =
+      let same : content ≡ h.value = h.second.0 in
+      let whole : text ≡ h.value = h.whole ∙ ap (λ (z : List ℕ). h.front ++ z) h.second.1 ∙ append-nil h.front ∙ h.first.1 in
+      (ap length same ∙ h.first.0, whole ∙ sym same, subst IsUtf8 (sym same) h.second.2)
+
+  text_from : (content text : List ℕ) → IsTextOf content text → Then (Exactly n) Utf8 content text
+  text_from content text h = record { value = content; front = text; back = []; first = (h.0, h.1); second = (refl, refl, h.2); whole = sym (append-nil text) }
+
+  pub decides-text_of : Decides (text_of n) IsTextOf
+  unfolding text_of
+  decides-text_of = decides-same _ (Then (Exactly n) Utf8) IsTextOf (decides->>= (bytes n) if_utf8 (Exactly n) Utf8 (decides-bytes n) decides-if_utf8) text_to text_from
+
+  pub lawful-skipped : IsLawful (skipped n)
+  unfolding skipped
+  lawful-skipped = lawful->>= (bytes n) (λ text. pure tt) (lawful-bytes n) (λ text. lawful-pure tt)
+
+-- ---- a count with a limit, and what it counts
+
+module _ {A : Type 0} (limit : ℕ) (f : ℕ → Decoder A) where
+  abbrev limited : ℕ → Decoder A
+  limited n = if nat_lt limit n then refuse Other 1 else f n
+
+  pub lawful-counted_within : ((n : ℕ) → IsLawful (f n)) → IsLawful (counted_within limit f)
+  unfolding counted_within
+  lawful-counted_within l = lawful->>= u32 limited (lawful-unsigned 4 4) (λ n. lawful-if (nat_lt limit n) (refuse Other 1) (f n) (lawful-refuse Other 1) (l n))
+
+  module _ (g : ℕ → Grammar A) (decides : (n : ℕ) → Decides (f n) (g n)) where
+    abbrev pub Limited : ℕ → Grammar A
+    Limited n x text = (n ≤ limit) × g n x text
+
+    decides-limited : (n : ℕ) → Decides (limited n) (Limited n)
+    decides-limited n = decides-if (ltb limit n) (refuse Other 1) (f n) (Limited n)
+        (λ t. let many : limit < n = ltb-true _ _ t in decides-refuse Other 1 (Limited n) (λ x text h. omega (arith, h.0)))
+        (λ e. let few : n ≤ limit = ltb-false _ _ e in decides-same (f n) (g n) (Limited n) (decides n) (λ x text h. (few, h)) (λ x text h. h.1))
+
+    pub decides-counted_within : Decides (counted_within limit f) (Then (IsUnsigned 32) Limited)
+    unfolding counted_within
+    decides-counted_within = decides->>= u32 limited (IsUnsigned 32) Limited decides-u32 decides-limited
+
+-- ---- names
+
+pub lawful-any_name : IsLawful any_name
+unfolding any_name
+lawful-any_name = lawful->>= u32 text_of (lawful-unsigned 4 4) lawful-text_of
+
+pub lawful-name : (limit : ℕ) → IsLawful (name limit)
+lawful-name limit = lawful-counted_within limit text_of lawful-text_of
+
+pub lawful-skipped_name : (limit : ℕ) → IsLawful (skipped_name limit)
+lawful-skipped_name limit = lawful-counted_within limit skipped lawful-skipped
+
+any_name_to : (content text : List ℕ) → Then (IsUnsigned 32) IsTextOf content text → IsAnyName content text
+any_name_to content text h = record {
+  count = h.front;
+  counted = subst (λ (n : ℕ). IsUnsigned 32 n h.front) (sym h.second.0) h.first;
+  utf8 = h.second.2;
+  whole = h.whole ∙ ap (λ (z : List ℕ). h.front ++ z) h.second.1;
+}
+
+any_name_from : (content text : List ℕ) → IsAnyName content text → Then (IsUnsigned 32) IsTextOf content text
+any_name_from content text h = record { value = length content; front = h.count; back = content; first = h.counted; second = (refl, refl, h.utf8); whole = h.whole }
+
+pub decides-any_name : Decides any_name IsAnyName
+unfolding any_name
+decides-any_name = decides-same _ (Then (IsUnsigned 32) IsTextOf) IsAnyName (decides->>= u32 text_of (IsUnsigned 32) IsTextOf decides-u32 decides-text_of) any_name_to any_name_from
+
+module _ (limit : ℕ) where
+  abbrev LimitedText : ℕ → Grammar (List ℕ)
+  LimitedText n content text = (n ≤ limit) × IsTextOf n content text
+
+  name_to : (content text : List ℕ) → Then (IsUnsigned 32) LimitedText content text → IsName limit content text
+  name_to content text h = record {
+    name = any_name_to content text (record { value = h.value; front = h.front; back = h.back; first = h.first; second = h.second.1; whole = h.whole });
+    within = omega (arith, h.second.0, h.second.1.0);
+  }
+
+  name_from : (content text : List ℕ) → IsName limit content text → Then (IsUnsigned 32) LimitedText content text
+  name_from content text h = record { value = length content; front = h.name.count; back = content; first = h.name.counted; second = (h.within, (refl, refl, h.name.utf8)); whole = h.name.whole }
 
   pub decides-name : Decides (name limit) (IsName limit)
-  unfolding name
-  decides-name = decides-same _ _ (IsName limit) (decides->>= (counted_bytes limit) if_utf8 (IsCounted limit) Utf8 (decides-counted_bytes limit) decides-if_utf8) name_to name_from
+  decides-name = decides-same _ (Then (IsUnsigned 32) LimitedText) (IsName limit) (decides-counted_within limit text_of IsTextOf decides-text_of) name_to name_from
 
 -- ---- parts behind their size
 

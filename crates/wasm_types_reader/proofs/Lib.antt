@@ -1,4 +1,9 @@
 pub mod Cut
-pub mod Groups
+pub mod Drained
+pub mod Passed
 pub mod Rows
 pub mod Sizes
+pub mod Spelled
+pub mod LebGroups
+pub mod LebSigned
+pub mod LebUnsigned

@@ -2,4 +2,10 @@ pub mod ErrorText
 pub mod ErrorValue
 pub mod Reading
 pub mod ReadingLaws
+pub mod Draining
 pub mod Parts
+pub mod Words
+pub mod WordLaws
+pub mod Texts
+pub mod TextLaws
+pub mod Numbers

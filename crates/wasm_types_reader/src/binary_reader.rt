@@ -1,22 +1,26 @@
 //! The reader of bytes.
 
-ghost use Rattle.std.specs.Prelude.{◌≡◌, ℕ, ◌+◌, ◌-◌, ◌<◌, ◌≤◌, ◌^◌, ◌==◌, length, min};
-ghost use Rattle.wasm_types_decoding.specs.Decoder.{byte, bytes, look, pure, Reaches};
+ghost use Rattle.std.specs.Prelude.{◌≡◌, ℕ, ◌+◌, ◌-◌, ◌<◌, ◌≤◌, ◌^◌, ◌==◌, ◌↔◌, [], ◌∷◌, IsTrue, length, take, Ok, Err, IfOk, IfErr, ⊤};
+ghost use Rattle.std.specs.Fn.{FnOnceReturnsAtMut};
+ghost use Rattle.wasm_types_decoding.specs.Decoder.{State, byte, bytes, look, pure, Reaches};
 ghost use Rattle.wasm_types_decoding.specs.Leb.{u32 as u32_decoder};
 ghost use Rattle.wasm_types_decoding.specs.Lists.{size_within};
 ghost use Rattle.wasm_types_reader.specs.declared.error.ErrorKind.TheVariants.{EndOfData, Other};
+ghost use Rattle.wasm_types_features.specs.Sets.{bits_of, default_features};
 ghost use Rattle.wasm_types_reader.specs.Reading.{Answers, Gives, NeedsNoMemory};
-ghost use Rattle.wasm_types_reader.specs.Parts.{counted_part};
+ghost use Rattle.wasm_types_reader.specs.Parts.{part_at, counted_part, IsPassed};
+ghost use Rattle.wasm_types_reader.specs.Numbers.{behind};
 
 use crate::{Error, FromReader, Result};
-use std::alloc::Global;
+use std::alloc::{AllocError, Global};
 use std::marker::Model;
+use std::ops::Range;
 use wasm_types_features::WasmFeatures;
 
 /// A reader over bytes, which knows their place in the input and the features that are allowed.
 #[derive(Drop)]
 pub struct BinaryReader<'a> {
-    data: &'a [u8],
+    buffer: &'a [u8],
     position: usize,
     original_offset: u64,
     features: WasmFeatures,
@@ -28,36 +32,51 @@ impl<'a> Model for BinaryReader<'a> {
 
     ghost Value = { State };
 
-    ghost view = { λ r. record { rest = drop r.position r.data.now; place = r.original_offset + r.position; features = r.features.0; start = r.original_offset } };
+    ghost view = { λ r. record { rest = drop r.position r.buffer.now; place = r.original_offset + r.position; features = r.features.0; start = r.original_offset } };
 
-    ghost invariant = { λ r. (r.position ≤ length r.data.now) × (r.original_offset + length r.data.now < 2 ^ 64) };
+    ghost invariant = { λ r. (r.position ≤ length r.buffer.now) × (r.original_offset + length r.buffer.now < 2 ^ 64) };
+}
+
+impl<'a> Clone for BinaryReader<'a> {
+    ghost is_clone = { λ r s. s ≡ r };
+
+    ghost is_infallible = { λ _. ⊤ };
+
+    fn clone(&self) -> std::result::Result<BinaryReader<'a>, AllocError> {
+        Ok(BinaryReader {
+            buffer: self.buffer,
+            position: self.position,
+            original_offset: self.original_offset,
+            features: self.features,
+        })
+    }
 }
 
 impl<'a> BinaryReader<'a> {
-    /// A reader over `data`, the first byte of which stands at `original_offset` of the input, with the default features.
+    /// A reader over `buffer`, the first byte of which stands at `original_offset` of the input, with the default features.
     #[inline]
-    pub fn new(data: &'a [u8], original_offset: u64) -> BinaryReader<'a>
-        requires { original_offset + length data.now < 2 ^ 64 }
-        ensures rest { result.rest ≡ «data».now }
+    pub fn new(buffer: &'a [u8], original_offset: u64) -> BinaryReader<'a>
+        requires { original_offset + length buffer.now < 2 ^ 64 }
+        ensures rest { result.rest ≡ buffer.now }
         ensures place { result.place ≡ original_offset }
         ensures start { result.start ≡ original_offset }
-        ensures features { result.features ≡ 0x0DFFFFFF }
+        ensures features { result.features ≡ bits_of default_features }
     {
-        BinaryReader::new_features(data, original_offset, WasmFeatures::default())
+        BinaryReader::new_features(buffer, original_offset, WasmFeatures::default())
     }
 
-    /// A reader over `data`, the first byte of which stands at `original_offset` of the input.
+    /// A reader over `buffer`, the first byte of which stands at `original_offset` of the input.
     #[inline]
     pub fn new_features(
-        data: &'a [u8],
+        buffer: &'a [u8],
         original_offset: u64,
         features: WasmFeatures,
     ) -> BinaryReader<'a>
-        requires { original_offset + length data.now < 2 ^ 64 }
-        ensures { result ≡ record { rest = «data».now; place = original_offset; features = features.0; start = original_offset } }
+        requires { original_offset + length buffer.now < 2 ^ 64 }
+        ensures { result ≡ record { rest = buffer.now; place = original_offset; features = features.0; start = original_offset } }
     {
         BinaryReader {
-            data,
+            buffer,
             position: 0,
             original_offset,
             features,
@@ -78,7 +97,7 @@ impl<'a> BinaryReader<'a> {
         ensures { result ≡ self.now }
     {
         BinaryReader {
-            data: self.data,
+            buffer: self.buffer,
             position: self.position,
             original_offset: self.original_offset,
             features: self.features,
@@ -106,7 +125,7 @@ impl<'a> BinaryReader<'a> {
     pub fn bytes_remaining(&self) -> usize
         ensures { result ≡ length self.now.rest }
     {
-        self.data.len() - self.position
+        self.buffer.len() - self.position
     }
 
     /// Whether no byte is left.
@@ -114,7 +133,7 @@ impl<'a> BinaryReader<'a> {
     pub fn eof(&self) -> bool
         ensures { result ≡ (length self.now.rest == 0) }
     {
-        self.position == self.data.len()
+        self.position == self.buffer.len()
     }
 
     /// The features that are allowed.
@@ -125,6 +144,76 @@ impl<'a> BinaryReader<'a> {
         self.features
     }
 
+    /// Allows these features from here on.
+    #[inline]
+    pub fn set_features(&mut self, features: WasmFeatures)
+        ensures { self.new ≡ record { rest = self.old.rest; place = self.old.place; features = features.0; start = self.old.start } }
+    {
+        self.features = features;
+    }
+
+    /// The places of all of the reader's bytes, those that were read too.
+    #[inline]
+    pub fn range(&self) -> Range<u64>
+        ensures { result ≡ record { start = self.now.start; end = self.now.place + length self.now.rest } }
+    {
+        Range {
+            start: self.original_offset,
+            end: self.original_offset + self.buffer.len() as u64,
+        }
+    }
+
+    /// The places of the bytes that are left.
+    #[inline]
+    pub fn remaining_range(&self) -> Range<u64>
+        ensures { result ≡ record { start = self.now.place; end = self.now.place + length self.now.rest } }
+    {
+        Range {
+            start: self.original_offset + self.position as u64,
+            end: self.original_offset + self.buffer.len() as u64,
+        }
+    }
+
+    /// Whether `end`, the byte `0b`, is all that is left.
+    #[inline]
+    pub fn is_end_then_eof(&self) -> bool
+        ensures { IsTrue result ↔ (self.now.rest ≡ 0x0b ∷ []) }
+    {
+        self.buffer.len() - self.position == 1 && self.buffer[self.position] == 0x0b
+    }
+
+    /// A reader over what is left, which begins at this place.
+    #[inline]
+    pub fn shrink(&self) -> BinaryReader<'a>
+        ensures { result ≡ record { rest = self.now.rest; place = self.now.place; features = self.now.features; start = self.now.place } }
+    {
+        BinaryReader {
+            buffer: &self.buffer[self.position..],
+            position: 0,
+            original_offset: self.original_position(),
+            features: self.features,
+        }
+    }
+
+    /// The bytes that are left.
+    #[inline]
+    pub(crate) fn rest(&self) -> &'a [u8]
+        ensures rest { result.now ≡ self.now.rest }
+        ensures places { self.now.place + length result.now < 2 ^ 64 }
+    {
+        let buffer = self.buffer;
+        &buffer[self.position..]
+    }
+
+    /// Goes on by `n` of the bytes that are left.
+    #[inline]
+    pub(crate) fn advance(&mut self, n: usize)
+        requires { n ≤ length self.old.rest }
+        ensures { self.new ≡ behind n self.old }
+    {
+        self.position += n;
+    }
+
     /// The next byte.
     #[inline]
     pub fn read_u8(&mut self) -> Result<u8>
@@ -132,10 +221,10 @@ impl<'a> BinaryReader<'a> {
         ensures no_memory { NeedsNoMemory result }
         ensures forward { Reaches self.old self.new }
     {
-        if self.position == self.data.len() {
+        if self.position == self.buffer.len() {
             return Err(self.eof_error(1));
         }
-        let b = self.data[self.position];
+        let b = self.buffer[self.position];
         self.position += 1;
         Ok(b)
     }
@@ -156,12 +245,12 @@ impl<'a> BinaryReader<'a> {
         ensures no_memory { NeedsNoMemory result }
         ensures forward { Reaches self.old self.new }
     {
-        let data = self.data;
-        let left = data.len() - self.position;
+        let buffer = self.buffer;
+        let left = buffer.len() - self.position;
         if left < n {
             return Err(self.eof_error(n - left));
         }
-        let text = &data[self.position..self.position + n];
+        let text = &buffer[self.position..self.position + n];
         self.position += n;
         Ok(text)
     }
@@ -172,10 +261,10 @@ impl<'a> BinaryReader<'a> {
         ensures answer { Gives (λ b. b) result self.now (look pure self.now) }
         ensures no_memory { NeedsNoMemory result }
     {
-        if self.position == self.data.len() {
+        if self.position == self.buffer.len() {
             return Err(self.eof_error(1));
         }
-        Ok(self.data[self.position])
+        Ok(self.buffer[self.position])
     }
 
     /// A number in LEB128 of at most `limit`, where 2^32 - 1 is the most that is read. A larger one is refused at its own
@@ -212,6 +301,40 @@ impl<'a> BinaryReader<'a> {
                 *self = start;
                 Err(error)
             }
+        }
+    }
+
+    /// Runs `f` on the reader, and gives a reader over the bytes that it passed, which begins where they do.
+    #[inline]
+    pub fn skip<F: FnOnce(&mut BinaryReader<'a>) -> Result<()>>(
+        &mut self,
+        f: F,
+    ) -> Result<BinaryReader<'a>>
+        requires callable { F.IsAlwaysCallable f }
+        requires goes_on { (after : State) → FnOnceReturnsAtMut F.FnOnce f self.old (Ok tt) after → Reaches self.old after }
+        ensures passed { IfOk result (λ passed. FnOnceReturnsAtMut F.FnOnce f self.old (Ok tt) self.new × IsPassed self.old self.new passed) }
+        ensures refused { IfErr result (λ e. ((after : State) × FnOnceReturnsAtMut F.FnOnce f self.old (Err e) after) × (self.new ≡ self.old)) }
+    {
+        let start = self.clone();
+        let run = f(self);
+        if let Err(error) = run {
+            *self = start;
+            return Err(error);
+        }
+        let passed = start.bytes_remaining() - self.bytes_remaining();
+        Ok(start.front(passed))
+    }
+
+    /// A reader over the next `n` bytes.
+    fn front(&self, n: usize) -> BinaryReader<'a>
+        requires { n ≤ length self.now.rest }
+        ensures { result ≡ part_at self.now (take n self.now.rest) }
+    {
+        BinaryReader {
+            buffer: &self.buffer[self.position..self.position + n],
+            position: 0,
+            original_offset: self.original_position(),
+            features: self.features,
         }
     }
 

@@ -1,8 +1,7 @@
-//! The trait of all that is read from bytes, and what holds of each such type.
+//! The trait of all that is read from bytes.
 
-ghost use Rattle.std.specs.Prelude.{◌≡◌, ℕ, ◌-◌, ◌<◌, ◌≤◌, List, length};
-ghost use Rattle.wasm_types_decoding.specs.declared.Refusal.{Refusal};
-ghost use Rattle.wasm_types_decoding.specs.Decoder.{State, Done, Short, Fault, Decoder, Grammar, extended, IsBeyond, IsLawful, Decides, Takes, Reaches};
+ghost use Rattle.std.specs.Prelude.{ℕ};
+ghost use Rattle.wasm_types_decoding.specs.Decoder.{Decoder, Grammar, IsLawful, Decides, Reaches};
 ghost use Rattle.wasm_types_decoding.specs.Leb.{u32 as u32_decoder, IsUnsigned};
 ghost use Rattle.wasm_types_decoding.specs.LebLaws.{lawful-unsigned, decides-u32};
 ghost use Rattle.wasm_types_reader.specs.Reading.{Gives};
@@ -55,15 +54,3 @@ impl<'a> FromReader<'a> for u32 {
         reader.read_var_u32()
     }
 }
-
-/// What holds of each type that is read, by its decoder. A value and a fault stay, whatever bytes follow. Where the bytes
-/// end too early, they still do at this place with fewer bytes than were wanted, and no longer with as many. A value is
-/// read exactly where a front of the bytes is one of its spellings.
-pub fn reading_is_lawful<'a, T: FromReader<'a>>()
-    ensures value { (s t : State) (more : List ℕ) (x : T.Value) → T.decoder s ≡ Done x t → T.decoder (extended s more) ≡ Done x (extended t more) }
-    ensures fault { (s : State) (more : List ℕ) (k : Refusal) (p : ℕ) → T.decoder s ≡ Fault k p → T.decoder (extended s more) ≡ Fault k p }
-    ensures fewer { (s : State) (more : List ℕ) (p h : ℕ) → T.decoder s ≡ Short p h → length more < h → T.decoder (extended s more) ≡ Short p (h - length more) }
-    ensures enough { (s : State) (more : List ℕ) (p h : ℕ) → T.decoder s ≡ Short p h → h ≤ length more → IsBeyond p (T.decoder (extended s more)) }
-    ensures sound { (s t : State) (x : T.Value) → T.decoder s ≡ Done x t → (text : List ℕ) × Takes s text t × T.grammar x text }
-    ensures complete { (s t : State) (x : T.Value) (text : List ℕ) → Takes s text t → T.grammar x text → T.decoder s ≡ Done x t }
-{}

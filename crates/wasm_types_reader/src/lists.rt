@@ -24,6 +24,8 @@ pub fn read_list<'a, T: FromReader<'a>>(
     read_many(alloc, count, reader)
 }
 
+/// As many values as are asked for, one after the other. The list grows as it is read. Where it is refused the reader may have
+/// gone on.
 pub fn read_many<'a, T: FromReader<'a>>(
     alloc: Global,
     count: usize,

@@ -1,5 +1,5 @@
 use Rattle.wasm_types_decoding.specs.Decoder.{extended}
-use Rattle.wasm_types_reader.proofs.from_reader.reading_is_lawful.Goals as goal
+use Rattle.wasm_types_reader.proofs.laws.reading_is_lawful.Goals as goal
 
 pub returns-clause-value : goal.returns-clause-value
 returns-clause-value g c = λ s t more x e. rw e at ((g.met.T.FromReader c.lifetimes (assumption c)).lawful.steady s more)

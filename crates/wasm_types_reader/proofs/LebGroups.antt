@@ -1,0 +1,67 @@
+-- What both loops over the groups of a number take from a byte and a place.
+use Rattle.std.proofs.Common.{◌≡◌, ℕ, zero, suc, ◌+◌, ◌-◌, ◌*◌, ◌%◌, ◌^◌, ◌<◌, ◌≤◌, List, [], ◌∷◌, length, take, drop, get_or, refl, sym, ap, ◌∙◌, arith, pow-add, pow_mono, mul-le-mul_right, suc-mul, add-one, ◌⊎◌}
+use Rattle.std.specs.Prelude.{bit_and, bit_or}
+use Rattle.std.specs.Int.Bits.{or_shifted_r}
+use Rattle.std.proofs.Math.Seq.{drop-cons}
+use Rattle.std.proofs.lemmas.List.{length-drop, length-take, take-append-drop}
+use Rattle.std.proofs.Math.Nat.{mod-eq_of_lt}
+use Rattle.std.proofs.lemmas.Grind.{and_numeral}
+use Rattle.wasm_types_decoding.specs.Decoder.{State, Outcome, Done, Short, byte, Reaches}
+use Rattle.wasm_types_decoding.specs.Exact.{same_state}
+use Rattle.wasm_types_reader.specs.Numbers.{behind}
+
+-- ---- places
+
+pub behind_none : (s : State) → behind 0 s ≡ s
+behind_none s = same_state (behind 0 s) s refl (omega arith) refl refl
+
+pub goes_forward : (s t : State) (n : ℕ) → n ≤ length s.rest → t ≡ behind n s → Reaches s t
+goes_forward s t n le e = record {
+  text = take n s.rest;
+  taken = rw e (record { parts = sym (take-append-drop n s.rest); place = omega (arith, length-take n s.rest); features = refl; start = refl });
+}
+
+pub one_forward : (s t : State) (rest : List ℕ) → rest ≡ s.rest → 0 < length rest → t ≡ behind 1 s → Reaches s t
+one_forward s t rest e some there = goes_forward s t 1 (omega (arith, ap length e)) there
+
+byte_there : (s : State) (i : ℕ) → i < length s.rest → byte (behind i s) ≡ Done (get_or s.rest i 0) (behind (i + 1) s)
+byte_there s i lt = let e : drop i s.rest ≡ get_or s.rest i 0 ∷ drop (i + 1) s.rest = rw (add-one, drop-cons s.rest i 0) refl in
+    let p : s.place + i + 1 ≡ s.place + (i + 1) = omega arith in rw (e, p) refl
+
+pub byte_here : (s : State) (rest : List ℕ) (i : ℕ) → rest ≡ s.rest → i < length rest → byte (behind i s) ≡ Done (get_or rest i 0) (behind (i + 1) s)
+byte_here s rest i e lt = rw e (byte_there s i (omega (arith, ap length e)))
+
+no_byte_there : (s : State) (i : ℕ) → length s.rest ≤ i → byte (behind i s) ≡ Short (s.place + i) 1
+no_byte_there s i le = go (drop i s.rest) refl
+  where
+    go : (r : List ℕ) → drop i s.rest ≡ r → byte (behind i s) ≡ Short (s.place + i) 1
+    go [] e = rw e refl
+    go (b ∷ r) e = absurd (omega (arith, ap length e, length-drop i s.rest))
+
+pub no_byte_here : (s : State) (rest : List ℕ) (i p : ℕ) → rest ≡ s.rest → length rest ≤ i → p ≡ s.place + i → byte (behind i s) ≡ Short p 1
+no_byte_here s rest i p e le q = rw q (no_byte_there s i (omega (arith, ap length e)))
+
+-- the byte at the front
+pub first_byte : (s t : State) (rest : List ℕ) → rest ≡ s.rest → 0 < length rest → t ≡ behind 1 s → byte s ≡ Done (get_or rest 0 0) t
+first_byte s t rest e some there = rw there (rw (behind_none s) at (byte_here s rest 0 e some))
+
+-- ---- a group
+
+pub one_shl : (k : ℕ) → k ≤ 7 → 1 * 2 ^ k % 256 ≡ 2 ^ k
+one_shl k le = let p : 2 ^ k ≤ 2 ^ 7 = pow_mono le in let q : 1 * 2 ^ k ≡ 2 ^ k = omega arith in rw q (mod-eq_of_lt (omega arith))
+
+pub low_bits : (b : ℕ) → bit_and b 127 ≡ b % 128
+low_bits b = and_numeral b 126 refl
+
+pub scaled_next : (x e shift bits : ℕ) → x < 2 ^ e → e + shift ≤ bits → suc x * 2 ^ shift ≤ 2 ^ bits
+scaled_next x e shift bits lt le =
+    let above : suc x * 2 ^ shift ≤ 2 ^ e * 2 ^ shift = mul-le-mul_right (2 ^ shift) lt in
+    let room : 2 ^ e * 2 ^ shift ≤ 2 ^ bits = rw (← pow-add 2 e shift) (pow_mono le) in
+    omega arith
+
+-- what is below 2 ^ e, above the low bits, stays below 2 ^ bits
+pub scaled : (x e shift bits low : ℕ) → x < 2 ^ e → e + shift ≤ bits → low < 2 ^ shift → x * 2 ^ shift + low < 2 ^ bits
+scaled x e shift bits low lt le small = omega (arith, scaled_next x e shift bits lt le, suc-mul x (2 ^ shift))
+
+pub joins : (low x shift : ℕ) → low < 2 ^ shift → x * 2 ^ shift < 2 ^ 64 → bit_or low (x * 2 ^ shift % 18446744073709551616) ≡ x * 2 ^ shift + low
+joins low x shift lt fits = rw (mod-eq_of_lt fits) (or_shifted_r x shift low lt)

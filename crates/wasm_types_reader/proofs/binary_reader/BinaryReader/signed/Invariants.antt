@@ -1,0 +1,12 @@
+use Rattle.std.proofs.Common.{◌≡◌}
+use Rattle.wasm_types_reader.specs.Numbers.{signed_of, behind}
+use Rattle.wasm_types_reader.proofs.LebSigned.{Remains}
+use Rattle.wasm_types_reader.proofs.binary_reader.BinaryReader.signed.Given as goal
+
+abbrev pub invariant-loop-i : goal.invariant-loop-i
+invariant-loop-i l = record {
+  remains : Remains l.bits l.shift l.low (behind l.i l.self) (signed_of l.bits l.fn.self);
+  same : l.self ≡ l.fn.self;
+  bytes : l.rest ≡ l.self.rest;
+  begins : l.start ≡ l.self.place;
+}

@@ -1,0 +1,25 @@
+use Rattle.wasm_types_decoding.specs.ListLaws.{lawful-size_within, decides-size_within}
+use Rattle.wasm_types_reader.specs.WordLaws.{lawful-word, decides-word, lawful-u7, decides-u7}
+use Rattle.wasm_types_reader.specs.TextLaws.{lawful-string, decides-string, lawful-unlimited_string, decides-unlimited_string, lawful-skipped_string, lawful-counted_part}
+use Rattle.wasm_types_reader.proofs.laws.texts_and_words_are_lawful.Goals as goal
+
+pub returns-clause-words : goal.returns-clause-words
+returns-clause-words c = λ k. (lawful-word k, decides-word k)
+
+pub returns-clause-small_bytes : goal.returns-clause-small_bytes
+returns-clause-small_bytes c = (lawful-u7, decides-u7)
+
+pub returns-clause-sizes : goal.returns-clause-sizes
+returns-clause-sizes c = λ limit. (lawful-size_within limit, decides-size_within limit)
+
+pub returns-clause-strings : goal.returns-clause-strings
+returns-clause-strings c = (lawful-string, decides-string)
+
+pub returns-clause-unlimited_strings : goal.returns-clause-unlimited_strings
+returns-clause-unlimited_strings c = (lawful-unlimited_string, decides-unlimited_string)
+
+pub returns-clause-skipped_strings : goal.returns-clause-skipped_strings
+returns-clause-skipped_strings c = lawful-skipped_string
+
+pub returns-clause-parts : goal.returns-clause-parts
+returns-clause-parts c = lawful-counted_part

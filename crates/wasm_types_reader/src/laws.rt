@@ -1,0 +1,41 @@
+//! What holds of what is read, as contracts of functions that do nothing.
+
+ghost use Rattle.std.specs.Prelude.{◌≡◌, ℕ, ◌-◌, ◌<◌, ◌≤◌, List, length};
+ghost use Rattle.wasm_types_decoding.specs.declared.Refusal.{Refusal};
+ghost use Rattle.wasm_types_decoding.specs.Decoder.{State, Done, Short, Fault, extended, IsBeyond, IsLawful, Decides, Takes};
+ghost use Rattle.wasm_types_decoding.specs.Lists.{size_within, listed_within, IsSizeWithin, IsListedWithin};
+ghost use Rattle.wasm_types_reader.specs.Parts.{counted_part};
+ghost use Rattle.wasm_types_reader.specs.Words.{word, u7, IsWord, IsSmallByte};
+ghost use Rattle.wasm_types_reader.specs.Texts.{string, unlimited_string, skipped_string, IsString, IsStringWithin};
+
+use crate::FromReader;
+
+/// What holds of each type that is read, by its decoder. A value and a fault stay, whatever bytes follow. Where the bytes
+/// end too early, they still do at this place with fewer bytes than were wanted, and no longer with as many. A value is
+/// read exactly where a front of the bytes is one of its spellings.
+pub fn reading_is_lawful<'a, T: FromReader<'a>>()
+    ensures value { (s t : State) (more : List ℕ) (x : T.Value) → T.decoder s ≡ Done x t → T.decoder (extended s more) ≡ Done x (extended t more) }
+    ensures fault { (s : State) (more : List ℕ) (k : Refusal) (p : ℕ) → T.decoder s ≡ Fault k p → T.decoder (extended s more) ≡ Fault k p }
+    ensures fewer { (s : State) (more : List ℕ) (p h : ℕ) → T.decoder s ≡ Short p h → length more < h → T.decoder (extended s more) ≡ Short p (h - length more) }
+    ensures enough { (s : State) (more : List ℕ) (p h : ℕ) → T.decoder s ≡ Short p h → h ≤ length more → IsBeyond p (T.decoder (extended s more)) }
+    ensures sound { (s t : State) (x : T.Value) → T.decoder s ≡ Done x t → (text : List ℕ) × Takes s text t × T.grammar x text }
+    ensures complete { (s t : State) (x : T.Value) (text : List ℕ) → Takes s text t → T.grammar x text → T.decoder s ≡ Done x t }
+{}
+
+/// The same of lists that are counted within a limit, of any type that is read.
+pub fn lists_are_lawful<'a, T: FromReader<'a>>()
+    ensures lawful { (limit : ℕ) → IsLawful (listed_within limit T.decoder) }
+    ensures exact { (limit : ℕ) → Decides (listed_within limit T.decoder) (IsListedWithin limit T.grammar) }
+{}
+
+/// The same of numbers of a fixed length, bytes below 128, sizes with a limit and texts; and of what has no spelling of its
+/// own, skipped texts and parts, that it is lawful.
+pub fn texts_and_words_are_lawful()
+    ensures words { (k : ℕ) → IsLawful (word k) × Decides (word k) (IsWord k) }
+    ensures small_bytes { IsLawful u7 × Decides u7 IsSmallByte }
+    ensures sizes { (limit : ℕ) → IsLawful (size_within limit) × Decides (size_within limit) (IsSizeWithin limit) }
+    ensures strings { IsLawful string × Decides string (IsStringWithin 100000) }
+    ensures unlimited_strings { IsLawful unlimited_string × Decides unlimited_string IsString }
+    ensures skipped_strings { IsLawful skipped_string }
+    ensures parts { IsLawful counted_part }
+{}

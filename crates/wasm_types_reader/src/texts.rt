@@ -1,0 +1,120 @@
+//! Texts (WebAssembly 3.0, binary format, names).
+
+ghost use Rattle.std.specs.Prelude.{◌≡◌, ◌-◌};
+ghost use Rattle.wasm_types_decoding.specs.Decoder.{Reaches};
+ghost use Rattle.wasm_types_decoding.specs.Leb.{u32 as u32_decoder};
+ghost use Rattle.wasm_types_reader.specs.declared.error.ErrorKind.TheVariants.{Other};
+ghost use Rattle.wasm_types_reader.specs.Reading.{Answers, Gives, NeedsNoMemory};
+ghost use Rattle.wasm_types_reader.specs.Texts.{counted_within, text_of, skipped, string, skipped_string, unlimited_string};
+
+use crate::limits::MAX_WASM_STRING_SIZE;
+use crate::{BinaryReader, Error, Result};
+use std::str;
+
+impl<'a> BinaryReader<'a> {
+    /// A count in LEB128 of at most 100,000, and as many bytes of UTF-8. A larger count is refused at its last byte, and other
+    /// bytes at the last of them.
+    #[inline]
+    pub fn read_string(&mut self) -> Result<&'a str>
+        ensures answer { Answers (λ s. s.now) result self.old self.new (string self.old) }
+        ensures no_memory { NeedsNoMemory result }
+        ensures forward { Reaches self.old self.new }
+    {
+        let start = self.clone();
+        let read = self.limited_text();
+        if read.is_err() {
+            *self = start;
+        }
+        read
+    }
+
+    /// A count in LEB128, and as many bytes of UTF-8. Other bytes are refused at the last of them.
+    #[inline]
+    pub fn read_unlimited_string(&mut self) -> Result<&'a str>
+        ensures answer { Answers (λ s. s.now) result self.old self.new (unlimited_string self.old) }
+        ensures no_memory { NeedsNoMemory result }
+        ensures forward { Reaches self.old self.new }
+    {
+        let start = self.clone();
+        let read = self.counted_text();
+        if read.is_err() {
+            *self = start;
+        }
+        read
+    }
+
+    /// Goes on behind a count in LEB128 of at most 100,000 and as many bytes, whatever they are.
+    #[inline]
+    pub fn skip_string(&mut self) -> Result<()>
+        ensures answer { Answers (λ u. u) result self.old self.new (skipped_string self.old) }
+        ensures no_memory { NeedsNoMemory result }
+        ensures forward { Reaches self.old self.new }
+    {
+        let start = self.clone();
+        let read = self.skip_text();
+        if read.is_err() {
+            *self = start;
+        }
+        read
+    }
+
+    #[tactic(auto, using(wasm_types_decoding::specs::Laws::reaches_self, wasm_types_decoding::specs::Laws::reaches_then), unfolding(crate::specs::Texts::counted_within))]
+    fn limited_text(&mut self) -> Result<&'a str>
+        ensures answer { Gives (λ s. s.now) result self.new (string self.old) }
+        ensures no_memory { NeedsNoMemory result }
+        ensures forward { Reaches self.old self.new }
+    {
+        let count = self.read_var_u32()? as usize;
+        if count > MAX_WASM_STRING_SIZE {
+            return Err(self.string_error("string size out of bounds"));
+        }
+        self.text(count)
+    }
+
+    #[tactic(auto, using(wasm_types_decoding::specs::Laws::reaches_self, wasm_types_decoding::specs::Laws::reaches_then), unfolding(crate::specs::Texts::unlimited_string))]
+    fn counted_text(&mut self) -> Result<&'a str>
+        ensures answer { Gives (λ s. s.now) result self.new (unlimited_string self.old) }
+        ensures no_memory { NeedsNoMemory result }
+        ensures forward { Reaches self.old self.new }
+    {
+        let count = self.read_var_u32()?;
+        self.text(count as usize)
+    }
+
+    #[tactic(auto, using(wasm_types_decoding::specs::Laws::reaches_self, wasm_types_decoding::specs::Laws::reaches_then), unfolding(crate::specs::Texts::counted_within, crate::specs::Texts::skipped))]
+    fn skip_text(&mut self) -> Result<()>
+        ensures answer { Gives (λ u. u) result self.new (skipped_string self.old) }
+        ensures no_memory { NeedsNoMemory result }
+        ensures forward { Reaches self.old self.new }
+    {
+        let count = self.read_var_u32()? as usize;
+        if count > MAX_WASM_STRING_SIZE {
+            return Err(self.string_error("string size out of bounds"));
+        }
+        let _ = self.read_bytes(count)?;
+        Ok(())
+    }
+
+    /// The next `n` bytes, which are UTF-8.
+    #[tactic(auto, using(wasm_types_decoding::specs::Laws::reaches_self, wasm_types_decoding::specs::Laws::reaches_then), unfolding(crate::specs::Texts::text_of))]
+    fn text(&mut self, n: usize) -> Result<&'a str>
+        ensures answer { Gives (λ s. s.now) result self.new (text_of n self.old) }
+        ensures no_memory { NeedsNoMemory result }
+        ensures forward { Reaches self.old self.new }
+    {
+        let bytes = self.read_bytes(n)?;
+        match str::from_utf8(bytes) {
+            Ok(text) => Ok(text),
+            Err(_) => Err(self.string_error("malformed UTF-8 encoding")),
+        }
+    }
+
+    /// A fault of the byte that was read last.
+    #[cold]
+    fn string_error(&self, message: &str) -> Error
+        ensures kind { result.kind ≡ Other }
+        ensures offset { result.offset ≡ self.now.place - 1 }
+    {
+        Error::new(message, self.original_position().saturating_sub(1))
+    }
+}
