@@ -11,9 +11,8 @@ use Rattle.wasm_types_decoding.specs.Leb.{u32, IsUnsigned}
 use Rattle.wasm_types_decoding.specs.LebLaws.{lawful-unsigned, decides-u32}
 use Rattle.wasm_types_decoding.specs.Lists.{refuse_at}
 use Rattle.wasm_types_decoding.specs.ListLaws.{lawful-refuse_at, decides-refuse_at, lawful-from_place, decides-from_place}
-use Rattle.wasm_types_decoding.specs.Text.{IsCounted}
 use Rattle.wasm_types_reader.specs.Parts.{counted_part, next_part, part_at}
-use Rattle.wasm_module_validator.specs.Frames.{few_or, body}
+use Rattle.wasm_module_validator.specs.Frames.{IsCounted, few_or, body}
 
 -- ---- an entry: the same, by its parts
 

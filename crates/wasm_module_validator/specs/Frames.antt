@@ -1,9 +1,9 @@
 -- How the sections of a module are read, before the functions in them are judged: what the reader answers, as decoders.
-use Rattle.std.specs.Prelude.{ℕ, ◌+◌, Bool, false, List, [], ◌∷◌, length, nat_lt, ◌==◌, if◌then◌else◌}
+use Rattle.std.specs.Prelude.{◌≡◌, ◌≤◌, ◌++◌, ℕ, ◌+◌, Bool, false, List, [], ◌∷◌, length, nat_lt, ◌==◌, if◌then◌else◌}
 use Rattle.std.specs.Str.{bytes_eq}
 use Rattle.wasm_types_decoding.specs.declared.Refusal.TheVariants.{Other}
 use Rattle.wasm_types_decoding.specs.Decoder.{State, Outcome, Done, Short, Fault, Decoder, ◌>>=◌, pure, byte, bytes, repeated}
-use Rattle.wasm_types_decoding.specs.Leb.{u32}
+use Rattle.wasm_types_decoding.specs.Leb.{u32, IsUnsigned}
 use Rattle.wasm_types_decoding.specs.Lists.{refuse_at}
 use Rattle.wasm_types_reader.specs.Parts.{counted_part}
 use Rattle.wasm_module_validator.specs.Syntax.{FunctionType}
@@ -65,6 +65,13 @@ below_or types place x = if nat_lt x types then pure x else refuse_at Other plac
 
 unfoldable pub type_index : ℕ → Decoder ℕ
 type_index types s = (u32 >>= below_or types s.place) s
+
+-- a count, and as many bytes, at most a limit
+pub record IsCounted (limit : ℕ) (content : List ℕ) (text : List ℕ) : Type 0 where
+  pub count : List ℕ
+  pub counted : IsUnsigned 32 (length content) count
+  pub few : length content ≤ limit
+  pub whole : text ≡ count ++ content
 
 -- at most so many bytes, else this place is refused
 abbrev pub few_or : ℕ → List ℕ → Decoder (List ℕ)

@@ -13,7 +13,7 @@ use Rattle.std.specs.Str.{bytes_eq}
 use Rattle.std.proofs.lemmas.Slice.Eq.{bytes_eq-Decides}
 use Rattle.wasm_types_decoding.specs.Leb.{IsUnsigned, IsListed}
 use Rattle.wasm_types_decoding.specs.Lists.{IsListedWithin}
-use Rattle.wasm_types_decoding.specs.Text.{IsCounted, IsSized}
+use Rattle.wasm_types_decoding.specs.Text.{IsSized}
 use Rattle.wasm_module_validator.specs.Syntax.{FunctionType, Function, Module}
 use Rattle.wasm_module_validator.specs.Binary.{SpellsFunctionType, SpellsFunction, SpellsWithin, SpellsEntry, SpellsSection, SpellsModule, header}
 use Rattle.wasm_module_validator.specs.Validation.{IsValidFunction, AreValidFunctions, IsValidModule}
@@ -21,7 +21,7 @@ use Rattle.wasm_module_validator.specs.Accepts.{Judges, Accepts}
 use Rattle.wasm_module_validator.specs.Bodies.{AcceptsBody}
 use Rattle.wasm_module_validator.specs.Types.{function_type}
 use Rattle.wasm_module_validator.specs.TypeLaws.{decides-function_type}
-use Rattle.wasm_module_validator.specs.Frames.{Frames, begins, items, type_index, entries, no_entries, at_end, type_section, function_section, code_section, frames, preamble, magic_or, version_or, module_frames}
+use Rattle.wasm_module_validator.specs.Frames.{IsCounted, Frames, begins, items, type_index, entries, no_entries, at_end, type_section, function_section, code_section, frames, preamble, magic_or, version_or, module_frames}
 use Rattle.wasm_module_validator.specs.ModuleLaws.{decides-items, decides-type_index, decides-entries, IsTypeIndex, AreEntries, IsSection, Followed, Reads, section_reads, section_followed, section_apart}
 
 -- ---- the frames, as they are spelled

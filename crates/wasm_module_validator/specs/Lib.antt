@@ -5,14 +5,18 @@ pub mod Validation
 pub mod Accepts
 -- What contracts say beside them.
 pub mod Answers
+pub mod Bodies
+pub mod Operands
+pub mod Locals
 -- How bytes are read, and why that is exact.
 pub mod Types
 pub mod TypeLaws
-pub mod Rows
+pub mod Operators
+pub mod OperatorsLaws
 pub mod Frames
-pub mod Bodies
+pub mod Entries
+pub mod Rows
 pub mod FrameLaws
 pub mod SectionLaws
 pub mod ModuleLaws
-pub mod Entries
 pub mod Judged

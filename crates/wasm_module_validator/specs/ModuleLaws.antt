@@ -11,12 +11,12 @@ use Rattle.wasm_types_decoding.specs.Leb.{u32, IsUnsigned, IsListed}
 use Rattle.wasm_types_decoding.specs.LebLaws.{decides-u32}
 use Rattle.wasm_types_decoding.specs.Lists.{refuse_at, IsListedWithin}
 use Rattle.wasm_types_decoding.specs.ListLaws.{decides-refuse_at, decides-from_place}
-use Rattle.wasm_types_decoding.specs.Text.{IsCounted, IsSized}
+use Rattle.wasm_types_decoding.specs.Text.{IsSized}
 use Rattle.wasm_module_validator.specs.Syntax.{FunctionType}
 use Rattle.wasm_module_validator.specs.Binary.{SpellsFunctionType}
 use Rattle.wasm_module_validator.specs.Types.{function_type}
 use Rattle.wasm_module_validator.specs.TypeLaws.{head_is, tail_is, decides-function_type}
-use Rattle.wasm_module_validator.specs.Frames.{Frames, begins, contents, section, items, at_most_or, below_or, type_index, body, as_many_or, entries, no_entries, at_end, type_section, function_section, code_section, frames}
+use Rattle.wasm_module_validator.specs.Frames.{IsCounted, Frames, begins, contents, section, items, at_most_or, below_or, type_index, body, as_many_or, entries, no_entries, at_end, type_section, function_section, code_section, frames}
 use Rattle.wasm_module_validator.specs.FrameLaws.{decides-along, decides-body}
 use Rattle.wasm_module_validator.specs.SectionLaws.{decides-contents}
 

@@ -1,10 +1,20 @@
 //! A validator of WebAssembly modules.
+//!
+//! [`validate`] judges all the bytes of one module, and so does a [`Validator`]. Their contract is the rules of `specs/`:
+//! Ok exactly where the bytes spell a valid module, want of memory aside. At this stage the rules know a header, function
+//! types of numbers, functions, and bodies of a few operators; any other section or operator is refused.
 #![tactic(auto)]
 
 mod body;
+mod locals;
+mod operands;
+mod operators;
 mod sections;
-pub mod types;
+mod types;
 mod validator;
 
+pub use body::FuncValidator;
+pub use operators::{LocalGroup, Operator};
+pub use sections::{FunctionBody, ModuleFrames};
 pub use types::{FuncType, ValType};
 pub use validator::{Types, TypesRef, Validator, ValidatorId, validate};

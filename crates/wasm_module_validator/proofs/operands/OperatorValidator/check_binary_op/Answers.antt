@@ -1,0 +1,9 @@
+use Rattle.wasm_module_validator.proofs.Covering.{does_also}
+use Rattle.wasm_module_validator.proofs.Rows.{combined}
+use Rattle.wasm_module_validator.proofs.operands.OperatorValidator.check_binary_op.Goals as goal
+
+pub returns : goal.returns
+returns c =
+    does_also c.push_operand.result
+    (combined c.args.self.now c.pop_operand.new.self c.pop_operand-2.new.self c.push_operand.new.self c.args.ty c.in_ok-pop_operand.ensures c.in_ok-pop_operand-2.ensures)
+    (λ may. tt) c.push_operand.ensures

@@ -1,0 +1,269 @@
+//! What is known of a body while it is validated: its locals and its operands (WebAssembly 3.0, validation, instructions,
+//! and its appendix on a validation algorithm).
+
+ghost use Rattle.std.specs.Prelude.{ℤ, ◌≡◌, ◌∷◌, ◌++◌, ◌≤◌, ◌+◌, [], length, replicate};
+ghost use Rattle.wasm_types_reader.specs.declared.error.ErrorKind.TheVariants.{Other};
+
+use crate::ValType;
+use crate::locals::Locals;
+use std::alloc::Global;
+use std::marker::Model;
+use wasm_types_reader::{Error, Result};
+
+/// What is known of a body: the locals, the operands, whether the place can't be reached, and whether the body has had its
+/// end. A visit of an instruction changes it as the instruction asks; after a refused one it may be anything.
+#[derive(Drop)]
+pub struct OperatorValidator {
+    locals: Locals,
+    operands: Vec<ValType>,
+    unreachable: bool,
+    ended: bool,
+}
+
+impl Model for OperatorValidator {
+    ghost use Rattle.std.specs.Prelude.{reverse};
+    ghost use Rattle.wasm_module_validator.specs.Operands.{Known};
+
+    ghost Value = { Known };
+
+    ghost view = { λ v. record { locals = v.locals; operands = reverse v.operands.items; unreachable = v.unreachable; ended = v.ended } };
+}
+
+impl OperatorValidator {
+    ghost use Rattle.wasm_module_validator.specs.Answers.{Does};
+    ghost use Rattle.wasm_module_validator.specs.Syntax.{unreachable as unreachable_instruction, nop as nop_instruction, drop as drop_instruction, local_get as local_get_instruction, i32_const as i32_const_instruction, i64_const as i64_const_instruction, i32_add as i32_add_instruction, i64_add as i64_add_instruction};
+    ghost use Rattle.wasm_module_validator.specs.Operands.{fresh, Popped, MayPop, PoppedAny, MayPopAny, Pushed, PoppedAll, MayPopAll, Combined, MayCombine, Ended, MayEnd, Stepped, Visits};
+
+    /// What is known before the first body. It takes no memory.
+    pub fn new(alloc: Global) -> OperatorValidator
+        ensures { result ≡ fresh [] }
+    {
+        OperatorValidator {
+            locals: Locals::new(alloc),
+            operands: Vec::new(alloc),
+            unreachable: false,
+            ended: false,
+        }
+    }
+
+    /// Begins a body without locals.
+    pub fn begin(&mut self)
+        ensures { self.new ≡ fresh [] }
+    {
+        self.locals.clear();
+        self.operands.clear();
+        self.unreachable = false;
+        self.ended = false;
+    }
+
+    /// Whether the body has had its end.
+    #[inline]
+    pub fn has_ended(&self) -> bool
+        ensures { result ≡ self.now.ended }
+    {
+        self.ended
+    }
+
+    /// Puts `count` locals of a type at the end. It refuses more than 50,000 in all, at this offset.
+    pub fn define_locals(&mut self, offset: u64, count: u32, ty: ValType) -> Result<()>
+        ensures { Does result (self.new ≡ record self.old { locals = self.old.locals ++ replicate count ty } × (length self.new.locals ≤ 50000)) (length self.old.locals + count ≤ 50000) }
+    {
+        self.locals.define(offset, count, ty)
+    }
+
+    /// Takes off an operand of this type.
+    #[inline]
+    fn pop_operand(&mut self, offset: u64, expected: ValType) -> Result<()>
+        ensures { Does result (Popped expected self.old self.new) (MayPop expected self.old) }
+    {
+        match self.operands.pop() {
+            Some(found) => {
+                if found == expected {
+                    Ok(())
+                } else {
+                    Err(type_mismatch(offset, expected, found))
+                }
+            }
+            None => {
+                if self.unreachable {
+                    Ok(())
+                } else {
+                    Err(empty_stack(offset, name_of(expected)))
+                }
+            }
+        }
+    }
+
+    /// Takes off an operand of any type.
+    #[inline]
+    fn pop_any(&mut self, offset: u64) -> Result<()>
+        ensures { Does result (PoppedAny self.old self.new) (MayPopAny self.old) }
+    {
+        if let Some(_) = self.operands.pop() {
+            return Ok(());
+        }
+        if self.unreachable {
+            return Ok(());
+        }
+        Err(empty_stack(offset, "a type"))
+    }
+
+    /// Puts on an operand.
+    #[inline]
+    fn push_operand(&mut self, ty: ValType) -> Result<()>
+        ensures { Does result (Pushed ty self.old self.new) (Unit {0}) }
+    {
+        self.operands.push(ty)?;
+        Ok(())
+    }
+
+    /// Visits `unreachable`.
+    #[inline]
+    pub fn visit_unreachable(&mut self)
+        ensures { Stepped unreachable_instruction self.old self.new }
+    {
+        self.operands.clear();
+        self.unreachable = true;
+    }
+
+    /// Visits `drop`.
+    #[inline]
+    pub fn visit_drop(&mut self, offset: u64) -> Result<()>
+        ensures { Visits drop_instruction result self.old self.new }
+    {
+        self.pop_any(offset)
+    }
+
+    /// Visits `local.get`.
+    #[inline]
+    pub fn visit_local_get(&mut self, offset: u64, local_index: u32) -> Result<()>
+        ensures { Visits (local_get_instruction local_index) result self.old self.new }
+    {
+        match self.locals.get(local_index) {
+            Some(ty) => self.push_operand(ty),
+            None => Err(unknown_local(offset, local_index)),
+        }
+    }
+
+    /// Visits `i32.const`, of any value.
+    #[inline]
+    pub fn visit_i32_const(&mut self) -> Result<()>
+        ensures { (value : ℤ) → Visits (i32_const_instruction value) result self.old self.new }
+    {
+        self.push_operand(ValType::I32)
+    }
+
+    /// Visits `i64.const`, of any value.
+    #[inline]
+    pub fn visit_i64_const(&mut self) -> Result<()>
+        ensures { (value : ℤ) → Visits (i64_const_instruction value) result self.old self.new }
+    {
+        self.push_operand(ValType::I64)
+    }
+
+    /// Visits `i32.add`.
+    #[inline]
+    pub fn visit_i32_add(&mut self, offset: u64) -> Result<()>
+        ensures { Visits i32_add_instruction result self.old self.new }
+    {
+        self.check_binary_op(offset, ValType::I32)
+    }
+
+    /// Visits `i64.add`.
+    #[inline]
+    pub fn visit_i64_add(&mut self, offset: u64) -> Result<()>
+        ensures { Visits i64_add_instruction result self.old self.new }
+    {
+        self.check_binary_op(offset, ValType::I64)
+    }
+
+    /// Visits an instruction that takes two operands of a type and gives one.
+    #[inline]
+    fn check_binary_op(&mut self, offset: u64, ty: ValType) -> Result<()>
+        ensures { Does result (Combined ty self.old self.new) (MayCombine ty self.old) }
+    {
+        self.pop_operand(offset, ty)?;
+        self.pop_operand(offset, ty)?;
+        self.push_operand(ty)
+    }
+
+    /// Visits `end`: the results are taken off, the last first, and nothing may be left.
+    pub fn visit_end(&mut self, offset: u64, results: &[ValType]) -> Result<()>
+        ensures { Does result (Ended results.now self.old self.new) (MayEnd results.now self.old) }
+    {
+        self.pop_operands(offset, results)?;
+        if !self.operands.is_empty() {
+            return Err(values_remain(offset));
+        }
+        self.ended = true;
+        Ok(())
+    }
+
+    /// Takes off operands of these types, the last first.
+    fn pop_operands(&mut self, offset: u64, types: &[ValType]) -> Result<()>
+        ensures { Does result (PoppedAll types.now self.old self.new) (MayPopAll types.now self.old) }
+    {
+        let mut left = types;
+        while let Some((last, rest)) = left.split_last() {
+            left = rest;
+            self.pop_operand(offset, *last)?;
+        }
+        Ok(())
+    }
+}
+
+/// The name of a type, as messages write it.
+fn name_of(ty: ValType) -> &'static str {
+    match ty {
+        ValType::I32 => "i32",
+        ValType::I64 => "i64",
+        ValType::F32 => "f32",
+        ValType::F64 => "f64",
+    }
+}
+
+#[cold]
+fn type_mismatch(offset: u64, expected: ValType, found: ValType) -> Error
+    ensures kind { result.kind ≡ Other }
+    ensures offset { result.offset ≡ offset }
+{
+    let expected = name_of(expected);
+    let found = name_of(found);
+    Error::fmt(
+        format_args!("type mismatch: expected {expected}, found {found}"),
+        offset,
+    )
+}
+
+#[cold]
+fn empty_stack(offset: u64, expected: &str) -> Error
+    ensures kind { result.kind ≡ Other }
+    ensures offset { result.offset ≡ offset }
+{
+    Error::fmt(
+        format_args!("type mismatch: expected {expected} but nothing on stack"),
+        offset,
+    )
+}
+
+#[cold]
+fn unknown_local(offset: u64, local_index: u32) -> Error
+    ensures kind { result.kind ≡ Other }
+    ensures offset { result.offset ≡ offset }
+{
+    Error::fmt(
+        format_args!("unknown local {local_index}: local index out of bounds"),
+        offset,
+    )
+}
+
+#[cold]
+fn values_remain(offset: u64) -> Error
+    ensures kind { result.kind ≡ Other }
+    ensures offset { result.offset ≡ offset }
+{
+    Error::new(
+        "type mismatch: values remaining on stack at end of block",
+        offset,
+    )
+}
