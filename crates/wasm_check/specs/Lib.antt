@@ -1,0 +1,6 @@
+-- What the program promises, in reading order.
+pub mod Lines
+pub mod Faults
+pub mod Verdict
+pub mod Reports
+pub mod Files

@@ -1,0 +1,22 @@
+-- The lines that the program writes, and what they say.
+use Rattle.std.specs.Prelude.{◌≡◌, ℕ, ◌≤◌, ◌^◌, false, ◌⊎◌, List, [], ◌∷◌, ◌++◌, length, IfSome, codes, Option}
+use Rattle.std.specs.Fmt.{digits}
+use Rattle.wasm_module_validator.specs.Accepts.{Accepts}
+
+-- An input's bytes, at most 2^30: those that its reader says it has left, where it says them.
+pub record HasBytes (said : Option (List ℕ)) (bytes : List ℕ) : Type 0 where
+  pub same : IfSome said (λ xs. xs ≡ bytes)
+  pub within : length bytes ≤ 2 ^ 30
+
+-- `NAME: valid`
+abbrev pub valid_line : List ℕ → List ℕ
+valid_line name = name ++ codes ": valid\n"
+
+-- `NAME: invalid at 0xN: MESSAGE`, N in lower-case hexadecimal without leading zeros
+abbrev pub invalid_line : List ℕ → ℕ → List ℕ → List ℕ
+invalid_line name offset message = name ++ codes ": invalid at 0x" ++ digits 16 false offset ++ codes ": " ++ message ++ codes "\n"
+
+-- The line says of these bytes whether they spell a valid module.
+abbrev pub IsLine : List ℕ → List ℕ → List ℕ → Type 0
+IsLine name bytes line = (Accepts bytes × (line ≡ valid_line name))
+    ⊎ (¬ Accepts bytes × ((offset : ℕ) × (message : List ℕ) × (line ≡ invalid_line name offset message)))
