@@ -1,0 +1,74 @@
+//! Reads numbers in LEB128 over and over, for `bench/leb`: `leb_bench PASSES` reads a buffer of 100,000 numbers so many
+//! times, and prints the sum of all that was read.
+#![tactic(auto)]
+
+use anyhow::{Context, Result};
+use std::alloc::{AllocError, Global};
+use std::env;
+use wasm_types_reader::BinaryReader;
+
+/// Puts a number at the end of a buffer.
+fn write(buffer: &mut Vec<u8>, number: u32) -> Result<(), AllocError> {
+    let mut rest = number;
+    for _ in 0..5 {
+        let low = (rest & 0x7f) as u8;
+        rest >>= 7;
+        if rest == 0 {
+            buffer.push(low)?;
+            return Ok(());
+        }
+        buffer.push(low | 0x80)?;
+    }
+    Ok(())
+}
+
+/// 100,000 numbers of one to five bytes: half of one, a quarter of two, and so on.
+fn numbers(alloc: Global) -> Result<Vec<u8>, AllocError> {
+    let mut buffer = Vec::new(alloc);
+    let mut state: u32 = 12345;
+    for _ in 0..100_000 {
+        state = state.wrapping_mul(1_664_525).wrapping_add(1_013_904_223);
+        let shift = match (state >> 24) & 15 {
+            0..=7 => 25,
+            8..=11 => 18,
+            12..=13 => 11,
+            14 => 4,
+            _ => 0,
+        };
+        write(&mut buffer, state >> shift)?;
+    }
+    Ok(buffer)
+}
+
+/// The sum of the numbers of a buffer.
+fn total(buffer: &[u8]) -> wasm_types_reader::Result<u32> {
+    let mut sum: u32 = 0;
+    let mut reader = BinaryReader::new(buffer, 0);
+    for _ in 0..buffer.len() {
+        if reader.eof() {
+            break;
+        }
+        sum = sum.wrapping_add(reader.read_var_u32()?);
+    }
+    Ok(sum)
+}
+
+fn run(rt: &(impl AllocGlobal + Print), passes: u32) -> Result<()> {
+    let buffer = numbers(rt.alloc())?;
+    let mut sum: u32 = 0;
+    for _ in 0..passes {
+        sum = sum.wrapping_add(total(buffer.as_slice())?);
+    }
+    let length = buffer.len();
+    println!(rt; "{length} {sum}")?;
+    Ok(())
+}
+
+fn main(rt: HostRuntime) -> Result<()> {
+    let words: Vec<String> = env::args(&rt)?.collect(rt.alloc())?;
+    let passes = match words.get(1) {
+        Some(word) => word.as_str().parse::<u32>().context("reading PASSES")?,
+        None => 1,
+    };
+    run(&rt, passes)
+}
