@@ -1,8 +1,8 @@
 -- Stacks that match others, and stacks that operands stand for.
 use Rattle.std.proofs.Common.{List, [], ◌∷◌, Bool, true, false, refl, ◌∙◌, Result, Ok, Err}
-use Rattle.wasm_types_reader.specs.ErrorValue.{ErrorValue}
-use Rattle.wasm_types_reader.specs.declared.error.ErrorKind.{ErrorKind}
-use Rattle.wasm_types_reader.specs.declared.error.ErrorKind.TheVariants as kinds
+use Rattle.wasm_types_error.specs.ErrorValue.{ErrorValue}
+use Rattle.wasm_types_error.specs.declared.error.ErrorKind.{ErrorKind}
+use Rattle.wasm_types_error.specs.declared.error.ErrorKind.TheVariants as kinds
 use Rattle.wasm_module_validator.specs.declared.types.ValType.{ValType}
 use Rattle.wasm_module_validator.specs.Validation.{OperandType, bottom, value, Matches, AllMatch, values}
 use Rattle.wasm_module_validator.specs.Answers.{Denies, Does}

@@ -4,7 +4,7 @@ use Rattle.std.proofs.lemmas.List.{length-append, length-replicate}
 use Rattle.wasm_types_decoding.specs.Decoder.{State, Done, Many}
 use Rattle.wasm_types_decoding.specs.Leb.{IsUnsigned, u32}
 use Rattle.wasm_types_decoding.specs.LebLaws.{decides-u32}
-use Rattle.wasm_types_reader.specs.declared.error.ErrorKind.{ErrorKind}
+use Rattle.wasm_types_error.specs.declared.error.ErrorKind.{ErrorKind}
 use Rattle.wasm_types_reader.specs.Reading.{FailsAt}
 use Rattle.wasm_module_validator.specs.declared.types.ValType.{ValType}
 use Rattle.wasm_module_validator.specs.Syntax.{LocalGroup, Code}

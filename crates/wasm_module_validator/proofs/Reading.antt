@@ -2,8 +2,8 @@
 use Rattle.std.proofs.Common.{◌≡◌, ℕ, List, ◌++◌, length, ◌+◌, refl, sym, ◌∙◌}
 use Rattle.wasm_types_decoding.specs.Decoder.{State, Done, Decoder, Grammar, Decides}
 use Rattle.wasm_types_decoding.specs.Exact.{value_is, state_is}
-use Rattle.wasm_types_reader.specs.declared.error.ErrorKind.{ErrorKind}
-use Rattle.wasm_types_reader.specs.declared.error.ErrorKind.TheVariants as kinds
+use Rattle.wasm_types_error.specs.declared.error.ErrorKind.{ErrorKind}
+use Rattle.wasm_types_error.specs.declared.error.ErrorKind.TheVariants as kinds
 use Rattle.wasm_types_reader.specs.Reading.{FailsAt}
 use Rattle.wasm_module_validator.specs.Answers.{Denies}
 

@@ -3,9 +3,9 @@ use Rattle.std.proofs.Common.{◌≡◌, ◌↔◌, ℕ, List, [], ◌∷◌, �
 use Rattle.std.proofs.lemmas.Bool.{eqb-true}
 use Rattle.std.proofs.lemmas.List.{length-append}
 use Rattle.wasm_types_decoding.specs.Decoder.{State, Done}
-use Rattle.wasm_types_reader.specs.ErrorValue.{ErrorValue}
-use Rattle.wasm_types_reader.specs.declared.error.ErrorKind.{ErrorKind}
-use Rattle.wasm_types_reader.specs.declared.error.ErrorKind.TheVariants.{Other}
+use Rattle.wasm_types_error.specs.ErrorValue.{ErrorValue}
+use Rattle.wasm_types_error.specs.declared.error.ErrorKind.{ErrorKind}
+use Rattle.wasm_types_error.specs.declared.error.ErrorKind.TheVariants.{Other}
 use Rattle.wasm_types_reader.specs.Reading.{FailsAt}
 use Rattle.wasm_module_validator.specs.declared.types.ValType.{ValType}
 use Rattle.wasm_module_validator.specs.declared.operators.Operator.{Operator}

@@ -1,8 +1,8 @@
 -- What an answer tells.
 use Rattle.std.specs.Prelude.{◌≡◌, ◌↔◌, ℕ, Bool, List, length, Result, Ok, Err, IsOk}
-use Rattle.wasm_types_reader.specs.ErrorValue.{ErrorValue}
-use Rattle.wasm_types_reader.specs.declared.error.ErrorKind.{ErrorKind}
-use Rattle.wasm_types_reader.specs.declared.error.ErrorKind.TheVariants as kinds
+use Rattle.wasm_types_error.specs.ErrorValue.{ErrorValue}
+use Rattle.wasm_types_error.specs.declared.error.ErrorKind.{ErrorKind}
+use Rattle.wasm_types_error.specs.declared.error.ErrorKind.TheVariants as kinds
 use Rattle.wasm_module_validator.specs.Syntax.{Module}
 
 -- the fact doesn't hold, unless memory was wanted

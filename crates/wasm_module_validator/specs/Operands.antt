@@ -1,7 +1,7 @@
 -- What is known of a body while it is validated, and what each step does to it. It is said by sets of stacks: the operands
 -- stand for each stack that the code so far may leave (WebAssembly 3.0, validation, instructions).
 use Rattle.std.specs.Prelude.{◌≡◌, ◌↔◌, ◌≤◌, ℕ, zero, suc, length, replicate, List, [], ◌∷◌, ◌++◌, Bool, true, false, Result}
-use Rattle.wasm_types_reader.specs.ErrorValue.{ErrorValue}
+use Rattle.wasm_types_error.specs.ErrorValue.{ErrorValue}
 use Rattle.wasm_module_validator.specs.declared.types.ValType.{ValType}
 use Rattle.wasm_module_validator.specs.declared.operators.Operator.{Operator}
 use Rattle.wasm_module_validator.specs.Syntax.{FunctionType, Instruction, Code, LocalGroup}

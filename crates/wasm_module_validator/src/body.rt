@@ -1,7 +1,7 @@
 //! Validation of a function's entry in the code section.
 
 ghost use Rattle.std.specs.Prelude.{◌≡◌, ◌↔◌, ◌≤◌, List, length, false};
-ghost use Rattle.wasm_types_reader.specs.declared.error.ErrorKind.TheVariants.{Other};
+ghost use Rattle.wasm_types_error.specs.declared.error.ErrorKind.TheVariants.{Other};
 ghost use Rattle.wasm_module_validator.specs.declared.types.ValType.{ValType as TheValType};
 ghost use Rattle.wasm_module_validator.specs.Answers.{Does, Tells};
 ghost use Rattle.wasm_module_validator.specs.Bodies.{AcceptsBody};

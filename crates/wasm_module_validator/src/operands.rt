@@ -2,7 +2,7 @@
 //! and its appendix on a validation algorithm).
 
 ghost use Rattle.std.specs.Prelude.{ℤ, ◌≡◌, ◌∷◌, ◌++◌, ◌≤◌, ◌+◌, [], length, replicate};
-ghost use Rattle.wasm_types_reader.specs.declared.error.ErrorKind.TheVariants.{Other};
+ghost use Rattle.wasm_types_error.specs.declared.error.ErrorKind.TheVariants.{Other};
 
 use crate::ValType;
 use crate::locals::Locals;

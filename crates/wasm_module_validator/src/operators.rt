@@ -1,7 +1,7 @@
 //! Operators and groups of locals, as they stand in a function's entry of the code section.
 
 ghost use Rattle.std.specs.Prelude.{◌≡◌};
-ghost use Rattle.wasm_types_reader.specs.declared.error.ErrorKind.TheVariants.{Other};
+ghost use Rattle.wasm_types_error.specs.declared.error.ErrorKind.TheVariants.{Other};
 
 use crate::ValType;
 use std::alloc::Global;

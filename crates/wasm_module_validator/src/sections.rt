@@ -6,7 +6,7 @@ ghost use Rattle.wasm_types_reader.specs.Reading.{Gives};
 ghost use Rattle.wasm_module_validator.specs.Frames.{IsCounted, begins, entered, ended, items, type_index, entries, type_section, function_section, code_section, preamble, module_frames};
 ghost use Rattle.wasm_module_validator.specs.Types.{function_type};
 ghost use Rattle.wasm_module_validator.specs.Entries.{bodies, frames_of};
-ghost use Rattle.wasm_types_reader.specs.declared.error.ErrorKind.TheVariants.{Other};
+ghost use Rattle.wasm_types_error.specs.declared.error.ErrorKind.TheVariants.{Other};
 
 use crate::types::FuncType;
 use std::alloc::Global;

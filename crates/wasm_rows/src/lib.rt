@@ -1,5 +1,9 @@
-//! Worked modules, and what the validator says of them. The crate has no code of its own: its tests call the others.
+//! Worked values and modules from outside, and what the other crates say of them. It has no code of its own.
 #![tactic(auto)]
 
 #[cfg(test)]
+mod features;
+#[cfg(test)]
 mod first_path;
+#[cfg(test)]
+mod reader;

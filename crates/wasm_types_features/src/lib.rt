@@ -8,8 +8,6 @@ mod accessors;
 mod features;
 mod inflated;
 pub mod laws;
-#[cfg(test)]
-mod tests;
 
 pub use crate::features::WasmFeatures;
 pub use crate::inflated::WasmFeaturesInflated;

@@ -1,12 +1,12 @@
 -- What both loops over the groups of a number take from a byte and a place.
-use Rattle.std.proofs.Common.{◌≡◌, ℕ, zero, suc, ◌+◌, ◌-◌, ◌*◌, ◌%◌, ◌^◌, ◌<◌, ◌≤◌, List, [], ◌∷◌, length, take, drop, get_or, refl, sym, ap, ◌∙◌, arith, pow-add, pow_mono, mul-le-mul_right, suc-mul, add-one, ◌⊎◌}
+use Rattle.std.proofs.Common.{◌≡◌, ℕ, suc, ◌+◌, ◌*◌, ◌%◌, ◌^◌, ◌<◌, ◌≤◌, List, [], ◌∷◌, length, take, drop, get_or, refl, sym, ap, arith, pow-add, pow_mono, mul-le-mul_right, suc-mul, add-one}
 use Rattle.std.specs.Prelude.{bit_and, bit_or}
 use Rattle.std.specs.Int.Bits.{or_shifted_r}
 use Rattle.std.proofs.Math.Seq.{drop-cons}
 use Rattle.std.proofs.lemmas.List.{length-drop, length-take, take-append-drop}
 use Rattle.std.proofs.Math.Nat.{mod-eq_of_lt}
 use Rattle.std.proofs.lemmas.Grind.{and_numeral}
-use Rattle.wasm_types_decoding.specs.Decoder.{State, Outcome, Done, Short, byte, Reaches}
+use Rattle.wasm_types_decoding.specs.Decoder.{State, Done, Short, byte, Reaches}
 use Rattle.wasm_types_decoding.specs.Exact.{same_state}
 use Rattle.wasm_types_reader.specs.Numbers.{behind}
 

@@ -1,16 +1,15 @@
 -- The loop over the groups of a signed number, of any width.
-use Rattle.std.proofs.Common.{◌≡◌, ℕ, zero, suc, ◌+◌, ◌-◌, ◌*◌, ◌/◌, ◌%◌, ◌^◌, ◌<◌, ◌≤◌, List, length, get_or, refl, sym, ap, ◌∙◌, subst, arith, ltb, cond, Bool, true, false, ◌⊎◌, inl, inr, pow-add, pow_mono, mul-le-mul_right, pow_pos, mul-add, add-mul, suc-mul, to_z, of_z}
+use Rattle.std.proofs.Common.{◌≡◌, ℕ, zero, suc, ◌+◌, ◌-◌, ◌*◌, ◌/◌, ◌%◌, ◌^◌, ◌<◌, ◌≤◌, refl, sym, ap, ◌∙◌, subst, arith, ltb, true, false, ◌⊎◌, inl, inr, pow-add, pow_mono, pow_pos, mul-add, add-mul, suc-mul, to_z, of_z}
 use Rattle.std.specs.Prelude.{bit_and, bit_or, FitsSigned, ℤ, pos, negsuc, ◌+ℤ◌, ◌-ℤ◌, ◌*ℤ◌}
 use Rattle.std.specs.Int.{w32, w64, cast_signed, cast_unsigned}
 use Rattle.std.specs.Int.Bits.{or_shifted_r}
-use Rattle.std.proofs.lemmas.Bool.{le-ltb, lt-ltb, ltb-true, ltb-false, cases_lt}
+use Rattle.std.proofs.lemmas.Bool.{le-ltb, lt-ltb, cases_lt}
 use Rattle.std.proofs.lemmas.Int.{ints, to_z_pos, to_z-of_z}
-use Rattle.std.proofs.Math.Nat.{mod-eq_of_lt}
 use Rattle.wasm_types_decoding.specs.declared.Refusal.TheVariants.{Other}
 use Rattle.wasm_types_decoding.specs.Decoder.{State, Outcome, Done, Short, Fault, continue_with, pure, byte}
 use Rattle.wasm_types_decoding.specs.Leb.{signed, seven_bits, last_bits}
-use Rattle.wasm_types_reader.specs.Numbers.{signed_of, behind, IsWithin, EndsSigned}
-use Rattle.wasm_types_reader.proofs.LebGroups.{behind_none, byte_here, one_shl, low_bits, scaled, scaled_next, joins}
+use Rattle.wasm_types_reader.specs.Numbers.{signed_of, IsWithin, EndsSigned}
+use Rattle.wasm_types_reader.proofs.LebGroups.{low_bits, scaled, scaled_next, joins}
 
 -- ---- seven bits
 

@@ -1,13 +1,13 @@
 -- The loop over the groups of an unsigned number, of any width.
-use Rattle.std.proofs.Common.{◌≡◌, ℕ, zero, suc, ◌+◌, ◌-◌, ◌*◌, ◌/◌, ◌%◌, ◌^◌, ◌<◌, ◌≤◌, List, length, get_or, refl, sym, ap, ◌∙◌, subst, arith, ltb, Bool, true, false, ◌⊎◌, inl, inr, pow-add, pow_mono, mul-le-mul_right, pow_pos}
+use Rattle.std.proofs.Common.{◌≡◌, ℕ, zero, suc, ◌+◌, ◌-◌, ◌*◌, ◌/◌, ◌%◌, ◌^◌, ◌<◌, ◌≤◌, refl, sym, ap, ◌∙◌, arith, ltb, true, false, ◌⊎◌, inl, inr, pow-add, pow_mono}
 use Rattle.std.specs.Prelude.{bit_and, bit_or}
 use Rattle.std.proofs.lemmas.Bool.{le-ltb, lt-ltb}
 use Rattle.std.proofs.Math.Nat.{mod-eq_of_lt}
 use Rattle.wasm_types_decoding.specs.declared.Refusal.TheVariants.{Other}
 use Rattle.wasm_types_decoding.specs.Decoder.{State, Outcome, Done, Short, Fault, continue_with, pure, byte}
 use Rattle.wasm_types_decoding.specs.Leb.{unsigned}
-use Rattle.wasm_types_reader.specs.Numbers.{unsigned_of, behind}
-use Rattle.wasm_types_reader.proofs.LebGroups.{behind_none, byte_here, one_shl, low_bits, scaled, joins}
+use Rattle.wasm_types_reader.specs.Numbers.{unsigned_of}
+use Rattle.wasm_types_reader.proofs.LebGroups.{one_shl, low_bits, scaled, joins}
 
 -- ---- one byte
 

@@ -1,4 +1,3 @@
-pub mod Cut
 pub mod Drained
 pub mod Passed
 pub mod Rows

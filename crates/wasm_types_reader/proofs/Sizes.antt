@@ -4,7 +4,7 @@ use Rattle.wasm_types_decoding.specs.declared.Refusal.TheVariants.{Other}
 use Rattle.wasm_types_decoding.specs.Decoder.{State, Done, Fault, bytes, continue_with}
 use Rattle.wasm_types_decoding.specs.Leb.{u32}
 use Rattle.wasm_types_decoding.specs.Lists.{at_most_or, size_within}
-use Rattle.wasm_types_reader.specs.declared.error.ErrorKind.{ErrorKind}
+use Rattle.wasm_types_error.specs.declared.error.ErrorKind.{ErrorKind}
 use Rattle.wasm_types_reader.specs.Reading.{FailsAt}
 use Rattle.wasm_types_reader.specs.ReadingLaws.{fails_then}
 use Rattle.wasm_types_reader.specs.Parts.{part_at, next_part, counted_part}

@@ -1,11 +1,10 @@
-pub mod ErrorText
-pub mod ErrorValue
+pub use Rattle.wasm_types_error.specs.ErrorText
+pub use Rattle.wasm_types_error.specs.ErrorValue
 pub mod Reading
 pub mod ReadingLaws
 pub mod Draining
 pub mod Parts
+pub mod PartLaws
 pub mod Words
 pub mod WordLaws
-pub mod Texts
-pub mod TextLaws
 pub mod Numbers

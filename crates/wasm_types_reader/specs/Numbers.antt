@@ -2,8 +2,8 @@
 use Rattle.std.specs.Prelude.{◌≡◌, ℕ, ◌+◌, ◌-◌, ◌/◌, ◌%◌, ◌^◌, ◌<◌, ◌≤◌, ◌⊎◌, ℤ, pos, negsuc, Result, Ok, Err, drop}
 use Rattle.wasm_types_decoding.specs.Decoder.{State, Outcome, Done, Decoder}
 use Rattle.wasm_types_decoding.specs.Leb.{unsigned, signed}
-use Rattle.wasm_types_reader.specs.declared.error.ErrorKind.{ErrorKind}
-use Rattle.wasm_types_reader.specs.declared.error.ErrorKind.TheVariants.{EndOfData, Other}
+use Rattle.wasm_types_error.specs.declared.error.ErrorKind.{ErrorKind}
+use Rattle.wasm_types_error.specs.declared.error.ErrorKind.TheVariants.{EndOfData, Other}
 use Rattle.wasm_types_reader.specs.declared.leb.Flaw.{Flaw}
 use Rattle.wasm_types_reader.specs.declared.leb.Flaw.TheVariants.{Ended, TooLong, TooLarge}
 use Rattle.wasm_types_reader.specs.Reading.{FailsAt}

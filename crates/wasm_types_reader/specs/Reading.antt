@@ -2,9 +2,9 @@
 use Rattle.std.specs.Prelude.{◌≡◌, ℕ, ◌+◌, ◌<◌, Result, Ok, Err, Option, Some, None}
 use Rattle.wasm_types_decoding.specs.declared.Refusal.TheVariants as refusals
 use Rattle.wasm_types_decoding.specs.Decoder.{State, Outcome, Done, Short, Fault, Decoder}
-use Rattle.wasm_types_reader.specs.declared.error.ErrorKind.{ErrorKind}
-use Rattle.wasm_types_reader.specs.declared.error.ErrorKind.TheVariants.{EndOfData, MissingFeature, OutOfMemory, Failed, Other}
-use Rattle.wasm_types_reader.specs.ErrorValue.{ErrorValue}
+use Rattle.wasm_types_error.specs.declared.error.ErrorKind.{ErrorKind}
+use Rattle.wasm_types_error.specs.declared.error.ErrorKind.TheVariants.{EndOfData, MissingFeature, OutOfMemory, Failed, Other}
+use Rattle.wasm_types_error.specs.ErrorValue.{ErrorValue}
 
 -- an error of this kind at this place is the outcome, unless memory ran out
 abbrev pub FailsAt : {Y : Type 0} → ErrorKind → ℕ → Outcome Y → Type 0

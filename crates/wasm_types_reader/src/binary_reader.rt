@@ -5,7 +5,7 @@ ghost use Rattle.std.specs.Fn.{FnOnceReturnsAtMut};
 ghost use Rattle.wasm_types_decoding.specs.Decoder.{State, byte, bytes, look, pure, Reaches};
 ghost use Rattle.wasm_types_decoding.specs.Leb.{u32 as u32_decoder};
 ghost use Rattle.wasm_types_decoding.specs.Lists.{size_within};
-ghost use Rattle.wasm_types_reader.specs.declared.error.ErrorKind.TheVariants.{EndOfData, Other};
+ghost use Rattle.wasm_types_error.specs.declared.error.ErrorKind.TheVariants.{EndOfData, Other};
 ghost use Rattle.wasm_types_features.specs.Sets.{bits_of, default_features};
 ghost use Rattle.wasm_types_reader.specs.Reading.{Answers, Gives, NeedsNoMemory};
 ghost use Rattle.wasm_types_reader.specs.Parts.{part_at, counted_part, IsPassed};
@@ -18,7 +18,7 @@ use std::ops::Range;
 use wasm_types_features::WasmFeatures;
 
 /// A reader over bytes, which knows their place in the input and the features that are allowed.
-#[derive(Drop)]
+#[derive(Debug, Drop)]
 pub struct BinaryReader<'a> {
     buffer: &'a [u8],
     position: usize,
@@ -43,12 +43,7 @@ impl<'a> Clone for BinaryReader<'a> {
     ghost is_infallible = { λ _. ⊤ };
 
     fn clone(&self) -> std::result::Result<BinaryReader<'a>, AllocError> {
-        Ok(BinaryReader {
-            buffer: self.buffer,
-            position: self.position,
-            original_offset: self.original_offset,
-            features: self.features,
-        })
+        Ok(self.clone())
     }
 }
 
@@ -169,7 +164,7 @@ impl<'a> BinaryReader<'a> {
         ensures { result ≡ record { start = self.now.place; end = self.now.place + length self.now.rest } }
     {
         Range {
-            start: self.original_offset + self.position as u64,
+            start: self.original_position(),
             end: self.original_offset + self.buffer.len() as u64,
         }
     }

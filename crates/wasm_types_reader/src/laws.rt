@@ -4,9 +4,9 @@ ghost use Rattle.std.specs.Prelude.{◌≡◌, ℕ, ◌-◌, ◌<◌, ◌≤◌,
 ghost use Rattle.wasm_types_decoding.specs.declared.Refusal.{Refusal};
 ghost use Rattle.wasm_types_decoding.specs.Decoder.{State, Done, Short, Fault, extended, IsBeyond, IsLawful, Decides, Takes};
 ghost use Rattle.wasm_types_decoding.specs.Lists.{size_within, listed_within, IsSizeWithin, IsListedWithin};
+ghost use Rattle.wasm_types_decoding.specs.Text.{word, name, any_name, skipped_name, IsWord, IsName, IsAnyName};
 ghost use Rattle.wasm_types_reader.specs.Parts.{counted_part};
-ghost use Rattle.wasm_types_reader.specs.Words.{word, u7, IsWord, IsSmallByte};
-ghost use Rattle.wasm_types_reader.specs.Texts.{string, unlimited_string, skipped_string, IsString, IsStringWithin};
+ghost use Rattle.wasm_types_reader.specs.Words.{u7, IsSmallByte};
 
 use crate::FromReader;
 
@@ -34,8 +34,8 @@ pub fn texts_and_words_are_lawful()
     ensures words { (k : ℕ) → IsLawful (word k) × Decides (word k) (IsWord k) }
     ensures small_bytes { IsLawful u7 × Decides u7 IsSmallByte }
     ensures sizes { (limit : ℕ) → IsLawful (size_within limit) × Decides (size_within limit) (IsSizeWithin limit) }
-    ensures strings { IsLawful string × Decides string (IsStringWithin 100000) }
-    ensures unlimited_strings { IsLawful unlimited_string × Decides unlimited_string IsString }
-    ensures skipped_strings { IsLawful skipped_string }
+    ensures strings { IsLawful (name 100000) × Decides (name 100000) (IsName 100000) }
+    ensures unlimited_strings { IsLawful any_name × Decides any_name IsAnyName }
+    ensures skipped_strings { IsLawful (skipped_name 100000) }
     ensures parts { IsLawful counted_part }
 {}

@@ -6,8 +6,8 @@
 
 ghost use Rattle.std.specs.Prelude.{◌≡◌, ℕ, ◌+◌, ◌-◌, ◌*◌, ◌<◌, ◌≤◌, ◌^◌, length, IfOk, IfSome, IfNone};
 ghost use Rattle.std.specs.Bool.{MatchBool};
-ghost use Rattle.wasm_types_decoding.specs.Decoder.{Reaches, byte, Done};
-ghost use Rattle.wasm_types_decoding.specs.Leb.{u32 as u32_decoder, u64 as u64_decoder, s32, s33, s64, seven_bits as bits_signed};
+ghost use Rattle.wasm_types_decoding.specs.Decoder.{Reaches, byte, Done, IsLawful, Decides};
+ghost use Rattle.wasm_types_decoding.specs.Leb.{IsUnsigned, IsSigned, unsigned, signed, u32 as u32_decoder, u64 as u64_decoder, s32, s33, s64, seven_bits as bits_signed};
 ghost use Rattle.wasm_types_reader.specs.Reading.{Answers, NeedsNoMemory};
 ghost use Rattle.wasm_types_reader.specs.Numbers.{unsigned_of, signed_of, ReadsNumber, flaw_kind, flaw_place, IsWithin, EndsSigned};
 
@@ -38,6 +38,13 @@ impl Flaw {
         }
     }
 }
+
+/// What holds of numbers of any width, by their decoders: a value and a fault stay, whatever bytes follow; a want of bytes is
+/// exact; and a number is read exactly where a front of the bytes is one of its spellings.
+pub fn numbers_are_lawful()
+    ensures unsigned { (k r : ℕ) → 0 < r → r ≤ 7 → IsLawful (unsigned k r) × Decides (unsigned k r) (IsUnsigned (7 * k + r)) }
+    ensures signed { (k r : ℕ) → 0 < r → r ≤ 7 → IsLawful (signed k r) × Decides (signed k r) (IsSigned (7 * k + r)) }
+{}
 
 impl<'a> BinaryReader<'a> {
     /// The next unsigned number of 32 bits, in at most five bytes.

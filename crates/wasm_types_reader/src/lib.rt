@@ -6,22 +6,20 @@
 #![tactic(auto, using(wasm_types_decoding::specs::Laws::reaches_self, wasm_types_decoding::specs::Laws::reaches_then))]
 
 mod binary_reader;
-mod error;
 mod from_reader;
 mod iter;
 mod laws;
 mod leb;
 pub mod limits;
 mod lists;
-#[cfg(test)]
-mod tests;
 mod texts;
 mod words;
 
 pub use binary_reader::BinaryReader;
-pub use error::{BinaryReaderError, Error, ErrorKind, Result};
 pub use from_reader::FromReader;
 pub use iter::BinaryReaderIter;
 pub use laws::{lists_are_lawful, reading_is_lawful, texts_and_words_are_lawful};
+pub use leb::numbers_are_lawful;
 pub use lists::{read_list, read_many};
+pub use wasm_types_error::{BinaryReaderError, Error, ErrorKind, Result};
 pub use words::{Ieee32, Ieee64};

@@ -2,10 +2,9 @@
 
 ghost use Rattle.std.specs.Prelude.{◌≡◌, ◌-◌};
 ghost use Rattle.wasm_types_decoding.specs.Decoder.{Reaches};
-ghost use Rattle.wasm_types_decoding.specs.Leb.{u32 as u32_decoder};
-ghost use Rattle.wasm_types_reader.specs.declared.error.ErrorKind.TheVariants.{Other};
+ghost use Rattle.wasm_types_decoding.specs.Text.{counted_within, text_of, skipped, name, any_name, skipped_name};
+ghost use Rattle.wasm_types_error.specs.declared.error.ErrorKind.TheVariants.{Other};
 ghost use Rattle.wasm_types_reader.specs.Reading.{Answers, Gives, NeedsNoMemory};
-ghost use Rattle.wasm_types_reader.specs.Texts.{counted_within, text_of, skipped, string, skipped_string, unlimited_string};
 
 use crate::limits::MAX_WASM_STRING_SIZE;
 use crate::{BinaryReader, Error, Result};
@@ -16,7 +15,7 @@ impl<'a> BinaryReader<'a> {
     /// bytes at the last of them.
     #[inline]
     pub fn read_string(&mut self) -> Result<&'a str>
-        ensures answer { Answers (λ s. s.now) result self.old self.new (string self.old) }
+        ensures answer { Answers (λ s. s.now) result self.old self.new (name 100000 self.old) }
         ensures no_memory { NeedsNoMemory result }
         ensures forward { Reaches self.old self.new }
     {
@@ -31,7 +30,7 @@ impl<'a> BinaryReader<'a> {
     /// A count in LEB128, and as many bytes of UTF-8. Other bytes are refused at the last of them.
     #[inline]
     pub fn read_unlimited_string(&mut self) -> Result<&'a str>
-        ensures answer { Answers (λ s. s.now) result self.old self.new (unlimited_string self.old) }
+        ensures answer { Answers (λ s. s.now) result self.old self.new (any_name self.old) }
         ensures no_memory { NeedsNoMemory result }
         ensures forward { Reaches self.old self.new }
     {
@@ -46,7 +45,7 @@ impl<'a> BinaryReader<'a> {
     /// Goes on behind a count in LEB128 of at most 100,000 and as many bytes, whatever they are.
     #[inline]
     pub fn skip_string(&mut self) -> Result<()>
-        ensures answer { Answers (λ u. u) result self.old self.new (skipped_string self.old) }
+        ensures answer { Answers (λ u. u) result self.old self.new (skipped_name 100000 self.old) }
         ensures no_memory { NeedsNoMemory result }
         ensures forward { Reaches self.old self.new }
     {
@@ -58,9 +57,9 @@ impl<'a> BinaryReader<'a> {
         read
     }
 
-    #[tactic(auto, using(wasm_types_decoding::specs::Laws::reaches_self, wasm_types_decoding::specs::Laws::reaches_then), unfolding(crate::specs::Texts::counted_within))]
+    #[tactic(auto, using(wasm_types_decoding::specs::Laws::reaches_self, wasm_types_decoding::specs::Laws::reaches_then), unfolding(wasm_types_decoding::specs::Text::counted_within))]
     fn limited_text(&mut self) -> Result<&'a str>
-        ensures answer { Gives (λ s. s.now) result self.new (string self.old) }
+        ensures answer { Gives (λ s. s.now) result self.new (name 100000 self.old) }
         ensures no_memory { NeedsNoMemory result }
         ensures forward { Reaches self.old self.new }
     {
@@ -71,9 +70,9 @@ impl<'a> BinaryReader<'a> {
         self.text(count)
     }
 
-    #[tactic(auto, using(wasm_types_decoding::specs::Laws::reaches_self, wasm_types_decoding::specs::Laws::reaches_then), unfolding(crate::specs::Texts::unlimited_string))]
+    #[tactic(auto, using(wasm_types_decoding::specs::Laws::reaches_self, wasm_types_decoding::specs::Laws::reaches_then), unfolding(wasm_types_decoding::specs::Text::any_name))]
     fn counted_text(&mut self) -> Result<&'a str>
-        ensures answer { Gives (λ s. s.now) result self.new (unlimited_string self.old) }
+        ensures answer { Gives (λ s. s.now) result self.new (any_name self.old) }
         ensures no_memory { NeedsNoMemory result }
         ensures forward { Reaches self.old self.new }
     {
@@ -81,9 +80,9 @@ impl<'a> BinaryReader<'a> {
         self.text(count as usize)
     }
 
-    #[tactic(auto, using(wasm_types_decoding::specs::Laws::reaches_self, wasm_types_decoding::specs::Laws::reaches_then), unfolding(crate::specs::Texts::counted_within, crate::specs::Texts::skipped))]
+    #[tactic(auto, using(wasm_types_decoding::specs::Laws::reaches_self, wasm_types_decoding::specs::Laws::reaches_then), unfolding(wasm_types_decoding::specs::Text::counted_within, wasm_types_decoding::specs::Text::skipped))]
     fn skip_text(&mut self) -> Result<()>
-        ensures answer { Gives (λ u. u) result self.new (skipped_string self.old) }
+        ensures answer { Gives (λ u. u) result self.new (skipped_name 100000 self.old) }
         ensures no_memory { NeedsNoMemory result }
         ensures forward { Reaches self.old self.new }
     {
@@ -96,7 +95,7 @@ impl<'a> BinaryReader<'a> {
     }
 
     /// The next `n` bytes, which are UTF-8.
-    #[tactic(auto, using(wasm_types_decoding::specs::Laws::reaches_self, wasm_types_decoding::specs::Laws::reaches_then), unfolding(crate::specs::Texts::text_of))]
+    #[tactic(auto, using(wasm_types_decoding::specs::Laws::reaches_self, wasm_types_decoding::specs::Laws::reaches_then), unfolding(wasm_types_decoding::specs::Text::text_of))]
     fn text(&mut self, n: usize) -> Result<&'a str>
         ensures answer { Gives (λ s. s.now) result self.new (text_of n self.old) }
         ensures no_memory { NeedsNoMemory result }

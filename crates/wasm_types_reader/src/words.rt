@@ -2,8 +2,9 @@
 
 ghost use Rattle.std.specs.Prelude.{◌≡◌};
 ghost use Rattle.wasm_types_decoding.specs.Decoder.{Reaches};
+ghost use Rattle.wasm_types_decoding.specs.Text.{word};
 ghost use Rattle.wasm_types_reader.specs.Reading.{Answers, Gives, NeedsNoMemory};
-ghost use Rattle.wasm_types_reader.specs.Words.{word, u7};
+ghost use Rattle.wasm_types_reader.specs.Words.{u7};
 
 use crate::{BinaryReader, Error, Result};
 
@@ -71,7 +72,7 @@ impl<'a> BinaryReader<'a> {
 
     /// The next four bytes as a number, the lowest byte first.
     #[inline]
-    #[tactic(auto, using(wasm_types_decoding::specs::Laws::reaches_self, wasm_types_decoding::specs::Laws::reaches_then), unfolding(crate::specs::Words::word))]
+    #[tactic(auto, using(wasm_types_decoding::specs::Laws::reaches_self, wasm_types_decoding::specs::Laws::reaches_then), unfolding(wasm_types_decoding::specs::Text::word))]
     pub fn read_u32(&mut self) -> Result<u32>
         ensures answer { Answers (λ n. n) result self.old self.new (word 4 self.old) }
         ensures no_memory { NeedsNoMemory result }
@@ -83,7 +84,7 @@ impl<'a> BinaryReader<'a> {
 
     /// The next eight bytes as a number, the lowest byte first.
     #[inline]
-    #[tactic(auto, using(wasm_types_decoding::specs::Laws::reaches_self, wasm_types_decoding::specs::Laws::reaches_then), unfolding(crate::specs::Words::word))]
+    #[tactic(auto, using(wasm_types_decoding::specs::Laws::reaches_self, wasm_types_decoding::specs::Laws::reaches_then), unfolding(wasm_types_decoding::specs::Text::word))]
     pub fn read_u64(&mut self) -> Result<u64>
         ensures answer { Answers (λ n. n) result self.old self.new (word 8 self.old) }
         ensures no_memory { NeedsNoMemory result }

@@ -1,6 +1,7 @@
 use Rattle.wasm_types_decoding.specs.ListLaws.{lawful-size_within, decides-size_within}
-use Rattle.wasm_types_reader.specs.WordLaws.{lawful-word, decides-word, lawful-u7, decides-u7}
-use Rattle.wasm_types_reader.specs.TextLaws.{lawful-string, decides-string, lawful-unlimited_string, decides-unlimited_string, lawful-skipped_string, lawful-counted_part}
+use Rattle.wasm_types_decoding.specs.TextLaws.{lawful-word, decides-word, lawful-name, decides-name, lawful-any_name, decides-any_name, lawful-skipped_name}
+use Rattle.wasm_types_reader.specs.WordLaws.{lawful-u7, decides-u7}
+use Rattle.wasm_types_reader.specs.PartLaws.{lawful-counted_part}
 use Rattle.wasm_types_reader.proofs.laws.texts_and_words_are_lawful.Goals as goal
 
 pub returns-clause-words : goal.returns-clause-words
@@ -13,13 +14,13 @@ pub returns-clause-sizes : goal.returns-clause-sizes
 returns-clause-sizes c = λ limit. (lawful-size_within limit, decides-size_within limit)
 
 pub returns-clause-strings : goal.returns-clause-strings
-returns-clause-strings c = (lawful-string, decides-string)
+returns-clause-strings c = (lawful-name 100000, decides-name 100000)
 
 pub returns-clause-unlimited_strings : goal.returns-clause-unlimited_strings
-returns-clause-unlimited_strings c = (lawful-unlimited_string, decides-unlimited_string)
+returns-clause-unlimited_strings c = (lawful-any_name, decides-any_name)
 
 pub returns-clause-skipped_strings : goal.returns-clause-skipped_strings
-returns-clause-skipped_strings c = lawful-skipped_string
+returns-clause-skipped_strings c = lawful-skipped_name 100000
 
 pub returns-clause-parts : goal.returns-clause-parts
 returns-clause-parts c = lawful-counted_part

@@ -1,10 +1,8 @@
 -- The groups read so far, and the byte at hand, give the number or the flaw.
-use Rattle.std.proofs.Common.{◌≡◌, ◌⊎◌, ℕ, ℤ, length, get_or, refl, sym, ◌∙◌, ap, subst, arith, inl, inr}
+use Rattle.std.proofs.Common.{get_or, refl, arith, inl, inr}
 use Rattle.std.proofs.lemmas.Bool.{MatchBool-at_true, MatchBool-at_false}
-use Rattle.wasm_types_decoding.specs.Decoder.{Outcome, Done, byte}
-use Rattle.wasm_types_reader.specs.Numbers.{behind, signed_of, EndsSigned}
 use Rattle.wasm_types_reader.proofs.LebGroups.{behind_none, byte_here, no_byte_here}
-use Rattle.wasm_types_reader.proofs.LebSigned.{Remains, FitsThere, begins, stops, ends, refused, goes}
+use Rattle.wasm_types_reader.proofs.LebSigned.{FitsThere, begins, stops, ends, refused, goes}
 use Rattle.wasm_types_reader.proofs.binary_reader.BinaryReader.signed.Goals as goal
 use Rattle.wasm_types_reader.proofs.binary_reader.BinaryReader.signed.Goals.{else-shift-bits-via-then-shift-bits+else-not-ends_signed, else-shift-bits-via-else-shift-bits}
 

@@ -1,9 +1,7 @@
 -- The groups read so far, and the byte at hand, give the number or the flaw.
-use Rattle.std.proofs.Common.{◌≡◌, ◌⊎◌, length, get_or, refl, sym, ◌∙◌, ap, subst, arith, inl, inr}
-use Rattle.wasm_types_decoding.specs.Decoder.{Outcome, Done, byte}
-use Rattle.wasm_types_reader.specs.Numbers.{behind, unsigned_of}
+use Rattle.std.proofs.Common.{get_or, refl, arith, inl}
 use Rattle.wasm_types_reader.proofs.LebGroups.{behind_none, byte_here, no_byte_here}
-use Rattle.wasm_types_reader.proofs.LebUnsigned.{Remains, FitsThere, fits_last, begins, stops, ends, refused, goes}
+use Rattle.wasm_types_reader.proofs.LebUnsigned.{FitsThere, fits_last, begins, stops, ends, refused, goes}
 use Rattle.wasm_types_reader.proofs.binary_reader.BinaryReader.unsigned.Goals as goal
 use Rattle.wasm_types_reader.proofs.binary_reader.BinaryReader.unsigned.Goals.{else-shift-bits-via-then-shift-bits+else-byte-bits, else-shift-bits-via-else-shift-bits}
 

@@ -1,0 +1,8 @@
+use Rattle.std.proofs.Common.{codes, ◌∙◌, ap, refl, arith}
+use Rattle.wasm_types_error.specs.ErrorValue.{ErrorValue}
+use Rattle.wasm_types_error.specs.ErrorText.{cut_to}
+use Rattle.wasm_types_error.proofs.error.Error.eof.Goals as goal
+
+pub returns : goal.returns
+unfolding cut_to
+returns c = c.of_kind.ensures

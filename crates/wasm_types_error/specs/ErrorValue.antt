@@ -1,0 +1,8 @@
+-- What a contract sees of an error.
+use Rattle.std.specs.Prelude.{ℕ, List}
+use Rattle.wasm_types_error.specs.declared.error.ErrorKind.{ErrorKind}
+
+pub record ErrorValue : Type 0 where
+  pub kind : ErrorKind
+  pub offset : ℕ
+  pub message : List ℕ

@@ -1,8 +1,0 @@
-use Rattle.std.proofs.Common.{codes, ◌∙◌, ap, refl, arith}
-use Rattle.wasm_types_reader.specs.ErrorValue.{ErrorValue}
-use Rattle.wasm_types_reader.specs.ErrorText.{cut_to}
-use Rattle.wasm_types_reader.proofs.error.Error.eof.Goals as goal
-
-pub returns : goal.returns
-unfolding cut_to
-returns c = c.of_kind.ensures

@@ -1,8 +1,0 @@
--- What a contract sees of an error.
-use Rattle.std.specs.Prelude.{ℕ, List}
-use Rattle.wasm_types_reader.specs.declared.error.ErrorKind.{ErrorKind}
-
-pub record ErrorValue : Type 0 where
-  pub kind : ErrorKind
-  pub offset : ℕ
-  pub message : List ℕ
