@@ -2,11 +2,10 @@
 use Rattle.std.proofs.Common.{List, [], ◌∷◌, Bool, true, false, refl, ◌∙◌, Result, Ok, Err}
 use Rattle.wasm_types_error.specs.ErrorValue.{ErrorValue}
 use Rattle.wasm_types_error.specs.declared.error.ErrorKind.{ErrorKind}
-use Rattle.wasm_types_error.specs.declared.error.ErrorKind.TheVariants as kinds
 use Rattle.wasm_module_validator.specs.declared.types.ValType.{ValType}
 use Rattle.wasm_module_validator.specs.Validation.{OperandType, bottom, value, Matches, AllMatch, values}
-use Rattle.wasm_module_validator.specs.Answers.{Denies, Does}
-use Rattle.wasm_module_validator.specs.Operands.{Covers}
+use Rattle.wasm_module_validator.specs.Answers.{Denies, denies_from}
+use Rattle.wasm_module_validator.specs.Operands.{Covers, Does}
 
 pub matches_refl : (t : OperandType) → Matches t t
 matches_refl bottom = tt
@@ -41,11 +40,7 @@ covers_values u (m ∷ ms) = (refl, covers_values u ms)
 -- ---- answers
 
 pub denies_also : (k : ErrorKind) {P Q : Type 0} → (Q → P) → Denies k P → Denies k Q
-denies_also (kinds.EndOfData h) f d = λ q. d (f q)
-denies_also (kinds.MissingFeature g) f d = λ q. d (f q)
-denies_also kinds.OutOfMemory f d = tt
-denies_also kinds.Failed f d = λ q. d (f q)
-denies_also kinds.Other f d = λ q. d (f q)
+denies_also k {P} {Q} f d = denies_from k P Q f d
 
 pub does_also : {X : Type 0} (r : Result X ErrorValue) {P Q R S : Type 0} → (P → R) → (S → Q) → Does r P Q → Does r R S
 does_also (Ok x) f g d = f d

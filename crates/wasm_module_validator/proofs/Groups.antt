@@ -13,7 +13,7 @@ use Rattle.wasm_module_validator.specs.Validation.{OperandType, Typed, stack, ex
 use Rattle.wasm_module_validator.specs.Bodies.{AcceptsBody}
 use Rattle.wasm_module_validator.specs.Answers.{Denies}
 use Rattle.wasm_module_validator.specs.Operators.{local_group}
-use Rattle.wasm_module_validator.specs.OperatorsLaws.{decides-local_group}
+use Rattle.wasm_module_validator.specs.OperatorLaws.{decides-local_group}
 use Rattle.wasm_module_validator.specs.Operands.{Known, Covers, fresh, function_type, GroupsLeft, BodyLeft}
 use Rattle.wasm_module_validator.proofs.Covering.{denies_also}
 use Rattle.wasm_module_validator.proofs.Reading.{Begins, read_is, was_spelled, refused}

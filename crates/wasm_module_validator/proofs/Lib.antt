@@ -1,7 +1,7 @@
 mod Judging
-pub mod Runs
 pub mod Covering
-pub mod Rows
-pub mod Reading
-pub mod Steps
+pub mod Exchanging
 pub mod Groups
+pub mod Reading
+pub mod Runs
+pub mod Steps

@@ -13,10 +13,10 @@ use Rattle.wasm_module_validator.specs.declared.operators.Operator.TheVariants.{
 use Rattle.wasm_module_validator.specs.Syntax.{Instruction, unreachable, nop, drop, local_get, i32_const, i64_const, i32_add, i64_add, Code, done, plain}
 use Rattle.wasm_module_validator.specs.Binary.{SpellsInstruction, SpellsExpression}
 use Rattle.wasm_module_validator.specs.Validation.{OperandType, stack, Steps, Typed}
-use Rattle.wasm_module_validator.specs.Answers.{Denies, Does}
+use Rattle.wasm_module_validator.specs.Answers.{Denies}
 use Rattle.wasm_module_validator.specs.Operators.{SpellsOperator, operator}
-use Rattle.wasm_module_validator.specs.OperatorsLaws.{decides-operator}
-use Rattle.wasm_module_validator.specs.Operands.{Known, Stacks, Stepped, MayStep, Visits, Ended, MayEnd, Continues, Closes, BodyLeft, Taken, MayTake}
+use Rattle.wasm_module_validator.specs.OperatorLaws.{decides-operator}
+use Rattle.wasm_module_validator.specs.Operands.{Does, Known, Stacks, Stepped, MayStep, Visits, Ended, MayEnd, Continues, Closes, BodyLeft, Taken, MayTake}
 use Rattle.wasm_module_validator.proofs.Covering.{all_match_refl, covers_above, does_also, denies_also}
 use Rattle.wasm_module_validator.proofs.Reading.{Begins, reads, read_is, was_spelled, refused}
 

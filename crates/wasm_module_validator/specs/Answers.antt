@@ -34,11 +34,6 @@ abbrev pub Tells : {X : Type 0} → Result X ErrorValue → Type 0 → Type 0
 Tells (Ok x) P = P
 Tells (Err e) P = Denies e.kind P
 
--- On Ok this was done. Otherwise it isn't possible, unless memory was wanted.
-abbrev pub Does : {X : Type 0} → Result X ErrorValue → Type 0 → Type 0 → Type 0
-Does (Ok x) done possible = done
-Does (Err e) done possible = Denies e.kind possible
-
 -- how many entries each space of a module has
 pub record Counts : Type 0 where
   pub types : ℕ

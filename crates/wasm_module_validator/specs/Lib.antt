@@ -12,7 +12,7 @@ pub mod Locals
 pub mod Types
 pub mod TypeLaws
 pub mod Operators
-pub mod OperatorsLaws
+pub mod OperatorLaws
 pub mod Frames
 pub mod Entries
 pub mod Rows

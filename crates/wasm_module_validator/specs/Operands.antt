@@ -1,13 +1,13 @@
 -- What is known of a body while it is validated, and what each step does to it. It is said by sets of stacks: the operands
 -- stand for each stack that the code so far may leave (WebAssembly 3.0, validation, instructions).
-use Rattle.std.specs.Prelude.{◌≡◌, ◌↔◌, ◌≤◌, ℕ, zero, suc, length, replicate, List, [], ◌∷◌, ◌++◌, Bool, true, false, Result}
+use Rattle.std.specs.Prelude.{◌≡◌, ◌↔◌, ◌≤◌, ℕ, zero, suc, length, replicate, List, [], ◌∷◌, ◌++◌, Bool, true, false, Result, Ok, Err}
 use Rattle.wasm_types_error.specs.ErrorValue.{ErrorValue}
 use Rattle.wasm_module_validator.specs.declared.types.ValType.{ValType}
 use Rattle.wasm_module_validator.specs.declared.operators.Operator.{Operator}
 use Rattle.wasm_module_validator.specs.Syntax.{FunctionType, Instruction, Code, LocalGroup}
 use Rattle.wasm_module_validator.specs.Binary.{SpellsExpression, SpellsLocalGroup}
 use Rattle.wasm_module_validator.specs.Validation.{OperandType, value, Matches, stack, Steps, Typed}
-use Rattle.wasm_module_validator.specs.Answers.{Does}
+use Rattle.wasm_module_validator.specs.Answers.{Denies}
 use Rattle.wasm_module_validator.specs.Operators.{SpellsOperator}
 
 -- What is known: the locals; the operands of known types, the top first; whether the place can't be reached; whether the
@@ -32,6 +32,11 @@ Covers u (m ∷ ms) (t ∷ s) = Matches (value m) t × Covers u ms s
 
 abbrev pub Stacks : Known → List OperandType → Type 0
 Stacks k s = Covers k.unreachable k.operands s
+
+-- On Ok this was done. Otherwise it isn't possible, unless memory was wanted.
+abbrev pub Does : {X : Type 0} → Result X ErrorValue → Type 0 → Type 0 → Type 0
+Does (Ok x) done possible = done
+Does (Err e) done possible = Denies e.kind possible
 
 -- the same body, as far as it isn't its operands
 pub record Same (before after : Known) : Type 0 where

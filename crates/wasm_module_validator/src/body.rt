@@ -1,14 +1,15 @@
 //! Validation of a function's entry in the code section.
 
-ghost use Rattle.std.specs.Prelude.{◌≡◌, ◌↔◌, ◌≤◌, List, length, false};
+ghost use Rattle.std.specs.Prelude.{◌≡◌, ◌↔◌, ◌≤◌, List, [], length, false};
 ghost use Rattle.wasm_types_error.specs.declared.error.ErrorKind.TheVariants.{Other};
 ghost use Rattle.wasm_module_validator.specs.declared.types.ValType.{ValType as TheValType};
-ghost use Rattle.wasm_module_validator.specs.Answers.{Does, Tells};
+ghost use Rattle.wasm_module_validator.specs.Answers.{Tells};
 ghost use Rattle.wasm_module_validator.specs.Bodies.{AcceptsBody};
-ghost use Rattle.wasm_module_validator.specs.Operands.{fresh, function_type, GroupsLeft, BodyLeft, Taken, MayTake};
+ghost use Rattle.wasm_module_validator.specs.Operands.{Does, fresh, function_type, GroupsLeft, BodyLeft, Taken, MayTake};
 
 use crate::operands::OperatorValidator;
-use crate::{FuncType, LocalGroup, Operator, ValType};
+use crate::operators::{LocalGroup, Operator};
+use crate::types::{FuncType, ValType};
 use std::alloc::Global;
 use wasm_types_reader::{BinaryReader, Error, Result};
 
@@ -21,7 +22,9 @@ pub struct FuncValidator {
 
 impl FuncValidator {
     /// A validator before its first function. It takes no memory.
-    pub fn new(alloc: Global) -> FuncValidator {
+    pub fn new(alloc: Global) -> FuncValidator
+        ensures { result.validator ≡ fresh [] }
+    {
         FuncValidator {
             alloc,
             validator: OperatorValidator::new(alloc),

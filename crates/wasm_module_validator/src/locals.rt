@@ -3,7 +3,7 @@
 ghost use Rattle.std.specs.Prelude.{◌≡◌, ◌+◌, ◌≤◌, [], ◌++◌, length, replicate, slice_get};
 ghost use Rattle.wasm_types_error.specs.declared.error.ErrorKind.TheVariants.{Other};
 
-use crate::ValType;
+use crate::types::ValType;
 use std::alloc::Global;
 use std::marker::Model;
 use wasm_types_reader::{Error, Result};
@@ -37,7 +37,7 @@ impl Model for Locals {
 }
 
 impl Locals {
-    ghost use Rattle.wasm_module_validator.specs.Answers.{Does};
+    ghost use Rattle.wasm_module_validator.specs.Operands.{Does};
 
     /// No locals. It takes no memory.
     pub fn new(alloc: Global) -> Locals

@@ -4,9 +4,10 @@
 ghost use Rattle.std.specs.Prelude.{ℤ, ◌≡◌, ◌∷◌, ◌++◌, ◌≤◌, ◌+◌, [], length, replicate};
 ghost use Rattle.wasm_types_error.specs.declared.error.ErrorKind.TheVariants.{Other};
 
-use crate::ValType;
 use crate::locals::Locals;
+use crate::types::ValType;
 use std::alloc::Global;
+use std::fmt::Display;
 use std::marker::Model;
 use wasm_types_reader::{Error, Result};
 
@@ -30,9 +31,8 @@ impl Model for OperatorValidator {
 }
 
 impl OperatorValidator {
-    ghost use Rattle.wasm_module_validator.specs.Answers.{Does};
     ghost use Rattle.wasm_module_validator.specs.Syntax.{unreachable as unreachable_instruction, nop as nop_instruction, drop as drop_instruction, local_get as local_get_instruction, i32_const as i32_const_instruction, i64_const as i64_const_instruction, i32_add as i32_add_instruction, i64_add as i64_add_instruction};
-    ghost use Rattle.wasm_module_validator.specs.Operands.{fresh, Popped, MayPop, PoppedAny, MayPopAny, Pushed, PoppedAll, MayPopAll, Combined, MayCombine, Ended, MayEnd, Stepped, Visits};
+    ghost use Rattle.wasm_module_validator.specs.Operands.{Does, fresh, Popped, MayPop, PoppedAny, MayPopAny, Pushed, PoppedAll, MayPopAll, Combined, MayCombine, Ended, MayEnd, Stepped, Visits};
 
     /// What is known before the first body. It takes no memory.
     pub fn new(alloc: Global) -> OperatorValidator
@@ -88,7 +88,7 @@ impl OperatorValidator {
                 if self.unreachable {
                     Ok(())
                 } else {
-                    Err(empty_stack(offset, name_of(expected)))
+                    Err(empty_stack(offset, expected))
                 }
             }
         }
@@ -212,23 +212,11 @@ impl OperatorValidator {
     }
 }
 
-/// The name of a type, as messages write it.
-fn name_of(ty: ValType) -> &'static str {
-    match ty {
-        ValType::I32 => "i32",
-        ValType::I64 => "i64",
-        ValType::F32 => "f32",
-        ValType::F64 => "f64",
-    }
-}
-
 #[cold]
 fn type_mismatch(offset: u64, expected: ValType, found: ValType) -> Error
     ensures kind { result.kind ≡ Other }
     ensures offset { result.offset ≡ offset }
 {
-    let expected = name_of(expected);
-    let found = name_of(found);
     Error::fmt(
         format_args!("type mismatch: expected {expected}, found {found}"),
         offset,
@@ -236,7 +224,7 @@ fn type_mismatch(offset: u64, expected: ValType, found: ValType) -> Error
 }
 
 #[cold]
-fn empty_stack(offset: u64, expected: &str) -> Error
+fn empty_stack<D: Display + Drop>(offset: u64, expected: D) -> Error
     ensures kind { result.kind ≡ Other }
     ensures offset { result.offset ≡ offset }
 {

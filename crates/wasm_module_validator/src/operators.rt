@@ -3,7 +3,7 @@
 ghost use Rattle.std.specs.Prelude.{◌≡◌};
 ghost use Rattle.wasm_types_error.specs.declared.error.ErrorKind.TheVariants.{Other};
 
-use crate::ValType;
+use crate::types::ValType;
 use std::alloc::Global;
 use wasm_types_reader::{BinaryReader, Error, FromReader, Result};
 
@@ -25,7 +25,7 @@ pub enum Operator {
 impl<'a> FromReader<'a> for Operator {
     ghost use Rattle.wasm_module_validator.specs.declared.operators.Operator.{Operator as TheOperator};
     ghost use Rattle.wasm_module_validator.specs.Operators.{operator, SpellsOperator};
-    ghost use Rattle.wasm_module_validator.specs.OperatorsLaws.{lawful-operator, decides-operator};
+    ghost use Rattle.wasm_module_validator.specs.OperatorLaws.{lawful-operator, decides-operator};
 
     ghost Value = { TheOperator };
 
@@ -87,7 +87,7 @@ impl<'a> FromReader<'a> for LocalGroup {
     ghost use Rattle.wasm_module_validator.specs.Syntax.{LocalGroup as TheLocalGroup};
     ghost use Rattle.wasm_module_validator.specs.Binary.{SpellsLocalGroup};
     ghost use Rattle.wasm_module_validator.specs.Operators.{local_group};
-    ghost use Rattle.wasm_module_validator.specs.OperatorsLaws.{lawful-local_group, decides-local_group};
+    ghost use Rattle.wasm_module_validator.specs.OperatorLaws.{lawful-local_group, decides-local_group};
 
     ghost Value = { TheLocalGroup };
 

@@ -1,5 +1,5 @@
 use Rattle.wasm_module_validator.proofs.Covering.{does_also}
-use Rattle.wasm_module_validator.proofs.Rows.{combined}
+use Rattle.wasm_module_validator.proofs.Exchanging.{combined}
 use Rattle.wasm_module_validator.proofs.operands.OperatorValidator.check_binary_op.Goals as goal
 
 pub returns : goal.returns

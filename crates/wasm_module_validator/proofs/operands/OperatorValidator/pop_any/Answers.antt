@@ -1,4 +1,4 @@
-use Rattle.wasm_module_validator.proofs.Rows.{popped_last}
+use Rattle.wasm_module_validator.proofs.Exchanging.{popped_last}
 use Rattle.wasm_module_validator.proofs.operands.OperatorValidator.pop_any.Goals as goal
 
 pub returns-in-Some : goal.returns-in-Some

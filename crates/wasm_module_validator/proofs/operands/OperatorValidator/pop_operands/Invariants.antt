@@ -1,5 +1,5 @@
 use Rattle.std.proofs.Common.{length}
-use Rattle.wasm_module_validator.proofs.Rows.{Leads}
+use Rattle.wasm_module_validator.proofs.Exchanging.{Leads}
 use Rattle.wasm_module_validator.proofs.operands.OperatorValidator.pop_operands.Given as goal
 
 abbrev pub invariant-loop-last : goal.invariant-loop-last

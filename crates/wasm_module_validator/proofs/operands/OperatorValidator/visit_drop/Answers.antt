@@ -1,5 +1,5 @@
 use Rattle.wasm_module_validator.proofs.Covering.{does_also}
-use Rattle.wasm_module_validator.proofs.Rows.{dropped, drop_may}
+use Rattle.wasm_module_validator.proofs.Exchanging.{dropped, drop_may}
 use Rattle.wasm_module_validator.proofs.operands.OperatorValidator.visit_drop.Goals as goal
 
 pub returns : goal.returns

@@ -1,6 +1,6 @@
 use Rattle.std.proofs.Common.{sym, refl, subst}
 use Rattle.wasm_module_validator.specs.Operands.{Known, PoppedAll}
-use Rattle.wasm_module_validator.proofs.Rows.{bare_ended, ended_bare, is_none, is_some}
+use Rattle.wasm_module_validator.proofs.Exchanging.{bare_ended, ended_bare, is_none, is_some}
 use Rattle.wasm_module_validator.proofs.operands.OperatorValidator.visit_end.Goals as goal
 
 pub returns-then-not-is_empty : goal.returns-then-not-is_empty

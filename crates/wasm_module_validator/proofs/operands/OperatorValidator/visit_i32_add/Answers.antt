@@ -1,7 +1,7 @@
 use Rattle.wasm_module_validator.specs.declared.types.ValType.TheVariants.{I32}
 use Rattle.wasm_module_validator.specs.Syntax.{i32_add}
 use Rattle.wasm_module_validator.proofs.Covering.{does_also}
-use Rattle.wasm_module_validator.proofs.Rows.{binary_stepped, binary_may}
+use Rattle.wasm_module_validator.proofs.Exchanging.{binary_stepped, binary_may}
 use Rattle.wasm_module_validator.proofs.operands.OperatorValidator.visit_i32_add.Goals as goal
 
 pub returns : goal.returns

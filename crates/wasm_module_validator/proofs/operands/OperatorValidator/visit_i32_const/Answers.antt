@@ -1,7 +1,7 @@
 use Rattle.wasm_module_validator.specs.declared.types.ValType.TheVariants.{I32}
 use Rattle.wasm_module_validator.specs.Syntax.{i32_const}
 use Rattle.wasm_module_validator.proofs.Covering.{does_also}
-use Rattle.wasm_module_validator.proofs.Rows.{constant_stepped}
+use Rattle.wasm_module_validator.proofs.Exchanging.{constant_stepped}
 use Rattle.wasm_module_validator.proofs.operands.OperatorValidator.visit_i32_const.Goals as goal
 
 pub returns : goal.returns

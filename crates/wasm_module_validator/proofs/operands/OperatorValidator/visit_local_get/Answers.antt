@@ -2,7 +2,7 @@ use Rattle.std.proofs.Common.{slice_get, ap, ◌∙◌}
 use Rattle.wasm_module_validator.specs.Syntax.{local_get}
 use Rattle.wasm_module_validator.specs.Operands.{Known}
 use Rattle.wasm_module_validator.proofs.Covering.{does_also}
-use Rattle.wasm_module_validator.proofs.Rows.{constant_stepped, local_fixed}
+use Rattle.wasm_module_validator.proofs.Exchanging.{constant_stepped, local_fixed}
 use Rattle.wasm_module_validator.proofs.operands.OperatorValidator.visit_local_get.Goals as goal
 
 pub returns-in-Some : goal.returns-in-Some

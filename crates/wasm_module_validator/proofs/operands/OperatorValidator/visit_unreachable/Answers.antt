@@ -1,4 +1,4 @@
-use Rattle.wasm_module_validator.proofs.Rows.{jumped}
+use Rattle.wasm_module_validator.proofs.Exchanging.{jumped}
 use Rattle.wasm_module_validator.proofs.operands.OperatorValidator.visit_unreachable.Goals as goal
 
 pub returns : goal.returns
