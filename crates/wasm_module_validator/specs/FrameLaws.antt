@@ -88,5 +88,5 @@ body_from x text h = record {
 pub decides-body : Decides body (IsCounted 7654321)
 decides-body = decides-along plain_body body same_body (IsCounted 7654321)
     (decides-same plain_body (Then (IsUnsigned 32) Entry) (IsCounted 7654321)
-      (decides->>= u32 (λ n s. next_body n s.place s) (IsUnsigned 32) Entry decides-u32 (λ n. decides-from_place (next_body n) (Entry n) (λ place. decides->>= (bytes n) (few_or place) (Exactly n) Few (decides-bytes n) (decides-few place))))
-      body_to body_from)
+    (decides->>= u32 (λ n s. next_body n s.place s) (IsUnsigned 32) Entry decides-u32 (λ n. decides-from_place (next_body n) (Entry n) (λ place. decides->>= (bytes n) (few_or place) (Exactly n) Few (decides-bytes n) (decides-few place))))
+    body_to body_from)

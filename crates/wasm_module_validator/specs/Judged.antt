@@ -232,49 +232,59 @@ code_to functions (f ∷ fs) (e ∷ es) front s (inl (h, q)) = let n = h.0 in ab
 code_to functions fs es front s (inr (rest, sized, e)) =
     let l = sized.spelled.0 in
     let n : length es ≡ length fs = sym (same_length fs es s) in
-    inr (rest, record {
-      size = sized.size;
-      content = sized.content;
-      counted = sized.counted;
-      spelled = record {
-        count = l.count;
-        values = l.values;
-        counted = subst (λ (k : ℕ). IsUnsigned 32 k l.count) n l.counted;
-        each = entries_to (length fs) fs es l.values (subst (λ (k : ℕ). Many (IsCounted 7654321) k es l.values) n l.each) s;
-        whole = l.whole;
-      };
-      whole = sized.whole;
-    }, e)
+    inr (
+      rest,
+      record {
+        size = sized.size;
+        content = sized.content;
+        counted = sized.counted;
+        spelled = record {
+          count = l.count;
+          values = l.values;
+          counted = subst (λ (k : ℕ). IsUnsigned 32 k l.count) n l.counted;
+          each = entries_to (length fs) fs es l.values (subst (λ (k : ℕ). Many (IsCounted 7654321) k es l.values) n l.each) s;
+          whole = l.whole;
+        };
+        whole = sized.whole;
+      },
+      e,
+    )
 
 functions_to : (types : ℕ) (xs : List ℕ) (front : List ℕ) → IsSection 3 (IsListedWithin 1000000 (IsTypeIndex types)) IsEmpty xs front → SpellsSection 3 (IsListedWithin 1000000 (IsUnsigned 32)) xs front
 functions_to types xs front (inl h) = inl h
 functions_to types xs front (inr (rest, sized, e)) =
     let l = sized.spelled in
-    inr (rest, record {
-      size = sized.size;
-      content = sized.content;
-      counted = sized.counted;
-      spelled = record { within = l.within; listed = record { count = l.listed.count; values = l.listed.values; counted = l.listed.counted; each = indices_to (length xs) types xs l.listed.values l.listed.each; whole = l.listed.whole } };
-      whole = sized.whole;
-    }, e)
+    inr (
+      rest,
+      record {
+        size = sized.size;
+        content = sized.content;
+        counted = sized.counted;
+        spelled = record { within = l.within; listed = record { count = l.listed.count; values = l.listed.values; counted = l.listed.counted; each = indices_to (length xs) types xs l.listed.values l.listed.each; whole = l.listed.whole } };
+        whole = sized.whole;
+      },
+      e,
+    )
 
 pub to_module : (rest : List ℕ) → AcceptsRest rest → (m : Module) × Judges (header ++ rest) m
 to_module rest (f, (ts, front1, rest1, s1, (fs, front2, rest2, s2, (es, front3, rest3, s3, (e3, is), w3), w2), w1), accepted) =
     let AcceptedBy : Frames → Type 0 = λ g. AreAccepted g.types g.functions g.entries in
     let a : AreAccepted ts fs es = subst AcceptedBy is accepted in
-    let r = accepted_to ts fs es a in
-    (record { types = ts; functions = fs; code = r.0 }, record {
-      spelled = record {
-        types = front1;
-        functions = front2;
-        code = front3;
-        typed = s1;
-        declared = functions_to (length ts) fs front2 s2;
-        defined = code_to (length fs) r.0 es front3 r.1 s3;
-        whole = rw (w1, w2, w3, e3, append-nil front3) refl;
-      };
-      valid = r.2;
-    })
+    let r = accepted_to ts fs es a in (
+      record { types = ts; functions = fs; code = r.0 },
+      record {
+        spelled = record {
+          types = front1;
+          functions = front2;
+          code = front3;
+          typed = s1;
+          declared = functions_to (length ts) fs front2 s2;
+          defined = code_to (length fs) r.0 es front3 r.1 s3;
+          whole = rw (w1, w2, w3, e3, append-nil front3) refl;
+        };
+        valid = r.2;
+      },
+    )
 
 pub to_module_counts : (rest : List ℕ) (f : Frames) (s : AreSections f rest) (a : AreAccepted f.types f.functions f.entries)
     → (length (to_module rest (f, s, a)).0.types ≡ length f.types) × (length (to_module rest (f, s, a)).0.functions ≡ length f.functions)
@@ -291,43 +301,75 @@ code_from types xs fs front v (inr (rest, sized, e)) =
     let l = sized.spelled in
     let r = entries_from (length fs) fs l.values l.each in
     let n : length fs ≡ length r.0 = same_length fs r.0 r.2 in
-    let k : length r.0 ≡ length xs = sym n ∙ as_many types xs fs v in
-    (r.0, inr (rest, record {
-      size = sized.size;
-      content = sized.content;
-      counted = sized.counted;
-      spelled = (record {
-        count = l.count;
-        values = l.values;
-        counted = subst (λ (j : ℕ). IsUnsigned 32 j l.count) n l.counted;
-        each = subst (λ (j : ℕ). Many (IsCounted 7654321) j r.0 l.values) n r.1;
-        whole = l.whole;
-      }, k);
-      whole = sized.whole;
-    }, e), r.2)
+    let k : length r.0 ≡ length xs = sym n ∙ as_many types xs fs v in (
+      r.0,
+      inr (
+        rest,
+        record {
+          size = sized.size;
+          content = sized.content;
+          counted = sized.counted;
+          spelled = (
+            record {
+              count = l.count;
+              values = l.values;
+              counted = subst (λ (j : ℕ). IsUnsigned 32 j l.count) n l.counted;
+              each = subst (λ (j : ℕ). Many (IsCounted 7654321) j r.0 l.values) n r.1;
+              whole = l.whole;
+            },
+            k,
+          );
+          whole = sized.whole;
+        },
+        e,
+      ),
+      r.2,
+    )
 
 functions_from : (types : List FunctionType) (xs : List ℕ) (fs : List Function) (front : List ℕ) → AreValidFunctions types xs fs → SpellsSection 3 (IsListedWithin 1000000 (IsUnsigned 32)) xs front
     → IsSection 3 (IsListedWithin 1000000 (IsTypeIndex (length types))) IsEmpty xs front
 functions_from types xs fs front v (inl h) = inl h
 functions_from types xs fs front v (inr (rest, sized, e)) =
     let l = sized.spelled in
-    inr (rest, record {
-      size = sized.size;
-      content = sized.content;
-      counted = sized.counted;
-      spelled = record { within = l.within; listed = record { count = l.listed.count; values = l.listed.values; counted = l.listed.counted; each = indices_from (length xs) types xs fs l.listed.values l.listed.each v; whole = l.listed.whole } };
-      whole = sized.whole;
-    }, e)
+    inr (
+      rest,
+      record {
+        size = sized.size;
+        content = sized.content;
+        counted = sized.counted;
+        spelled = record { within = l.within; listed = record { count = l.listed.count; values = l.listed.values; counted = l.listed.counted; each = indices_from (length xs) types xs fs l.listed.values l.listed.each v; whole = l.listed.whole } };
+        whole = sized.whole;
+      },
+      e,
+    )
 
 pub from_module : (bytes : List ℕ) (m : Module) → Judges bytes m → (rest : List ℕ) × (bytes ≡ header ++ rest) × AcceptsRest rest
 from_module bytes m j =
     let s = j.spelled in
     let c = code_from m.types m.functions m.code s.code j.valid s.defined in
-    let f : Frames = record { types = m.types; functions = m.functions; entries = c.0 } in
-    (s.types ++ (s.functions ++ s.code), s.whole,
-      (f, (m.types, s.types, s.functions ++ s.code, s.typed,
-        (m.functions, s.functions, s.code, functions_from m.types m.functions m.code s.functions j.valid s.declared,
-          (c.0, s.code, [], c.1, (refl, refl), sym (append-nil s.code)), refl), refl), accepted_from m.types m.functions m.code c.0 c.2 j.valid))
+    let f : Frames = record { types = m.types; functions = m.functions; entries = c.0 } in (
+      s.types ++ (s.functions ++ s.code),
+      s.whole,
+      (
+        f,
+        (
+          m.types,
+          s.types,
+          s.functions ++ s.code,
+          s.typed,
+          (
+            m.functions,
+            s.functions,
+            s.code,
+            functions_from m.types m.functions m.code s.functions j.valid s.declared,
+            (c.0, s.code, [], c.1, (refl, refl), sym (append-nil s.code)),
+            refl,
+          ),
+          refl,
+        ),
+        accepted_from m.types m.functions m.code c.0 c.2 j.valid,
+      ),
+    )
 
 -- ---- the header
 
@@ -355,8 +397,8 @@ AfterMagic text u rest = (text ≡ magic) × Versioned u rest
 decides-magic_or : (place : ℕ) (text : List ℕ) → Decides (magic_or place (bytes 4 >>= version_or place) text) (AfterMagic text)
 decides-magic_or place text = decides-if (bytes_eq text magic) (bytes 4 >>= version_or place) (refuse_at Other place) (AfterMagic text)
     (λ same. decides-same (bytes 4 >>= version_or place) Versioned (AfterMagic text)
-      (decides->>= (bytes 4) (version_or place) (Exactly 4) (Is version) (decides-bytes 4) (decides-version_or place))
-      (λ u rest h. ((bytes_eq-Decides text magic).0 same, h)) (λ u rest h. h.1))
+    (decides->>= (bytes 4) (version_or place) (Exactly 4) (Is version) (decides-bytes 4) (decides-version_or place))
+    (λ u rest h. ((bytes_eq-Decides text magic).0 same, h)) (λ u rest h. h.1))
     (λ other. decides-refuse_at Other place (AfterMagic text) (λ u rest h. let e = (bytes_eq-Decides text magic).1 h.0 in absurd cc))
 
 preamble_to : (u : Unit {0}) (text : List ℕ) → Then (Exactly 4) AfterMagic u text → text ≡ header
@@ -378,7 +420,7 @@ pub decides-preamble : Decides preamble (λ u text. text ≡ header)
 unfolding preamble
 decides-preamble = decides-same (λ s. (bytes 4 >>= magic_or s.place (bytes 4 >>= version_or s.place)) s) (Then (Exactly 4) AfterMagic) (λ u text. text ≡ header)
     (decides-from_place (λ place. bytes 4 >>= magic_or place (bytes 4 >>= version_or place)) (Then (Exactly 4) AfterMagic)
-      (λ place. decides->>= (bytes 4) (magic_or place (bytes 4 >>= version_or place)) (Exactly 4) AfterMagic (decides-bytes 4) (decides-magic_or place)))
+    (λ place. decides->>= (bytes 4) (magic_or place (bytes 4 >>= version_or place)) (Exactly 4) AfterMagic (decides-bytes 4) (decides-magic_or place)))
     preamble_to preamble_from
 
 -- ---- the whole

@@ -58,7 +58,7 @@ module _ {A : Type 0} (limit : ℕ) (d : Decoder A) (g : Grammar A) (dg : Decide
   unfolding items
   decides-items = decides-same (λ s. (u32 >>= at_most_or limit s.place d) s) (Then (IsUnsigned 32) Counted) (IsListedWithin limit g)
       (decides-from_place (λ place. u32 >>= at_most_or limit place d) (Then (IsUnsigned 32) Counted)
-        (λ place. decides->>= u32 (at_most_or limit place d) (IsUnsigned 32) Counted decides-u32 (λ n. decides-at_most_or n place)))
+      (λ place. decides->>= u32 (at_most_or limit place d) (IsUnsigned 32) Counted decides-u32 (λ n. decides-at_most_or n place)))
       items_to items_from
 
 -- the place of a type among so many
@@ -86,7 +86,7 @@ pub decides-type_index : (types : ℕ) → Decides (type_index types) (IsTypeInd
 unfolding type_index
 decides-type_index types = decides-same (λ s. (u32 >>= below_or types s.place) s) (Then (IsUnsigned 32) (Below types)) (IsTypeIndex types)
     (decides-from_place (λ place. u32 >>= below_or types place) (Then (IsUnsigned 32) (Below types))
-      (λ place. decides->>= u32 (below_or types place) (IsUnsigned 32) (Below types) decides-u32 (decides-below_or types place)))
+    (λ place. decides->>= u32 (below_or types place) (IsUnsigned 32) (Below types) decides-u32 (decides-below_or types place)))
     (index_to types) (index_from types)
 
 -- as many entries as there are functions
@@ -106,14 +106,16 @@ many_entries = many_count 0 body (IsCounted 7654321) decides-body
 
 entries_to : (functions : ℕ) (es : List (List ℕ)) (text : List ℕ) → Then (IsUnsigned 32) (Exactly functions) es text → AreEntries functions es text
 entries_to functions es text h =
-    let n = many_entries h.value es h.back h.second.1 in
-    (record {
-      count = h.front;
-      values = h.back;
-      counted = subst (λ (k : ℕ). IsUnsigned 32 k h.front) n h.first;
-      each = subst (λ (k : ℕ). Many (IsCounted 7654321) k es h.back) n h.second.1;
-      whole = h.whole;
-    }, sym n ∙ h.second.0)
+    let n = many_entries h.value es h.back h.second.1 in (
+      record {
+        count = h.front;
+        values = h.back;
+        counted = subst (λ (k : ℕ). IsUnsigned 32 k h.front) n h.first;
+        each = subst (λ (k : ℕ). Many (IsCounted 7654321) k es h.back) n h.second.1;
+        whole = h.whole;
+      },
+      sym n ∙ h.second.0,
+    )
 
 entries_from : (functions : ℕ) (es : List (List ℕ)) (text : List ℕ) → AreEntries functions es text → Then (IsUnsigned 32) (Exactly functions) es text
 entries_from functions es text h = record { value = length es; front = h.0.count; back = h.0.values; first = h.0.counted; second = (h.1, h.0.each); whole = h.0.whole }
@@ -122,7 +124,7 @@ pub decides-entries : (functions : ℕ) → Decides (entries functions) (AreEntr
 unfolding entries
 decides-entries functions = decides-same (λ s. (u32 >>= as_many_or functions s.place) s) (Then (IsUnsigned 32) (Exactly functions)) (AreEntries functions)
     (decides-from_place (λ place. u32 >>= as_many_or functions place) (Then (IsUnsigned 32) (Exactly functions))
-      (λ place. decides->>= u32 (as_many_or functions place) (IsUnsigned 32) (Exactly functions) decides-u32 (decides-as_many_or functions place)))
+    (λ place. decides->>= u32 (as_many_or functions place) (IsUnsigned 32) (Exactly functions) decides-u32 (decides-as_many_or functions place)))
     (entries_to functions) (entries_from functions)
 
 -- ---- a section, and what follows it

@@ -77,11 +77,16 @@ only y x text h =
 
 pub decides-val_type : Decides val_type SpellsValType
 unfolding val_type
-decides-val_type = decides-choice Other SpellsValType val_types spells_some
-    (decides-pure I32 (λ x text. SpellsValType x (0x7f ∷ text)) refl (only I32),
-    (decides-pure I64 (λ x text. SpellsValType x (0x7e ∷ text)) refl (only I64),
-    (decides-pure F32 (λ x text. SpellsValType x (0x7d ∷ text)) refl (only F32),
-    (decides-pure F64 (λ x text. SpellsValType x (0x7c ∷ text)) refl (only F64), tt))))
+decides-val_type = decides-choice Other SpellsValType val_types spells_some (
+  decides-pure I32 (λ x text. SpellsValType x (0x7f ∷ text)) refl (only I32),
+  (
+    decides-pure I64 (λ x text. SpellsValType x (0x7e ∷ text)) refl (only I64),
+    (
+      decides-pure F32 (λ x text. SpellsValType x (0x7d ∷ text)) refl (only F32),
+      (decides-pure F64 (λ x text. SpellsValType x (0x7c ∷ text)) refl (only F64), tt),
+    ),
+  ),
+)
     tag_is
 
 -- ---- function types

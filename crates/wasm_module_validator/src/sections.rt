@@ -20,7 +20,9 @@ pub const MAX_WASM_FUNCTIONS: usize = 1_000_000;
 pub const MAX_WASM_FUNCTION_SIZE: usize = 7_654_321;
 
 const TYPE_SECTION: u8 = 1;
+
 const FUNCTION_SECTION: u8 = 3;
+
 const CODE_SECTION: u8 = 10;
 
 /// An entry of the code section: the bytes of a function.
@@ -189,10 +191,7 @@ fn count_error(desc: &str, limit: usize, place: u64) -> Error
 
 /// The function types of a module; none where there is no type section. Where it is refused the reader may have gone on.
 #[tactic(auto, using(wasm_types_decoding::specs::Laws::reaches_self, wasm_types_decoding::specs::Laws::reaches_then), unfolding(crate::specs::Frames::section, crate::specs::Frames::contents, crate::specs::Frames::type_section))]
-pub fn read_type_section<'a>(
-    alloc: Global,
-    reader: &mut BinaryReader<'a>,
-) -> Result<Vec<FuncType>>
+pub fn read_type_section<'a>(alloc: Global, reader: &mut BinaryReader<'a>) -> Result<Vec<FuncType>>
     ensures answer { Gives (λ v. v.items) result reader.new (type_section reader.old) }
     ensures forward { Reaches reader.old reader.new }
 {
@@ -286,7 +285,10 @@ fn index_error(index: u32, place: u64) -> Error
     ensures kind { result.kind ≡ Other }
     ensures offset { result.offset ≡ place }
 {
-    Error::fmt(format_args!("unknown type {index}: type index out of bounds"), place)
+    Error::fmt(
+        format_args!("unknown type {index}: type index out of bounds"),
+        place,
+    )
 }
 
 /// The entries of the code section, which has as many as there are functions; none where there is neither. Where it is

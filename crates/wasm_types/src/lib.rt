@@ -5,8 +5,7 @@
 #![tactic(auto)]
 
 pub use wasm_types_features::{WasmFeatures, WasmFeaturesInflated};
-pub use wasm_types_reader::limits;
 pub use wasm_types_reader::{
-    BinaryReader, BinaryReaderError, BinaryReaderIter, Error, ErrorKind, FromReader, Ieee32, Ieee64,
-    Result,
+    BinaryReader, BinaryReaderError, BinaryReaderIter, Error, ErrorKind, FromReader, Ieee32,
+    Ieee64, Result, limits,
 };

@@ -24,7 +24,7 @@ returns-in_err-validate_body c =
     let few : length c.as_slice-functions.result.now ≡ length module'.functions.items = ap length c.as_slice-functions.ensures.value in
     let lt : c.loop-place.place < length module'.functions.items = omega arith in
     rw (p.1, p.2) (denies_from _ (AcceptsAt module'.types.items module'.functions.items (bodies module'.bodies.items) c.loop-place.place) (AreAccepted module'.types.items module'.functions.items (bodies module'.bodies.items))
-      (accepted_index module'.types.items module'.functions.items (bodies module'.bodies.items) c.loop-place.place lt) c.in_err-validate_body.ensures)
+    (accepted_index module'.types.items module'.functions.items (bodies module'.bodies.items) c.loop-place.place lt) c.in_err-validate_body.ensures)
 
 pub loop-place-preserved : goal.loop-place-preserved
 loop-place-preserved c = below_more _ _ c.loop-place.invariant c.in_ok-validate_body.ensures

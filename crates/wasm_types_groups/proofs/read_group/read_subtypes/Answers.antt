@@ -1,0 +1,32 @@
+-- One more subtype is read, or the read ends where it does.
+use Rattle.std.proofs.Common.{map, arith}
+use Rattle.std.proofs.lemmas.Result.{err_from_is_err_and}
+use Rattle.std.proofs.lemmas.List.{map-append}
+use Rattle.wasm_types_decoding.specs.Laws.{reaches_then}
+use Rattle.wasm_types_reader.proofs.Rows.{goes_on, ends, is_done}
+use Rattle.wasm_types_groups.specs.SpellsTypes.{sub_value}
+use Rattle.wasm_types_groups.specs.DecodeTypes.{sub_type}
+use Rattle.wasm_types_groups.proofs.Counts.{even_push}
+use Rattle.wasm_types_groups.proofs.read_group.read_subtypes.Goals as goal
+
+pub returns-in_err-ty-clause-answer : goal.returns-in_err-ty-clause-answer
+returns-in_err-ty-clause-answer c =
+    let p = err_from_is_err_and c.from_residual.result c.from_residual.ensures.1 in
+    rw (p.1, p.2) (ends sub_type (map sub_value c.loop.types.items) c.args.count c.loop.counter c.loop.reader _ c.loop.invariant.read _ _ c.loop-test.true c.in_err-ty.ensures.answer.0)
+
+pub loop-preserved : goal.loop-preserved
+loop-preserved c = record {
+  forward = reaches_then _ _ _ c.loop.invariant.forward c.in_ok-ty.ensures.forward;
+  read =
+      rw (c.in_ok-push.ensures.items, map-append sub_value c.loop.types.items) (goes_on sub_type (map sub_value c.loop.types.items) c.args.count c.loop.counter c.loop.reader _ c.loop.invariant.read _ _ c.loop-test.true c.in_ok-ty.ensures.answer);
+  even = rw (c.in_ok-push.ensures.items, c.in_ok-push-2.ensures.items) (even_push c.loop.types.items c.loop.offsets.items _ _ c.loop.invariant.even);
+}
+
+pub returns-clause-answer : goal.returns-clause-answer
+returns-clause-answer c = is_done sub_type (map sub_value c.loop.types.items) c.args.count c.loop.counter c.loop.reader _ c.loop.invariant.read (omega arith)
+
+pub returns-in_err-push-clause-forward : goal.returns-in_err-push-clause-forward
+returns-in_err-push-clause-forward c = reaches_then _ _ _ c.loop.invariant.forward c.in_ok-ty.ensures.forward
+
+pub returns-in_err-push-2-clause-forward : goal.returns-in_err-push-2-clause-forward
+returns-in_err-push-2-clause-forward c = reaches_then _ _ _ c.loop.invariant.forward c.in_ok-ty.ensures.forward

@@ -1,0 +1,14 @@
+use Rattle.std.proofs.Common.{◌≡◌, ◌-◌, length, map}
+use Rattle.wasm_types_decoding.specs.Decoder.{repeated, Reaches}
+use Rattle.wasm_types_reader.proofs.Rows.{with_front}
+use Rattle.wasm_types_groups.specs.SpellsTypes.{sub_value}
+use Rattle.wasm_types_groups.specs.DecodeTypes.{sub_type}
+use Rattle.wasm_types_groups.proofs.read_group.read_subtypes.Given as goal
+
+-- what was read, and what is still read, is what all of it is read as
+abbrev pub invariant-loop : goal.invariant-loop
+invariant-loop l = record {
+  read : with_front (map sub_value l.types.items) (repeated (l.count - l.counter) sub_type l.reader) ≡ repeated l.count sub_type l.fn.reader;
+  forward : Reaches l.fn.reader l.reader;
+  even : length l.types.items ≡ length l.offsets.items;
+}

@@ -1,0 +1,32 @@
+-- Laws of groups: what the functions of src/laws.rt promise.
+use Rattle.std.specs.Prelude.{◌≡◌, ◌↔◌, IsTrue, map}
+use Rattle.wasm_types_groups.specs.declared.sub_type.SubType.{SubType}
+use Rattle.wasm_types_groups.specs.declared.rec_group.RecGroup.{RecGroup}
+use Rattle.wasm_types_groups.specs.contracts.sub_type.SubTypePartialEq.TheImpl as subtype
+use Rattle.wasm_types_groups.specs.contracts.rec_group.RecGroupPartialEq.TheImpl as group
+use Rattle.wasm_types_groups.specs.contracts.sub_type.SubTypeClone.TheImpl as subtype_clone
+use Rattle.wasm_types_groups.specs.contracts.rec_group.RecGroupClone.TheImpl as group_clone
+use Rattle.wasm_types_groups.specs.SpellsTypes.{declared_by, sub_value, group_value}
+use Rattle.wasm_types_groups.specs.Rows.{declared_of, declared_types}
+
+-- `==` holds of subtypes that declare the same
+abbrev pub SubTypesAreToldApart : Type 0
+SubTypesAreToldApart = (x y : SubType) → IsTrue (subtype.ghosts.eq x y) ↔ (declared_of x ≡ declared_of y)
+
+-- and of groups whose types do, in order: neither places nor the form of writing count
+abbrev pub GroupsAreToldApart : Type 0
+GroupsAreToldApart = (g h : RecGroup) → IsTrue (group.ghosts.eq g h) ↔ (declared_types g ≡ declared_types h)
+
+-- a clone declares what its source does
+abbrev pub SubTypesAreCloned : Type 0
+SubTypesAreCloned = (x y : SubType) → subtype_clone.ghosts.is_clone x y → declared_of y ≡ declared_of x
+
+abbrev pub GroupsAreCloned : Type 0
+GroupsAreCloned = (g h : RecGroup) → group_clone.ghosts.is_clone g h → (declared_types h ≡ declared_types g) × (h.offsets.items ≡ g.offsets.items) × (h.is_explicit ≡ g.is_explicit)
+
+-- the values that are read declare what the types do
+abbrev pub ValuesDeclareTheSame : Type 0
+ValuesDeclareTheSame = (x : SubType) → declared_by (sub_value x) ≡ declared_of x
+
+abbrev pub GroupValuesDeclareTheSame : Type 0
+GroupValuesDeclareTheSame = (g : RecGroup) → map declared_by (group_value g).types ≡ declared_types g

@@ -1,0 +1,53 @@
+-- Types as plain trees over the indices that they hold, without where they lie in memory.
+use Rattle.std.specs.Prelude.{List, [], ◌∷◌, map, Option, Some, None}
+use Rattle.wasm_types_indices.specs.declared.index.UnpackedIndex.{UnpackedIndex}
+use Rattle.wasm_types_trees.specs.Rows as tree
+use Rattle.wasm_types_trees.specs.Rows.{ValueOf, FieldOf, InnerOf, RowOf}
+use Rattle.wasm_types_values.specs.Values.{value_of, storage_of}
+use Rattle.wasm_types_groups.specs.declared.field.FieldType.{FieldType}
+use Rattle.wasm_types_groups.specs.declared.composite.CompositeInnerType.{CompositeInnerType}
+use Rattle.wasm_types_groups.specs.declared.composite.CompositeInnerType.TheVariants.{Func, Array, Struct, Cont}
+use Rattle.wasm_types_groups.specs.declared.sub_type.SubType.{SubType}
+use Rattle.wasm_types_groups.specs.declared.rec_group.RecGroup.{RecGroup}
+
+abbrev pub field_of : FieldType → FieldOf UnpackedIndex
+field_of x = record { storage = storage_of x.element_type; mutable = x.mutable }
+
+abbrev pub inner_of : CompositeInnerType → InnerOf UnpackedIndex
+inner_of (Func f) = tree.function (map value_of f.params.items) (map value_of f.results.items)
+inner_of (Array a) = tree.array_of (field_of a.0)
+inner_of (Struct s) = tree.struct_of (map field_of s.fields.items)
+inner_of (Cont c) = tree.continuation c.0
+
+-- the first of the declared supertypes, of which a valid type has at most one
+abbrev pub first_of : {A : Type 0} → List A → Option A
+first_of [] = None
+first_of (x ∷ xs) = Some x
+
+abbrev pub row_of : SubType → RowOf UnpackedIndex
+row_of t = record {
+  is_final = t.is_final;
+  supertype = first_of t.supertype_idxs.items;
+  shared = t.composite_type.shared;
+  descriptor = t.composite_type.descriptor_idx;
+  describes = t.composite_type.describes_idx;
+  inner = inner_of t.composite_type.inner;
+}
+
+-- all that a type declares: its row, and every supertype
+pub record Declared : Type 0 where
+  pub supertypes : List UnpackedIndex
+  pub row : RowOf UnpackedIndex
+
+abbrev pub declared_of : SubType → Declared
+declared_of t = record { supertypes = t.supertype_idxs.items; row = row_of t }
+
+-- the types of a group, in order
+abbrev pub subtypes : RecGroup → List SubType
+subtypes g = g.types.items
+
+abbrev pub rows_of : RecGroup → List (RowOf UnpackedIndex)
+rows_of g = map row_of (subtypes g)
+
+abbrev pub declared_types : RecGroup → List Declared
+declared_types g = map declared_of (subtypes g)

@@ -1,0 +1,25 @@
+//! The laws of types, each on the contract of a function that does nothing.
+
+ghost use Rattle.wasm_types_groups.specs.Laws.{SubTypesAreToldApart, GroupsAreToldApart, SubTypesAreCloned, GroupsAreCloned, ValuesDeclareTheSame, GroupValuesDeclareTheSame};
+
+use wasm_types_values::laws::equality_is_identity;
+
+/// `==` of subtypes and of groups compares what they declare, and nothing else.
+pub fn equality_is_of_declarations()
+    ensures subtypes { SubTypesAreToldApart }
+    ensures groups { GroupsAreToldApart }
+{
+    equality_is_identity();
+}
+
+/// What a clone of a subtype or of a group keeps: all that it declares, and of a group its places and form.
+pub fn clones_declare_the_same()
+    ensures subtypes { SubTypesAreCloned }
+    ensures groups { GroupsAreCloned }
+{}
+
+/// The values by which contracts of readers speak of subtypes and of groups declare what these do.
+pub fn read_values_declare_the_same()
+    ensures subtypes { ValuesDeclareTheSame }
+    ensures groups { GroupValuesDeclareTheSame }
+{}

@@ -1,0 +1,4 @@
+pub mod Indices
+pub mod Bits
+pub mod Text
+pub mod Laws

@@ -1,0 +1,191 @@
+-- What holds of the types of valid groups: they refer to one another alone, and their declared links match and end.
+use Rattle.std.proofs.Common.{◌≡◌, ◌∙◌, ℕ, zero, suc, ◌+◌, ◌-◌, ◌<◌, ◌≤◌, List, [], ◌∷◌, ◌++◌, length, map, get_or, refl, ap, sym, subst, Some, ⊎_elim, arith}
+use Rattle.std.specs.Prelude.{All, Contains}
+use Rattle.std.proofs.lemmas.Bool.{lt-ltb, le-ltb, cases_lt}
+use Rattle.std.proofs.lemmas.List.{length-map, get_or-map}
+use Rattle.std.proofs.lemmas.List.Elements.{All-nil, All-cons, All-from_get_or, All-append, All-weaker, All-contains, All-contains_itself, Contains-get_or, Contains-append_left, Contains-append_right}
+use Rattle.wasm_types_trees.specs.Rows.{RowOf, row_map}
+use Rattle.wasm_types_trees.specs.Each.{EachOption, EachRow}
+use Rattle.wasm_types_trees.specs.Trees.{GroupTree, local, type_of, group_tree, TypeTree, type_meant, past_the_end, opened}
+use Rattle.wasm_types_trees.specs.Unfold.{Reference, Local, Earlier, Row, reference_tree, unfolded}
+use Rattle.wasm_types_trees.specs.Below.{supertype, DeclaredBelow, itself, declared}
+use Rattle.wasm_types_trees.specs.Matches.{Matches}
+use Rattle.wasm_types_trees.specs.ValidGroup.{Written, canonical_at, reference_at, type_at, written_tree, types_from, types_of, AreWellReferenced, IsWithinDepth, max_depth, IsValidSupertype, IsValidType, AreValidTypes, IsValidGroup, AreValidGroups, done, next}
+use Rattle.wasm_types_trees.specs.Laws.{IsSound, LinksMatch, HasNoCycle, AreClosed, AreSound}
+use Rattle.wasm_types_trees.proofs.RowLaws.{row_twice, rows_twice, each_row, row_of_each}
+use Rattle.wasm_types_trees.proofs.UnfoldLaws.{open_place}
+use Rattle.wasm_types_trees.proofs.MatchesLaws.{links_are_sound}
+
+-- ---- canonical forms
+
+module _ (tree : ℕ → TypeTree) (ids : List ℕ) where
+  abbrev space_of : List TypeTree
+  space_of = map tree ids
+
+  same_reference : (i : ℕ) → reference_tree tree (canonical_at ids i) ≡ reference_tree (type_at space_of) (reference_at (length space_of) i)
+  same_reference i = ⊎_elim
+      (λ old.
+      let a : canonical_at ids i ≡ Earlier (get_or ids i 0) = rw (lt-ltb i (length ids) old) refl in
+      let b : reference_at (length space_of) i ≡ Earlier i = rw (lt-ltb i (length space_of) (omega (arith, length-map ids tree))) refl in
+      let t : type_at space_of i ≡ tree (get_or ids i 0) = get_or-map tree ids i 0 _ old in
+      ap (reference_tree tree) a ∙ ap (λ (x : TypeTree). type_of x.group x.place) (sym t) ∙ ap (reference_tree (type_at space_of)) (sym b))
+      (λ new.
+      let a : canonical_at ids i ≡ Local (i - length ids) = rw (le-ltb i (length ids) new) refl in
+      let b : reference_at (length space_of) i ≡ Local (i - length space_of) = rw (le-ltb i (length space_of) (omega (arith, length-map ids tree))) refl in
+      ap (reference_tree tree) a ∙ ap (λ (n : ℕ). local (i - n)) (sym (length-map ids tree)) ∙ ap (reference_tree (type_at space_of)) (sym b))
+      (cases_lt i (length ids))
+
+  pub canonical_unfolds : (g : Written) → unfolded tree (map (row_map (canonical_at ids)) g.types) ≡ written_tree space_of g
+  canonical_unfolds g =
+      ap group_tree
+      (rows_twice (reference_tree tree) (canonical_at ids) g.types
+      ∙ (λ k. map (row_map (λ i. same_reference i k)) g.types)
+      ∙ sym (rows_twice (reference_tree (type_at space_of)) (reference_at (length space_of)) g.types))
+
+-- ---- a chain of at most n types has no cycle
+
+lasts : (n : ℕ) (t u : TypeTree) → IsWithinDepth n (Some u) → DeclaredBelow u t → (m : ℕ) × (m < n) × IsWithinDepth m (supertype t)
+lasts zero t u w p = absurd w
+lasts (suc n) t u w itself = (n, omega arith, w)
+lasts (suc n) t u w (declared e p) =
+    let r = lasts n t _ (subst (IsWithinDepth n) e w) p in
+    (r.0, (let lt = r.1 in omega arith), r.2)
+
+no_loop : (k n : ℕ) → n < k → (t u : TypeTree) → supertype t ≡ Some u → DeclaredBelow u t → IsWithinDepth n (supertype t) → ⊥
+no_loop zero n lt t u e p w = absurd (omega arith)
+no_loop (suc k) n lt t u e p w =
+    let r = lasts n t u (subst (IsWithinDepth n) e w) p in
+    let less = r.1 in
+    no_loop k r.0 (omega arith) t u e p r.2
+
+pub depth_ends : (n : ℕ) (t : TypeTree) → IsWithinDepth n (supertype t) → HasNoCycle t
+depth_ends n t w u e p = no_loop (suc n) n (omega arith) t u e p w
+
+-- ---- the types of a group
+
+pub length_types : (g : GroupTree) (place n : ℕ) → length (types_from g place n) ≡ n
+unfolding types_from
+length_types g place zero = refl
+length_types g place (suc n) = ap suc (length_types g (suc place) n)
+
+pub get_types : (g : GroupTree) (place n k : ℕ) (d : TypeTree) → k < n → get_or (types_from g place n) k d ≡ record { group = g; place = place + k }
+unfolding types_from
+get_types g place zero k d lt = absurd (omega arith)
+get_types g place (suc n) zero d lt = ap (λ (p : ℕ). record { group = g; place = p }) (omega arith)
+get_types g place (suc n) (suc k) d lt =
+    get_types g (suc place) n k d (omega arith) ∙ ap (λ (p : ℕ). record { group = g; place = p }) (omega arith)
+
+module _ (space : List TypeTree) (g : Written) where
+  -- the type that an index means in the group
+  abbrev meant : ℕ → TypeTree
+  meant i = type_meant (written_tree space g) (reference_tree (type_at space) (reference_at (length space) i))
+
+  abbrev all_types : List TypeTree
+  all_types = space ++ types_of space g
+
+  meant_old : (i : ℕ) → i < length space → Contains all_types (meant i)
+  meant_old i lt =
+      let e : reference_at (length space) i ≡ Earlier i = rw (lt-ltb i (length space) lt) refl in
+      subst (λ (r : Reference). Contains all_types (type_meant (written_tree space g) (reference_tree (type_at space) r))) (sym e)
+      (Contains-append_left space (types_of space g) _ (Contains-get_or space i _ lt))
+
+  meant_new : (i : ℕ) → length space ≤ i → i < length space + length g.types → Contains all_types (meant i)
+  meant_new i le lt =
+      let e : reference_at (length space) i ≡ Local (i - length space) = rw (le-ltb i (length space) le) refl in
+      let k : ℕ = i - length space in
+      let t : TypeTree = record { group = written_tree space g; place = k } in
+      let at : get_or (types_of space g) k t ≡ t = get_types (written_tree space g) 0 (length g.types) k t (omega arith) ∙ ap (λ (p : ℕ). record { group = written_tree space g; place = p }) (omega arith) in
+      subst (λ (r : Reference). Contains all_types (type_meant (written_tree space g) (reference_tree (type_at space) r))) (sym e)
+      (Contains-append_right space (types_of space g) t
+      (subst (Contains (types_of space g)) at (Contains-get_or (types_of space g) k t (omega (arith, length_types (written_tree space g) 0 (length g.types))))))
+
+  meant_known : (i : ℕ) → i < length space + length g.types → Contains all_types (meant i)
+  meant_known i lt = ⊎_elim (λ old. meant_old i old) (λ new. meant_new i new lt) (cases_lt i (length space))
+
+  -- a type of the group, opened
+  opens_written : (p : ℕ) → p < length g.types → opened (record { group = written_tree space g; place = p }) ≡ row_map meant (get_or g.types p past_the_end)
+  opens_written p lt =
+      let x : RowOf ℕ = get_or g.types p past_the_end in
+      let f : RowOf ℕ → Row = row_map (reference_at (length space)) in
+      open_place (type_at space) (map f g.types) p (omega (arith, length-map g.types f))
+      ∙ ap (λ (r : Row). row_map (type_meant (written_tree space g)) (row_map (reference_tree (type_at space)) r)) (get_or-map f g.types p past_the_end past_the_end lt)
+      ∙ ap (row_map (type_meant (written_tree space g))) (row_twice (reference_tree (type_at space)) (reference_at (length space)) x)
+      ∙ row_twice (type_meant (written_tree space g)) (λ i. reference_tree (type_at space) (reference_at (length space) i)) x
+
+known_at : (bits start end own : ℕ) (xs : List (RowOf ℕ)) (p : ℕ) (d : RowOf ℕ) → AreWellReferenced bits start end own xs → p < length xs → EachRow (λ i. i < end) (get_or xs p d)
+known_at bits start end own [] p d w lt = absurd (omega arith)
+known_at bits start end own (x ∷ xs) zero d w lt = w.0.known
+known_at bits start end own (x ∷ xs) (suc p) d w lt = known_at bits start end (suc own) xs p d w.1 (omega arith)
+
+nowhere : GroupTree → TypeTree
+nowhere g = record { group = g; place = 0 }
+
+-- a new type refers to the types that are there behind the group
+closed_new : (bits : ℕ) (space : List TypeTree) (g : Written) → IsValidGroup bits space g → (p : ℕ) → p < length g.types
+    → EachRow (Contains (space ++ types_of space g)) (opened (record { group = written_tree space g; place = p }))
+closed_new bits space g v p lt =
+    let x : RowOf ℕ = get_or g.types p past_the_end in
+    subst (EachRow (Contains (space ++ types_of space g))) (sym (opens_written space g p lt))
+    (row_of_each (meant space g) (Contains (space ++ types_of space g)) x
+    (each_row (λ i. i < length space + length g.types) (λ i. Contains (space ++ types_of space g) (meant space g i)) (meant_known space g) x
+    (known_at bits (length space) (length space + length g.types) (length space) g.types p past_the_end v.references lt)))
+
+closed_group : (bits : ℕ) (space : List TypeTree) (g : Written) → IsValidGroup bits space g → All (λ t. EachRow (Contains (space ++ types_of space g)) (opened t)) (types_of space g)
+closed_group bits space g v =
+    let whole : GroupTree = written_tree space g in
+    let n : ℕ = length g.types in
+    All-from_get_or (λ t. EachRow (Contains (space ++ types_of space g)) (opened t)) (types_of space g) (nowhere whole) (λ i lt.
+    let lt' : i < n = omega (arith, length_types whole 0 n) in
+    let e : get_or (types_of space g) i (nowhere whole) ≡ record { group = whole; place = i } = get_types whole 0 n i (nowhere whole) lt' ∙ ap (λ (p : ℕ). record { group = whole; place = p }) (omega arith) in
+    subst (λ (t : TypeTree). EachRow (Contains (space ++ types_of space g)) (opened t)) (sym e) (closed_new bits space g v i lt'))
+
+pub closed_push : (bits : ℕ) (space : List TypeTree) (g : Written) → IsValidGroup bits space g → AreClosed space → AreClosed (space ++ types_of space g)
+closed_push bits space g v c =
+    All-append (λ t. EachRow (Contains (space ++ types_of space g)) (opened t)) space (types_of space g)
+    (All-weaker (λ t. EachRow (Contains space) (opened t)) (λ t. EachRow (Contains (space ++ types_of space g)) (opened t)) (λ t w. each_row (Contains space) (Contains (space ++ types_of space g)) (λ r. Contains-append_left space (types_of space g) r) (opened t) w) space c)
+    (closed_group bits space g v)
+
+valid_types : (bits : ℕ) (ts : List TypeTree) → AreValidTypes bits ts → All (IsValidType bits) ts
+valid_types bits [] w = All-nil (IsValidType bits)
+valid_types bits (t ∷ ts) w = All-cons (IsValidType bits) t ts w.0 (valid_types bits ts w.1)
+
+-- ---- groups one after the other
+
+record AreValid (bits : ℕ) (space : List TypeTree) : Type 0 where
+  closed : AreClosed space
+  valid : All (IsValidType bits) space
+
+valid_push : (bits : ℕ) (space : List TypeTree) (g : Written) → AreValid bits space → IsValidGroup bits space g → AreValid bits (space ++ types_of space g)
+valid_push bits space g a v = record {
+  closed = closed_push bits space g v a.closed;
+  valid = All-append (IsValidType bits) space (types_of space g) a.valid (valid_types bits (types_of space g) v.types);
+}
+
+valid_after : (bits : ℕ) (space after : List TypeTree) (gs : List Written) → AreValid bits space → AreValidGroups bits space gs after → AreValid bits after
+valid_after bits space after gs a done = a
+valid_after bits space after gs a (next v vs) = valid_after bits _ after _ (valid_push bits space _ a v) vs
+
+-- ---- soundness
+
+module _ (bits : ℕ) (space : List TypeTree) (a : AreValid bits space) where
+  stays_inside : (t u : TypeTree) → Contains space t → DeclaredBelow t u → Contains space u
+  stays_inside t u c itself = c
+  stays_inside t u c (declared e p) =
+      stays_inside _ u (subst (EachOption (Contains space)) e (All-contains (λ x. EachRow (Contains space) (opened x)) space t a.closed c).supertype) p
+
+  link : (u v : TypeTree) → Contains space u → supertype u ≡ Some v → Matches (opened u) (opened v)
+  link u v c e = (subst (IsValidSupertype (opened u)) e (All-contains (IsValidType bits) space u a.valid c).above).1
+
+  links_match : (t : TypeTree) → Contains space t → LinksMatch t
+  links_match t c u v d e = link u v (stays_inside t u c d) e
+
+  sound_space : AreSound space
+  sound_space = record {
+    sound = All-weaker (Contains space) IsSound (λ t c. links_are_sound t (links_match t c)) space (All-contains_itself space);
+    acyclic = All-weaker (IsValidType bits) HasNoCycle (λ t v. depth_ends max_depth t v.depth) space a.valid;
+    closed = a.closed;
+  }
+
+pub valid_groups_are_sound : (bits : ℕ) (gs : List Written) (space : List TypeTree) → AreValidGroups bits [] gs space → AreSound space
+valid_groups_are_sound bits gs space v =
+    sound_space bits space (valid_after bits [] space gs (record { closed = All-nil (λ t. EachRow (Contains []) (opened t)); valid = All-nil (IsValidType bits) }) v)

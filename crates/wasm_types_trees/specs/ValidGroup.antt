@@ -1,0 +1,175 @@
+-- Which groups of types are valid (WebAssembly 3.0, validation, types, recursive types), under a set of features by its
+-- bits. A group is judged as it is written, over the indices of its module, and then as what it unfolds to.
+use Rattle.std.specs.Prelude.{◌≡◌, ℕ, zero, suc, ◌+◌, ◌-◌, ◌<◌, ◌≤◌, nat_lt, if◌then◌else◌, Bool, true, false, IsTrue, List, [], ◌∷◌, ◌++◌, length, map, get_or, Option, Some, None, ◌⊎◌}
+use Rattle.wasm_types_features.specs.Features.{MultiValue, SharedEverythingThreads, Gc, GcTypes, StackSwitching, CustomDescriptors}
+use Rattle.wasm_types_trees.specs.Rows.{ValueOf, StorageOf, i8, i16, value, FieldOf, InnerOf, function, array_of, struct_of, continuation, RowOf, row_map}
+use Rattle.wasm_types_trees.specs.Each.{EachOption, EachRow}
+use Rattle.wasm_types_trees.specs.Trees.{GroupTree, TypeTree, group_tree, opened}
+use Rattle.wasm_types_trees.specs.Unfold.{Reference, Local, Earlier, unfolded}
+use Rattle.wasm_types_trees.specs.Below.{expanded, supertype, value_is_shared}
+use Rattle.wasm_types_trees.specs.Matches.{Matches}
+use Rattle.wasm_types_trees.specs.Gates.{Has, ValueIsAllowed}
+
+-- ---- a group as it is written
+
+-- whether it is written as a group, and its subtypes over the indices of the module
+pub record Written : Type 0 where
+  pub is_explicit : Bool
+  pub types : List (RowOf ℕ)
+
+-- what an index means in a group whose first type has the index `start`
+abbrev pub reference_at : ℕ → ℕ → Reference
+reference_at start i = if nat_lt i start then Earlier i else Local (i - start)
+
+-- the type of an index, and past the end a type of no group
+abbrev pub type_at : List TypeTree → ℕ → TypeTree
+type_at space i = get_or space i (record { group = group_tree []; place = i })
+
+-- the tree of a group that is written behind the types of `space`
+abbrev pub written_tree : List TypeTree → Written → GroupTree
+written_tree space g = unfolded (type_at space) (map (row_map (reference_at (length space))) g.types)
+
+-- what an index means where the types are known by ids, those of the index space so far in order: the canonical form
+abbrev pub canonical_at : List ℕ → ℕ → Reference
+canonical_at ids i = if nat_lt i (length ids) then Earlier (get_or ids i 0) else Local (i - length ids)
+
+-- n types of a group, from a place on
+unfoldable pub types_from : GroupTree → ℕ → ℕ → List TypeTree
+types_from g place zero = []
+types_from g place (suc n) = record { group = g; place = place } ∷ types_from g (suc place) n
+
+-- the types that a written group adds to the index space
+abbrev pub types_of : List TypeTree → Written → List TypeTree
+types_of space g = types_from (written_tree space g) 0 (length g.types)
+
+-- Of the subtype with the index `own`: its supertype and what it describes have lower indices; each index is below `end`,
+-- and where the group's indices begin at `start` it reaches its own group by the features of garbage collection alone.
+pub record IsWellReferenced (bits start end own : ℕ) (x : RowOf ℕ) : Type 0 where
+  pub supertype : EachOption (λ i. i < own) x.supertype
+  pub describes : EachOption (λ i. i < own) x.describes
+  pub known : EachRow (λ i. i < end) x
+  pub outside : EachRow (λ i. start ≤ i → Has bits Gc) x
+
+-- the same of each subtype, in order
+abbrev pub AreWellReferenced : ℕ → ℕ → ℕ → ℕ → List (RowOf ℕ) → Type 0
+AreWellReferenced bits start end own [] = Unit {0}
+AreWellReferenced bits start end own (x ∷ xs) = IsWellReferenced bits start end own x × AreWellReferenced bits start end (suc own) xs
+
+-- ---- a composite type (validation, types, composite types)
+
+-- a value type as a part of a composite type, which is shared or not
+abbrev pub IsValidPart : ℕ → Bool → ValueOf TypeTree → Type 0
+IsValidPart bits s v = ValueIsAllowed bits v × (IsTrue s → IsTrue (value_is_shared v))
+
+abbrev pub AreValidParts : ℕ → Bool → List (ValueOf TypeTree) → Type 0
+AreValidParts bits s [] = Unit {0}
+AreValidParts bits s (v ∷ vs) = IsValidPart bits s v × AreValidParts bits s vs
+
+abbrev pub IsValidStorage : ℕ → Bool → StorageOf TypeTree → Type 0
+IsValidStorage bits s i8 = Unit {0}
+IsValidStorage bits s i16 = Unit {0}
+IsValidStorage bits s (value v) = IsValidPart bits s v
+
+abbrev pub AreValidFields : ℕ → Bool → List (FieldOf TypeTree) → Type 0
+AreValidFields bits s [] = Unit {0}
+AreValidFields bits s (x ∷ xs) = IsValidStorage bits s x.storage × AreValidFields bits s xs
+
+abbrev pub IsFunction : InnerOf TypeTree → Type 0
+IsFunction (function ps rs) = Unit {0}
+IsFunction _ = ⊥
+
+abbrev pub IsStruct : InnerOf TypeTree → Type 0
+IsStruct (struct_of xs) = Unit {0}
+IsStruct _ = ⊥
+
+abbrev pub IsValidInner : ℕ → Bool → InnerOf TypeTree → Type 0
+IsValidInner bits s (function ps rs) =
+    AreValidParts bits s ps × AreValidParts bits s rs × (1 < length rs → Has bits MultiValue)
+IsValidInner bits s (array_of x) = Has bits Gc × Has bits GcTypes × IsValidStorage bits s x.storage
+IsValidInner bits s (struct_of xs) = Has bits Gc × Has bits GcTypes × AreValidFields bits s xs
+IsValidInner bits s (continuation f) = Has bits StackSwitching × Has bits GcTypes × IsFunction (expanded f)
+
+abbrev pub IsValidComposite : ℕ → RowOf TypeTree → Type 0
+IsValidComposite bits x = (IsTrue x.shared → Has bits SharedEverythingThreads) × IsValidInner bits x.shared x.inner
+
+-- ---- a subtype (validation, types, sub types)
+
+abbrev pub IsSome : Option TypeTree → Type 0
+IsSome None = ⊥
+IsSome (Some t) = Unit {0}
+
+-- at most n types are declared one above the other, from this one on
+abbrev pub IsWithinDepth : ℕ → Option TypeTree → Type 0
+IsWithinDepth n None = Unit {0}
+IsWithinDepth zero (Some t) = ⊥
+IsWithinDepth (suc n) (Some t) = IsWithinDepth n (supertype t)
+
+-- the most types that may be declared above one
+abbrev pub max_depth : ℕ
+max_depth = 63
+
+-- what is asked of a declared supertype: it is open, and the subtype matches it
+abbrev pub IsValidSupertype : RowOf TypeTree → Option TypeTree → Type 0
+IsValidSupertype x None = Unit {0}
+IsValidSupertype x (Some u) = ((opened u).is_final ≡ false) × Matches x (opened u)
+
+-- a subtype that is open or has a supertype needs the features of garbage collection
+abbrev pub NeedsNoSubtyping : RowOf TypeTree → Type 0
+NeedsNoSubtyping x = (x.is_final ≡ true) × (x.supertype ≡ None)
+
+-- ---- descriptors (the proposal on custom descriptors)
+
+-- The types that are joined to a subtype by one clause and to its supertype by the same: there is none, or the first is
+-- declared right below the second.
+abbrev pub GoAlong : Option TypeTree → Option TypeTree → Type 0
+GoAlong None None = Unit {0}
+GoAlong (Some d) (Some e) = supertype d ≡ Some e
+GoAlong None (Some e) = ⊥
+GoAlong (Some d) None = ⊥
+
+abbrev pub DescriptorsGoAlong : RowOf TypeTree → Option TypeTree → Type 0
+DescriptorsGoAlong x None = Unit {0}
+DescriptorsGoAlong x (Some u) = GoAlong x.descriptor (opened u).descriptor × GoAlong x.describes (opened u).describes
+
+-- the descriptor of t describes t, and is final where t is
+abbrev pub IsDescribedBy : TypeTree → Option TypeTree → Type 0
+IsDescribedBy t None = Unit {0}
+IsDescribedBy t (Some d) = ((opened d).describes ≡ Some t) × ((opened t).is_final ≡ (opened d).is_final)
+
+-- what t describes has t as its descriptor
+abbrev pub Describes : TypeTree → Option TypeTree → Type 0
+Describes t None = Unit {0}
+Describes t (Some e) = (opened e).descriptor ≡ Some t
+
+-- only a struct has a descriptor or describes a type
+abbrev pub IsJoined : RowOf TypeTree → Type 0
+IsJoined x = IsSome x.descriptor ⊎ IsSome x.describes
+
+-- ---- a group
+
+-- a type is valid, by its tree alone
+pub record IsValidType (bits : ℕ) (t : TypeTree) : Type 0 where
+  pub subtyping : NeedsNoSubtyping (opened t) ⊎ Has bits Gc
+  pub composite : IsValidComposite bits (opened t)
+  pub above : IsValidSupertype (opened t) (supertype t)
+  pub depth : IsWithinDepth max_depth (supertype t)
+  pub descriptors : IsJoined (opened t) → Has bits CustomDescriptors × IsStruct (expanded t)
+  pub along : DescriptorsGoAlong (opened t) (supertype t)
+  pub described : IsDescribedBy t (opened t).descriptor
+  pub describes : Describes t (opened t).describes
+
+abbrev pub AreValidTypes : ℕ → List TypeTree → Type 0
+AreValidTypes bits [] = Unit {0}
+AreValidTypes bits (t ∷ ts) = IsValidType bits t × AreValidTypes bits ts
+
+-- a group that is written behind the types of `space` is valid
+pub record IsValidGroup (bits : ℕ) (space : List TypeTree) (g : Written) : Type 0 where
+  pub explicit : IsTrue g.is_explicit → Has bits Gc
+  pub references : AreWellReferenced bits (length space) (length space + length g.types) (length space) g.types
+  pub types : AreValidTypes bits (types_of space g)
+
+-- groups are valid one after the other, each behind the types of those before it, and leave these types
+pub data AreValidGroups : ℕ → List TypeTree → List Written → List TypeTree → Type 0 where
+  done : {bits : ℕ} {space : List TypeTree} → AreValidGroups bits space [] space
+  next : {bits : ℕ} {space after : List TypeTree} {g : Written} {gs : List Written}
+      → IsValidGroup bits space g → AreValidGroups bits (space ++ types_of space g) gs after → AreValidGroups bits space (g ∷ gs) after

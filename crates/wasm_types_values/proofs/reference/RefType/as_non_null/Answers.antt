@@ -1,0 +1,10 @@
+-- Its bits are those of the same reference without the bit of null.
+use Rattle.std.proofs.Common.{sym, ◌∙◌}
+use Rattle.wasm_types_values.proofs.Bits.{without_null}
+use Rattle.wasm_types_values.proofs.reference.RefType.as_non_null.Goals as goal
+
+pub invariant_of-result-2 : goal.invariant_of-result-2
+invariant_of-result-2 c = (without_null _ _ c.self.invariant c.self.view_is (sym c.is_nullable.ensures ∙ c.if-not-is_nullable.false)).valid
+
+pub returns : goal.returns
+returns c = (without_null _ _ c.self.invariant c.self.view_is (sym c.is_nullable.ensures ∙ c.if-not-is_nullable.false)).says

@@ -1,0 +1,77 @@
+-- How the bytes of heap types and reference types are read.
+use Rattle.std.specs.Prelude.{ℕ, ◌==◌, List, [], ◌∷◌, Option, Some, None, Bool, true, false, nat_lt, if◌then◌else◌, ℤ, pos, negsuc}
+use Rattle.wasm_types_decoding.specs.declared.Refusal.TheVariants.{Other}
+use Rattle.wasm_types_decoding.specs.Decoder.{Decoder, ◌>>=◌, pure, refuse, byte, look}
+use Rattle.wasm_types_decoding.specs.Lists.{refuse_at}
+use Rattle.wasm_types_decoding.specs.Leb.{u32, s33}
+use Rattle.wasm_types_indices.specs.declared.index.UnpackedIndex.TheVariants.{Module}
+use Rattle.wasm_types_values.specs.declared.heap.AbstractHeapType.{AbstractHeapType}
+use Rattle.wasm_types_values.specs.declared.heap.AbstractHeapType.TheVariants as heap
+use Rattle.wasm_types_values.specs.declared.heap.HeapType.{HeapType}
+use Rattle.wasm_types_values.specs.declared.heap.HeapType.TheVariants.{Abstract, Concrete, Exact}
+use Rattle.wasm_types_values.specs.Reference.{Reference}
+
+-- what stands for a number in the list
+abbrev pub find : {A : Type 0} → List (ℕ × A) → ℕ → Option A
+find [] b = None
+find (c ∷ cs) b = if b == c.0 then Some c.1 else find cs b
+
+abbrev pub abstract_types : List (ℕ × AbstractHeapType)
+abstract_types = (0x68, heap.Cont) ∷ (0x69, heap.Exn) ∷ (0x6a, heap.Array) ∷ (0x6b, heap.Struct) ∷ (0x6c, heap.I31) ∷ (0x6d, heap.Eq) ∷ (0x6e, heap.Any) ∷ (0x6f, heap.Extern) ∷ (0x70, heap.Func) ∷ (0x71, heap.None) ∷ (0x72, heap.NoExtern) ∷ (0x73, heap.NoFunc) ∷ (0x74, heap.NoExn) ∷ (0x75, heap.NoCont) ∷ []
+
+abbrev pub type_of_byte : ℕ → Option AbstractHeapType
+type_of_byte b = find abstract_types b
+
+-- f of the type, if the byte that was read has one
+abbrev pub with_type : {A : Type 0} → Option AbstractHeapType → (AbstractHeapType → A) → Decoder A
+with_type (Some ty) f = pure (f ty)
+with_type None f = refuse Other 1
+
+unfoldable pub abstract_heap_type : Decoder AbstractHeapType
+abstract_heap_type = byte >>= λ b. with_type (type_of_byte b) (λ ty. ty)
+
+-- a type of the module whose index begins at this place
+abbrev pub concrete_from : ℕ → ℤ → Decoder HeapType
+concrete_from place (pos n) = if nat_lt n 0x10_0000 then pure (Concrete (Module n)) else refuse_at Other place
+concrete_from place (negsuc n) = refuse_at Other place
+
+abbrev pub exact_from : ℕ → ℕ → Decoder HeapType
+exact_from place n = if nat_lt n 0x10_0000 then pure (Exact (Module n)) else refuse_at Other place
+
+unfoldable pub concrete_heap_type : Decoder HeapType
+concrete_heap_type s = (s33 >>= concrete_from s.place) s
+
+unfoldable pub exact_heap_type : Decoder HeapType
+exact_heap_type s = (u32 >>= exact_from s.place) s
+
+-- what follows a first byte that begins no index
+unfoldable pub heap_type_after : ℕ → Decoder HeapType
+heap_type_after b =
+    if b == 0x65 then (abstract_heap_type >>= λ ty. pure (Abstract true ty))
+    else (if b == 0x62 then exact_heap_type else with_type (type_of_byte b) (Abstract false))
+
+-- a number at least 0 is of one byte below 0x40, or of several
+abbrev pub begins_index : ℕ → Bool
+begins_index b = if nat_lt b 0x40 then true else nat_lt 0x7f b
+
+abbrev pub heap_type_at : ℕ → Decoder HeapType
+heap_type_at b = if begins_index b then concrete_heap_type else (byte >>= heap_type_after)
+
+unfoldable pub heap_type : Decoder HeapType
+heap_type = look heap_type_at
+
+abbrev pub reference : Bool → HeapType → Reference
+reference nullable h = record { nullable = nullable; heap = h }
+
+abbrev pub long_reference : Bool → Decoder Reference
+long_reference nullable = heap_type >>= λ h. pure (reference nullable h)
+
+unfoldable pub reference_after : ℕ → Decoder Reference
+reference_after b =
+    if b == 0x64 then long_reference false
+    else (if b == 0x63 then long_reference true
+    else (if b == 0x65 then (abstract_heap_type >>= λ ty. pure (reference true (Abstract true ty)))
+    else with_type (type_of_byte b) (λ ty. reference true (Abstract false ty))))
+
+unfoldable pub reference_type : Decoder Reference
+reference_type = byte >>= reference_after

@@ -1,0 +1,72 @@
+//! Laws of types, each the contract of a function that does nothing, or of one that puts a type together again.
+ghost use Rattle.std.specs.Prelude.{◌≡◌, Some, true, false};
+ghost use Rattle.wasm_types_values.specs.Constants.{references};
+ghost use Rattle.wasm_types_values.specs.Laws.{ReferenceEqualityIsIdentity, ValueEqualityIsIdentity, StorageEqualityIsIdentity, HeapEqualityIsIdentity, AbstractEqualityIsIdentity};
+ghost use Rattle.wasm_types_values.specs.Order.{IsPartialOrder};
+
+use crate::reference::RefType;
+
+/// The matching of abstract heap types is a partial order.
+pub const fn abstract_order_is_partial()
+    ensures { IsPartialOrder }
+{}
+
+/// `==` of each type holds of a type and itself alone.
+pub const fn equality_is_identity()
+    ensures abstract_heap { AbstractEqualityIsIdentity }
+    ensures heap { HeapEqualityIsIdentity }
+    ensures reference { ReferenceEqualityIsIdentity }
+    ensures value { ValueEqualityIsIdentity }
+    ensures storage { StorageEqualityIsIdentity }
+{}
+
+/// A reference type is made of what it says.
+pub const fn made_again(ty: RefType) -> Option<RefType>
+    ensures { result ≡ Some ty }
+{
+    RefType::new(ty.is_nullable(), ty.heap_type())
+}
+
+/// The nullable references to the abstract types that are not shared.
+pub const fn nullable_constants() -> [RefType; 14]
+    ensures { result ≡ references true }
+{
+    [
+        RefType::FUNCREF,
+        RefType::EXTERNREF,
+        RefType::ANYREF,
+        RefType::EQREF,
+        RefType::STRUCTREF,
+        RefType::ARRAYREF,
+        RefType::I31REF,
+        RefType::EXNREF,
+        RefType::CONTREF,
+        RefType::NULLREF,
+        RefType::NULLFUNCREF,
+        RefType::NULLEXTERNREF,
+        RefType::NULLEXNREF,
+        RefType::NULLCONTREF,
+    ]
+}
+
+/// The references to the abstract types that are neither null nor shared.
+pub const fn non_null_constants() -> [RefType; 14]
+    ensures { result ≡ references false }
+{
+    [
+        RefType::FUNC,
+        RefType::EXTERN,
+        RefType::ANY,
+        RefType::EQ,
+        RefType::STRUCT,
+        RefType::ARRAY,
+        RefType::I31,
+        RefType::EXN,
+        RefType::CONT,
+        RefType::NONE,
+        RefType::NOFUNC,
+        RefType::NOEXTERN,
+        RefType::NOEXN,
+        RefType::NOCONT,
+    ]
+}

@@ -1,0 +1,19 @@
+//! The value types of WebAssembly's core: numbers, vectors and references, and what fields store.
+//!
+//! A contract sees a [`RefType`] as what it says (`specs/Reference.antt`), whatever its bits are, and the other types as
+//! their variants. `specs/Trees.antt` and `specs/Values.antt` give each the plain tree that the rules of types speak of.
+#![tactic(auto)]
+
+mod heap;
+pub mod laws;
+mod read_heap;
+mod read_value;
+mod reference;
+#[cfg(test)]
+mod tests;
+mod value;
+
+pub use heap::{AbstractHeapType, HeapType};
+pub use reference::RefType;
+pub use value::{StorageType, ValType};
+pub use wasm_types_indices::{CoreTypeId, PackedIndex, UnpackedIndex};

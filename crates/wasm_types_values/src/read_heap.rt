@@ -1,0 +1,155 @@
+//! Heap types from their bytes (WebAssembly 3.0, binary format, types).
+ghost use Rattle.std.specs.Prelude.{◌≡◌, ◌<◌};
+ghost use Rattle.wasm_types_decoding.specs.Decoder.{Reaches};
+ghost use Rattle.wasm_types_error.specs.declared.error.ErrorKind.TheVariants.{Other};
+ghost use Rattle.wasm_types_reader.specs.Reading.{Gives, NeedsNoMemory};
+ghost use Rattle.wasm_types_values.specs.Decode.{type_of_byte, concrete_heap_type, exact_heap_type};
+
+use crate::heap::{AbstractHeapType, HeapType};
+use std::alloc::Global;
+use wasm_types_indices::UnpackedIndex;
+use wasm_types_reader::{BinaryReader, Error, FromReader, Result};
+
+// An index of a type is below this number.
+const INDEX_LIMIT: u32 = 1 << 20;
+
+// The abstract type that a byte stands for.
+#[inline]
+pub(crate) fn abstract_type_of(byte: u8) -> Option<AbstractHeapType>
+    ensures { result ≡ type_of_byte byte }
+{
+    match byte {
+        0x68 => Some(AbstractHeapType::Cont),
+        0x69 => Some(AbstractHeapType::Exn),
+        0x6a => Some(AbstractHeapType::Array),
+        0x6b => Some(AbstractHeapType::Struct),
+        0x6c => Some(AbstractHeapType::I31),
+        0x6d => Some(AbstractHeapType::Eq),
+        0x6e => Some(AbstractHeapType::Any),
+        0x6f => Some(AbstractHeapType::Extern),
+        0x70 => Some(AbstractHeapType::Func),
+        0x71 => Some(AbstractHeapType::None),
+        0x72 => Some(AbstractHeapType::NoExtern),
+        0x73 => Some(AbstractHeapType::NoFunc),
+        0x74 => Some(AbstractHeapType::NoExn),
+        0x75 => Some(AbstractHeapType::NoCont),
+        _ => None,
+    }
+}
+
+impl<'a> FromReader<'a> for AbstractHeapType {
+    ghost use Rattle.wasm_types_values.specs.declared.heap.AbstractHeapType.{AbstractHeapType as TheType};
+    ghost use Rattle.wasm_types_values.specs.Decode.{abstract_heap_type};
+    ghost use Rattle.wasm_types_values.specs.DecodeLaws.{lawful-abstract_heap_type};
+    ghost use Rattle.wasm_types_values.specs.HeapExact.{SpellsAbstract, decides-abstract_heap_type};
+
+    ghost Value = { TheType };
+
+    ghost view = { λ ty. ty };
+
+    ghost decoder = { abstract_heap_type };
+
+    ghost grammar = { SpellsAbstract };
+
+    ghost lawful = { lawful-abstract_heap_type };
+
+    ghost exact = { decides-abstract_heap_type };
+
+    #[tactic(auto, using(wasm_types_decoding::specs::Laws::reaches_self, wasm_types_decoding::specs::Laws::reaches_then), unfolding(crate::specs::Decode::abstract_heap_type))]
+    fn from_reader(_alloc: Global, reader: &mut BinaryReader<'a>) -> Result<AbstractHeapType>
+        ensures answer { Gives (λ ty. ty) result reader.new (abstract_heap_type reader.old) }
+        ensures forward { Reaches reader.old reader.new }
+        ensures no_memory { NeedsNoMemory result }
+    {
+        let byte = reader.read_u8()?;
+        match abstract_type_of(byte) {
+            Some(ty) => Ok(ty),
+            None => Err(Error::new("invalid abstract heap type", reader.original_position() - 1)),
+        }
+    }
+}
+
+// The error of an index that is too large.
+#[cold]
+fn no_index(offset: u64) -> Error
+    ensures kind { result.kind ≡ Other }
+    ensures offset { result.offset ≡ offset }
+{
+    Error::new("type index greater than implementation limits", offset)
+}
+
+// A heap type that is an index in a number with a sign.
+#[tactic(auto, using(wasm_types_decoding::specs::Laws::reaches_self, wasm_types_decoding::specs::Laws::reaches_then), unfolding(crate::specs::Decode::concrete_heap_type))]
+fn read_concrete<'a>(reader: &mut BinaryReader<'a>) -> Result<HeapType>
+    ensures answer { Gives (λ h. h) result reader.new (concrete_heap_type reader.old) }
+    ensures no_memory { NeedsNoMemory result }
+    ensures forward { Reaches reader.old reader.new }
+{
+    let offset = reader.original_position();
+    let index = reader.read_var_s33()?;
+    if index < 0 {
+        return Err(Error::new("invalid heap type", offset));
+    }
+    if index >= INDEX_LIMIT as i64 {
+        return Err(no_index(offset));
+    }
+    Ok(HeapType::Concrete(UnpackedIndex::Module(index as u32)))
+}
+
+// A heap type that is exactly the type at an index.
+#[tactic(auto, using(wasm_types_decoding::specs::Laws::reaches_self, wasm_types_decoding::specs::Laws::reaches_then), unfolding(crate::specs::Decode::exact_heap_type))]
+fn read_exact<'a>(reader: &mut BinaryReader<'a>) -> Result<HeapType>
+    ensures answer { Gives (λ h. h) result reader.new (exact_heap_type reader.old) }
+    ensures no_memory { NeedsNoMemory result }
+    ensures forward { Reaches reader.old reader.new }
+{
+    let offset = reader.original_position();
+    let index = reader.read_var_u32()?;
+    if index >= INDEX_LIMIT {
+        return Err(no_index(offset));
+    }
+    Ok(HeapType::Exact(UnpackedIndex::Module(index)))
+}
+
+impl<'a> FromReader<'a> for HeapType {
+    ghost use Rattle.wasm_types_values.specs.declared.heap.HeapType.{HeapType as TheType};
+    ghost use Rattle.wasm_types_values.specs.Decode.{heap_type};
+    ghost use Rattle.wasm_types_values.specs.DecodeLaws.{lawful-heap_type};
+    ghost use Rattle.wasm_types_values.specs.HeapExact.{Spelled, decides-heap_type};
+
+    ghost Value = { TheType };
+
+    ghost view = { λ ty. ty };
+
+    ghost decoder = { heap_type };
+
+    ghost grammar = { Spelled };
+
+    ghost lawful = { lawful-heap_type };
+
+    ghost exact = { decides-heap_type };
+
+    #[tactic(auto, using(wasm_types_decoding::specs::Laws::reaches_self, wasm_types_decoding::specs::Laws::reaches_then), unfolding(crate::specs::Decode::heap_type, crate::specs::Decode::heap_type_after))]
+    fn from_reader(alloc: Global, reader: &mut BinaryReader<'a>) -> Result<HeapType>
+        ensures answer { Gives (λ ty. ty) result reader.new (heap_type reader.old) }
+        ensures forward { Reaches reader.old reader.new }
+        ensures no_memory { NeedsNoMemory result }
+    {
+        let first = reader.peek()?;
+        if first < 0x40 || first > 0x7f {
+            return read_concrete(reader);
+        }
+        let byte = reader.read_u8()?;
+        if byte == 0x65 {
+            let ty = AbstractHeapType::from_reader(alloc, reader)?;
+            return Ok(HeapType::Abstract { shared: true, ty });
+        }
+        if byte == 0x62 {
+            return read_exact(reader);
+        }
+        match abstract_type_of(byte) {
+            Some(ty) => Ok(HeapType::Abstract { shared: false, ty }),
+            None => Err(Error::new("invalid heap type", reader.original_position() - 1)),
+        }
+    }
+}

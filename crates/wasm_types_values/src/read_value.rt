@@ -1,0 +1,170 @@
+//! Reference types, value types and storage types from their bytes (WebAssembly 3.0, binary format, types).
+ghost use Rattle.std.specs.Prelude.{◌≡◌, ◌<◌};
+ghost use Rattle.wasm_types_decoding.specs.Decoder.{Reaches};
+ghost use Rattle.wasm_types_reader.specs.Reading.{Gives, NeedsNoMemory};
+ghost use Rattle.wasm_types_values.specs.Decode.{long_reference, reference_after};
+ghost use Rattle.wasm_types_values.specs.DecodeValues.{value_type_after};
+
+use crate::heap::{AbstractHeapType, HeapType};
+use crate::read_heap::abstract_type_of;
+use crate::reference::RefType;
+use crate::value::{StorageType, ValType};
+use std::alloc::Global;
+use wasm_types_reader::{BinaryReader, Error, FromReader, Result};
+
+// The reference type that begins with a byte, which was read. What begins none is refused with this message.
+#[tactic(auto, using(wasm_types_decoding::specs::Laws::reaches_self, wasm_types_decoding::specs::Laws::reaches_then), unfolding(crate::specs::Decode::reference_after))]
+fn reference_after_byte<'a>(
+    byte: u8,
+    message: &str,
+    alloc: Global,
+    reader: &mut BinaryReader<'a>,
+) -> Result<RefType>
+    requires { 0 < reader.old.place }
+    ensures answer { Gives (λ r. r) result reader.new (reference_after byte reader.old) }
+    ensures no_memory { NeedsNoMemory result }
+    ensures forward { Reaches reader.old reader.new }
+{
+    if byte == 0x64 {
+        return read_long(false, alloc, reader);
+    }
+    if byte == 0x63 {
+        return read_long(true, alloc, reader);
+    }
+    if byte == 0x65 {
+        let ty = AbstractHeapType::from_reader(alloc, reader)?;
+        return Ok(RefType::abstract_type(true, true, ty));
+    }
+    match abstract_type_of(byte) {
+        Some(ty) => Ok(RefType::abstract_type(true, false, ty)),
+        None => Err(Error::new(message, reader.original_position() - 1)),
+    }
+}
+
+// A reference to a heap type that stands next.
+fn read_long<'a>(nullable: bool, alloc: Global, reader: &mut BinaryReader<'a>) -> Result<RefType>
+    ensures answer { Gives (λ r. r) result reader.new (long_reference nullable reader.old) }
+    ensures no_memory { NeedsNoMemory result }
+    ensures forward { Reaches reader.old reader.new }
+{
+    let heap_type = HeapType::from_reader(alloc, reader)?;
+    match RefType::new(nullable, heap_type) {
+        Some(ty) => Ok(ty),
+        None => unreachable!(),
+    }
+}
+
+impl<'a> FromReader<'a> for RefType {
+    ghost use Rattle.wasm_types_values.specs.Reference.{Reference};
+    ghost use Rattle.wasm_types_values.specs.Decode.{reference_type};
+    ghost use Rattle.wasm_types_values.specs.DecodeLaws.{lawful-reference_type};
+    ghost use Rattle.wasm_types_values.specs.ReferenceExact.{SpelledReference, decides-reference_type};
+
+    ghost Value = { Reference };
+
+    ghost view = { λ ty. ty };
+
+    ghost decoder = { reference_type };
+
+    ghost grammar = { SpelledReference };
+
+    ghost lawful = { lawful-reference_type };
+
+    ghost exact = { decides-reference_type };
+
+    #[tactic(auto, using(wasm_types_decoding::specs::Laws::reaches_self, wasm_types_decoding::specs::Laws::reaches_then, crate::proofs::Places::beyond_0), unfolding(crate::specs::Decode::reference_type))]
+    fn from_reader(alloc: Global, reader: &mut BinaryReader<'a>) -> Result<RefType>
+        ensures answer { Gives (λ ty. ty) result reader.new (reference_type reader.old) }
+        ensures forward { Reaches reader.old reader.new }
+        ensures no_memory { NeedsNoMemory result }
+    {
+        let byte = reader.read_u8()?;
+        reference_after_byte(byte, "malformed reference type", alloc, reader)
+    }
+}
+
+// The value type that begins with a byte, which was read.
+#[tactic(auto, using(wasm_types_decoding::specs::Laws::reaches_self, wasm_types_decoding::specs::Laws::reaches_then), unfolding(crate::specs::DecodeValues::value_type_after))]
+fn value_after_byte<'a>(byte: u8, alloc: Global, reader: &mut BinaryReader<'a>) -> Result<ValType>
+    requires { 0 < reader.old.place }
+    ensures answer { Gives (λ v. v) result reader.new (value_type_after byte reader.old) }
+    ensures no_memory { NeedsNoMemory result }
+    ensures forward { Reaches reader.old reader.new }
+{
+    match byte {
+        0x7f => Ok(ValType::I32),
+        0x7e => Ok(ValType::I64),
+        0x7d => Ok(ValType::F32),
+        0x7c => Ok(ValType::F64),
+        0x7b => Ok(ValType::V128),
+        _ => {
+            let ty = reference_after_byte(byte, "invalid value type", alloc, reader)?;
+            Ok(ValType::Ref(ty))
+        }
+    }
+}
+
+impl<'a> FromReader<'a> for ValType {
+    ghost use Rattle.wasm_types_values.specs.declared.value.ValType.{ValType as TheType};
+    ghost use Rattle.wasm_types_values.specs.DecodeValues.{value_type};
+    ghost use Rattle.wasm_types_values.specs.DecodeLaws.{lawful-value_type};
+    ghost use Rattle.wasm_types_values.specs.ValueExact.{SpelledValue, decides-value_type};
+
+    ghost Value = { TheType };
+
+    ghost view = { λ ty. ty };
+
+    ghost decoder = { value_type };
+
+    ghost grammar = { SpelledValue };
+
+    ghost lawful = { lawful-value_type };
+
+    ghost exact = { decides-value_type };
+
+    #[tactic(auto, using(wasm_types_decoding::specs::Laws::reaches_self, wasm_types_decoding::specs::Laws::reaches_then, crate::proofs::Places::beyond_0), unfolding(crate::specs::DecodeValues::value_type))]
+    fn from_reader(alloc: Global, reader: &mut BinaryReader<'a>) -> Result<ValType>
+        ensures answer { Gives (λ ty. ty) result reader.new (value_type reader.old) }
+        ensures forward { Reaches reader.old reader.new }
+        ensures no_memory { NeedsNoMemory result }
+    {
+        let byte = reader.read_u8()?;
+        value_after_byte(byte, alloc, reader)
+    }
+}
+
+impl<'a> FromReader<'a> for StorageType {
+    ghost use Rattle.wasm_types_values.specs.declared.value.StorageType.{StorageType as TheType};
+    ghost use Rattle.wasm_types_values.specs.DecodeValues.{storage_type};
+    ghost use Rattle.wasm_types_values.specs.DecodeLaws.{lawful-storage_type};
+    ghost use Rattle.wasm_types_values.specs.ValueExact.{SpelledStorage, decides-storage_type};
+
+    ghost Value = { TheType };
+
+    ghost view = { λ ty. ty };
+
+    ghost decoder = { storage_type };
+
+    ghost grammar = { SpelledStorage };
+
+    ghost lawful = { lawful-storage_type };
+
+    ghost exact = { decides-storage_type };
+
+    #[tactic(auto, using(wasm_types_decoding::specs::Laws::reaches_self, wasm_types_decoding::specs::Laws::reaches_then, crate::proofs::Places::beyond_0), unfolding(crate::specs::DecodeValues::storage_type, crate::specs::DecodeValues::storage_type_after))]
+    fn from_reader(alloc: Global, reader: &mut BinaryReader<'a>) -> Result<StorageType>
+        ensures answer { Gives (λ ty. ty) result reader.new (storage_type reader.old) }
+        ensures forward { Reaches reader.old reader.new }
+        ensures no_memory { NeedsNoMemory result }
+    {
+        let byte = reader.read_u8()?;
+        if byte == 0x78 {
+            return Ok(StorageType::I8);
+        }
+        if byte == 0x77 {
+            return Ok(StorageType::I16);
+        }
+        let ty = value_after_byte(byte, alloc, reader)?;
+        Ok(StorageType::Val(ty))
+    }
+}
