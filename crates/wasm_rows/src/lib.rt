@@ -7,3 +7,5 @@ mod features;
 mod first_path;
 #[cfg(test)]
 mod reader;
+#[cfg(test)]
+mod values;

@@ -9,8 +9,6 @@ pub mod laws;
 mod read_heap;
 mod read_value;
 mod reference;
-#[cfg(test)]
-mod tests;
 mod value;
 
 pub use heap::{AbstractHeapType, HeapType};
