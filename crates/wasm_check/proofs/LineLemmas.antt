@@ -1,7 +1,6 @@
 -- On the line of one input.
-use Rattle.std.proofs.Common.{◌≡◌, ℕ, List, [], ◌∷◌, ◌++◌, IfOk, IfErr, IfSome, Some, Option, Result, Ok, Err, append_assoc, sym, ◌∙◌}
+use Rattle.std.proofs.Common.{◌≡◌, ℕ, List, ◌++◌, IfOk, IfErr, IfSome, Some, Option, Result, Ok, Err, append_assoc}
 use Rattle.std.specs.Fmt.{◌++?◌}
-use Rattle.std.specs.Io.KnownBytes.{Keeps}
 use Rattle.std.proofs.lemmas.Result.{IfOk-weaker}
 use Rattle.std.proofs.KnownBytes.{Keeps-refl}
 use Rattle.wasm_check.specs.declared.error.CheckError.{CheckError}

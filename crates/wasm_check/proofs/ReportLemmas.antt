@@ -1,6 +1,6 @@
 -- On the lines of a list of inputs.
-use Rattle.std.proofs.Common.{◌≡◌, ℕ, ◌<◌, List, [], ◌∷◌, ◌++◌, Bool, true, false, IsTrue, IfErr, Some, Option, Result, Ok, Err, All, Contains, length, take, map, slice_get, get_or, append_assoc, append-nil, refl, sym, ap, ◌∙◌, lit<}
-use Rattle.std.specs.Io.KnownBytes.{Appends, Keeps}
+use Rattle.std.proofs.Common.{◌≡◌, ℕ, ◌<◌, List, [], ◌∷◌, ◌++◌, Bool, true, false, IsTrue, IfErr, Some, Option, Result, Ok, Err, length, take, map, slice_get, get_or, append_assoc, append-nil, refl, sym, ap, ◌∙◌, lit<}
+use Rattle.std.specs.Io.KnownBytes.{Keeps}
 use Rattle.std.proofs.KnownBytes.{Appends-nil, Appends-trans, Appends-kept}
 use Rattle.std.proofs.lemmas.List.Elements.{All-append, All-cons, All-nil, Contains-append_left, Contains-append_right}
 use Rattle.wasm_module_validator.specs.Accepts.{Accepts}
@@ -13,7 +13,7 @@ use Rattle.wasm_check.specs.Verdict.{IsJudged, FailsAt}
 use Rattle.std.proofs.lemmas.List.{take-map, map-id}
 use Rattle.std.proofs.lemmas.Option.{slice_get-map, slice_get_read}
 use Rattle.wasm_check.specs.declared.judging.Input.{Input}
-use Rattle.wasm_check.specs.Reports.{Source, source_of, sources_of, Lines, WritesLines, Sums, IsReported, StopsAt, Stops}
+use Rattle.wasm_check.specs.Reports.{Source, source_of, sources_of, Lines, Sums, IsReported, StopsAt, Stops}
 
 -- one line more
 pub Lines-more : (sources : List Source) (contents : List (List ℕ)) (text : List ℕ) (s : Source) (bytes line : List ℕ)

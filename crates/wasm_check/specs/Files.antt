@@ -1,5 +1,5 @@
 -- What the program does with the files that it is given.
-use Rattle.std.specs.Prelude.{◌≡◌, ℕ, ◌<◌, List, map, Contains, slice_get, Option, Some, Result, Ok, Err}
+use Rattle.std.specs.Prelude.{◌≡◌, ◌⊎◌, ℕ, ◌<◌, codes, length, List, map, Contains, slice_get, Option, Some, Result, Ok, Err}
 use Rattle.std.specs.Borrow.{Bor}
 use Rattle.std.specs.Io.KnownBytes.{Keeps}
 use Rattle.wasm_check.specs.declared.error.CheckError.{CheckError}
@@ -58,3 +58,13 @@ abbrev pub code_of : Result Status Fault → ℕ
 code_of (Ok AllValid) = 0
 code_of (Ok SomeInvalid) = 1
 code_of (Err fault) = 2
+
+-- some word asks for the help
+abbrev pub AsksForHelp : List (List ℕ) → Type 0
+AsksForHelp words = Contains words (codes "--help") ⊎ Contains words (codes "-h")
+
+-- Some files, at least one, were judged: a line was written for each, and the status says whether all are valid.
+pub record Reports (old new : Option (List ℕ)) (status : Status) : Type 0 where
+  pub names : List (List ℕ)
+  pub some : 0 < length names
+  pub reported : ReportsFiles names old new status

@@ -1,5 +1,5 @@
 -- The lines that the program writes, and what they say.
-use Rattle.std.specs.Prelude.{◌≡◌, ℕ, ◌≤◌, ◌^◌, false, ◌⊎◌, List, [], ◌∷◌, ◌++◌, length, IfSome, codes, Option}
+use Rattle.std.specs.Prelude.{◌≡◌, ℕ, ◌≤◌, ◌^◌, false, ◌⊎◌, List, ◌++◌, length, IfSome, codes, Option}
 use Rattle.std.specs.Fmt.{digits}
 use Rattle.wasm_module_validator.specs.Accepts.{Accepts}
 

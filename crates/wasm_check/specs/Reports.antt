@@ -1,6 +1,6 @@
 -- What is written of a list of inputs.
-use Rattle.std.specs.Prelude.{◌≡◌, ℕ, ◌<◌, List, [], ◌∷◌, ◌++◌, length, take, map, All, Contains, slice_get, Option, Some, IfSome}
-use Rattle.std.specs.Io.KnownBytes.{Appends, Keeps}
+use Rattle.std.specs.Prelude.{◌≡◌, ℕ, List, [], ◌∷◌, ◌++◌, take, map, All, Contains, slice_get, Option, Some}
+use Rattle.std.specs.Io.KnownBytes.{Appends}
 use Rattle.wasm_module_validator.specs.Accepts.{Accepts}
 use Rattle.wasm_check.specs.declared.judging.Input.{Input}
 use Rattle.wasm_check.specs.declared.judging.Status.{Status}

@@ -1,5 +1,5 @@
 -- What is written of one input.
-use Rattle.std.specs.Prelude.{◌≡◌, ◌↔◌, ℕ, Bool, IsTrue, List, IfSome, Option}
+use Rattle.std.specs.Prelude.{◌≡◌, ◌↔◌, ℕ, Bool, IsTrue, List, Option}
 use Rattle.std.specs.Io.KnownBytes.{Appends, Keeps}
 use Rattle.wasm_module_validator.specs.Accepts.{Accepts}
 use Rattle.wasm_check.specs.declared.error.CheckError.{CheckError}

@@ -1,8 +1,8 @@
 //! The command line: its words, its files, its faults and its statuses.
-ghost use Rattle.std.specs.Prelude.{◌≡◌, ℕ, ◌<◌, ◌≤◌, ◌⊎◌, List, map, length, IfOk, IfErr};
+ghost use Rattle.std.specs.Prelude.{◌≡◌, ℕ, ◌<◌, ◌≤◌, ◌⊎◌, List, map, length, IfOk, IfErr, IsTrue};
 ghost use Rattle.std.specs.Io.KnownBytes.{Keeps};
-ghost use Rattle.wasm_check.specs.declared.judging.Status.TheVariants.{SomeInvalid};
-ghost use Rattle.wasm_check.specs.Files.{texts, code_of, IsPlaced, IsNamed, FailsOpening, ReportsFiles, StopsFiles};
+ghost use Rattle.wasm_check.specs.declared.judging.Status.TheVariants.{AllValid, SomeInvalid};
+ghost use Rattle.wasm_check.specs.Files.{texts, code_of, IsPlaced, IsNamed, FailsOpening, ReportsFiles, StopsFiles, AsksForHelp, Reports};
 
 use crate::error::CheckError;
 use crate::judging::{Input, Status, check};
@@ -126,15 +126,34 @@ fn report<E: Write>(fault: &Fault<'_>, err: &mut E) -> u8
     2
 }
 
-/// Shows what `clap` answers in place of matches: its help, or what is wrong with the words.
-fn show<W: Write, E: Write>(answer: &clap::Error, out: &mut W, err: &mut E) -> u8
+/// Whether some word asks for the help.
+fn asks_for_help<S: AsStr>(words: &[S]) -> bool
+    ensures { IsTrue result → AsksForHelp (map S.text words.now) }
+{
+    for word in words {
+        let text = word.as_str();
+        if text == "--help" || text == "-h" {
+            return true;
+        }
+    }
+    false
+}
+
+/// Shows what `clap` answers in place of matches: its help, where it is asked for, or what is wrong with the words.
+fn show<W: Write, E: Write>(
+    answer: &clap::Error,
+    asks_for_help: bool,
+    out: &mut W,
+    err: &mut E,
+) -> u8
     ensures known { (result ≡ 0) ⊎ (result ≡ 2) }
+    ensures help { result ≡ 0 → IsTrue asks_for_help }
     ensures quiet { result < 2 → Keeps (E.contents err.old) (E.contents err.new) }
 {
     if answer.kind() == ErrorKind::OutOfMemory {
         return report(&Fault::OutOfMemory, err);
     }
-    if answer.use_stderr() {
+    if answer.use_stderr() || !asks_for_help {
         let _ = write!(err, "{answer}");
         let _ = err.flush();
         return 2;
@@ -170,15 +189,19 @@ where
     E: Write,
     ensures known { result ≤ 2 }
     ensures quiet { result < 2 → Keeps (E.contents err.old) (E.contents err.new) }
-    ensures invalid { result ≡ 1 → (names : List (List ℕ))
-        × ReportsFiles names (W.contents out.old) (W.contents out.new) SomeInvalid }
+    ensures valid { result ≡ 0 → AsksForHelp (map S.text words.now)
+        ⊎ Reports (W.contents out.old) (W.contents out.new) AllValid }
+    ensures invalid { result ≡ 1 → Reports (W.contents out.old) (W.contents out.new) SomeInvalid }
 {
     let alloc = rt.alloc();
     match parse(alloc, words) {
         Ok(matches) => {
             let names = matches.get_strs("FILE").unwrap_or(&[]);
+            if names.is_empty() {
+                return 2;
+            }
             conclude(&judge_files(alloc, rt, names, out), err)
         }
-        Err(answer) => show(&answer, out, err),
+        Err(answer) => show(&answer, asks_for_help(words), out, err),
     }
 }

@@ -1,4 +1,4 @@
-use Rattle.std.proofs.Common.{◌≡◌, ℕ, length}
+use Rattle.std.proofs.Common.{◌≡◌, length}
 use Rattle.wasm_check.specs.Reports.{sources_of, IsReported}
 use Rattle.wasm_check.proofs.judging.judge_all.Given as goal
 
