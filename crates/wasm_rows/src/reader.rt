@@ -1,5 +1,6 @@
 //! Worked values from outside, texts of messages, and each generic function once.
 
+use bitflags::Flags;
 use std::test::Fail;
 use wasm_types_features::WasmFeatures;
 use wasm_types_reader::*;
