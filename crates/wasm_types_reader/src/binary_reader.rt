@@ -282,6 +282,7 @@ impl<'a> BinaryReader<'a> {
 
     /// A count in LEB128, and a reader over as many bytes, which begins at its own place.
     #[inline]
+    #[tactic(auto, using(wasm_types_decoding::specs::Laws::reaches_self, wasm_types_decoding::specs::Laws::reaches_then))]
     pub fn read_reader(&mut self) -> Result<BinaryReader<'a>>
         ensures answer { Answers (λ r. r) result self.old self.new (counted_part self.old) }
         ensures no_memory { NeedsNoMemory result }

@@ -3,7 +3,7 @@
 //! A [`BinaryReader`] is seen by contracts as the state of a decoder: the bytes that are left, the place of the first of
 //! them, the allowed features, and where its bytes begin. What each `read` answers is what a decoder of
 //! `wasm_types_decoding` says of the state before it. A refused `read` leaves its reader where it was.
-#![tactic(auto, using(wasm_types_decoding::specs::Laws::reaches_self, wasm_types_decoding::specs::Laws::reaches_then))]
+#![tactic(auto)]
 
 mod binary_reader;
 mod from_reader;

@@ -26,6 +26,7 @@ pub fn read_list<'a, T: FromReader<'a>>(
 
 /// As many values as are asked for, one after the other. The list grows as it is read. Where it is refused the reader may have
 /// gone on.
+#[tactic(auto, using(wasm_types_decoding::specs::Laws::reaches_self, wasm_types_decoding::specs::Laws::reaches_then))]
 pub fn read_many<'a, T: FromReader<'a>>(
     alloc: Global,
     count: usize,
