@@ -40,24 +40,28 @@ fn numbers(alloc: Global) -> Result<Vec<u8>, AllocError> {
     Ok(buffer)
 }
 
-/// The sum of the numbers of a buffer.
-fn total(buffer: &[u8]) -> wasm_types_reader::Result<u32> {
+/// The sum of the numbers of a buffer, if it holds nothing else. As in the program in C, a refusal's reason is not kept.
+fn total(buffer: &[u8]) -> Option<u32> {
     let mut sum: u32 = 0;
     let mut reader = BinaryReader::new(buffer, 0);
     for _ in 0..buffer.len() {
         if reader.eof() {
             break;
         }
-        sum = sum.wrapping_add(reader.read_var_u32()?);
+        let Ok(number) = reader.read_var_u32() else {
+            return None;
+        };
+        sum = sum.wrapping_add(number);
     }
-    Ok(sum)
+    Some(sum)
 }
 
 fn run(rt: &(impl AllocGlobal + Print), passes: u32) -> Result<()> {
     let buffer = numbers(rt.alloc())?;
     let mut sum: u32 = 0;
     for _ in 0..passes {
-        sum = sum.wrapping_add(total(buffer.as_slice())?);
+        let one = total(buffer.as_slice()).context("reading a number")?;
+        sum = sum.wrapping_add(one);
     }
     let length = buffer.len();
     println!(rt; "{length} {sum}")?;

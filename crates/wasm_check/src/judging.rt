@@ -11,7 +11,7 @@ use crate::error::CheckError;
 use std::alloc::{AllocError, Global};
 use std::io::{Read, Write};
 use wasm_module_validator::{ValidatorId, validate};
-use wasm_types_reader::ErrorKind;
+use wasm_types::ErrorKind;
 
 /// The most bytes that an input may have.
 pub const MAX_BYTES: usize = 0x4000_0000;

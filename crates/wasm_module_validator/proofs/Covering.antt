@@ -2,7 +2,7 @@
 use Rattle.std.proofs.Common.{List, [], ◌∷◌, Bool, true, false, refl, ◌∙◌, Result, Ok, Err}
 use Rattle.wasm_types_error.specs.ErrorValue.{ErrorValue}
 use Rattle.wasm_types_error.specs.declared.error.ErrorKind.{ErrorKind}
-use Rattle.wasm_module_validator.specs.declared.types.ValType.{ValType}
+use Rattle.wasm_types_values.specs.declared.value.ValType.{ValType}
 use Rattle.wasm_module_validator.specs.Validation.{OperandType, bottom, value, Matches, AllMatch, values}
 use Rattle.wasm_module_validator.specs.Answers.{Denies, denies_from}
 use Rattle.wasm_module_validator.specs.Operands.{Covers, Does}

@@ -3,7 +3,7 @@ use Rattle.std.proofs.Common.{◌≡◌, ◌↔◌, ℕ, List, [], ◌∷◌, �
 use Rattle.std.proofs.lemmas.List.{reverse-reverse, append-nil, reverse-append, map-append, length-reverse}
 use Rattle.std.proofs.Common.{nat_eq, eq-eqb}
 use Rattle.std.proofs.lemmas.Bool.{eqb-true}
-use Rattle.wasm_module_validator.specs.declared.types.ValType.{ValType}
+use Rattle.wasm_types_values.specs.declared.value.ValType.{ValType}
 use Rattle.wasm_module_validator.specs.Syntax.{Instruction, unreachable, nop, drop, local_get}
 use Rattle.wasm_module_validator.specs.Validation.{OperandType, value, AllMatch, values, stack, Exchanges, Row, Steps}
 use Rattle.wasm_module_validator.specs.Operands.{Known, Covers, Stacks, Same, Popped, MayPop, PoppedAny, MayPopAny, Pushed, PoppedAll, MayPopAll, Combined, MayCombine, Stepped, MayStep}
@@ -163,6 +163,11 @@ pub popped_last : (locals items rest : List ValType) (m : ValType) (u e : Bool) 
 popped_last locals items rest m u e is =
     let r : reverse items ≡ m ∷ reverse rest = rw is (reverse_last rest m) in
     record { same = record { locals = refl; ended = refl }; stacks = λ s. rw r (λ (t, c). c.1, λ c. (value m, (refl, c))) }
+
+pub popped_same : (locals items rest : List ValType) (m t : ValType) (u e : Bool) → items ≡ rest ++ m ∷ [] → m ≡ t → Popped t (seen locals items u e) (seen locals rest u e)
+popped_same locals items rest m t u e is same =
+    let r : reverse items ≡ m ∷ reverse rest = rw is (reverse_last rest m) in
+    record { same = record { locals = refl; ended = refl }; stacks = λ s. rw r (λ c. c.1, λ c. (same, c)) }
 
 -- nothing is left exactly where the empty stack is one of them
 bare : (u : Bool) (items : List ValType) → length items ≡ 0 → Covers u (reverse items) []

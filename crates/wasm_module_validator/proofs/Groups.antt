@@ -6,7 +6,7 @@ use Rattle.wasm_types_decoding.specs.Leb.{IsUnsigned, u32}
 use Rattle.wasm_types_decoding.specs.LebLaws.{decides-u32}
 use Rattle.wasm_types_error.specs.declared.error.ErrorKind.{ErrorKind}
 use Rattle.wasm_types_reader.specs.Reading.{FailsAt}
-use Rattle.wasm_module_validator.specs.declared.types.ValType.{ValType}
+use Rattle.wasm_types_values.specs.declared.value.ValType.{ValType}
 use Rattle.wasm_module_validator.specs.Syntax.{LocalGroup, Code}
 use Rattle.wasm_module_validator.specs.Binary.{SpellsLocalGroup, SpellsExpression}
 use Rattle.wasm_module_validator.specs.Validation.{OperandType, Typed, stack, expanded}

@@ -2,6 +2,7 @@ mod Judging
 pub mod Covering
 pub mod Exchanging
 pub mod Groups
+pub mod Places
 pub mod Reading
 pub mod Runs
 pub mod Steps

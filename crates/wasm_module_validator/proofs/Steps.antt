@@ -7,7 +7,7 @@ use Rattle.wasm_types_error.specs.ErrorValue.{ErrorValue}
 use Rattle.wasm_types_error.specs.declared.error.ErrorKind.{ErrorKind}
 use Rattle.wasm_types_error.specs.declared.error.ErrorKind.TheVariants.{Other}
 use Rattle.wasm_types_reader.specs.Reading.{FailsAt}
-use Rattle.wasm_module_validator.specs.declared.types.ValType.{ValType}
+use Rattle.wasm_types_values.specs.declared.value.ValType.{ValType}
 use Rattle.wasm_module_validator.specs.declared.operators.Operator.{Operator}
 use Rattle.wasm_module_validator.specs.declared.operators.Operator.TheVariants.{Unreachable, Nop, End, Drop, LocalGet, I32Const, I64Const, I32Add, I64Add}
 use Rattle.wasm_module_validator.specs.Syntax.{Instruction, unreachable, nop, drop, local_get, i32_const, i64_const, i32_add, i64_add, Code, done, plain}

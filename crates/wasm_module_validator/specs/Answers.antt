@@ -1,8 +1,10 @@
 -- What an answer tells.
-use Rattle.std.specs.Prelude.{◌≡◌, ◌↔◌, ℕ, Bool, List, length, Result, Ok, Err, IsOk}
+use Rattle.std.specs.Prelude.{◌≡◌, ◌↔◌, ◌≤◌, ℕ, Bool, List, length, Result, Ok, Err, IsOk}
 use Rattle.wasm_types_error.specs.ErrorValue.{ErrorValue}
 use Rattle.wasm_types_error.specs.declared.error.ErrorKind.{ErrorKind}
 use Rattle.wasm_types_error.specs.declared.error.ErrorKind.TheVariants as kinds
+use Rattle.wasm_types_decoding.specs.Decoder.{State}
+use Rattle.wasm_types_decoding.specs.Places.{end_of}
 use Rattle.wasm_module_validator.specs.Syntax.{Module}
 
 -- the fact doesn't hold, unless memory was wanted
@@ -33,6 +35,24 @@ denies kinds.Other P n = n
 abbrev pub Tells : {X : Type 0} → Result X ErrorValue → Type 0 → Type 0
 Tells (Ok x) P = P
 Tells (Err e) P = Denies e.kind P
+
+-- the fact holds of a refusal; of want of memory nothing is said
+abbrev pub UnlessMemory : ErrorKind → Type 0 → Type 0
+UnlessMemory (kinds.EndOfData h) P = P
+UnlessMemory (kinds.MissingFeature f) P = P
+UnlessMemory kinds.OutOfMemory P = Unit {0}
+UnlessMemory kinds.Failed P = P
+UnlessMemory kinds.Other P = P
+
+-- what is refused is refused at this place
+abbrev pub RefusedAt : {X : Type 0} → ℕ → Result X ErrorValue → Type 0
+RefusedAt place (Ok x) = Unit {0}
+RefusedAt place (Err e) = UnlessMemory e.kind (e.offset ≡ place)
+
+-- what is refused is refused at a place of the bytes that were left, or at their end
+abbrev pub RefusedWithin : {X : Type 0} → State → Result X ErrorValue → Type 0
+RefusedWithin s (Ok x) = Unit {0}
+RefusedWithin s (Err e) = UnlessMemory e.kind ((s.place ≤ e.offset) × (e.offset ≤ end_of s))
 
 -- how many entries each space of a module has
 pub record Counts : Type 0 where

@@ -4,16 +4,18 @@ use Rattle.wasm_types_decoding.specs.Decoder.{Grammar}
 use Rattle.wasm_types_decoding.specs.Leb.{IsUnsigned, IsSigned, IsListed}
 use Rattle.wasm_types_decoding.specs.Lists.{IsListedWithin}
 use Rattle.wasm_types_decoding.specs.Text.{IsSized}
-use Rattle.wasm_module_validator.specs.declared.types.ValType.{ValType}
-use Rattle.wasm_module_validator.specs.declared.types.ValType.TheVariants.{I32, I64, F32, F64}
+use Rattle.wasm_types_values.specs.declared.value.ValType.{ValType}
+use Rattle.wasm_types_values.specs.declared.value.ValType.TheVariants.{I32, I64, F32, F64, V128, Ref}
 use Rattle.wasm_module_validator.specs.Syntax.{FunctionType, Instruction, unreachable, nop, drop, local_get, i32_const, i64_const, i32_add, i64_add, Code, done, plain, LocalGroup, Function, Module}
 
--- number types (binary format, types)
+-- number types, which are the value types of this stage (binary format, types)
 abbrev pub SpellsValType : Grammar ValType
 SpellsValType I32 text = text ≡ 0x7f ∷ []
 SpellsValType I64 text = text ≡ 0x7e ∷ []
 SpellsValType F32 text = text ≡ 0x7d ∷ []
 SpellsValType F64 text = text ≡ 0x7c ∷ []
+SpellsValType V128 text = ⊥
+SpellsValType (Ref r) text = ⊥
 
 -- function types (binary format, types): at most 1,000 parameters and 1,000 results
 pub record SpellsFunctionType (f : FunctionType) (text : List ℕ) : Type 0 where

@@ -2,7 +2,7 @@
 -- stand for each stack that the code so far may leave (WebAssembly 3.0, validation, instructions).
 use Rattle.std.specs.Prelude.{◌≡◌, ◌↔◌, ◌≤◌, ℕ, zero, suc, length, replicate, List, [], ◌∷◌, ◌++◌, Bool, true, false, Result, Ok, Err}
 use Rattle.wasm_types_error.specs.ErrorValue.{ErrorValue}
-use Rattle.wasm_module_validator.specs.declared.types.ValType.{ValType}
+use Rattle.wasm_types_values.specs.declared.value.ValType.{ValType}
 use Rattle.wasm_module_validator.specs.declared.operators.Operator.{Operator}
 use Rattle.wasm_module_validator.specs.Syntax.{FunctionType, Instruction, Code, LocalGroup}
 use Rattle.wasm_module_validator.specs.Binary.{SpellsExpression, SpellsLocalGroup}

@@ -7,12 +7,14 @@ use Rattle.wasm_types_decoding.specs.Exact.{decides->>=, decides-same, decides-m
 use Rattle.wasm_types_decoding.specs.Leb.{IsUnsigned, IsSigned, u32, s32, s64}
 use Rattle.wasm_types_decoding.specs.LebLaws.{lawful-unsigned, decides-u32}
 use Rattle.wasm_types_decoding.specs.SignedLaws.{lawful-signed, decides-s32, decides-s64}
-use Rattle.wasm_module_validator.specs.declared.types.ValType.{ValType}
+use Rattle.wasm_types_decoding.specs.Places.{RefusesWithin, within->>=, within-pure, within-choice, within-unsigned, within-signed}
+use Rattle.wasm_types_values.specs.declared.value.ValType.{ValType}
+use Rattle.wasm_types_values.specs.declared.value.ValType.TheVariants.{I32, I64, F32, F64}
 use Rattle.wasm_module_validator.specs.declared.operators.Operator.{Operator}
 use Rattle.wasm_module_validator.specs.declared.operators.Operator.TheVariants.{Unreachable, Nop, End, Drop, LocalGet, I32Const, I64Const, I32Add, I64Add}
 use Rattle.wasm_module_validator.specs.Syntax.{LocalGroup}
 use Rattle.wasm_module_validator.specs.Binary.{SpellsValType, SpellsLocalGroup}
-use Rattle.wasm_module_validator.specs.Types.{val_type}
+use Rattle.wasm_module_validator.specs.Types.{val_type, val_types}
 use Rattle.wasm_module_validator.specs.TypeLaws.{lawful-val_type, decides-val_type}
 use Rattle.wasm_module_validator.specs.Operators.{SpellsOperator, opcodes, operator, local_group}
 
@@ -111,3 +113,41 @@ unfolding local_group
 decides-local_group = decides-same _ parts SpellsLocalGroup
     (decides->>= u32 _ (IsUnsigned 32) _ decides-u32 (λ n. decides-map val_type (λ (t : ValType). record { count = n; type = t }) SpellsValType decides-val_type))
     group_to group_from
+
+-- ---- where they refuse
+
+within-u32 : RefusesWithin u32
+within-u32 = within-unsigned 4 4
+
+pub within-operator : RefusesWithin operator
+unfolding operator
+within-operator = within-choice Other opcodes (
+  within-pure Unreachable,
+  (
+    within-pure Nop,
+    (
+      within-pure End,
+      (
+        within-pure Drop,
+        (
+          within->>= u32 _ within-u32 (λ x. within-pure (LocalGet x)),
+          (
+            within->>= s32 _ (within-signed 4 4) (λ v. within-pure (I32Const v)),
+            (
+              within->>= s64 _ (within-signed 9 1) (λ v. within-pure (I64Const v)),
+              (within-pure I32Add, (within-pure I64Add, tt)),
+            ),
+          ),
+        ),
+      ),
+    ),
+  ),
+)
+
+within-val_type : RefusesWithin val_type
+unfolding val_type
+within-val_type = within-choice Other val_types (within-pure I32, (within-pure I64, (within-pure F32, (within-pure F64, tt))))
+
+pub within-local_group : RefusesWithin local_group
+unfolding local_group
+within-local_group = within->>= u32 _ within-u32 (λ n. within->>= val_type _ within-val_type (λ t. within-pure (record { count = n; type = t })))

@@ -1,16 +1,22 @@
 -- Types are read lawfully, and exactly as they are spelled.
-use Rattle.std.proofs.Common.{◌≡◌, ℕ, List, [], ◌∷◌, ◌++◌, refl, sym, ap, ◌∙◌, subst, Bool, true, arith}
+use Rattle.std.proofs.Common.{◌≡◌, ℕ, zero, suc, List, [], ◌∷◌, ◌++◌, length, refl, sym, ap, ◌∙◌, subst, Bool, true, false, arith}
+use Rattle.std.specs.Prelude.{◌&&◌}
+use Rattle.std.proofs.lemmas.List.{append-nil}
 use Rattle.wasm_types_decoding.specs.declared.Refusal.TheVariants.{Other}
-use Rattle.wasm_types_decoding.specs.Decoder.{Decoder, Grammar, ◌>>=◌, pure, refuse, byte, IsLawful, Decides, Then}
-use Rattle.wasm_types_decoding.specs.Laws.{lawful-byte, lawful->>=, lawful-pure, lawful-refuse, lawful-choice}
-use Rattle.wasm_types_decoding.specs.Exact.{decides->>=, decides-same, decides-pure, decides-map, Mapped, has_tag, decides-choice}
-use Rattle.wasm_types_decoding.specs.Lists.{listed_within, IsListedWithin}
-use Rattle.wasm_types_decoding.specs.ListLaws.{lawful-listed_within, decides-listed_within}
-use Rattle.wasm_module_validator.specs.declared.types.ValType.{ValType}
-use Rattle.wasm_module_validator.specs.declared.types.ValType.TheVariants.{I32, I64, F32, F64}
+use Rattle.wasm_types_decoding.specs.Decoder.{Decoder, Grammar, ◌>>=◌, pure, refuse, byte, IsLawful, Decides, Then, Many}
+use Rattle.wasm_types_decoding.specs.Laws.{lawful-byte, lawful->>=, lawful-pure, lawful-refuse, lawful-choice, lawful-if}
+use Rattle.wasm_types_decoding.specs.Exact.{decides->>=, decides-same, decides-pure, decides-if, decides-map, Mapped, has_tag, decides-choice}
+use Rattle.wasm_types_decoding.specs.Lists.{refuse_at, IsListedWithin}
+use Rattle.wasm_types_decoding.specs.ListLaws.{lawful-from_place, decides-from_place, lawful-refuse_at, decides-refuse_at}
+use Rattle.wasm_types_values.specs.ValueExact.{SpelledValue}
+use Rattle.wasm_types_fields.specs.Spells.{Signature, SpelledSignature}
+use Rattle.wasm_types_fields.specs.Decode.{signature}
+use Rattle.wasm_types_fields.specs.DecodeLaws.{lawful-signature, decides-signature}
+use Rattle.wasm_types_values.specs.declared.value.ValType.{ValType}
+use Rattle.wasm_types_values.specs.declared.value.ValType.TheVariants.{I32, I64, F32, F64, V128, Ref}
 use Rattle.wasm_module_validator.specs.Syntax.{FunctionType}
 use Rattle.wasm_module_validator.specs.Binary.{SpellsValType, SpellsFunctionType}
-use Rattle.wasm_module_validator.specs.Types.{val_types, val_type, signature, function_type}
+use Rattle.wasm_module_validator.specs.Types.{val_types, val_type, is_number, are_numbers, numbers_alone, number_signature, function_type}
 
 pub head_is : (a b : ℕ) (s t : List ℕ) → a ∷ s ≡ b ∷ t → a ≡ b
 head_is a b s t e = cc
@@ -29,6 +35,8 @@ spells_some I32 h = absurd cc
 spells_some I64 h = absurd cc
 spells_some F32 h = absurd cc
 spells_some F64 h = absurd cc
+spells_some V128 h = h
+spells_some (Ref r) h = h
 
 -- the byte of a type
 abbrev code_of : ValType → ℕ
@@ -36,103 +44,182 @@ code_of I32 = 0x7f
 code_of I64 = 0x7e
 code_of F32 = 0x7d
 code_of F64 = 0x7c
+code_of V128 = 0x7b
+code_of (Ref r) = 0x64
 
 spells_code : (x : ValType) (text : List ℕ) → SpellsValType x text → text ≡ code_of x ∷ []
 spells_code I32 text h = h
 spells_code I64 text h = h
 spells_code F32 text h = h
 spells_code F64 text h = h
+spells_code V128 text h = absurd h
+spells_code (Ref r) text h = absurd h
 
-has_code : (x : ValType) → has_tag val_types (code_of x) ≡ true
-has_code I32 = refl
-has_code I64 = refl
-has_code F32 = refl
-has_code F64 = refl
+has_code : (x : ValType) (text : List ℕ) → SpellsValType x text → has_tag val_types (code_of x) ≡ true
+has_code I32 text h = refl
+has_code I64 text h = refl
+has_code F32 text h = refl
+has_code F64 text h = refl
+has_code V128 text h = absurd h
+has_code (Ref r) text h = absurd h
 
 tag_is : (b : ℕ) (x : ValType) (text : List ℕ) → SpellsValType x (b ∷ text) → has_tag val_types b ≡ true
-tag_is b x text h = let e = head_is b (code_of x) text [] (spells_code x (b ∷ text) h) in rw e (has_code x)
+tag_is b x text h = let e = head_is b (code_of x) text [] (spells_code x (b ∷ text) h) in rw e (has_code x (b ∷ text) h)
 
-code_tells : (x y : ValType) → code_of x ≡ code_of y → x ≡ y
-code_tells I32 I32 e = refl
-code_tells I32 I64 e = absurd (omega (arith, e))
-code_tells I32 F32 e = absurd (omega (arith, e))
-code_tells I32 F64 e = absurd (omega (arith, e))
-code_tells I64 I32 e = absurd (omega (arith, e))
-code_tells I64 I64 e = refl
-code_tells I64 F32 e = absurd (omega (arith, e))
-code_tells I64 F64 e = absurd (omega (arith, e))
-code_tells F32 I32 e = absurd (omega (arith, e))
-code_tells F32 I64 e = absurd (omega (arith, e))
-code_tells F32 F32 e = refl
-code_tells F32 F64 e = absurd (omega (arith, e))
-code_tells F64 I32 e = absurd (omega (arith, e))
-code_tells F64 I64 e = absurd (omega (arith, e))
-code_tells F64 F32 e = absurd (omega (arith, e))
-code_tells F64 F64 e = refl
+code_tells : (x y : ValType) (text : List ℕ) → SpellsValType x text → is_number y ≡ true → code_of x ≡ code_of y → x ≡ y
+code_tells I32 I32 text h n e = refl
+code_tells I32 I64 text h n e = absurd (omega (arith, e))
+code_tells I32 F32 text h n e = absurd (omega (arith, e))
+code_tells I32 F64 text h n e = absurd (omega (arith, e))
+code_tells I32 V128 text h n e = absurd cc
+code_tells I32 (Ref r) text h n e = absurd cc
+code_tells I64 I32 text h n e = absurd (omega (arith, e))
+code_tells I64 I64 text h n e = refl
+code_tells I64 F32 text h n e = absurd (omega (arith, e))
+code_tells I64 F64 text h n e = absurd (omega (arith, e))
+code_tells I64 V128 text h n e = absurd cc
+code_tells I64 (Ref r) text h n e = absurd cc
+code_tells F32 I32 text h n e = absurd (omega (arith, e))
+code_tells F32 I64 text h n e = absurd (omega (arith, e))
+code_tells F32 F32 text h n e = refl
+code_tells F32 F64 text h n e = absurd (omega (arith, e))
+code_tells F32 V128 text h n e = absurd cc
+code_tells F32 (Ref r) text h n e = absurd cc
+code_tells F64 I32 text h n e = absurd (omega (arith, e))
+code_tells F64 I64 text h n e = absurd (omega (arith, e))
+code_tells F64 F32 text h n e = absurd (omega (arith, e))
+code_tells F64 F64 text h n e = refl
+code_tells F64 V128 text h n e = absurd cc
+code_tells F64 (Ref r) text h n e = absurd cc
+code_tells V128 y text h n e = absurd h
+code_tells (Ref r) y text h n e = absurd h
 
-only : (y x : ValType) (text : List ℕ) → SpellsValType x (code_of y ∷ text) → (x ≡ y) × (text ≡ [])
-only y x text h =
+-- the bytes of a number type spell it alone
+only : (y x : ValType) (text : List ℕ) → is_number y ≡ true → SpellsValType x (code_of y ∷ text) → (x ≡ y) × (text ≡ [])
+only y x text n h =
     let e = spells_code x (code_of y ∷ text) h in
-    (code_tells x y (sym (head_is (code_of y) (code_of x) text [] e)), tail_is (code_of y) (code_of x) text [] e)
+    (code_tells x y (code_of y ∷ text) h n (sym (head_is (code_of y) (code_of x) text [] e)), tail_is (code_of y) (code_of x) text [] e)
 
 pub decides-val_type : Decides val_type SpellsValType
 unfolding val_type
 decides-val_type = decides-choice Other SpellsValType val_types spells_some (
-  decides-pure I32 (λ x text. SpellsValType x (0x7f ∷ text)) refl (only I32),
+  decides-pure I32 (λ x text. SpellsValType x (0x7f ∷ text)) refl (λ x text. only I32 x text refl),
   (
-    decides-pure I64 (λ x text. SpellsValType x (0x7e ∷ text)) refl (only I64),
+    decides-pure I64 (λ x text. SpellsValType x (0x7e ∷ text)) refl (λ x text. only I64 x text refl),
     (
-      decides-pure F32 (λ x text. SpellsValType x (0x7d ∷ text)) refl (only F32),
-      (decides-pure F64 (λ x text. SpellsValType x (0x7c ∷ text)) refl (only F64), tt),
+      decides-pure F32 (λ x text. SpellsValType x (0x7d ∷ text)) refl (λ x text. only F32 x text refl),
+      (decides-pure F64 (λ x text. SpellsValType x (0x7c ∷ text)) refl (λ x text. only F64 x text refl), tt),
     ),
   ),
 )
     tag_is
 
+-- ---- number types among value types
+
+number_spelled : (t : ValType) (text : List ℕ) → is_number t ≡ true → SpelledValue t text → SpellsValType t text
+number_spelled I32 text n h = h
+number_spelled I64 text n h = h
+number_spelled F32 text n h = h
+number_spelled F64 text n h = h
+number_spelled V128 text n h = absurd cc
+number_spelled (Ref r) text n h = absurd cc
+
+spelled_number : (t : ValType) (text : List ℕ) → SpellsValType t text → (is_number t ≡ true) × SpelledValue t text
+spelled_number I32 text h = (refl, h)
+spelled_number I64 text h = (refl, h)
+spelled_number F32 text h = (refl, h)
+spelled_number F64 text h = (refl, h)
+spelled_number V128 text h = absurd h
+spelled_number (Ref r) text h = absurd h
+
+both : (a b : Bool) → (a && b) ≡ true → (a ≡ true) × (b ≡ true)
+both true b e = (refl, e)
+both false b e = absurd cc
+
+many_numbers : (n : ℕ) (ts : List ValType) (text : List ℕ) → are_numbers ts ≡ true → Many SpelledValue n ts text → Many SpellsValType n ts text
+many_numbers zero [] text e h = h
+many_numbers zero (t ∷ ts) text e h = h
+many_numbers (suc n) [] text e h = h
+many_numbers (suc n) (t ∷ ts) text e (front, back, first, rest, whole) =
+    let p = both (is_number t) (are_numbers ts) e in
+    (front, back, number_spelled t front p.0 first, many_numbers n ts back p.1 rest, whole)
+
+numbers_many : (n : ℕ) (ts : List ValType) (text : List ℕ) → Many SpellsValType n ts text → (are_numbers ts ≡ true) × Many SpelledValue n ts text
+numbers_many zero [] text h = (refl, h)
+numbers_many zero (t ∷ ts) text h = absurd h
+numbers_many (suc n) [] text h = absurd h
+numbers_many (suc n) (t ∷ ts) text (front, back, first, rest, whole) =
+    let p = spelled_number t front first in
+    let q = numbers_many n ts back rest in
+    (rw (p.0, q.0) refl, (front, back, p.1, q.1, whole))
+
+listed_numbers : (ts : List ValType) (text : List ℕ) → are_numbers ts ≡ true → IsListedWithin 1000 SpelledValue ts text → IsListedWithin 1000 SpellsValType ts text
+listed_numbers ts text e h = record { within = h.within; listed = record { count = h.listed.count; values = h.listed.values; counted = h.listed.counted; each = many_numbers (length ts) ts h.listed.values e h.listed.each; whole = h.listed.whole } }
+
+numbers_listed : (ts : List ValType) (text : List ℕ) → IsListedWithin 1000 SpellsValType ts text → (are_numbers ts ≡ true) × IsListedWithin 1000 SpelledValue ts text
+numbers_listed ts text h =
+    let p = numbers_many (length ts) ts h.listed.values h.listed.each in
+    (p.0, record { within = h.within; listed = record { count = h.listed.count; values = h.listed.values; counted = h.listed.counted; each = p.1; whole = h.listed.whole } })
+
 -- ---- function types
 
-lawful-types : IsLawful (listed_within 1000 val_type)
-lawful-types = lawful-listed_within 1000 val_type lawful-val_type
+abbrev of_signature : Signature → FunctionType
+of_signature f = record { params = f.params; results = f.results }
 
-lawful-signature : IsLawful signature
-lawful-signature = lawful->>= (listed_within 1000 val_type) _ lawful-types (λ p. lawful->>= (listed_within 1000 val_type) _ lawful-types (λ r. lawful-pure (record { params = p; results = r })))
+-- over number types alone, and nothing behind it
+abbrev OnlyNumbers : Signature → Grammar FunctionType
+OnlyNumbers f y text = (y ≡ of_signature f) × (text ≡ []) × (are_numbers f.params && are_numbers f.results ≡ true)
+
+lawful-numbers_alone : (p : ℕ) (f : Signature) → IsLawful (numbers_alone p f)
+lawful-numbers_alone p f = lawful-if (are_numbers f.params && are_numbers f.results) (pure (of_signature f)) (refuse_at Other p) (lawful-pure (of_signature f)) (lawful-refuse_at Other p)
+
+lawful-number_signature : IsLawful number_signature
+lawful-number_signature = lawful-from_place (λ p. signature >>= numbers_alone p) (λ p. lawful->>= signature (numbers_alone p) lawful-signature (lawful-numbers_alone p))
 
 pub lawful-function_type : IsLawful function_type
 unfolding function_type
-lawful-function_type = lawful->>= byte _ lawful-byte (λ b. lawful-choice ((0x60, signature) ∷ []) _ b (lawful-signature, tt) (lawful-refuse Other 1))
+lawful-function_type = lawful->>= byte _ lawful-byte (λ b. lawful-choice ((0x60, number_signature) ∷ []) _ b (lawful-number_signature, tt) (lawful-refuse Other 1))
 
-abbrev types : Grammar (List ValType)
-types = IsListedWithin 1000 SpellsValType
+decides-numbers_alone : (p : ℕ) (f : Signature) → Decides (numbers_alone p f) (OnlyNumbers f)
+decides-numbers_alone p f = decides-if (are_numbers f.params && are_numbers f.results) (pure (of_signature f)) (refuse_at Other p) (OnlyNumbers f)
+    (λ t. decides-pure (of_signature f) (OnlyNumbers f) (refl, refl, t) (λ y text h. (h.0, h.1)))
+    (λ n. decides-refuse_at Other p (OnlyNumbers f) (λ y text h. let e = h.2 in absurd cc))
 
-abbrev two_lists : Grammar FunctionType
-two_lists = Then types (λ p. Mapped (λ (r : List ValType). record { params = p; results = r }) types)
+abbrev behind_60 : Grammar FunctionType
+behind_60 f text = SpellsFunctionType f (0x60 ∷ text)
 
-signature_to : (f : FunctionType) (text : List ℕ) → two_lists f text → SpellsFunctionType f (0x60 ∷ text)
-signature_to f text h =
-    subst (λ (y : FunctionType). SpellsFunctionType y (0x60 ∷ text)) (sym h.second.2)
-    (record { params = h.front; results = h.back; taken = h.first; given = h.second.1; whole = ap (λ (t : List ℕ). 0x60 ∷ t) h.whole })
+signature_to : (y : FunctionType) (text : List ℕ) → Then SpelledSignature OnlyNumbers y text → behind_60 y text
+signature_to y text h =
+    let whole : text ≡ h.front = h.whole ∙ ap (λ (z : List ℕ). h.front ++ z) h.second.1 ∙ append-nil h.front in
+    let n = both (are_numbers h.value.params) (are_numbers h.value.results) h.second.2 in
+    subst (λ (j : FunctionType). behind_60 j text) (sym h.second.0) (record {
+      params = h.first.params;
+      results = h.first.results;
+      taken = listed_numbers h.value.params h.first.params n.0 h.first.taken;
+      given = listed_numbers h.value.results h.first.results n.1 h.first.given;
+      whole = ap (λ (t : List ℕ). 0x60 ∷ t) (whole ∙ h.first.whole);
+    })
 
-signature_from : (f : FunctionType) (text : List ℕ) → SpellsFunctionType f (0x60 ∷ text) → two_lists f text
-signature_from f text h = record {
-  value = f.params;
-  front = h.params;
-  back = h.results;
-  first = h.taken;
-  second = (f.results, h.given, refl);
-  whole = tail_is 0x60 0x60 text (h.params ++ h.results) h.whole;
-}
+signature_from : (y : FunctionType) (text : List ℕ) → behind_60 y text → Then SpelledSignature OnlyNumbers y text
+signature_from y text h =
+    let p = numbers_listed y.params h.params h.taken in
+    let r = numbers_listed y.results h.results h.given in
+    record {
+      value = record { params = y.params; results = y.results };
+      front = text;
+      back = [];
+      first = record { params = h.params; results = h.results; taken = p.1; given = r.1; whole = tail_is 0x60 0x60 text (h.params ++ h.results) h.whole };
+      second = (refl, refl, rw (p.0, r.0) refl);
+      whole = sym (append-nil text);
+    }
 
-decides-types : Decides (listed_within 1000 val_type) types
-decides-types = decides-listed_within 1000 val_type SpellsValType decides-val_type
+decides-number_signature : Decides number_signature behind_60
+decides-number_signature = decides-from_place (λ p. signature >>= numbers_alone p) behind_60
+    (λ p. decides-same _ (Then SpelledSignature OnlyNumbers) behind_60 (decides->>= signature (numbers_alone p) SpelledSignature OnlyNumbers decides-signature (decides-numbers_alone p)) signature_to signature_from)
 
-decides-signature : Decides signature (λ f text. SpellsFunctionType f (0x60 ∷ text))
-decides-signature = decides-same signature two_lists (λ f text. SpellsFunctionType f (0x60 ∷ text))
-    (decides->>= (listed_within 1000 val_type) _ types _ decides-types (λ p. decides-map (listed_within 1000 val_type) (λ (r : List ValType). record { params = p; results = r }) types decides-types))
-    signature_to signature_from
-
-starts : (b : ℕ) (f : FunctionType) (text : List ℕ) → SpellsFunctionType f (b ∷ text) → has_tag ((0x60, signature) ∷ []) b ≡ true
+starts : (b : ℕ) (f : FunctionType) (text : List ℕ) → SpellsFunctionType f (b ∷ text) → has_tag ((0x60, number_signature) ∷ []) b ≡ true
 starts b f text h = let e = head_is b 0x60 text (h.params ++ h.results) h.whole in rw e refl
 
 pub decides-function_type : Decides function_type SpellsFunctionType
 unfolding function_type
-decides-function_type = decides-choice Other SpellsFunctionType ((0x60, signature) ∷ []) (λ f h. let e = h.whole in absurd cc) (decides-signature, tt) starts
+decides-function_type = decides-choice Other SpellsFunctionType ((0x60, number_signature) ∷ []) (λ f h. let e = h.whole in absurd cc) (decides-number_signature, tt) starts

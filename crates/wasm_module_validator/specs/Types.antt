@@ -1,10 +1,13 @@
--- How types are read, as decoders, and shown.
-use Rattle.std.specs.Prelude.{ℕ, List, [], ◌∷◌, codes}
+-- How types are read, as decoders.
+use Rattle.std.specs.Prelude.{ℕ, List, [], ◌∷◌, Bool, true, false, ◌&&◌, if◌then◌else◌}
+use Rattle.std.specs.List.{list_all}
 use Rattle.wasm_types_decoding.specs.declared.Refusal.TheVariants.{Other}
 use Rattle.wasm_types_decoding.specs.Decoder.{Decoder, ◌>>=◌, pure, refuse, byte, choice}
-use Rattle.wasm_types_decoding.specs.Lists.{listed_within}
-use Rattle.wasm_module_validator.specs.declared.types.ValType.{ValType}
-use Rattle.wasm_module_validator.specs.declared.types.ValType.TheVariants.{I32, I64, F32, F64}
+use Rattle.wasm_types_decoding.specs.Lists.{refuse_at}
+use Rattle.wasm_types_values.specs.declared.value.ValType.{ValType}
+use Rattle.wasm_types_values.specs.declared.value.ValType.TheVariants.{I32, I64, F32, F64, V128, Ref}
+use Rattle.wasm_types_fields.specs.Spells.{Signature}
+use Rattle.wasm_types_fields.specs.Decode.{signature}
 use Rattle.wasm_module_validator.specs.Syntax.{FunctionType}
 
 abbrev pub val_types : List (ℕ × Decoder ValType)
@@ -13,15 +16,24 @@ val_types = (0x7f, pure I32) ∷ (0x7e, pure I64) ∷ (0x7d, pure F32) ∷ (0x7c
 unfoldable pub val_type : Decoder ValType
 val_type = byte >>= choice val_types (refuse Other 1)
 
-abbrev pub signature : Decoder FunctionType
-signature = listed_within 1000 val_type >>= λ params. listed_within 1000 val_type >>= λ results. pure (record { params = params; results = results })
+-- the number types
+abbrev pub is_number : ValType → Bool
+is_number I32 = true
+is_number I64 = true
+is_number F32 = true
+is_number F64 = true
+is_number V128 = false
+is_number (Ref r) = false
+
+abbrev pub are_numbers : List ValType → Bool
+are_numbers = list_all is_number
+
+-- a function type over number types; another is refused at this place
+abbrev pub numbers_alone : ℕ → Signature → Decoder FunctionType
+numbers_alone place f = if are_numbers f.params && are_numbers f.results then pure (record { params = f.params; results = f.results }) else refuse_at Other place
+
+abbrev pub number_signature : Decoder FunctionType
+number_signature s = (signature >>= numbers_alone s.place) s
 
 unfoldable pub function_type : Decoder FunctionType
-function_type = byte >>= choice ((0x60, signature) ∷ []) (refuse Other 1)
-
--- the name of a type
-abbrev pub val_type_text : ValType → List ℕ
-val_type_text I32 = codes "i32"
-val_type_text I64 = codes "i64"
-val_type_text F32 = codes "f32"
-val_type_text F64 = codes "f64"
+function_type = byte >>= choice ((0x60, number_signature) ∷ []) (refuse Other 1)

@@ -2,16 +2,16 @@
 
 ghost use Rattle.std.specs.Prelude.{◌≡◌, ◌↔◌, ◌≤◌, List, [], length, false};
 ghost use Rattle.wasm_types_error.specs.declared.error.ErrorKind.TheVariants.{Other};
-ghost use Rattle.wasm_module_validator.specs.declared.types.ValType.{ValType as TheValType};
-ghost use Rattle.wasm_module_validator.specs.Answers.{Tells};
+ghost use Rattle.wasm_types_values.specs.declared.value.ValType.{ValType as TheValType};
+ghost use Rattle.wasm_module_validator.specs.Answers.{Tells, RefusedAt, RefusedWithin};
+ghost use Rattle.wasm_types_decoding.specs.Decoder.{Reaches};
 ghost use Rattle.wasm_module_validator.specs.Bodies.{AcceptsBody};
 ghost use Rattle.wasm_module_validator.specs.Operands.{Does, fresh, function_type, GroupsLeft, BodyLeft, Taken, MayTake};
 
 use crate::operands::OperatorValidator;
 use crate::operators::{LocalGroup, Operator};
-use crate::types::{FuncType, ValType};
 use std::alloc::Global;
-use wasm_types_reader::{BinaryReader, Error, Result};
+use wasm_types::{BinaryReader, Error, FuncType, Result, ValType};
 
 /// A validator of what functions do, one after the other, which keeps its memory from one to the next.
 #[derive(Drop)]
@@ -36,9 +36,11 @@ impl FuncValidator {
     ///
     /// Ok exactly where these bytes spell groups of locals and an expression that is valid with them: at most 50,000 locals
     /// with the parameters, and an expression that gives the type's results. Otherwise the error tells what is wrong and
-    /// where, unless it is of kind 3: a growth was refused, and nothing is said of the bytes.
+    /// where, unless it is of kind 3: a growth was refused, and nothing is said of the bytes. The place is one of the body's, or its end.
+    #[tactic(auto, using(crate::proofs::Places::within_further))]
     pub fn validate(&mut self, ty: &FuncType, body: BinaryReader<'_>) -> Result<()>
-        ensures verdict { Tells result (AcceptsBody ty.now body.entry.rest) }
+        ensures verdict { Tells result (AcceptsBody (function_type ty.now.params.items ty.now.results.items) body.entry.rest) }
+        ensures within { RefusedWithin body.entry result }
     {
         let mut reader = body;
         self.read_locals(ty.params(), &mut reader)?;
@@ -46,8 +48,11 @@ impl FuncValidator {
     }
 
     /// Reads the groups of locals of a function with these parameters.
+    #[tactic(auto, using(wasm_types_decoding::specs::Laws::reaches_self, wasm_types_decoding::specs::Laws::reaches_then))]
     fn read_locals(&mut self, params: &[ValType], reader: &mut BinaryReader<'_>) -> Result<()>
-        ensures { Does result ((results : List TheValType) → AcceptsBody (function_type params.now results) reader.old.rest ↔ BodyLeft results self.new.validator reader.new.rest) ((results : List TheValType) × AcceptsBody (function_type params.now results) reader.old.rest) }
+        ensures does { Does result ((results : List TheValType) → AcceptsBody (function_type params.now results) reader.old.rest ↔ BodyLeft results self.new.validator reader.new.rest) ((results : List TheValType) × AcceptsBody (function_type params.now results) reader.old.rest) }
+        ensures within { RefusedWithin reader.old result }
+        ensures forward { Reaches reader.old reader.new }
     {
         self.begin(reader.original_position(), params)?;
         let count = reader.read_var_u32()?;
@@ -56,7 +61,8 @@ impl FuncValidator {
 
     /// Begins a function with these parameters.
     fn begin(&mut self, offset: u64, params: &[ValType]) -> Result<()>
-        ensures { Does result ((self.new.validator ≡ fresh params.now) × (length params.now ≤ 50000)) (length params.now ≤ 50000) }
+        ensures does { Does result ((self.new.validator ≡ fresh params.now) × (length params.now ≤ 50000)) (length params.now ≤ 50000) }
+        ensures at { RefusedAt offset result }
     {
         self.validator.begin();
         for param in params {
@@ -66,10 +72,13 @@ impl FuncValidator {
     }
 
     /// Reads so many groups of locals.
+    #[tactic(auto, using(wasm_types_decoding::specs::Laws::reaches_self, wasm_types_decoding::specs::Laws::reaches_then))]
     fn read_groups(&mut self, count: u32, reader: &mut BinaryReader<'_>) -> Result<()>
         requires begun { self.old.validator ≡ fresh self.old.validator.locals }
         requires within { length self.old.validator.locals ≤ 50000 }
-        ensures { Does result ((results : List TheValType) → GroupsLeft results count self.old.validator.locals reader.old.rest ↔ BodyLeft results self.new.validator reader.new.rest) ((results : List TheValType) × GroupsLeft results count self.old.validator.locals reader.old.rest) }
+        ensures does { Does result ((results : List TheValType) → GroupsLeft results count self.old.validator.locals reader.old.rest ↔ BodyLeft results self.new.validator reader.new.rest) ((results : List TheValType) × GroupsLeft results count self.old.validator.locals reader.old.rest) }
+        ensures within { RefusedWithin reader.old result }
+        ensures forward { Reaches reader.old reader.new }
     {
         for _ in 0..count {
             let offset = reader.original_position();
@@ -80,8 +89,10 @@ impl FuncValidator {
     }
 
     /// Reads operators to the end of the data, and visits each.
+    #[tactic(auto, using(wasm_types_decoding::specs::Laws::reaches_self, wasm_types_decoding::specs::Laws::reaches_then))]
     fn read_operators(&mut self, results: &[ValType], reader: &mut BinaryReader<'_>) -> Result<()>
-        ensures { Tells result (BodyLeft results.now self.old.validator reader.old.rest) }
+        ensures verdict { Tells result (BodyLeft results.now self.old.validator reader.old.rest) }
+        ensures within { RefusedWithin reader.old result }
     {
         while !reader.eof() {
             let offset = reader.original_position();
@@ -101,7 +112,8 @@ impl FuncValidator {
     #[inline]
     fn op(&mut self, offset: u64, operator: Operator, results: &[ValType]) -> Result<()>
         requires { self.old.validator.ended ≡ false }
-        ensures { Does result (Taken results.now operator self.old.validator self.new.validator) (MayTake results.now operator self.old.validator) }
+        ensures does { Does result (Taken results.now operator self.old.validator self.new.validator) (MayTake results.now operator self.old.validator) }
+        ensures at { RefusedAt offset result }
     {
         match operator {
             Operator::Unreachable => {

@@ -16,5 +16,5 @@ mod validator;
 pub use body::FuncValidator;
 pub use operators::{LocalGroup, Operator};
 pub use sections::{FunctionBody, ModuleFrames};
-pub use types::{FuncType, ValType};
+pub use types::TypeEntry;
 pub use validator::{Types, TypesRef, Validator, ValidatorId, validate};

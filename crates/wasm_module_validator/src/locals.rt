@@ -3,10 +3,9 @@
 ghost use Rattle.std.specs.Prelude.{◌≡◌, ◌+◌, ◌≤◌, [], ◌++◌, length, replicate, slice_get};
 ghost use Rattle.wasm_types_error.specs.declared.error.ErrorKind.TheVariants.{Other};
 
-use crate::types::ValType;
 use std::alloc::Global;
 use std::marker::Model;
-use wasm_types_reader::{Error, Result};
+use wasm_types::{Error, Result, ValType};
 
 /// How many locals a function may have, with its parameters.
 const MAX_WASM_FUNCTION_LOCALS: u32 = 50_000;
@@ -26,7 +25,7 @@ pub struct Locals {
 
 impl Model for Locals {
     ghost use Rattle.std.specs.Prelude.{List};
-    ghost use Rattle.wasm_module_validator.specs.declared.types.ValType.{ValType as TheValType};
+    ghost use Rattle.wasm_types_values.specs.declared.value.ValType.{ValType as TheValType};
     ghost use Rattle.wasm_module_validator.specs.Locals.{locals_from, AreRunsFrom};
 
     ghost Value = { List TheValType };
@@ -38,6 +37,7 @@ impl Model for Locals {
 
 impl Locals {
     ghost use Rattle.wasm_module_validator.specs.Operands.{Does};
+    ghost use Rattle.wasm_module_validator.specs.Answers.{RefusedAt};
 
     /// No locals. It takes no memory.
     pub fn new(alloc: Global) -> Locals
@@ -68,7 +68,8 @@ impl Locals {
 
     /// Puts `count` locals of a type at the end. It refuses more than 50,000 in all, at this offset.
     pub fn define(&mut self, offset: u64, count: u32, ty: ValType) -> Result<()>
-        ensures { Does result ((self.new ≡ self.old ++ replicate count ty) × (length self.new ≤ 50000)) (length self.old + count ≤ 50000) }
+        ensures does { Does result ((self.new ≡ self.old ++ replicate count ty) × (length self.new ≤ 50000)) (length self.old + count ≤ 50000) }
+        ensures at { RefusedAt offset result }
     {
         let defined = self.len();
         if count > MAX_WASM_FUNCTION_LOCALS - defined {

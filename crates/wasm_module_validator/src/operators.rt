@@ -3,9 +3,9 @@
 ghost use Rattle.std.specs.Prelude.{◌≡◌};
 ghost use Rattle.wasm_types_error.specs.declared.error.ErrorKind.TheVariants.{Other};
 
-use crate::types::ValType;
+use crate::types::read_number_type;
 use std::alloc::Global;
-use wasm_types_reader::{BinaryReader, Error, FromReader, Result};
+use wasm_types::{BinaryReader, Error, FromReader, Result, ValType};
 
 /// An instruction without the instructions that it may hold, or the end of an expression (WebAssembly 3.0, binary format,
 /// instructions and expressions).
@@ -102,9 +102,9 @@ impl<'a> FromReader<'a> for LocalGroup {
     ghost exact = { decides-local_group };
 
     #[tactic(auto, using(wasm_types_decoding::specs::Laws::reaches_self, wasm_types_decoding::specs::Laws::reaches_then), unfolding(crate::specs::Operators::local_group))]
-    fn from_reader(alloc: Global, reader: &mut BinaryReader<'a>) -> Result<LocalGroup> {
+    fn from_reader(_alloc: Global, reader: &mut BinaryReader<'a>) -> Result<LocalGroup> {
         let count = reader.read_var_u32()?;
-        let ty = reader.read(alloc)?;
+        let ty = read_number_type(reader)?;
         Ok(LocalGroup { count, ty })
     }
 }

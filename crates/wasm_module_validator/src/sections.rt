@@ -8,10 +8,10 @@ ghost use Rattle.wasm_module_validator.specs.Types.{function_type};
 ghost use Rattle.wasm_module_validator.specs.Entries.{bodies, frames_of};
 ghost use Rattle.wasm_types_error.specs.declared.error.ErrorKind.TheVariants.{Other};
 
-use crate::types::FuncType;
+use crate::types::TypeEntry;
 use std::alloc::Global;
-use wasm_types_reader::limits::MAX_WASM_TYPES;
-use wasm_types_reader::{BinaryReader, Error, FromReader, Result, read_many};
+use wasm_types::limits::MAX_WASM_TYPES;
+use wasm_types::{BinaryReader, Error, FromReader, Result, read_many};
 
 /// How many functions a module has at the most.
 pub const MAX_WASM_FUNCTIONS: usize = 1_000_000;
@@ -72,7 +72,7 @@ fn body_error(place: u64) -> Error
 /// A module, with each entry of its code section as it stands.
 #[derive(Drop)]
 pub struct ModuleFrames<'a> {
-    pub types: Vec<FuncType>,
+    pub types: Vec<TypeEntry>,
     pub functions: Vec<u32>,
     pub bodies: Vec<FunctionBody<'a>>,
 }
@@ -191,7 +191,7 @@ fn count_error(desc: &str, limit: usize, place: u64) -> Error
 
 /// The function types of a module; none where there is no type section. Where it is refused the reader may have gone on.
 #[tactic(auto, using(wasm_types_decoding::specs::Laws::reaches_self, wasm_types_decoding::specs::Laws::reaches_then), unfolding(crate::specs::Frames::section, crate::specs::Frames::contents, crate::specs::Frames::type_section))]
-pub fn read_type_section<'a>(alloc: Global, reader: &mut BinaryReader<'a>) -> Result<Vec<FuncType>>
+pub fn read_type_section<'a>(alloc: Global, reader: &mut BinaryReader<'a>) -> Result<Vec<TypeEntry>>
     ensures answer { Gives (λ v. v.items) result reader.new (type_section reader.old) }
     ensures forward { Reaches reader.old reader.new }
 {
@@ -205,7 +205,7 @@ pub fn read_type_section<'a>(alloc: Global, reader: &mut BinaryReader<'a>) -> Re
 }
 
 #[tactic(auto, using(wasm_types_decoding::specs::Laws::reaches_self, wasm_types_decoding::specs::Laws::reaches_then), unfolding(crate::specs::Frames::items))]
-fn read_types<'a>(alloc: Global, contents: &mut BinaryReader<'a>) -> Result<Vec<FuncType>>
+fn read_types<'a>(alloc: Global, contents: &mut BinaryReader<'a>) -> Result<Vec<TypeEntry>>
     ensures { Gives (λ v. v.items) result contents.new (items 1000000 function_type contents.old) }
 {
     let place = contents.original_position();

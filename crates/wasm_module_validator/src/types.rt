@@ -1,101 +1,70 @@
-//! Types of values and functions.
+//! Types of values and of functions, as the sections of a module give them.
+
+ghost use Rattle.std.specs.Prelude.{◌≡◌};
+ghost use Rattle.wasm_types_decoding.specs.Decoder.{Reaches};
+ghost use Rattle.wasm_types_error.specs.declared.error.ErrorKind.TheVariants.{Other};
+ghost use Rattle.wasm_types_reader.specs.Reading.{Gives};
+ghost use Rattle.wasm_module_validator.specs.Types.{val_type, is_number, are_numbers};
 
 use std::alloc::Global;
-use std::fmt;
 use std::marker::Model;
-use wasm_types_reader::limits::{MAX_WASM_FUNCTION_PARAMS, MAX_WASM_FUNCTION_RETURNS};
-use wasm_types_reader::{BinaryReader, Error, FromReader, Result, read_list};
+use wasm_types::{BinaryReader, Error, FromReader, FuncType, Result, ValType};
 
-/// The type of a value (WebAssembly 3.0, structure, number types).
-#[derive(Clone, Copy, Debug, PartialEq, Eq)]
-pub enum ValType {
-    I32,
-    I64,
-    F32,
-    F64,
-}
-
-impl fmt::Display for ValType {
-    ghost use Rattle.std.specs.Prelude.{Some, codes};
-    ghost use Rattle.wasm_module_validator.specs.Types.{val_type_text};
-
-    ghost output = { λ t. Some (val_type_text t) };
-
-    fn fmt<W: fmt::Write>(&self, f: &mut fmt::Formatter<W>) -> fmt::Result {
-        match self {
-            ValType::I32 => f.write_str("i32"),
-            ValType::I64 => f.write_str("i64"),
-            ValType::F32 => f.write_str("f32"),
-            ValType::F64 => f.write_str("f64"),
-        }
+/// Whether it is a number type: the language of this stage has values of no other (WebAssembly 3.0, structure, number types).
+#[inline]
+fn is_number_type(ty: ValType) -> bool
+    ensures { result ≡ is_number ty }
+{
+    match ty {
+        ValType::I32 | ValType::I64 | ValType::F32 | ValType::F64 => true,
+        ValType::V128 | ValType::Ref(_) => false,
     }
 }
 
-impl<'a> FromReader<'a> for ValType {
-    ghost use Rattle.wasm_module_validator.specs.declared.types.ValType.{ValType as TheValType};
-    ghost use Rattle.wasm_module_validator.specs.Binary.{SpellsValType};
-    ghost use Rattle.wasm_module_validator.specs.Types.{val_type};
-    ghost use Rattle.wasm_module_validator.specs.TypeLaws.{lawful-val_type, decides-val_type};
+/// Whether each is a number type.
+fn are_number_types(types: &[ValType]) -> bool
+    ensures { result ≡ are_numbers types.now }
+{
+    types.iter().all(|ty| is_number_type(*ty))
+}
 
-    ghost Value = { TheValType };
-
-    ghost view = { λ t. t };
-
-    ghost decoder = { val_type };
-
-    ghost grammar = { SpellsValType };
-
-    ghost lawful = { lawful-val_type };
-
-    ghost exact = { decides-val_type };
-
-    #[tactic(auto, using(wasm_types_decoding::specs::Laws::reaches_self, wasm_types_decoding::specs::Laws::reaches_then), unfolding(crate::specs::Types::val_type))]
-    fn from_reader(_alloc: Global, reader: &mut BinaryReader<'a>) -> Result<ValType> {
-        let start = reader.original_position();
-        match reader.read_u8()? {
-            0x7f => Ok(ValType::I32),
-            0x7e => Ok(ValType::I64),
-            0x7d => Ok(ValType::F32),
-            0x7c => Ok(ValType::F64),
-            _ => Err(Error::new("invalid value type", start)),
-        }
+/// The next number type (WebAssembly 3.0, binary format, number types). Where it is refused the reader may have gone on.
+#[tactic(auto, using(wasm_types_decoding::specs::Laws::reaches_self, wasm_types_decoding::specs::Laws::reaches_then), unfolding(crate::specs::Types::val_type))]
+pub(crate) fn read_number_type(reader: &mut BinaryReader<'_>) -> Result<ValType>
+    ensures answer { Gives (λ t. t) result reader.new (val_type reader.old) }
+    ensures forward { Reaches reader.old reader.new }
+{
+    let start = reader.original_position();
+    match reader.read_u8()? {
+        0x7f => Ok(ValType::I32),
+        0x7e => Ok(ValType::I64),
+        0x7d => Ok(ValType::F32),
+        0x7c => Ok(ValType::F64),
+        _ => Err(invalid_value_type(start)),
     }
 }
 
-/// The type of a function: what it takes and what it gives (WebAssembly 3.0, structure, function types).
-#[derive(Debug, Drop)]
-pub struct FuncType {
-    params: Vec<ValType>,
-    results: Vec<ValType>,
+#[cold]
+fn invalid_value_type(offset: u64) -> Error
+    ensures kind { result.kind ≡ Other }
+    ensures offset { result.offset ≡ offset }
+{
+    Error::new("invalid value type", offset)
 }
 
-impl Model for FuncType {
+/// An entry of the type section: a function type over number types (WebAssembly 3.0, binary format, type section).
+#[derive(Drop)]
+pub struct TypeEntry(pub FuncType);
+
+impl Model for TypeEntry {
     ghost use Rattle.wasm_module_validator.specs.Syntax.{FunctionType};
 
     ghost Value = { FunctionType };
 
-    ghost view = { λ f. record { params = f.params.items; results = f.results.items } };
+    ghost view = { λ e. record { params = e.0.params.items; results = e.0.results.items } };
 }
 
-impl FuncType {
-    ghost use Rattle.std.specs.Prelude.{◌≡◌};
-
-    /// The types of what is taken, in order.
-    pub fn params(&self) -> &[ValType]
-        ensures { result.now ≡ self.now.params }
-    {
-        self.params.as_slice()
-    }
-
-    /// The types of what is given, in order.
-    pub fn results(&self) -> &[ValType]
-        ensures { result.now ≡ self.now.results }
-    {
-        self.results.as_slice()
-    }
-}
-
-impl<'a> FromReader<'a> for FuncType {
+impl<'a> FromReader<'a> for TypeEntry {
     ghost use Rattle.wasm_module_validator.specs.Syntax.{FunctionType};
     ghost use Rattle.wasm_module_validator.specs.Binary.{SpellsFunctionType};
     ghost use Rattle.wasm_module_validator.specs.Types.{function_type};
@@ -114,13 +83,16 @@ impl<'a> FromReader<'a> for FuncType {
     ghost exact = { decides-function_type };
 
     #[tactic(auto, using(wasm_types_decoding::specs::Laws::reaches_self, wasm_types_decoding::specs::Laws::reaches_then), unfolding(crate::specs::Types::function_type))]
-    fn from_reader(alloc: Global, reader: &mut BinaryReader<'a>) -> Result<FuncType> {
+    fn from_reader(alloc: Global, reader: &mut BinaryReader<'a>) -> Result<TypeEntry> {
         let start = reader.original_position();
         if reader.read_u8()? != 0x60 {
             return Err(Error::new("invalid leading byte for type", start));
         }
-        let params = read_list(alloc, MAX_WASM_FUNCTION_PARAMS, "function params", reader)?;
-        let results = read_list(alloc, MAX_WASM_FUNCTION_RETURNS, "function returns", reader)?;
-        Ok(FuncType { params, results })
+        let place = reader.original_position();
+        let ty = FuncType::from_reader(alloc, reader)?;
+        if !are_number_types(ty.params()) || !are_number_types(ty.results()) {
+            return Err(invalid_value_type(place));
+        }
+        Ok(TypeEntry(ty))
     }
 }

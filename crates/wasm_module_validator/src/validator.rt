@@ -12,7 +12,7 @@ use crate::body::FuncValidator;
 use crate::sections::{ModuleFrames, read_module};
 use std::alloc::Global;
 use std::marker::Model;
-use wasm_types_reader::{BinaryReader, Error};
+use wasm_types::{BinaryReader, Error};
 
 /// Tells a validator from others; the caller makes each number once.
 #[derive(Clone, Copy, Debug, PartialEq, Eq, PartialOrd, Ord, Hash)]
@@ -204,5 +204,5 @@ fn validate_body(
     let Some(body) = module.bodies.get(place) else {
         return Err(Error::new("function and code section have inconsistent lengths", 0));
     };
-    validator.validate(ty, body.reader.clone())
+    validator.validate(&ty.0, body.reader.clone())
 }

@@ -2,7 +2,7 @@
 
 use std::test::Fail;
 use wasm_module_validator::{Validator, ValidatorId, validate};
-use wasm_types_reader::{Error, ErrorKind};
+use wasm_types::{Error, ErrorKind};
 
 /// A header and nothing else.
 const BARE_HEADER: [u8; 8] = [0x00, 0x61, 0x73, 0x6d, 0x01, 0x00, 0x00, 0x00];

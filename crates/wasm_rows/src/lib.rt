@@ -2,10 +2,14 @@
 #![tactic(auto)]
 
 #[cfg(test)]
+mod bodies;
+#[cfg(test)]
 mod features;
 #[cfg(test)]
 mod first_path;
 #[cfg(test)]
 mod reader;
+#[cfg(test)]
+mod types;
 #[cfg(test)]
 mod values;

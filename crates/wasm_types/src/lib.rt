@@ -1,11 +1,26 @@
-//! The bottom of the validator: bytes, numbers, texts and faults, and the features of WebAssembly.
+//! The bottom of the validator: bytes, numbers, texts and faults, the features of WebAssembly, and core types.
 //!
-//! This crate has no code of its own. It shows the parts `wasm_types_reader` (the reader of bytes, errors, the trait of all
-//! that is read) and `wasm_types_features` (the features and their sets) under one name.
+//! This crate has no code of its own. It shows its parts under one name:
+//!
+//! - `wasm_types_reader` and `wasm_types_error`: the reader of bytes, errors, and the trait of all that is read;
+//! - `wasm_types_features`: the features and their sets;
+//! - `wasm_types_indices` and `wasm_types_values`: indices of types, heap types, reference types, value types and what
+//!   fields store;
+//! - `wasm_types_externs`: the types of tables, memories, globals and tags;
+//! - `wasm_types_fields` and `wasm_types_groups`: fields, functions, arrays, structs and continuations, and the subtypes and
+//!   recursion groups that are made of them.
 #![tactic(auto)]
 
+pub use wasm_types_externs::{GlobalType, MemoryType, TableType, TagKind, TagType};
 pub use wasm_types_features::{WasmFeatures, WasmFeaturesInflated};
+pub use wasm_types_fields::{ArrayType, ContType, FieldType, FuncType, StructType};
+pub use wasm_types_groups::{
+    CompositeInnerType, CompositeType, RecGroup, SubType, TypesAndOffsets,
+};
+pub use wasm_types_indices::{CoreTypeId, PackedIndex, UnpackedIndex};
 pub use wasm_types_reader::{
     BinaryReader, BinaryReaderError, BinaryReaderIter, Error, ErrorKind, FromReader, Ieee32,
-    Ieee64, Result, limits,
+    Ieee64, Result, limits, read_list, read_many,
 };
+pub use wasm_types_values::laws::equality_is_identity;
+pub use wasm_types_values::{AbstractHeapType, HeapType, RefType, StorageType, ValType};

@@ -276,6 +276,20 @@ decides-first f g sound complete = record {
 
 -- ---- a look ahead
 
+-- a choice by the next byte, which stays, apart in both directions: sound by the byte, complete by the value
+module _ {A : Type 0} (f : ℕ → Decoder A) (g : Grammar A) (some : (x : A) → g x [] → ⊥) (sound : (b : ℕ) → Sound (f b) g)
+    (complete : (b : ℕ) (x : A) (text : List ℕ) → g x (b ∷ text) → Reads (f b) x (b ∷ text)) where
+  ahead_sound : (rest : List ℕ) (s t : State) (x : A) → look_first rest s f ≡ Done x t → (text : List ℕ) × Takes s text t × g x text
+  ahead_sound [] s t x e = absurd cc
+  ahead_sound (b ∷ rest) s t x e = sound b s t x e
+
+  ahead_complete : (s t : State) (x : A) (text : List ℕ) → Takes s text t → g x text → look f s ≡ Done x t
+  ahead_complete s t x [] p h = absurd (some x h)
+  ahead_complete s t x (b ∷ text) p h = ap (λ (rest : List ℕ). look_first rest s f) p.parts ∙ complete b x text h s t p
+
+  pub decides-look_apart : Decides (look f) g
+  decides-look_apart = record { sound = λ s t x e. ahead_sound s.rest s t x e; complete = ahead_complete }
+
 -- what g says of a text that begins with this byte
 abbrev pub Begins : {A : Type 0} → ℕ → Grammar A → Grammar A
 Begins b g x [] = ⊥
@@ -286,13 +300,7 @@ module _ {A : Type 0} (f : ℕ → Decoder A) (g : Grammar A) (some : (x : A) �
   begun b x [] h = absurd h
   begun b x (c ∷ text) h = h.1
 
-  look_sound : (rest : List ℕ) (s t : State) (x : A) → look_first rest s f ≡ Done x t → (text : List ℕ) × Takes s text t × g x text
-  look_sound [] s t x e = absurd cc
-  look_sound (b ∷ rest) s t x e = let p = (decides b).sound s t x e in (p.0, p.1, begun b x p.0 p.2)
-
-  look_complete : (s t : State) (x : A) (text : List ℕ) → Takes s text t → g x text → look f s ≡ Done x t
-  look_complete s t x [] p h = absurd (some x h)
-  look_complete s t x (b ∷ text) p h = ap (λ (rest : List ℕ). look_first rest s f) p.parts ∙ (decides b).complete s t x (b ∷ text) p (refl, h)
-
   pub decides-look : Decides (look f) g
-  decides-look = record { sound = λ s t x e. look_sound s.rest s t x e; complete = look_complete }
+  decides-look = decides-look_apart f g some
+      (λ b s t x e. let p = (decides b).sound s t x e in (p.0, p.1, begun b x p.0 p.2))
+      (λ b x text h s t p. (decides b).complete s t x (b ∷ text) p (refl, h))

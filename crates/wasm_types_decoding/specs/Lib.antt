@@ -10,3 +10,4 @@ pub mod LebLaws
 pub mod SignedLaws
 pub mod ListLaws
 pub mod TextLaws
+pub mod Places

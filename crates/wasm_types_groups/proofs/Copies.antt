@@ -4,9 +4,9 @@ use Rattle.std.specs.List.{AllZip, each_same}
 use Rattle.wasm_types_indices.specs.declared.index.UnpackedIndex.{UnpackedIndex}
 use Rattle.wasm_types_values.specs.Values.{value_of}
 use Rattle.wasm_types_trees.specs.Rows as tree
-use Rattle.wasm_types_groups.specs.declared.field.FieldType.{FieldType}
-use Rattle.wasm_types_groups.specs.declared.field.ArrayType.{ArrayType}
-use Rattle.wasm_types_groups.specs.declared.composite.ContType.{ContType}
+use Rattle.wasm_types_fields.specs.declared.field.FieldType.{FieldType}
+use Rattle.wasm_types_fields.specs.declared.field.ArrayType.{ArrayType}
+use Rattle.wasm_types_fields.specs.declared.cont.ContType.{ContType}
 use Rattle.wasm_types_groups.specs.declared.composite.CompositeInnerType.{CompositeInnerType}
 use Rattle.wasm_types_groups.specs.declared.composite.CompositeInnerType.TheVariants.{Func, Array, Struct, Cont}
 use Rattle.wasm_types_groups.specs.declared.composite.CompositeType.{CompositeType}
@@ -16,7 +16,8 @@ use Rattle.wasm_types_groups.specs.contracts.composite.CompositeInnerTypeClone.T
 use Rattle.wasm_types_groups.specs.contracts.composite.CompositeTypeClone.TheImpl as composite
 use Rattle.wasm_types_groups.specs.contracts.sub_type.SubTypeClone.TheImpl as subtype
 use Rattle.wasm_types_groups.specs.contracts.rec_group.RecGroupClone.TheImpl as group
-use Rattle.wasm_types_groups.specs.Rows.{field_of, inner_of, first_of, declared_of, declared_types}
+use Rattle.wasm_types_fields.specs.Fields.{field_of}
+use Rattle.wasm_types_groups.specs.Rows.{inner_of, first_of, declared_of, declared_types}
 
 inner_copied : (x y : CompositeInnerType) → inner.ghosts.is_clone x y → inner_of y ≡ inner_of x
 inner_copied (Func f) (Func g) h =
@@ -76,5 +77,4 @@ subtypes_copied (x ∷ xs) [] h = absurd h
 subtypes_copied (x ∷ xs) (y ∷ ys) h = let a = subtype_copied x y h.0 in let b = subtypes_copied xs ys h.1 in cc
 
 pub group_copied : (g h : RecGroup) → group.ghosts.is_clone g h → (declared_types h ≡ declared_types g) × (h.offsets.items ≡ g.offsets.items) × (h.is_explicit ≡ g.is_explicit)
-group_copied g h c =
-    (subtypes_copied g.types.items h.types.items c.0.0, each_same g.offsets.items h.offsets.items c.1.0.0, c.1.1)
+group_copied g h c = (subtypes_copied g.types.items h.types.items c.types, c.offsets, c.explicit)

@@ -10,17 +10,18 @@ use Rattle.wasm_types_values.specs.contracts.value.StorageTypePartialEq.TheImpl 
 use Rattle.wasm_types_values.specs.Laws.{ValueEqualityIsIdentity, StorageEqualityIsIdentity}
 use Rattle.wasm_types_trees.specs.Rows as tree
 use Rattle.wasm_types_trees.specs.Rows.{ValueOf, FieldOf, InnerOf, RowOf}
-use Rattle.wasm_types_groups.specs.declared.field.FieldType.{FieldType}
+use Rattle.wasm_types_fields.specs.declared.field.FieldType.{FieldType}
 use Rattle.wasm_types_groups.specs.declared.composite.CompositeInnerType.{CompositeInnerType}
 use Rattle.wasm_types_groups.specs.declared.composite.CompositeInnerType.TheVariants.{Func, Array, Struct, Cont}
 use Rattle.wasm_types_groups.specs.declared.sub_type.SubType.{SubType}
 use Rattle.wasm_types_groups.specs.declared.rec_group.RecGroup.{RecGroup}
-use Rattle.wasm_types_groups.specs.contracts.field.FieldTypePartialEq.TheImpl as field
+use Rattle.wasm_types_fields.specs.contracts.field.FieldTypePartialEq.TheImpl as field
 use Rattle.wasm_types_groups.specs.contracts.composite.CompositeInnerTypePartialEq.TheImpl as inner
 use Rattle.wasm_types_groups.specs.contracts.sub_type.SubTypePartialEq.TheImpl as subtype
 use Rattle.wasm_types_groups.specs.contracts.rec_group.RecGroupPartialEq.TheImpl as group
-use Rattle.wasm_types_groups.specs.Rows.{field_of, inner_of, row_of, first_of, Declared, declared_of, declared_types}
-use Rattle.wasm_types_groups.proofs.Telling.{Tells, first, second, both, lists, options, map_id, option_id, flags, indices, values, storages}
+use Rattle.wasm_types_fields.specs.Fields.{field_of}
+use Rattle.wasm_types_groups.specs.Rows.{inner_of, row_of, first_of, Declared, declared_of, declared_types}
+use Rattle.wasm_types_fields.proofs.Telling.{Tells, first, second, both, lists, options, map_id, option_id, flags, indices, values, storages}
 
 module _ (same_value : ValueEqualityIsIdentity) (same_storage : StorageEqualityIsIdentity) where
   field_sound : (x y : FieldType) → field.ghosts.eq x y ≡ true → field_of x ≡ field_of y

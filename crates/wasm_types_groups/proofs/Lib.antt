@@ -1,5 +1,5 @@
-pub mod Telling
 pub mod Equality
 pub mod Copies
 pub mod Counts
 pub mod Values
+pub mod Places

@@ -4,7 +4,7 @@ use Rattle.wasm_types_decoding.specs.declared.Refusal.TheVariants.{Other}
 use Rattle.wasm_types_decoding.specs.Decoder.{Decoder, ◌>>=◌, pure, refuse, byte, choice}
 use Rattle.wasm_types_decoding.specs.Lists.{listed_within}
 use Rattle.wasm_types_indices.specs.declared.index.UnpackedIndex.{UnpackedIndex}
-use Rattle.wasm_types_groups.specs.Decode.{field_type, fields, signature, module_index}
+use Rattle.wasm_types_fields.specs.Decode.{field_type, fields, signature, module_index}
 use Rattle.wasm_types_groups.specs.SpellsTypes.{InnerValue, function, array_of, struct_of, continuation, CompositeValue, SubValue, composite_with, sub_with, GroupValue, group_with}
 
 abbrev pub inners : List (ℕ × Decoder InnerValue)

@@ -1,13 +1,20 @@
 -- Laws of groups: what the functions of src/laws.rt promise.
 use Rattle.std.specs.Prelude.{◌≡◌, ◌↔◌, IsTrue, map}
+use Rattle.std.specs.Cmp.Lexicographic.{slice_cmp}
+use Rattle.std.specs.Hash.{slice}
+use Rattle.std.specs.declared.cmp.Ordering.TheVariants.{Equal}
 use Rattle.wasm_types_groups.specs.declared.sub_type.SubType.{SubType}
 use Rattle.wasm_types_groups.specs.declared.rec_group.RecGroup.{RecGroup}
 use Rattle.wasm_types_groups.specs.contracts.sub_type.SubTypePartialEq.TheImpl as subtype
 use Rattle.wasm_types_groups.specs.contracts.rec_group.RecGroupPartialEq.TheImpl as group
 use Rattle.wasm_types_groups.specs.contracts.sub_type.SubTypeClone.TheImpl as subtype_clone
 use Rattle.wasm_types_groups.specs.contracts.rec_group.RecGroupClone.TheImpl as group_clone
+use Rattle.wasm_types_groups.specs.contracts.sub_type.SubTypeOrd.TheImpl as subtype_order
+use Rattle.wasm_types_groups.specs.contracts.rec_group.RecGroupOrd.TheImpl as group_order
+use Rattle.wasm_types_groups.specs.contracts.sub_type.SubTypeHash.TheImpl as subtype_hash
+use Rattle.wasm_types_groups.specs.contracts.rec_group.RecGroupHash.TheImpl as group_hash
 use Rattle.wasm_types_groups.specs.SpellsTypes.{declared_by, sub_value, group_value}
-use Rattle.wasm_types_groups.specs.Rows.{declared_of, declared_types}
+use Rattle.wasm_types_groups.specs.Rows.{subtypes, declared_of, declared_types}
 
 -- `==` holds of subtypes that declare the same
 abbrev pub SubTypesAreToldApart : Type 0
@@ -16,6 +23,18 @@ SubTypesAreToldApart = (x y : SubType) → IsTrue (subtype.ghosts.eq x y) ↔ (d
 -- and of groups whose types do, in order: neither places nor the form of writing count
 abbrev pub GroupsAreToldApart : Type 0
 GroupsAreToldApart = (g h : RecGroup) → IsTrue (group.ghosts.eq g h) ↔ (declared_types g ≡ declared_types h)
+
+-- groups are ordered as the lists of their types: by the first place where these differ, and a front before the whole
+abbrev pub GroupsAreOrderedByTypes : Type 0
+GroupsAreOrderedByTypes = (g h : RecGroup) → group_order.ghosts.cmp g h ≡ slice_cmp subtype_order.ghosts.cmp (subtypes g) (subtypes h)
+
+-- neither comes first where they declare the same, and only there
+abbrev pub TiesDeclareTheSame : Type 0
+TiesDeclareTheSame = (g h : RecGroup) → (group_order.ghosts.cmp g h ≡ Equal) ↔ (declared_types g ≡ declared_types h)
+
+-- and they are hashed as these lists
+abbrev pub GroupsAreHashedByTypes : Type 0
+GroupsAreHashedByTypes = (g : RecGroup) → group_hash.ghosts.hash_input g ≡ slice subtype_hash.ghosts.hash_input (subtypes g)
 
 -- a clone declares what its source does
 abbrev pub SubTypesAreCloned : Type 0

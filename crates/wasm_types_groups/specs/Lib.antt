@@ -1,8 +1,10 @@
 pub mod Rows
-pub mod Spells
-pub mod Decode
-pub mod DecodeLaws
+pub mod Kinds
+pub mod Text
+pub mod Copies
+pub mod Remap
 pub mod SpellsTypes
 pub mod DecodeTypes
+pub mod Places
 pub mod TypeLaws
 pub mod Laws

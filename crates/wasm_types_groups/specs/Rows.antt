@@ -2,16 +2,13 @@
 use Rattle.std.specs.Prelude.{List, [], ◌∷◌, map, Option, Some, None}
 use Rattle.wasm_types_indices.specs.declared.index.UnpackedIndex.{UnpackedIndex}
 use Rattle.wasm_types_trees.specs.Rows as tree
-use Rattle.wasm_types_trees.specs.Rows.{ValueOf, FieldOf, InnerOf, RowOf}
-use Rattle.wasm_types_values.specs.Values.{value_of, storage_of}
-use Rattle.wasm_types_groups.specs.declared.field.FieldType.{FieldType}
+use Rattle.wasm_types_trees.specs.Rows.{InnerOf, RowOf}
+use Rattle.wasm_types_values.specs.Values.{value_of}
+use Rattle.wasm_types_fields.specs.Fields.{field_of}
 use Rattle.wasm_types_groups.specs.declared.composite.CompositeInnerType.{CompositeInnerType}
 use Rattle.wasm_types_groups.specs.declared.composite.CompositeInnerType.TheVariants.{Func, Array, Struct, Cont}
 use Rattle.wasm_types_groups.specs.declared.sub_type.SubType.{SubType}
 use Rattle.wasm_types_groups.specs.declared.rec_group.RecGroup.{RecGroup}
-
-abbrev pub field_of : FieldType → FieldOf UnpackedIndex
-field_of x = record { storage = storage_of x.element_type; mutable = x.mutable }
 
 abbrev pub inner_of : CompositeInnerType → InnerOf UnpackedIndex
 inner_of (Func f) = tree.function (map value_of f.params.items) (map value_of f.results.items)

@@ -9,14 +9,15 @@ use Rattle.wasm_types_indices.specs.declared.index.UnpackedIndex.{UnpackedIndex}
 use Rattle.wasm_types_trees.specs.Rows as tree
 use Rattle.wasm_types_trees.specs.Rows.{InnerOf}
 use Rattle.wasm_types_values.specs.Values.{value_of}
-use Rattle.wasm_types_groups.specs.Rows.{field_of, first_of, Declared}
-use Rattle.wasm_types_groups.specs.declared.field.FieldType.{FieldType}
+use Rattle.wasm_types_fields.specs.Fields.{field_of}
+use Rattle.wasm_types_groups.specs.Rows.{first_of, Declared}
+use Rattle.wasm_types_fields.specs.declared.field.FieldType.{FieldType}
 use Rattle.wasm_types_groups.specs.declared.composite.CompositeInnerType.{CompositeInnerType}
 use Rattle.wasm_types_groups.specs.declared.composite.CompositeInnerType.TheVariants.{Func, Array, Struct, Cont}
 use Rattle.wasm_types_groups.specs.declared.composite.CompositeType.{CompositeType}
 use Rattle.wasm_types_groups.specs.declared.sub_type.SubType.{SubType}
 use Rattle.wasm_types_groups.specs.declared.rec_group.RecGroup.{RecGroup}
-use Rattle.wasm_types_groups.specs.Spells.{SpelledField, SpelledFields, Signature, SpelledSignature, SpelledIndex}
+use Rattle.wasm_types_fields.specs.Spells.{SpelledField, SpelledFields, Signature, SpelledSignature, SpelledIndex}
 
 -- ---- the values
 

@@ -1,6 +1,6 @@
 //! The laws of types, each on the contract of a function that does nothing.
 
-ghost use Rattle.wasm_types_groups.specs.Laws.{SubTypesAreToldApart, GroupsAreToldApart, SubTypesAreCloned, GroupsAreCloned, ValuesDeclareTheSame, GroupValuesDeclareTheSame};
+ghost use Rattle.wasm_types_groups.specs.Laws.{SubTypesAreToldApart, GroupsAreToldApart, GroupsAreOrderedByTypes, TiesDeclareTheSame, GroupsAreHashedByTypes, SubTypesAreCloned, GroupsAreCloned, ValuesDeclareTheSame, GroupValuesDeclareTheSame};
 
 use wasm_types_values::laws::equality_is_identity;
 
@@ -10,6 +10,15 @@ pub fn equality_is_of_declarations()
     ensures groups { GroupsAreToldApart }
 {
     equality_is_identity();
+}
+
+/// Groups are ordered and hashed as the lists of their types.
+pub fn order_is_of_types()
+    ensures order { GroupsAreOrderedByTypes }
+    ensures ties { TiesDeclareTheSame }
+    ensures hash { GroupsAreHashedByTypes }
+{
+    equality_is_of_declarations();
 }
 
 /// What a clone of a subtype or of a group keeps: all that it declares, and of a group its places and form.

@@ -1,20 +1,17 @@
-//! The types that a module defines: fields, composite types, subtypes and recursion groups.
+//! The types that a module defines: composite types, subtypes and recursion groups.
 //!
 //! `specs/Rows.antt` gives each the plain tree that the rules of types speak of, without where it lies in memory.
 #![tactic(auto)]
 
 mod composite;
-mod field;
-mod func;
 pub mod laws;
-mod read;
 mod read_group;
 mod read_types;
 mod rec_group;
+mod remap;
 mod sub_type;
 
-pub use composite::{CompositeInnerType, CompositeType, ContType};
-pub use field::{ArrayType, FieldType, StructType};
-pub use func::FuncType;
-pub use rec_group::RecGroup;
+pub use composite::{CompositeInnerType, CompositeType};
+pub use rec_group::{RecGroup, TypesAndOffsets};
 pub use sub_type::SubType;
+pub use wasm_types_fields::{ArrayType, ContType, FieldType, FuncType, StructType};

@@ -1,10 +1,11 @@
 //! Recursion groups from their bytes (WebAssembly 3.0, binary format, types).
 
 ghost use Rattle.std.specs.Prelude.{◌≡◌, ◌∷◌, [], length, map, true, IfOk};
-ghost use Rattle.wasm_types_decoding.specs.Decoder.{Reaches, repeated};
+ghost use Rattle.wasm_types_decoding.specs.Decoder.{Done, Reaches, repeated};
 ghost use Rattle.wasm_types_reader.specs.Reading.{Gives};
 ghost use Rattle.wasm_types_groups.specs.SpellsTypes.{sub_value, group_value};
 ghost use Rattle.wasm_types_groups.specs.DecodeTypes.{sub_type, explicit_group};
+ghost use Rattle.wasm_types_groups.specs.Places.{place_of, places};
 
 use crate::read_types::sub_after_byte;
 use crate::{RecGroup, SubType};
@@ -20,6 +21,7 @@ fn read_subtypes<'a>(
     reader: &mut BinaryReader<'a>,
 ) -> Result<(Vec<SubType>, Vec<u64>)>
     ensures answer { Gives (λ p. map sub_value p.0.items) result reader.new (repeated count sub_type reader.old) }
+    ensures places { IfOk result (λ p. repeated count (place_of sub_type) reader.old ≡ Done p.1.items reader.new) }
     ensures even { IfOk result (λ p. length p.0.items ≡ length p.1.items) }
     ensures forward { Reaches reader.old reader.new }
 {
@@ -35,9 +37,10 @@ fn read_subtypes<'a>(
 }
 
 // The subtypes of a group that was written as one.
-#[tactic(auto, using(wasm_types_decoding::specs::Laws::reaches_self, wasm_types_decoding::specs::Laws::reaches_then), unfolding(crate::specs::DecodeTypes::explicit_group, wasm_types_decoding::specs::Lists::listed_within))]
+#[tactic(auto, using(wasm_types_decoding::specs::Laws::reaches_self, wasm_types_decoding::specs::Laws::reaches_then), unfolding(crate::specs::DecodeTypes::explicit_group, crate::specs::Places::places, wasm_types_decoding::specs::Lists::listed_within))]
 fn read_explicit<'a>(alloc: Global, reader: &mut BinaryReader<'a>) -> Result<RecGroup>
     ensures answer { Gives group_value result reader.new (explicit_group reader.old) }
+    ensures places { IfOk result (λ g. places reader.old ≡ Done g.offsets.items reader.new) }
     ensures forward { Reaches reader.old reader.new }
 {
     let count = reader.read_size(MAX_WASM_TYPES, "rec group types")?;
@@ -48,6 +51,7 @@ fn read_explicit<'a>(alloc: Global, reader: &mut BinaryReader<'a>) -> Result<Rec
 impl<'a> FromReader<'a> for RecGroup {
     ghost use Rattle.wasm_types_groups.specs.SpellsTypes.{GroupValue, SpelledGroup};
     ghost use Rattle.wasm_types_groups.specs.DecodeTypes.{rec_group};
+    ghost use Rattle.wasm_types_groups.specs.Places.{group_places};
     ghost use Rattle.wasm_types_groups.specs.TypeLaws.{lawful-rec_group, decides-rec_group};
 
     ghost Value = { GroupValue };
@@ -62,8 +66,12 @@ impl<'a> FromReader<'a> for RecGroup {
 
     ghost exact = { decides-rec_group };
 
-    #[tactic(auto, using(wasm_types_decoding::specs::Laws::reaches_self, wasm_types_decoding::specs::Laws::reaches_then, wasm_types_values::proofs::Places::beyond_0), unfolding(crate::specs::DecodeTypes::rec_group, crate::specs::DecodeTypes::group_after))]
-    fn from_reader(alloc: Global, reader: &mut BinaryReader<'a>) -> Result<RecGroup> {
+    #[tactic(auto, using(wasm_types_decoding::specs::Laws::reaches_self, wasm_types_decoding::specs::Laws::reaches_then, wasm_types_values::proofs::Places::beyond_0), unfolding(crate::specs::DecodeTypes::rec_group, crate::specs::DecodeTypes::group_after, crate::specs::Places::group_places))]
+    fn from_reader(alloc: Global, reader: &mut BinaryReader<'a>) -> Result<RecGroup>
+        ensures answer { Gives group_value result reader.new (rec_group reader.old) }
+        ensures forward { Reaches reader.old reader.new }
+        ensures places { IfOk result (λ g. group_places reader.old ≡ Done g.offsets.items reader.new) }
+    {
         let offset = reader.original_position();
         let byte = reader.read_u8()?;
         if byte == 0x4e {

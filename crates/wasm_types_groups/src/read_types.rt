@@ -8,14 +8,12 @@ ghost use Rattle.wasm_types_decoding.specs.Decoder.{Reaches, repeated};
 ghost use Rattle.wasm_types_error.specs.declared.error.ErrorKind.TheVariants.{Other};
 ghost use Rattle.wasm_types_reader.specs.Reading.{Gives};
 ghost use Rattle.wasm_types_groups.specs.SpellsTypes.{inner_value, composite_value, sub_value, marked};
-ghost use Rattle.wasm_types_groups.specs.Decode.{module_index};
+ghost use Rattle.wasm_types_fields.specs.Decode.{module_index};
 ghost use Rattle.wasm_types_groups.specs.DecodeTypes.{inner_after, last_after, descriptor_after, describes_after, composite_after, sub_after, supertypes, declared_sub};
 
-use crate::read::read_index;
-use crate::{
-    ArrayType, CompositeInnerType, CompositeType, ContType, FuncType, StructType, SubType,
-};
+use crate::{CompositeInnerType, CompositeType, SubType};
 use std::alloc::Global;
+use wasm_types_fields::{ArrayType, ContType, FuncType, StructType, read_index};
 use wasm_types_reader::limits::MAX_WASM_SUPERTYPES;
 use wasm_types_reader::{BinaryReader, Error, FromReader, Result};
 use wasm_types_values::PackedIndex;

@@ -207,6 +207,13 @@ begins bits s some = record {
 abbrev pub FitsThere : ℕ → ℕ → ℕ → Type 0
 FitsThere bits shift b = (shift + 7 < bits) ⊎ EndsSigned (bits - shift) b
 
+-- the byte that ends the number has nothing above its seven bits
+pub ends_low : (bits shift b : ℕ) → FitsThere bits shift b → (bits ≤ shift + 7) ⊎ (b < 128) → b < 128
+ends_low bits shift b f (inr lt) = lt
+ends_low bits shift b (inl more) (inl le) = absurd (omega arith)
+ends_low bits shift b (inr (inl lt)) (inl le) = omega (arith, pow_mono {i = bits - shift - 1} {j = 7} (omega arith))
+ends_low bits shift b (inr (inr h)) (inl le) = h.1
+
 rejoined : (low scale c : ℕ) (o : Outcome ℤ) → low < scale → c < 128 → joined low scale (continue_with o (λ m. pure (pos 128 *ℤ m +ℤ pos c))) ≡ joined (c * scale + low) (scale * 128) o
 rejoined low scale c (Done m t) lt small = ap (λ (n : ℤ). Done n t) (placed_twice scale low c m lt small)
 rejoined low scale c (Short p h) lt small = refl

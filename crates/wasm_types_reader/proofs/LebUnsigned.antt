@@ -77,6 +77,12 @@ FitsThere bits shift b = (shift + 7 < bits) ⊎ (b < 2 ^ (bits - shift))
 pub fits_last : (bits shift b : ℕ) → bits ≤ shift + 7 → b < 1 * 2 ^ (bits - shift) % 256 → FitsThere bits shift b
 fits_last bits shift b le lt = inr (rw (one_shl (bits - shift) (omega arith)) at lt)
 
+-- the byte that ends the number has nothing above its seven bits
+pub ends_low : (bits shift b : ℕ) → FitsThere bits shift b → (bits ≤ shift + 7) ⊎ (b < 128) → b < 128
+ends_low bits shift b f (inr lt) = lt
+ends_low bits shift b (inl more) (inl le) = absurd (omega arith)
+ends_low bits shift b (inr lt) (inl le) = omega (arith, pow_mono {i = bits - shift} {j = 7} (omega arith))
+
 rejoined : (low scale c : ℕ) (o : Outcome ℕ) → joined low scale (continue_with o (λ m. pure (128 * m + c))) ≡ joined (c * scale + low) (scale * 128) o
 rejoined low scale c (Done m t) = ap (λ (n : ℕ). Done n t) (omega arith)
 rejoined low scale c (Short p h) = refl

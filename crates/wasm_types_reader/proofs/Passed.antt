@@ -1,5 +1,5 @@
 -- The bytes that were passed.
-use Rattle.std.proofs.Common.{◌≡◌, ℕ, ◌+◌, ◌-◌, ◌≤◌, ◌++◌, List, length, take, sym, ap, ◌∙◌, arith}
+use Rattle.std.proofs.Common.{◌≡◌, ℕ, ◌+◌, ◌-◌, ◌≤◌, length, take, ap, ◌∙◌, arith}
 use Rattle.std.proofs.lemmas.List.{length-append, take_at}
 use Rattle.wasm_types_decoding.specs.Decoder.{State, Reaches}
 use Rattle.wasm_types_reader.specs.Parts.{part_at, IsPassed}

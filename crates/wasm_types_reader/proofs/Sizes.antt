@@ -1,7 +1,7 @@
 -- A number with a limit, and a part that is counted.
 use Rattle.std.proofs.Common.{◌≡◌, ℕ, ◌<◌, ◌≤◌, List, refl, lt-ltb, le-ltb, ltb, true, false}
 use Rattle.wasm_types_decoding.specs.declared.Refusal.TheVariants.{Other}
-use Rattle.wasm_types_decoding.specs.Decoder.{State, Done, Fault, bytes, continue_with}
+use Rattle.wasm_types_decoding.specs.Decoder.{State, Done, Fault, bytes}
 use Rattle.wasm_types_decoding.specs.Leb.{u32}
 use Rattle.wasm_types_decoding.specs.Lists.{at_most_or, size_within}
 use Rattle.wasm_types_error.specs.declared.error.ErrorKind.{ErrorKind}

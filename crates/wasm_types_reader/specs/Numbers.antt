@@ -5,7 +5,7 @@ use Rattle.wasm_types_decoding.specs.Leb.{unsigned, signed}
 use Rattle.wasm_types_error.specs.declared.error.ErrorKind.{ErrorKind}
 use Rattle.wasm_types_error.specs.declared.error.ErrorKind.TheVariants.{EndOfData, Other}
 use Rattle.wasm_types_reader.specs.declared.leb.Flaw.{Flaw}
-use Rattle.wasm_types_reader.specs.declared.leb.Flaw.TheVariants.{Ended, TooLong, TooLarge}
+use Rattle.wasm_types_reader.specs.declared.leb.Flaw.TheVariants.{Ended, NoRoom}
 use Rattle.wasm_types_reader.specs.Reading.{FailsAt}
 
 -- the state behind n more bytes
@@ -32,13 +32,11 @@ EndsSigned bits b = (b < 2 ^ (bits - 1)) ⊎ ((2 ^ 7 - 2 ^ (bits - 1) ≤ b) × 
 -- the kind of a flaw's error
 abbrev pub flaw_kind : Flaw → ErrorKind
 flaw_kind (Ended place) = EndOfData 1
-flaw_kind (TooLong place) = Other
-flaw_kind (TooLarge place) = Other
+flaw_kind (NoRoom place b) = Other
 
 abbrev pub flaw_place : Flaw → ℕ
 flaw_place (Ended place) = place
-flaw_place (TooLong place) = place
-flaw_place (TooLarge place) = place
+flaw_place (NoRoom place b) = place
 
 -- What was read, and where the reader stands, are the outcome; at a flaw it stands where it was.
 abbrev pub ReadsNumber : {X : Type 0} → Result X Flaw → State → State → Outcome X → Type 0

@@ -1,6 +1,6 @@
 -- A part of a reader's bytes, as a reader of its own.
 use Rattle.std.specs.Prelude.{◌≡◌, ℕ, List}
-use Rattle.wasm_types_decoding.specs.Decoder.{State, Outcome, Done, Decoder, Takes, ◌>>=◌, continue_with, pure, bytes}
+use Rattle.wasm_types_decoding.specs.Decoder.{State, Decoder, Takes, ◌>>=◌, continue_with, pure, bytes}
 use Rattle.wasm_types_decoding.specs.Leb.{u32}
 
 -- a reader over these bytes, which begin where s stands

@@ -1,5 +1,5 @@
 -- How an error of a part is one of the whole.
-use Rattle.std.proofs.Common.{◌≡◌, ℕ, refl}
+use Rattle.std.proofs.Common.{ℕ, refl}
 use Rattle.wasm_types_decoding.specs.Decoder.{Outcome, Decoder, continue_with}
 use Rattle.wasm_types_error.specs.declared.error.ErrorKind.{ErrorKind}
 use Rattle.wasm_types_error.specs.declared.error.ErrorKind.TheVariants.{EndOfData, MissingFeature, OutOfMemory, Failed, Other}

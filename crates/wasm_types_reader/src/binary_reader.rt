@@ -291,13 +291,14 @@ impl<'a> BinaryReader<'a> {
         let start = self.clone();
         let count = self.read_var_u32()?;
         let place = self.original_position();
-        match self.read_bytes(count as usize) {
-            Ok(text) => Ok(BinaryReader::new_features(text, place, self.features)),
+        let text = match self.read_bytes(count as usize) {
+            Ok(text) => text,
             Err(error) => {
                 *self = start;
-                Err(error)
+                return Err(error);
             }
-        }
+        };
+        Ok(BinaryReader::new_features(text, place, self.features))
     }
 
     /// Runs `f` on the reader, and gives a reader over the bytes that it passed, which begins where they do.
@@ -322,6 +323,7 @@ impl<'a> BinaryReader<'a> {
     }
 
     /// A reader over the next `n` bytes.
+    #[inline]
     fn front(&self, n: usize) -> BinaryReader<'a>
         requires { n ≤ length self.now.rest }
         ensures { result ≡ part_at self.now (take n self.now.rest) }
@@ -341,11 +343,14 @@ impl<'a> BinaryReader<'a> {
         ensures forward { Reaches self.old self.new }
     {
         let start = self.clone();
-        let read = T::from_reader(alloc, self);
-        if read.is_err() {
-            *self = start;
-        }
-        read
+        let value = match T::from_reader(alloc, self) {
+            Ok(value) => value,
+            Err(error) => {
+                *self = start;
+                return Err(error);
+            }
+        };
+        Ok(value)
     }
 }
 

@@ -18,14 +18,13 @@ use crate::{BinaryReader, Error, Result};
 enum Flaw {
     /// The bytes end there, before the number does.
     Ended(u64),
-    /// The last byte that a number may have says that more follow.
-    TooLong(u64),
-    /// That byte has bits for which the number has no room.
-    TooLarge(u64),
+    /// The number has no room for that byte, the last that it may have.
+    NoRoom { place: u64, byte: u8 },
 }
 
 impl Flaw {
-    /// The error of a flaw, of a number with these messages.
+    /// The error of a flaw, of a number with these messages: where the last byte says that more follow the number is too
+    /// long, and else too large.
     #[cold]
     fn error(self, too_long: &str, too_large: &str) -> Error
         ensures kind { result.kind ≡ flaw_kind self }
@@ -33,8 +32,10 @@ impl Flaw {
     {
         match self {
             Flaw::Ended(place) => Error::eof(place, 1),
-            Flaw::TooLong(place) => Error::new(too_long, place),
-            Flaw::TooLarge(place) => Error::new(too_large, place),
+            Flaw::NoRoom { place, byte } => {
+                let message = if byte < 0x80 { too_large } else { too_long };
+                Error::new(message, place)
+            }
         }
     }
 }
@@ -58,7 +59,16 @@ impl<'a> BinaryReader<'a> {
         if let Some(byte) = self.one_byte() {
             return Ok(byte as u32);
         }
-        self.long_var_u32()
+        let value = match self.long_var_u32() {
+            Ok(value) => value,
+            Err(flaw) => {
+                return Err(flaw.error(
+                    "invalid var_u32: integer representation too long",
+                    "invalid var_u32: integer too large",
+                ));
+            }
+        };
+        Ok(value)
     }
 
     /// The next unsigned number of 64 bits, in at most ten bytes.
@@ -72,7 +82,16 @@ impl<'a> BinaryReader<'a> {
         if let Some(byte) = self.one_byte() {
             return Ok(byte as u64);
         }
-        self.long_var_u64()
+        let value = match self.long_var_u64() {
+            Ok(value) => value,
+            Err(flaw) => {
+                return Err(flaw.error(
+                    "invalid var_u64: integer representation too long",
+                    "invalid var_u64: integer too large",
+                ));
+            }
+        };
+        Ok(value)
     }
 
     /// The next signed number of 32 bits, in at most five bytes.
@@ -86,7 +105,16 @@ impl<'a> BinaryReader<'a> {
         if let Some(byte) = self.one_byte() {
             return Ok(seven_bits(byte) as i32);
         }
-        self.long_var_i32()
+        let value = match self.long_var_i32() {
+            Ok(value) => value,
+            Err(flaw) => {
+                return Err(flaw.error(
+                    "invalid var_i32: integer representation too long",
+                    "invalid var_i32: integer too large",
+                ));
+            }
+        };
+        Ok(value)
     }
 
     /// The next signed number of 33 bits, in at most five bytes. A bad fifth byte is called too long whatever is wrong with it.
@@ -100,7 +128,16 @@ impl<'a> BinaryReader<'a> {
         if let Some(byte) = self.one_byte() {
             return Ok(seven_bits(byte));
         }
-        self.long_var_s33()
+        let value = match self.long_var_s33() {
+            Ok(value) => value,
+            Err(flaw) => {
+                return Err(flaw.error(
+                    "invalid var_i33: integer representation too long",
+                    "invalid var_i33: integer representation too long",
+                ));
+            }
+        };
+        Ok(value)
     }
 
     /// The next signed number of 64 bits, in at most ten bytes.
@@ -114,7 +151,16 @@ impl<'a> BinaryReader<'a> {
         if let Some(byte) = self.one_byte() {
             return Ok(seven_bits(byte));
         }
-        self.long_var_i64()
+        let value = match self.long_var_i64() {
+            Ok(value) => value,
+            Err(flaw) => {
+                return Err(flaw.error(
+                    "invalid var_i64: integer representation too long",
+                    "invalid var_i64: integer too large",
+                ));
+            }
+        };
+        Ok(value)
     }
 
     /// The next byte, where the number that begins there is of that byte alone.
@@ -134,78 +180,49 @@ impl<'a> BinaryReader<'a> {
     }
 
     #[inline(never)]
-    fn long_var_u32(&mut self) -> Result<u32>
-        ensures answer { Answers (λ v. v) result self.old self.new (u32_decoder self.old) }
-        ensures no_memory { NeedsNoMemory result }
+    fn long_var_u32(&mut self) -> Result<u32, Flaw>
+        ensures answer { ReadsNumber result self.old self.new (u32_decoder self.old) }
         ensures forward { Reaches self.old self.new }
     {
         match self.unsigned(32) {
             Ok(value) => Ok(value as u32),
-            Err(flaw) => Err(flaw.error(
-                "invalid var_u32: integer representation too long",
-                "invalid var_u32: integer too large",
-            )),
+            Err(flaw) => Err(flaw),
         }
     }
 
     #[inline(never)]
-    fn long_var_u64(&mut self) -> Result<u64>
-        ensures answer { Answers (λ v. v) result self.old self.new (u64_decoder self.old) }
-        ensures no_memory { NeedsNoMemory result }
+    fn long_var_u64(&mut self) -> Result<u64, Flaw>
+        ensures answer { ReadsNumber result self.old self.new (u64_decoder self.old) }
         ensures forward { Reaches self.old self.new }
     {
-        match self.unsigned(64) {
-            Ok(value) => Ok(value),
-            Err(flaw) => Err(flaw.error(
-                "invalid var_u64: integer representation too long",
-                "invalid var_u64: integer too large",
-            )),
-        }
+        self.unsigned(64)
     }
 
     #[inline(never)]
-    fn long_var_i32(&mut self) -> Result<i32>
-        ensures answer { Answers (λ v. v) result self.old self.new (s32 self.old) }
-        ensures no_memory { NeedsNoMemory result }
+    fn long_var_i32(&mut self) -> Result<i32, Flaw>
+        ensures answer { ReadsNumber result self.old self.new (s32 self.old) }
         ensures forward { Reaches self.old self.new }
     {
         match self.signed(32) {
             Ok(value) => Ok(value as i32),
-            Err(flaw) => Err(flaw.error(
-                "invalid var_i32: integer representation too long",
-                "invalid var_i32: integer too large",
-            )),
+            Err(flaw) => Err(flaw),
         }
     }
 
     #[inline(never)]
-    fn long_var_s33(&mut self) -> Result<i64>
-        ensures answer { Answers (λ v. v) result self.old self.new (s33 self.old) }
-        ensures no_memory { NeedsNoMemory result }
+    fn long_var_s33(&mut self) -> Result<i64, Flaw>
+        ensures answer { ReadsNumber result self.old self.new (s33 self.old) }
         ensures forward { Reaches self.old self.new }
     {
-        match self.signed(33) {
-            Ok(value) => Ok(value),
-            Err(flaw) => Err(flaw.error(
-                "invalid var_i33: integer representation too long",
-                "invalid var_i33: integer representation too long",
-            )),
-        }
+        self.signed(33)
     }
 
     #[inline(never)]
-    fn long_var_i64(&mut self) -> Result<i64>
-        ensures answer { Answers (λ v. v) result self.old self.new (s64 self.old) }
-        ensures no_memory { NeedsNoMemory result }
+    fn long_var_i64(&mut self) -> Result<i64, Flaw>
+        ensures answer { ReadsNumber result self.old self.new (s64 self.old) }
         ensures forward { Reaches self.old self.new }
     {
-        match self.signed(64) {
-            Ok(value) => Ok(value),
-            Err(flaw) => Err(flaw.error(
-                "invalid var_i64: integer representation too long",
-                "invalid var_i64: integer too large",
-            )),
-        }
+        self.signed(64)
     }
 
     /// The next unsigned number of `bits` bits.
@@ -223,16 +240,15 @@ impl<'a> BinaryReader<'a> {
         let mut value: u64 = 0;
         let mut shift: u32 = 0;
         for (i, byte) in rest.iter().enumerate() {
-            // The number has room for so many bits of its last byte.
+            // The last byte that a number may have has room for so many bits.
             if shift + 7 >= bits && *byte >= 1 << (bits - shift) {
-                let place = start + i as u64;
-                if *byte < 0x80 {
-                    return Err(Flaw::TooLarge(place));
-                }
-                return Err(Flaw::TooLong(place));
+                return Err(Flaw::NoRoom {
+                    place: start + i as u64,
+                    byte: *byte,
+                });
             }
             value |= ((*byte & 0x7f) as u64) << shift;
-            if *byte < 0x80 {
+            if shift + 7 >= bits || *byte < 0x80 {
                 self.advance(i + 1);
                 return Ok(value);
             }
@@ -257,13 +273,12 @@ impl<'a> BinaryReader<'a> {
         let mut shift: u32 = 0;
         for (i, byte) in rest.iter().enumerate() {
             if shift + 7 >= bits && !ends_signed(*byte, bits - shift) {
-                let place = start + i as u64;
-                if *byte < 0x80 {
-                    return Err(Flaw::TooLarge(place));
-                }
-                return Err(Flaw::TooLong(place));
+                return Err(Flaw::NoRoom {
+                    place: start + i as u64,
+                    byte: *byte,
+                });
             }
-            if *byte < 0x80 {
+            if shift + 7 >= bits || *byte < 0x80 {
                 self.advance(i + 1);
                 let high = seven_bits(*byte).cast_unsigned() << shift;
                 return Ok((low | high).cast_signed());

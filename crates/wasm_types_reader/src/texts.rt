@@ -20,11 +20,14 @@ impl<'a> BinaryReader<'a> {
         ensures forward { Reaches self.old self.new }
     {
         let start = self.clone();
-        let read = self.limited_text();
-        if read.is_err() {
-            *self = start;
-        }
-        read
+        let text = match self.limited_text() {
+            Ok(text) => text,
+            Err(error) => {
+                *self = start;
+                return Err(error);
+            }
+        };
+        Ok(text)
     }
 
     /// A count in LEB128, and as many bytes of UTF-8. Other bytes are refused at the last of them.
@@ -35,11 +38,14 @@ impl<'a> BinaryReader<'a> {
         ensures forward { Reaches self.old self.new }
     {
         let start = self.clone();
-        let read = self.counted_text();
-        if read.is_err() {
-            *self = start;
-        }
-        read
+        let text = match self.counted_text() {
+            Ok(text) => text,
+            Err(error) => {
+                *self = start;
+                return Err(error);
+            }
+        };
+        Ok(text)
     }
 
     /// Goes on behind a count in LEB128 of at most 100,000 and as many bytes, whatever they are.
@@ -50,11 +56,11 @@ impl<'a> BinaryReader<'a> {
         ensures forward { Reaches self.old self.new }
     {
         let start = self.clone();
-        let read = self.skip_text();
-        if read.is_err() {
+        if let Err(error) = self.skip_text() {
             *self = start;
+            return Err(error);
         }
-        read
+        Ok(())
     }
 
     #[tactic(auto, using(wasm_types_decoding::specs::Laws::reaches_self, wasm_types_decoding::specs::Laws::reaches_then), unfolding(wasm_types_decoding::specs::Text::counted_within))]

@@ -5,8 +5,8 @@ use Rattle.std.proofs.lemmas.Int.{ints}
 use Rattle.std.proofs.lemmas.Bool.{eqb-true, eqb-false, ltb-true, ltb-false, lt-ltb, le-ltb}
 use Rattle.std.proofs.lemmas.List.{append-nil}
 use Rattle.wasm_types_decoding.specs.declared.Refusal.TheVariants.{Other}
-use Rattle.wasm_types_decoding.specs.Decoder.{State, Done, Decoder, Grammar, ◌>>=◌, pure, byte, look, look_first, Takes, Decides, Then}
-use Rattle.wasm_types_decoding.specs.Exact.{Mapped, Sound, decides->>=, decides-same, decides-pure, decides-refuse, decides-if, decides-map, decides-byte}
+use Rattle.wasm_types_decoding.specs.Decoder.{State, Done, Decoder, Grammar, ◌>>=◌, pure, byte, Takes, Decides, Then}
+use Rattle.wasm_types_decoding.specs.Exact.{Mapped, Sound, decides->>=, decides-same, decides-pure, decides-refuse, decides-if, decides-map, decides-byte, decides-look_apart}
 use Rattle.wasm_types_decoding.specs.ListLaws.{decides-from_place, decides-refuse_at}
 use Rattle.wasm_types_decoding.specs.Leb.{u32, s33, IsUnsigned, IsSigned, nonnegative, negative, longer}
 use Rattle.wasm_types_decoding.specs.LebLaws.{decides-u32}
@@ -218,20 +218,6 @@ decides-other = decides-byte heap_type_after SpellsOther other_some decides-heap
 
 -- ---- heap types
 
--- a choice by the next byte, which stays: each way reads what is spelled, and what is spelled goes by its first byte
-module _ {A : Type 0} (f : ℕ → Decoder A) (g : Grammar A) (some : (x : A) → g x [] → ⊥) (sound : (b : ℕ) → Sound (f b) g)
-    (complete : (b : ℕ) (s t : State) (x : A) (text : List ℕ) → Takes s (b ∷ text) t → g x (b ∷ text) → f b s ≡ Done x t) where
-  next_sound : (rest : List ℕ) (s t : State) (x : A) → look_first rest s f ≡ Done x t → (text : List ℕ) × Takes s text t × g x text
-  next_sound [] s t x e = absurd cc
-  next_sound (b ∷ rest) s t x e = sound b s t x e
-
-  next_complete : (s t : State) (x : A) (text : List ℕ) → Takes s text t → g x text → look f s ≡ Done x t
-  next_complete s t x [] p h = absurd (some x h)
-  next_complete s t x (b ∷ text) p h = ap (λ (rest : List ℕ). look_first rest s f) p.parts ∙ complete b s t x text p h
-
-  decides-next : Decides (look f) g
-  decides-next = record { sound = λ s t x e. next_sound s.rest s t x e; complete = next_complete }
-
 abbrev pub Spelled : Grammar HeapType
 Spelled h text = SpellsHeap (heap_of h) text
 
@@ -290,7 +276,7 @@ module _ (b : ℕ) (s t : State) (text : List ℕ) (p : Takes s (b ∷ text) t) 
 
 pub decides-heap_type : Decides heap_type Spelled
 unfolding heap_type
-decides-heap_type = decides-next heap_type_at Spelled spelled_some heap_sound (λ b s t h text p e. heap_complete b s t text p h e)
+decides-heap_type = decides-look_apart heap_type_at Spelled spelled_some heap_sound (λ b h text e s t p. heap_complete b s t text p h e)
 
 -- the index of what was read fits
 spelled_fits : (h : HeapType) (text : List ℕ) → Spelled h text → Fits h

@@ -8,6 +8,7 @@ pub mod Order
 pub mod ValueKinds
 pub mod ValueText
 pub mod Values
+pub mod Remap
 pub mod Constants
 pub mod Laws
 pub mod Spells

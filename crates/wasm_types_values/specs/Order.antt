@@ -1,28 +1,9 @@
--- Which abstract heap types match which (WebAssembly 3.0, validation, matching of heap types).
+-- The order of abstract heap types (WebAssembly 3.0, validation, matching of heap types) as a table.
 use Rattle.std.specs.Prelude.{◌≡◌, Bool, true, false}
 use Rattle.wasm_types_trees.specs.Rows.{Abstract, func, extern, any, none, noextern, nofunc, eq, struct, array, i31, exn, noexn, cont, nocont}
+use Rattle.wasm_types_trees.specs.AbstractOrder.{AbstractBelow}
 
--- the standard's rules, each a step to a type above
-abbrev pub IsStep : Abstract → Abstract → Type 0
-IsStep eq any = Unit {0}
-IsStep i31 eq = Unit {0}
-IsStep struct eq = Unit {0}
-IsStep array eq = Unit {0}
-IsStep none i31 = Unit {0}
-IsStep none struct = Unit {0}
-IsStep none array = Unit {0}
-IsStep nofunc func = Unit {0}
-IsStep noextern extern = Unit {0}
-IsStep noexn exn = Unit {0}
-IsStep nocont cont = Unit {0}
-IsStep a b = ⊥
-
--- a type matches itself, and what a type above it matches
-pub data IsBelow : Abstract → Abstract → Type 0 where
-  same : (a b : Abstract) → a ≡ b → IsBelow a b
-  above : (a b c : Abstract) → IsStep a b → IsBelow b c → IsBelow a c
-
--- the same as a table
+-- whether the first is below the second
 abbrev pub is_below : Abstract → Abstract → Bool
 is_below func func = true
 is_below extern extern = true
@@ -58,6 +39,6 @@ is_below a b = false
 
 -- The order is partial: two types that match each other are the same.
 pub record IsPartialOrder : Type 0 where
-  pub reflexive : (a : Abstract) → IsBelow a a
-  pub transitive : (a b c : Abstract) → IsBelow a b → IsBelow b c → IsBelow a c
-  pub antisymmetric : (a b : Abstract) → IsBelow a b → IsBelow b a → a ≡ b
+  pub reflexive : (a : Abstract) → AbstractBelow a a
+  pub transitive : (a b c : Abstract) → AbstractBelow a b → AbstractBelow b c → AbstractBelow a c
+  pub antisymmetric : (a b : Abstract) → AbstractBelow a b → AbstractBelow b a → a ≡ b

@@ -2,8 +2,8 @@
 use wasm_types_indices::UnpackedIndex;
 
 /// An abstract heap type (WebAssembly 3.0, structure, heap types; `Cont` and `NoCont` by the proposal for stack
-/// switching).
-#[derive(Clone, Copy, Debug, PartialEq, Eq, Hash)]
+/// switching). The order is that of the numbers by which a reference type keeps them.
+#[derive(Clone, Copy, Debug, PartialEq, Eq, PartialOrd, Ord, Hash)]
 pub enum AbstractHeapType {
     /// Any function.
     Func = 5,
@@ -38,13 +38,14 @@ pub enum AbstractHeapType {
 impl AbstractHeapType {
     ghost use Rattle.std.specs.Prelude.{◌≡◌, ◌↔◌, IsTrue};
     ghost use Rattle.wasm_types_values.specs.Trees.{abstract_of};
-    ghost use Rattle.wasm_types_values.specs.Order.{IsBelow, is_below};
+    ghost use Rattle.wasm_types_trees.specs.AbstractOrder.{AbstractBelow};
+    ghost use Rattle.wasm_types_values.specs.Order.{is_below};
     ghost use Rattle.wasm_types_values.specs.Bits.{code_of, type_of_code};
     ghost use Rattle.wasm_types_values.specs.Text.{short_text, non_null_text, shared_null_text, shared_text};
 
     /// Whether this type matches the other (WebAssembly 3.0, validation, matching of heap types).
     pub const fn is_subtype_of(&self, other: AbstractHeapType) -> bool
-        ensures { IsTrue result ↔ IsBelow (abstract_of self.now) (abstract_of other) }
+        ensures { IsTrue result ↔ AbstractBelow (abstract_of self.now) (abstract_of other) }
     {
         self.is_in_table(other)
     }
@@ -224,7 +225,7 @@ impl AbstractHeapType {
 
 /// What a reference may refer to (WebAssembly 3.0, structure, heap types; `Exact` by the proposal for custom
 /// descriptors, `shared` by that for shared everything threads).
-#[derive(Clone, Copy, Debug, PartialEq, Eq, Hash)]
+#[derive(Clone, Copy, Debug, PartialEq, Eq, PartialOrd, Ord, Hash)]
 pub enum HeapType {
     /// An abstract type.
     Abstract {

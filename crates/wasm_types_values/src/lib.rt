@@ -9,6 +9,7 @@ pub mod laws;
 mod read_heap;
 mod read_value;
 mod reference;
+mod remap;
 mod value;
 
 pub use heap::{AbstractHeapType, HeapType};

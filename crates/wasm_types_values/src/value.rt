@@ -3,7 +3,7 @@ use crate::reference::RefType;
 use std::fmt::{self, Display};
 
 /// A value type (WebAssembly 3.0, structure, value types).
-#[derive(Clone, Copy, Debug, PartialEq, Eq, Hash)]
+#[derive(Clone, Copy, Debug, PartialEq, Eq, PartialOrd, Ord, Hash)]
 pub enum ValType {
     /// A 32-bit integer.
     I32,
@@ -92,7 +92,7 @@ impl Display for ValType {
 }
 
 /// What a field or an element stores (WebAssembly 3.0, structure, aggregate types).
-#[derive(Clone, Copy, Debug, PartialEq, Eq, Hash)]
+#[derive(Clone, Copy, Debug, PartialEq, Eq, PartialOrd, Ord, Hash)]
 pub enum StorageType {
     /// An 8-bit integer, read as `i32`.
     I8,

@@ -6,7 +6,9 @@ use Rattle.wasm_types_decoding.specs.Laws.{reaches_then}
 use Rattle.wasm_types_reader.proofs.Rows.{goes_on, ends, is_done}
 use Rattle.wasm_types_groups.specs.SpellsTypes.{sub_value}
 use Rattle.wasm_types_groups.specs.DecodeTypes.{sub_type}
+use Rattle.wasm_types_groups.specs.Places.{place_of}
 use Rattle.wasm_types_groups.proofs.Counts.{even_push}
+use Rattle.wasm_types_groups.proofs.Places.{placed}
 use Rattle.wasm_types_groups.proofs.read_group.read_subtypes.Goals as goal
 
 pub returns-in_err-ty-clause-answer : goal.returns-in_err-ty-clause-answer
@@ -19,6 +21,8 @@ loop-preserved c = record {
   forward = reaches_then _ _ _ c.loop.invariant.forward c.in_ok-ty.ensures.forward;
   read =
       rw (c.in_ok-push.ensures.items, map-append sub_value c.loop.types.items) (goes_on sub_type (map sub_value c.loop.types.items) c.args.count c.loop.counter c.loop.reader _ c.loop.invariant.read _ _ c.loop-test.true c.in_ok-ty.ensures.answer);
+  placed =
+      rw (c.in_ok-push-2.ensures.items, c.original_position-offset.ensures) (goes_on (place_of sub_type) c.loop.offsets.items c.args.count c.loop.counter c.loop.reader _ c.loop.invariant.placed _ _ c.loop-test.true (placed sub_type _ _ _ c.in_ok-ty.ensures.answer));
   even = rw (c.in_ok-push.ensures.items, c.in_ok-push-2.ensures.items) (even_push c.loop.types.items c.loop.offsets.items _ _ c.loop.invariant.even);
 }
 
@@ -30,3 +34,6 @@ returns-in_err-push-clause-forward c = reaches_then _ _ _ c.loop.invariant.forwa
 
 pub returns-in_err-push-2-clause-forward : goal.returns-in_err-push-2-clause-forward
 returns-in_err-push-2-clause-forward c = reaches_then _ _ _ c.loop.invariant.forward c.in_ok-ty.ensures.forward
+
+pub returns-clause-places : goal.returns-clause-places
+returns-clause-places c = is_done (place_of sub_type) c.loop.offsets.items c.args.count c.loop.counter c.loop.reader _ c.loop.invariant.placed (omega arith)

@@ -1,4 +1,4 @@
-use Rattle.wasm_types_groups.specs.Decode.{module_index}
+use Rattle.wasm_types_fields.specs.Decode.{module_index}
 use Rattle.wasm_types_groups.specs.DecodeTypes.{supertypes}
 use Rattle.wasm_types_groups.proofs.Counts.{only_none}
 use Rattle.wasm_types_groups.proofs.read_types.read_supertypes.Goals as goal

@@ -1,5 +1,5 @@
 -- One more value is read, or there is none.
-use Rattle.std.proofs.Common.{◌≡◌, ℕ, ◌-◌, sym, subst, arith}
+use Rattle.std.proofs.Common.{◌≡◌, ℕ, ◌-◌, subst, arith}
 use Rattle.wasm_types_reader.specs.Draining.{Drains}
 use Rattle.wasm_types_reader.proofs.Drained.{drains_none, drains_more, drains_ends}
 use Rattle.wasm_types_reader.proofs.iter.read_rest.Goals as goal

@@ -1,4 +1,3 @@
-use Rattle.wasm_types_decoding.specs.Decoder.{extended}
 use Rattle.wasm_types_reader.proofs.laws.reading_is_lawful.Goals as goal
 
 pub returns-clause-value : goal.returns-clause-value

@@ -10,8 +10,8 @@ returns-in_err-count-clause-answer c =
     let p = err_from_is_err_and c.from_residual.result c.from_residual.ensures.1 in
     rw (p.1, p.2) (part_fails _ _ _ c.in_err-count.ensures.answer.0, c.in_err-count.ensures.answer.1)
 
-pub returns-in-Ok-clause-answer : goal.returns-in-Ok-clause-answer
-returns-in-Ok-clause-answer c =
+pub returns-clause-answer : goal.returns-clause-answer
+returns-clause-answer c =
     let features = ap (λ (s : State). s.features) c.self.view_is ∙ c.in-Ok.ensures.forward.taken.features in
     rw (c.new_features.ensures, c.original_position-place.ensures, features) (part_done _ _ _ c.in_ok-count.ensures.answer _ _ c.in-Ok.ensures.answer)
 

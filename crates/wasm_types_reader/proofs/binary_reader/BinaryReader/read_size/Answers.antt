@@ -1,5 +1,4 @@
 -- The number, and its limit.
-use Rattle.std.proofs.Common.{arith}
 use Rattle.std.proofs.lemmas.Result.{err_from_is_err_and}
 use Rattle.wasm_types_reader.proofs.Sizes.{size_fails, size_small, size_large}
 use Rattle.wasm_types_reader.proofs.binary_reader.BinaryReader.read_size.Goals as goal

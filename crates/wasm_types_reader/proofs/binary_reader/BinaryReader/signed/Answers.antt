@@ -2,9 +2,9 @@
 use Rattle.std.proofs.Common.{get_or, refl, arith, inl, inr}
 use Rattle.std.proofs.lemmas.Bool.{MatchBool-at_true, MatchBool-at_false}
 use Rattle.wasm_types_reader.proofs.LebGroups.{behind_none, byte_here, no_byte_here}
-use Rattle.wasm_types_reader.proofs.LebSigned.{FitsThere, begins, stops, ends, refused, goes}
+use Rattle.wasm_types_reader.proofs.LebSigned.{FitsThere, begins, stops, ends, ends_low, refused, goes}
 use Rattle.wasm_types_reader.proofs.binary_reader.BinaryReader.signed.Goals as goal
-use Rattle.wasm_types_reader.proofs.binary_reader.BinaryReader.signed.Goals.{else-shift-bits-via-then-shift-bits+else-not-ends_signed, else-shift-bits-via-else-shift-bits}
+use Rattle.wasm_types_reader.proofs.binary_reader.BinaryReader.signed.Goals.{else-shift-bits-via-then-shift-bits+else-not-ends_signed, else-shift-bits-via-else-shift-bits, then-shift-bits-2-via-then-shift-bits-2, then-shift-bits-2-via-else-shift-bits-2+then-byte-lt128}
 
 pub loop-i-init : goal.loop-i-init
 loop-i-init c = record {
@@ -14,33 +14,36 @@ loop-i-init c = record {
   begins = c.original_position-start.ensures;
 }
 
-pub returns-then-byte-lt128-clause-answer : goal.returns-then-byte-lt128-clause-answer
-returns-then-byte-lt128-clause-answer c =
-    let b = byte_here _ _ _ c.loop-i.invariant.bytes c.loop-i-test.true in
-    (refused _ _ _ _ _ c.loop-i.invariant.remains c.requires.room _ _ b _ (omega arith) c.if-shift-bits.true (MatchBool-at_false _ _ c.if-not-ends_signed.true c.ends_signed.ensures), c.loop-i.invariant.same)
-
 pub returns-then-not-ends_signed-clause-answer : goal.returns-then-not-ends_signed-clause-answer
 returns-then-not-ends_signed-clause-answer c =
     let b = byte_here _ _ _ c.loop-i.invariant.bytes c.loop-i-test.true in
     (refused _ _ _ _ _ c.loop-i.invariant.remains c.requires.room _ _ b _ (omega arith) c.if-shift-bits.true (MatchBool-at_false _ _ c.if-not-ends_signed.true c.ends_signed.ensures), c.loop-i.invariant.same)
 
-pub returns-then-byte-lt128-2-clause-answer : goal.returns-then-byte-lt128-2-clause-answer
-returns-then-byte-lt128-2-clause-answer c =
+pub returns-then-shift-bits-2-clause-answer : goal.returns-then-shift-bits-2-clause-answer
+returns-then-shift-bits-2-clause-answer c =
     let b = byte_here _ _ _ c.loop-i.invariant.bytes c.loop-i-test.true in
     let f : FitsThere c.args.bits c.loop-i.shift (get_or c.rest-rest.result.now c.loop-i.i 0) = elim c.else-shift-bits.branch [
       | else-shift-bits-via-then-shift-bits+else-not-ends_signed w ↦ inr (MatchBool-at_true _ _ w.if-not-ends_signed.false w.ends_signed.ensures)
       | else-shift-bits-via-else-shift-bits w ↦ inl w.if-shift-bits.false
     ] in
-    rw c.advance.ensures (ends _ _ _ _ _ c.loop-i.invariant.remains c.requires.room _ _ b f c.if-byte-lt128-2.true _ c.seven_bits.ensures _ c.cast_unsigned.ensures _ c.cast_signed.ensures).0
+    let low = ends_low _ _ _ f (elim c.then-shift-bits-2.branch [
+      | then-shift-bits-2-via-then-shift-bits-2 w ↦ inl w.if-shift-bits-2.true
+      | then-shift-bits-2-via-else-shift-bits-2+then-byte-lt128 w ↦ inr w.if-byte-lt128.true
+    ]) in
+    rw c.advance.ensures (ends _ _ _ _ _ c.loop-i.invariant.remains c.requires.room _ _ b f low _ c.seven_bits.ensures _ c.cast_unsigned.ensures _ c.cast_signed.ensures).0
 
-pub returns-then-byte-lt128-2-clause-within : goal.returns-then-byte-lt128-2-clause-within
-returns-then-byte-lt128-2-clause-within c =
+pub returns-then-shift-bits-2-clause-within : goal.returns-then-shift-bits-2-clause-within
+returns-then-shift-bits-2-clause-within c =
     let b = byte_here _ _ _ c.loop-i.invariant.bytes c.loop-i-test.true in
     let f : FitsThere c.args.bits c.loop-i.shift (get_or c.rest-rest.result.now c.loop-i.i 0) = elim c.else-shift-bits.branch [
       | else-shift-bits-via-then-shift-bits+else-not-ends_signed w ↦ inr (MatchBool-at_true _ _ w.if-not-ends_signed.false w.ends_signed.ensures)
       | else-shift-bits-via-else-shift-bits w ↦ inl w.if-shift-bits.false
     ] in
-    (ends _ _ _ _ _ c.loop-i.invariant.remains c.requires.room _ _ b f c.if-byte-lt128-2.true _ c.seven_bits.ensures _ c.cast_unsigned.ensures _ c.cast_signed.ensures).1
+    let low = ends_low _ _ _ f (elim c.then-shift-bits-2.branch [
+      | then-shift-bits-2-via-then-shift-bits-2 w ↦ inl w.if-shift-bits-2.true
+      | then-shift-bits-2-via-else-shift-bits-2+then-byte-lt128 w ↦ inr w.if-byte-lt128.true
+    ]) in
+    (ends _ _ _ _ _ c.loop-i.invariant.remains c.requires.room _ _ b f low _ c.seven_bits.ensures _ c.cast_unsigned.ensures _ c.cast_signed.ensures).1
 
 pub loop-i-preserved : goal.loop-i-preserved
 loop-i-preserved c =
@@ -50,7 +53,7 @@ loop-i-preserved c =
       | else-shift-bits-via-else-shift-bits w ↦ inl w.if-shift-bits.false
     ] in
     record {
-      remains = goes _ _ _ _ _ c.loop-i.invariant.remains c.requires.room _ _ b (omega arith) f c.if-byte-lt128-2.false;
+      remains = goes _ _ _ _ _ c.loop-i.invariant.remains c.requires.room _ _ b (omega arith) f c.if-byte-lt128.false;
       same = c.loop-i.invariant.same;
       bytes = c.loop-i.invariant.bytes;
       begins = c.loop-i.invariant.begins;

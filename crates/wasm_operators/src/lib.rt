@@ -1,0 +1,30 @@
+//! Operators of WebAssembly and visitors of them.
+//!
+//! A visitor implements the traits of groups (`VisitControl`, `VisitMemory` and so on), one visit for each operator, under
+//! the relation that its `Visitor` states. It is then a `VisitOperator`: this name stands for all visits together but those
+//! on vectors.
+#![tactic(auto)]
+
+pub use wasm_operators_basic::{
+    ConstOperator, ControlOperator, ExceptionOperator, MemoryOperator, NumericOperator,
+    ParametricOperator,
+};
+pub use wasm_operators_extended::{
+    AtomicOperator, BulkOperator, ContinuationOperator, DescriptorOperator, GcOperator,
+    SharedOperator,
+};
+pub use wasm_operators_immediates::{
+    BlockType, BrTable, BrTableTargets, Catch, FrameKind, FrameStack, Handle, MemArg,
+    MemArgOrdering, MemArgTarget, Ordering, ResumeTable, TryTable, V128,
+};
+pub use wasm_operators_simd::{SimdNumericOperator, SimdOperator};
+pub use wasm_operators_tree::Operator;
+pub use wasm_operators_visit::Visitor;
+pub use wasm_operators_visit_atomic::VisitAtomic;
+pub use wasm_operators_visit_control::VisitControl;
+pub use wasm_operators_visit_floats::VisitFloats;
+pub use wasm_operators_visit_gc::VisitGc;
+pub use wasm_operators_visit_integers::VisitIntegers;
+pub use wasm_operators_visit_memory::VisitMemory;
+pub use wasm_operators_visit_operator::{VisitOperator, is_simd};
+pub use wasm_operators_visit_shared::VisitShared;

@@ -1,0 +1,21 @@
+//! What operators of WebAssembly carry besides their opcode: memory arguments, block types, tables of labels.
+//!
+//! Contracts see each as a plain tree: its variants and fields, with a list where the code has borrowed bytes.
+#![tactic(auto)]
+
+mod block;
+mod br_table;
+mod frames;
+mod handlers;
+pub mod laws;
+mod memory;
+mod read_br_table;
+mod vector;
+
+pub use block::BlockType;
+pub use br_table::{BrTable, BrTableTargets};
+pub use frames::{FrameKind, FrameStack};
+pub use handlers::{Catch, Handle, ResumeTable, TryTable};
+pub use memory::{MemArg, MemArgOrdering, MemArgTarget, Ordering};
+pub use read_br_table::MAX_WASM_BR_TABLE_SIZE;
+pub use vector::V128;

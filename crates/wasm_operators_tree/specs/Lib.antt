@@ -1,0 +1,4 @@
+pub mod Op
+pub mod Table
+pub mod Frames
+pub mod Laws

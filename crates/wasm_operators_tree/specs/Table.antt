@@ -1,0 +1,24 @@
+-- The table of opcodes: what is told of each operator (WebAssembly 3.0, appendix, index of instructions). The groups' parts
+-- are in the files of this name of the crates below.
+use Rattle.wasm_operators_info.specs.Info.{Info}
+use Rattle.wasm_operators_basic.specs.Table.{control_info, parametric_info, exception_info, memory_info, const_info, numeric_info}
+use Rattle.wasm_operators_extended.specs.Table.{bulk_info, gc_info, descriptor_info, atomic_info, shared_info, continuation_info}
+use Rattle.wasm_operators_simd.specs.Table.{simd_info, simd_numeric_info}
+use Rattle.wasm_operators_tree.specs.Op as op
+use Rattle.wasm_operators_tree.specs.Op.{Op}
+
+abbrev pub info_of : Op → Info
+info_of (op.Control o) = control_info o
+info_of (op.Parametric o) = parametric_info o
+info_of (op.Exception o) = exception_info o
+info_of (op.Memory o) = memory_info o
+info_of (op.Const o) = const_info o
+info_of (op.Numeric o) = numeric_info o
+info_of (op.Bulk o) = bulk_info o
+info_of (op.Gc o) = gc_info o
+info_of (op.Descriptor o) = descriptor_info o
+info_of (op.Simd o) = simd_info o
+info_of (op.SimdNumeric o) = simd_numeric_info o
+info_of (op.Atomic o) = atomic_info o
+info_of (op.Shared o) = shared_info o
+info_of (op.Continuation o) = continuation_info o

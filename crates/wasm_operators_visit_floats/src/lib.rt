@@ -1,0 +1,7 @@
+//! Visits of floats.
+#![tactic(auto)]
+
+mod forwarding;
+mod visits;
+
+pub use visits::VisitFloats;

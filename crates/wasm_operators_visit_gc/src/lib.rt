@@ -1,0 +1,9 @@
+//! Visits of structs, arrays, casts and descriptors.
+#![tactic(auto)]
+
+mod dispatch;
+mod forwarding;
+mod visits;
+
+pub use dispatch::{visit_descriptor, visit_gc};
+pub use visits::VisitGc;

@@ -1,0 +1,19 @@
+-- Which operators are those on vectors (WebAssembly 3.0, structure, vector instructions).
+use Rattle.std.specs.Prelude.{Bool, true, false}
+use Rattle.wasm_operators_tree.specs.Op.{Op, Control, Parametric, Exception, Memory, Const, Numeric, Bulk, Gc, Descriptor, Simd, SimdNumeric, Atomic, Shared, Continuation}
+
+abbrev pub is_simd : Op → Bool
+is_simd (Control o) = false
+is_simd (Parametric o) = false
+is_simd (Exception o) = false
+is_simd (Memory o) = false
+is_simd (Const o) = false
+is_simd (Numeric o) = false
+is_simd (Bulk o) = false
+is_simd (Gc o) = false
+is_simd (Descriptor o) = false
+is_simd (Simd o) = true
+is_simd (SimdNumeric o) = true
+is_simd (Atomic o) = false
+is_simd (Shared o) = false
+is_simd (Continuation o) = false

@@ -1,0 +1,97 @@
+//! Visits of all operators but those on vectors.
+#![tactic(auto)]
+
+ghost use Rattle.std.specs.Prelude.{◌≡◌, false, IfOk, IfErr};
+ghost use Rattle.wasm_operators_visit_operator.specs.Vectors.{is_simd};
+ghost use Rattle.wasm_operators_tree.specs.Op.{op_of};
+
+use std::alloc::AllocError;
+use wasm_operators_tree::Operator;
+use wasm_operators_visit_atomic::{VisitAtomic, visit_atomic};
+use wasm_operators_visit_control::{
+    VisitControl, visit_continuation, visit_control, visit_exception, visit_parametric,
+};
+use wasm_operators_visit_floats::VisitFloats;
+use wasm_operators_visit_gc::{VisitGc, visit_descriptor, visit_gc};
+use wasm_operators_visit_integers::VisitIntegers;
+use wasm_operators_visit_memory::{VisitMemory, visit_bulk, visit_const, visit_memory};
+use wasm_operators_visit_numbers::visit_numeric;
+use wasm_operators_visit_shared::{VisitShared, visit_shared};
+
+/// Whether an operator is one on vectors (WebAssembly 3.0, structure, vector instructions).
+#[inline]
+pub fn is_simd(op: &Operator) -> bool
+    ensures { result ≡ is_simd (op_of op.now) }
+{
+    matches!(op, Operator::Simd(_) | Operator::SimdNumeric(_))
+}
+
+/// A visitor of all operators but those on vectors.
+pub trait VisitOperator<'a>: VisitControl<'a>
+    + VisitMemory<'a>
+    + VisitGc<'a>
+    + VisitIntegers<'a>
+    + VisitFloats<'a>
+    + VisitAtomic<'a>
+    + VisitShared<'a> {
+    /// Tells the visitor of an operator that is its to keep, by the visit that belongs to it. It takes no memory.
+    fn visit_owned(&mut self, op: Operator<'a>) -> Self::Output
+        requires { is_simd (op_of op) ≡ false }
+        ensures { Self.visits self.old (op_of op.entry) result self.new };
+
+    /// Tells the visitor of an operator by the visit that belongs to it, which gets a copy of the operator's tables.
+    ///
+    /// # Errors
+    ///
+    /// Where there is no memory for the copy. The visitor is then told nothing.
+    fn visit_operator(&mut self, op: &Operator<'a>) -> Result<Self::Output, AllocError>
+        requires { is_simd (op_of op.now) ≡ false }
+        ensures visited { IfOk result (λ answer. Self.visits self.old (op_of op.now) answer self.new) }
+        ensures kept { IfErr result (λ _. self.new ≡ self.old) };
+}
+
+impl<'a, V> VisitOperator<'a> for V
+where
+    V: VisitControl<'a>
+        + VisitMemory<'a>
+        + VisitGc<'a>
+        + VisitIntegers<'a>
+        + VisitFloats<'a>
+        + VisitAtomic<'a>
+        + VisitShared<'a>,
+{
+    fn visit_owned(&mut self, op: Operator<'a>) -> Self::Output {
+        match op {
+            Operator::Control(op) => visit_control(self, op),
+            Operator::Parametric(op) => visit_parametric(self, op),
+            Operator::Exception(op) => visit_exception(self, op),
+            Operator::Memory(op) => visit_memory(self, op),
+            Operator::Const(op) => visit_const(self, op),
+            Operator::Numeric(op) => visit_numeric(self, op),
+            Operator::Bulk(op) => visit_bulk(self, op),
+            Operator::Gc(op) => visit_gc(self, op),
+            Operator::Descriptor(op) => visit_descriptor(self, op),
+            Operator::Simd(_) => unreachable!(),
+            Operator::SimdNumeric(_) => unreachable!(),
+            Operator::Atomic(op) => visit_atomic(self, op),
+            Operator::Shared(op) => visit_shared(self, op),
+            Operator::Continuation(op) => visit_continuation(self, op),
+        }
+    }
+
+    fn visit_operator(&mut self, op: &Operator<'a>) -> Result<Self::Output, AllocError> {
+        let op = copy(op)?;
+        Ok(self.visit_owned(op))
+    }
+}
+
+/// An operator with the same tables.
+///
+/// # Errors
+///
+/// Where there is no memory for the tables.
+pub fn copy<'a>(op: &Operator<'a>) -> Result<Operator<'a>, AllocError>
+    ensures { IfOk result (λ copy. op_of copy ≡ op_of op.now) }
+{
+    op.clone()
+}

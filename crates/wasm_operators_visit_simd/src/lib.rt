@@ -1,0 +1,7 @@
+//! Visits of vectors: memory accesses, constants, lanes and bits.
+#![tactic(auto)]
+
+mod forwarding;
+mod visits;
+
+pub use visits::VisitSimd;

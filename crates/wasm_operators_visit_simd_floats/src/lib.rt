@@ -1,0 +1,7 @@
+//! Visits of vectors of floats.
+#![tactic(auto)]
+
+mod forwarding;
+mod visits;
+
+pub use visits::VisitSimdFloats;

@@ -1,0 +1,7 @@
+//! Visits of vectors of 32-bit and 64-bit integers.
+#![tactic(auto)]
+
+mod forwarding;
+mod visits;
+
+pub use visits::VisitSimdWide;

@@ -1,0 +1,33 @@
+-- How fields, signatures and indices are read.
+use Rattle.std.specs.Prelude.{ℕ, List, [], ◌∷◌, Bool, true, false, nat_lt, if◌then◌else◌}
+use Rattle.wasm_types_decoding.specs.declared.Refusal.TheVariants.{Other}
+use Rattle.wasm_types_decoding.specs.Decoder.{Decoder, ◌>>=◌, pure, refuse, byte, choice}
+use Rattle.wasm_types_decoding.specs.Leb.{u32}
+use Rattle.wasm_types_decoding.specs.Lists.{refuse_at, listed_within}
+use Rattle.wasm_types_indices.specs.declared.index.UnpackedIndex.{UnpackedIndex}
+use Rattle.wasm_types_indices.specs.declared.index.UnpackedIndex.TheVariants.{Module}
+use Rattle.wasm_types_values.specs.DecodeValues.{value_type, storage_type}
+use Rattle.wasm_types_fields.specs.declared.field.FieldType.{FieldType}
+use Rattle.wasm_types_fields.specs.Spells.{Signature}
+
+abbrev pub mutabilities : List (ℕ × Decoder Bool)
+mutabilities = (0x00, pure false) ∷ (0x01, pure true) ∷ []
+
+unfoldable pub mutability : Decoder Bool
+mutability = byte >>= choice mutabilities (refuse Other 1)
+
+unfoldable pub field_type : Decoder FieldType
+field_type = storage_type >>= λ s. mutability >>= λ m. pure (record { element_type = s; mutable = m })
+
+unfoldable pub fields : Decoder (List FieldType)
+fields = listed_within 10000 field_type
+
+unfoldable pub signature : Decoder Signature
+signature = listed_within 1000 value_type >>= λ ps. listed_within 1000 value_type >>= λ rs. pure (record { params = ps; results = rs })
+
+-- an index that begins at this place
+abbrev pub index_from : ℕ → ℕ → Decoder UnpackedIndex
+index_from place n = if nat_lt n 0x10_0000 then pure (Module n) else refuse_at Other place
+
+unfoldable pub module_index : Decoder UnpackedIndex
+module_index s = (u32 >>= index_from s.place) s

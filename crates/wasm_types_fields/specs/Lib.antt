@@ -1,0 +1,5 @@
+pub mod Fields
+pub mod Text
+pub mod Spells
+pub mod Decode
+pub mod DecodeLaws

@@ -1,0 +1,42 @@
+-- The bytes of fields, signatures and indices (WebAssembly 3.0, binary format, types), over the values that they spell.
+use Rattle.std.specs.Prelude.{◌≡◌, ℕ, List, [], ◌∷◌, ◌++◌, Bool, true, false}
+use Rattle.wasm_types_decoding.specs.Decoder.{Grammar}
+use Rattle.wasm_types_decoding.specs.Lists.{IsListedWithin}
+use Rattle.wasm_types_indices.specs.declared.index.UnpackedIndex.{UnpackedIndex}
+use Rattle.wasm_types_values.specs.declared.value.ValType.{ValType}
+use Rattle.wasm_types_values.specs.Spells.{SpellsExactIndex}
+use Rattle.wasm_types_values.specs.ValueExact.{SpelledValue, SpelledStorage}
+use Rattle.wasm_types_fields.specs.declared.field.FieldType.{FieldType}
+
+-- whether a field may be written
+abbrev pub IsMutability : Grammar Bool
+IsMutability false text = text ≡ 0x00 ∷ []
+IsMutability true text = text ≡ 0x01 ∷ []
+
+pub record SpelledField (x : FieldType) (text : List ℕ) : Type 0 where
+  pub storage : List ℕ
+  pub mutability : List ℕ
+  pub stored : SpelledStorage x.element_type storage
+  pub writable : IsMutability x.mutable mutability
+  pub whole : text ≡ storage ++ mutability
+
+-- the fields of a struct, which are 10,000 at most
+abbrev pub SpelledFields : Grammar (List FieldType)
+SpelledFields = IsListedWithin 10000 SpelledField
+
+-- the parameters and the results of a function
+pub record Signature : Type 0 where
+  pub params : List ValType
+  pub results : List ValType
+
+-- a thousand of each at most
+pub record SpelledSignature (f : Signature) (text : List ℕ) : Type 0 where
+  pub params : List ℕ
+  pub results : List ℕ
+  pub taken : IsListedWithin 1000 SpelledValue f.params params
+  pub given : IsListedWithin 1000 SpelledValue f.results results
+  pub whole : text ≡ params ++ results
+
+-- a type of the module by its index, which is below 2^20
+abbrev pub SpelledIndex : Grammar UnpackedIndex
+SpelledIndex = SpellsExactIndex

@@ -1,0 +1,192 @@
+//! Fields, functions and continuations from their bytes (WebAssembly 3.0, binary format, types).
+
+ghost use Rattle.std.specs.Prelude.{◌≡◌};
+ghost use Rattle.wasm_types_decoding.specs.Decoder.{Reaches};
+ghost use Rattle.wasm_types_error.specs.declared.error.ErrorKind.TheVariants.{Other};
+ghost use Rattle.wasm_types_reader.specs.Reading.{Gives, NeedsNoMemory};
+ghost use Rattle.wasm_types_fields.specs.Decode.{field_type, mutability, module_index};
+
+use crate::{ArrayType, ContType, FieldType, FuncType, StructType};
+use std::alloc::Global;
+use wasm_types_reader::limits::{
+    MAX_WASM_FUNCTION_PARAMS, MAX_WASM_FUNCTION_RETURNS, MAX_WASM_STRUCT_FIELDS,
+};
+use wasm_types_reader::{BinaryReader, Error, FromReader, Result, read_list};
+use wasm_types_values::{PackedIndex, StorageType};
+
+// Whether a field may be written.
+#[tactic(auto, using(wasm_types_decoding::specs::Laws::reaches_self, wasm_types_decoding::specs::Laws::reaches_then), unfolding(crate::specs::Decode::mutability))]
+fn read_mutability<'a>(reader: &mut BinaryReader<'a>) -> Result<bool>
+    ensures answer { Gives (λ m. m) result reader.new (mutability reader.old) }
+    ensures no_memory { NeedsNoMemory result }
+    ensures forward { Reaches reader.old reader.new }
+{
+    let offset = reader.original_position();
+    match reader.read_u8()? {
+        0x00 => Ok(false),
+        0x01 => Ok(true),
+        _ => Err(Error::new("malformed mutability", offset)),
+    }
+}
+
+impl<'a> FromReader<'a> for FieldType {
+    ghost use Rattle.wasm_types_fields.specs.declared.field.FieldType.{FieldType as TheType};
+    ghost use Rattle.wasm_types_fields.specs.Spells.{SpelledField};
+    ghost use Rattle.wasm_types_fields.specs.DecodeLaws.{lawful-field_type, decides-field_type};
+
+    ghost Value = { TheType };
+
+    ghost view = { λ x. x };
+
+    ghost decoder = { field_type };
+
+    ghost grammar = { SpelledField };
+
+    ghost lawful = { lawful-field_type };
+
+    ghost exact = { decides-field_type };
+
+    #[tactic(auto, using(wasm_types_decoding::specs::Laws::reaches_self, wasm_types_decoding::specs::Laws::reaches_then), unfolding(crate::specs::Decode::field_type))]
+    fn from_reader(alloc: Global, reader: &mut BinaryReader<'a>) -> Result<FieldType>
+        ensures answer { Gives (λ x. x) result reader.new (field_type reader.old) }
+        ensures forward { Reaches reader.old reader.new }
+        ensures no_memory { NeedsNoMemory result }
+    {
+        let element_type = StorageType::from_reader(alloc, reader)?;
+        let mutable = read_mutability(reader)?;
+        Ok(FieldType {
+            element_type,
+            mutable,
+        })
+    }
+}
+
+impl<'a> FromReader<'a> for ArrayType {
+    ghost use Rattle.wasm_types_fields.specs.declared.field.FieldType.{FieldType as TheType};
+    ghost use Rattle.wasm_types_fields.specs.Spells.{SpelledField};
+    ghost use Rattle.wasm_types_fields.specs.DecodeLaws.{lawful-field_type, decides-field_type};
+
+    ghost Value = { TheType };
+
+    ghost view = { λ a. a.0 };
+
+    ghost decoder = { field_type };
+
+    ghost grammar = { SpelledField };
+
+    ghost lawful = { lawful-field_type };
+
+    ghost exact = { decides-field_type };
+
+    fn from_reader(alloc: Global, reader: &mut BinaryReader<'a>) -> Result<ArrayType>
+        ensures answer { Gives (λ a. a.0) result reader.new (field_type reader.old) }
+        ensures forward { Reaches reader.old reader.new }
+        ensures no_memory { NeedsNoMemory result }
+    {
+        let element = FieldType::from_reader(alloc, reader)?;
+        Ok(ArrayType(element))
+    }
+}
+
+impl<'a> FromReader<'a> for StructType {
+    ghost use Rattle.std.specs.Prelude.{List};
+    ghost use Rattle.wasm_types_fields.specs.declared.field.FieldType.{FieldType as TheField};
+    ghost use Rattle.wasm_types_fields.specs.Decode.{fields};
+    ghost use Rattle.wasm_types_fields.specs.Spells.{SpelledFields};
+    ghost use Rattle.wasm_types_fields.specs.DecodeLaws.{lawful-fields, decides-fields};
+
+    ghost Value = { List TheField };
+
+    ghost view = { λ s. s.fields.items };
+
+    ghost decoder = { fields };
+
+    ghost grammar = { SpelledFields };
+
+    ghost lawful = { lawful-fields };
+
+    ghost exact = { decides-fields };
+
+    #[tactic(auto, using(wasm_types_decoding::specs::Laws::reaches_self, wasm_types_decoding::specs::Laws::reaches_then), unfolding(crate::specs::Decode::fields))]
+    fn from_reader(alloc: Global, reader: &mut BinaryReader<'a>) -> Result<StructType> {
+        let fields = read_list(alloc, MAX_WASM_STRUCT_FIELDS, "struct fields", reader)?;
+        Ok(StructType { fields })
+    }
+}
+
+impl<'a> FromReader<'a> for FuncType {
+    ghost use Rattle.wasm_types_fields.specs.Decode.{signature};
+    ghost use Rattle.wasm_types_fields.specs.Spells.{Signature, SpelledSignature};
+    ghost use Rattle.wasm_types_fields.specs.DecodeLaws.{lawful-signature, decides-signature};
+
+    ghost Value = { Signature };
+
+    ghost view = { λ f. record { params = f.params.items; results = f.results.items } };
+
+    ghost decoder = { signature };
+
+    ghost grammar = { SpelledSignature };
+
+    ghost lawful = { lawful-signature };
+
+    ghost exact = { decides-signature };
+
+    #[tactic(auto, using(wasm_types_decoding::specs::Laws::reaches_self, wasm_types_decoding::specs::Laws::reaches_then), unfolding(crate::specs::Decode::signature))]
+    fn from_reader(alloc: Global, reader: &mut BinaryReader<'a>) -> Result<FuncType> {
+        let params = read_list(alloc, MAX_WASM_FUNCTION_PARAMS, "function params", reader)?;
+        let results = read_list(alloc, MAX_WASM_FUNCTION_RETURNS, "function returns", reader)?;
+        Ok(FuncType::of_lists(params, results))
+    }
+}
+
+// The error of an index that is too large.
+#[cold]
+fn index_error(offset: u64) -> Error
+    ensures kind { result.kind ≡ Other }
+    ensures offset { result.offset ≡ offset }
+{
+    Error::new("type index greater than implementation limits", offset)
+}
+
+/// A type of the module by its index, which is below 2^20 (WebAssembly 3.0, binary format, indices). A larger one is refused
+/// at its place.
+#[tactic(auto, using(wasm_types_decoding::specs::Laws::reaches_self, wasm_types_decoding::specs::Laws::reaches_then), unfolding(crate::specs::Decode::module_index))]
+pub fn read_index<'a>(reader: &mut BinaryReader<'a>) -> Result<PackedIndex>
+    ensures answer { Gives (λ i. i) result reader.new (module_index reader.old) }
+    ensures no_memory { NeedsNoMemory result }
+    ensures forward { Reaches reader.old reader.new }
+{
+    let offset = reader.original_position();
+    let index = reader.read_var_u32()?;
+    match PackedIndex::from_module_index(index) {
+        Some(index) => Ok(index),
+        None => Err(index_error(offset)),
+    }
+}
+
+impl<'a> FromReader<'a> for ContType {
+    ghost use Rattle.wasm_types_indices.specs.declared.index.UnpackedIndex.{UnpackedIndex};
+    ghost use Rattle.wasm_types_fields.specs.Spells.{SpelledIndex};
+    ghost use Rattle.wasm_types_fields.specs.DecodeLaws.{lawful-module_index, decides-module_index};
+
+    ghost Value = { UnpackedIndex };
+
+    ghost view = { λ c. c.0 };
+
+    ghost decoder = { module_index };
+
+    ghost grammar = { SpelledIndex };
+
+    ghost lawful = { lawful-module_index };
+
+    ghost exact = { decides-module_index };
+
+    fn from_reader(_alloc: Global, reader: &mut BinaryReader<'a>) -> Result<ContType>
+        ensures answer { Gives (λ c. c.0) result reader.new (module_index reader.old) }
+        ensures forward { Reaches reader.old reader.new }
+        ensures no_memory { NeedsNoMemory result }
+    {
+        let index = read_index(reader)?;
+        Ok(ContType(index))
+    }
+}
