@@ -37,11 +37,11 @@ impl<'a> BinaryReader<'a> {
         ensures no_memory { NeedsNoMemory result }
         ensures forward { Reaches self.old self.new }
     {
-        let start = self.clone();
+        let before = self.clone();
         let text = match self.counted_text() {
             Ok(text) => text,
             Err(error) => {
-                *self = start;
+                *self = before;
                 return Err(error);
             }
         };
@@ -55,9 +55,9 @@ impl<'a> BinaryReader<'a> {
         ensures no_memory { NeedsNoMemory result }
         ensures forward { Reaches self.old self.new }
     {
-        let start = self.clone();
+        let here = self.clone();
         if let Err(error) = self.skip_text() {
-            *self = start;
+            *self = here;
             return Err(error);
         }
         Ok(())

@@ -1,0 +1,115 @@
+//! Reads and clones what takes memory: the types of a group, and operators with tables.
+//!
+//! It ends with status 0 where each clone is equal, with 2 where memory was refused and each refusal was told as that, and
+//! with 1 otherwise. `bench/refused-memory` refuses it each allocation in turn.
+#![tactic(auto)]
+
+use std::alloc::{AllocError, AllocFailed, Global};
+use std::process::ExitCode;
+use wasm_operators::{
+    BlockType, BrTable, Catch, ContinuationOperator, ControlOperator, ExceptionOperator, Handle,
+    Operator, ParametricOperator, ResumeTable, TryTable,
+};
+use wasm_types::{BinaryReader, ErrorKind, FromReader, RecGroup, ValType};
+
+/// Ten types: functions, structs, arrays and a continuation, some of them open and one below another.
+static TEN_TYPES: [u8; 47] = [
+    0x4e, 0x0a, 0x60, 0x02, 0x7f, 0x7e, 0x01, 0x7d, 0x50, 0x00, 0x5f, 0x01, 0x7f, 0x01, 0x50, 0x01,
+    0x01, 0x5f, 0x01, 0x7f, 0x01, 0x5e, 0x78, 0x00, 0x5e, 0x63, 0x00, 0x01, 0x60, 0x00, 0x00, 0x60,
+    0x00, 0x01, 0x7c, 0x5f, 0x02, 0x77, 0x00, 0x70, 0x01, 0x60, 0x01, 0x6f, 0x00, 0x5d, 0x00,
+];
+
+/// Three labels and the one where no index is given: 1, 2, 3 and 0.
+static LABELS: [u8; 5] = [0x03, 0x01, 0x02, 0x03, 0x00];
+
+/// How a part of the run ended, if not well.
+enum Fault {
+    /// Memory was refused, and that was told.
+    OutOfMemory,
+    /// Something else was told, or a clone is not equal.
+    Wrong,
+}
+
+impl From<AllocError> for Fault {
+    fn from(_: AllocError) -> Fault {
+        Fault::OutOfMemory
+    }
+}
+
+impl<T: Drop> From<AllocFailed<T>> for Fault {
+    fn from(_: AllocFailed<T>) -> Fault {
+        Fault::OutOfMemory
+    }
+}
+
+fn read<'a, T: FromReader<'a>>(alloc: Global, bytes: &'a [u8]) -> Result<T, Fault> {
+    match BinaryReader::new(bytes, 0).read::<T>(alloc) {
+        Ok(value) => Ok(value),
+        Err(error) => match error.kind() {
+            ErrorKind::OutOfMemory => Err(Fault::OutOfMemory),
+            _ => Err(Fault::Wrong),
+        },
+    }
+}
+
+/// That a group of ten types is read, and that its clone is equal.
+fn types(alloc: Global) -> Result<(), Fault> {
+    let group = read::<RecGroup>(alloc, &TEN_TYPES)?;
+    let copy = group.clone()?;
+    if copy == group && copy.types().len() == 10 {
+        Ok(())
+    } else {
+        Err(Fault::Wrong)
+    }
+}
+
+/// An operator of each kind that owns memory, and one that borrows its table.
+fn owning(alloc: Global) -> Result<[Operator<'static>; 4], Fault> {
+    let tys = vec![in alloc; ValType::I32, ValType::I64]?;
+    let catches = vec![in alloc; Catch::One { tag: 1, label: 2 }, Catch::All { label: 0 }]?;
+    let handlers = vec![in alloc;
+        Handle::OnLabel { tag: 1, label: 2 },
+        Handle::OnSwitch { tag: 3 },
+    ]?;
+    let targets = read::<BrTable>(alloc, &LABELS)?;
+    Ok([
+        Operator::Parametric(ParametricOperator::TypedSelectMulti { tys }),
+        Operator::Exception(ExceptionOperator::TryTable {
+            try_table: TryTable {
+                ty: BlockType::Val(ValType::I32),
+                catches,
+            },
+        }),
+        Operator::Continuation(ContinuationOperator::Resume {
+            cont_type_index: 1,
+            resume_table: ResumeTable { handlers },
+        }),
+        Operator::Control(ControlOperator::BrTable { targets }),
+    ])
+}
+
+/// That the clone of each of these operators is equal.
+fn operators(alloc: Global) -> Result<(), Fault> {
+    let ops = owning(alloc)?;
+    for op in ops.iter() {
+        let copy = op.clone()?;
+        if copy != *op {
+            return Err(Fault::Wrong);
+        }
+    }
+    Ok(())
+}
+
+fn run(alloc: Global) -> Result<(), Fault> {
+    types(alloc)?;
+    operators(alloc)
+}
+
+fn main(rt: HostRuntime) -> ExitCode {
+    let status = match run(rt.alloc()) {
+        Ok(()) => 0,
+        Err(Fault::OutOfMemory) => 2,
+        Err(Fault::Wrong) => 1,
+    };
+    ExitCode::from(status)
+}
