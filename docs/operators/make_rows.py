@@ -2,8 +2,9 @@
 
     make_rows.py operators.csv CRATES
 
-CRATES is the folder of crates. One file for each group whose operators are `Copy`, from the checked-in list, in the
-crate `wasm_operators_rows_basic`, `_extended` or `_simd`; the few others are written by hand in `wasm_operators_rows`. What an operator carries has no part in what is told of it: each field has one value.
+CRATES is the folder of crates. One file for each group whose operators are `Copy`, from the checked-in list, in the crate
+`wasm_operators_rows_basic`, `_extended` or `_simd`; the few others are written by hand in `wasm_operators_rows`. What an
+operator carries has no part in what is told of it: each field has one value.
 """
 
 import csv
