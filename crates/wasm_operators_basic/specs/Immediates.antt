@@ -1,6 +1,6 @@
 -- Operators of control, exceptions, variables, memories and numbers: what each carries behind its opcode, in the order of the
 -- bytes (WebAssembly 3.0, binary format, instructions).
-use Rattle.std.specs.Prelude.{List, [], ◌∷◌}
+use Rattle.std.specs.Prelude.{Bool, true, false, List, [], ◌∷◌}
 use Rattle.wasm_operators_immediates.specs.Kinds.{Functions, Globals, Locals, Memories, Tables, Tags, Types, Plain}
 use Rattle.wasm_operators_immediates.specs.Immediates.{Immediate, Block, BranchTable, F32Constant, F64Constant, I32Constant, I64Constant, Index, IndexOrZero, Label, MemoryArgument, TryTable, ValueTypes}
 use Rattle.wasm_operators_basic.specs.declared.control.ControlOperator.{ControlOperator}
@@ -40,6 +40,11 @@ parametric_immediates tree.Drop = []
 parametric_immediates tree.Select = []
 parametric_immediates (tree.TypedSelect ty) = ValueTypes (ty ∷ []) ∷ []
 parametric_immediates (tree.TypedSelectMulti tys) = ValueTypes tys ∷ []
+
+-- `select` with one type is TypedSelect, and with any other number of types TypedSelectMulti: both have the same code
+abbrev pub is_canonical : ParametricTree → Bool
+is_canonical (tree.TypedSelectMulti (ty ∷ [])) = false
+is_canonical o = true
 
 abbrev pub exception_immediates : ExceptionTree → List Immediate
 exception_immediates (tree.Try blockty) = Block blockty ∷ []

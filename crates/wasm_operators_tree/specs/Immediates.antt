@@ -1,9 +1,10 @@
 -- What each operator carries behind its opcode, in the order of the bytes (WebAssembly 3.0, binary format, instructions). The
 -- groups' parts are in the files of this name of the crates below.
-use Rattle.std.specs.Prelude.{List, map}
+use Rattle.std.specs.Prelude.{Bool, true, List, map}
 use Rattle.wasm_operators_immediates.specs.Kinds.{Kind}
 use Rattle.wasm_operators_immediates.specs.Immediates.{Immediate, kind_of}
 use Rattle.wasm_operators_basic.specs.Immediates.{control_immediates, parametric_immediates, exception_immediates, memory_immediates, const_immediates, numeric_immediates}
+use Rattle.wasm_operators_basic.specs.Immediates.{is_canonical as parametric_is_canonical}
 use Rattle.wasm_operators_extended.specs.Immediates.{bulk_immediates, gc_immediates, descriptor_immediates, atomic_immediates, shared_immediates, continuation_immediates}
 use Rattle.wasm_operators_simd.specs.Immediates.{simd_immediates, simd_numeric_immediates}
 use Rattle.wasm_operators_tree.specs.Op as op
@@ -28,3 +29,8 @@ immediates_of (op.Continuation o) = continuation_immediates o
 -- the kinds alone, by which the bytes are read
 abbrev pub kinds_of : Op → List Kind
 kinds_of o = map kind_of (immediates_of o)
+
+-- the form that an operator has by the number of types that it carries: `select` with one type is not TypedSelectMulti
+abbrev pub is_canonical : Op → Bool
+is_canonical (op.Parametric o) = parametric_is_canonical o
+is_canonical o = true
