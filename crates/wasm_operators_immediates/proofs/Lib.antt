@@ -1,3 +1,5 @@
 pub mod Reading
 pub mod Passing
 pub mod Bytes
+pub mod Makers
+pub mod Telling

@@ -1,4 +1,5 @@
 pub mod Op
 pub mod Table
+pub mod Immediates
 pub mod Frames
 pub mod Laws
