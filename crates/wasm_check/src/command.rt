@@ -1,5 +1,5 @@
 //! The command line: its words, its files, its faults and its statuses.
-ghost use Rattle.std.specs.Prelude.{◌≡◌, ℕ, ◌<◌, ◌≤◌, ◌⊎◌, List, map, length, IfOk, IfErr, IsTrue};
+ghost use Rattle.std.specs.Prelude.{◌≡◌, ◌↔◌, ℕ, ◌<◌, ◌≤◌, ◌⊎◌, List, map, length, IfOk, IfErr, IsTrue};
 ghost use Rattle.std.specs.Io.KnownBytes.{Keeps};
 ghost use Rattle.wasm_check.specs.declared.judging.Status.TheVariants.{AllValid, SomeInvalid};
 ghost use Rattle.wasm_check.specs.Files.{texts, code_of, IsPlaced, IsNamed, FailsOpening, ReportsFiles, StopsFiles, AsksForHelp, Reports};
@@ -128,7 +128,7 @@ fn report<E: Write>(fault: &Fault<'_>, err: &mut E) -> u8
 
 /// Whether some word asks for the help.
 fn asks_for_help<S: AsStr>(words: &[S]) -> bool
-    ensures { IsTrue result → AsksForHelp (map S.text words.now) }
+    ensures { IsTrue result ↔ AsksForHelp (map S.text words.now) }
 {
     for word in words {
         let text = word.as_str();

@@ -14,6 +14,7 @@ pub mod TypeLaws
 pub mod Operators
 pub mod OperatorLaws
 pub mod Frames
+pub mod Refusals
 pub mod Entries
 pub mod Rows
 pub mod FrameLaws

@@ -4,6 +4,7 @@ ghost use Rattle.std.specs.Prelude.{◌≡◌, ◌↔◌, IsTrue, IfOk, OnOk, On
 ghost use Rattle.wasm_module_validator.specs.declared.validator.State.TheVariants as states;
 ghost use Rattle.wasm_module_validator.specs.Accepts.{Accepts, Judges};
 ghost use Rattle.wasm_module_validator.specs.Answers.{Tells, Counts, Shows};
+ghost use Rattle.wasm_module_validator.specs.Refusals.{RefusedAsRead};
 ghost use Rattle.wasm_module_validator.specs.Syntax.{Module};
 ghost use Rattle.wasm_module_validator.specs.Entries.{bodies};
 ghost use Rattle.wasm_module_validator.specs.Judged.{AreAccepted, AcceptsAt};
@@ -78,6 +79,7 @@ impl Validator {
         requires { self.old ≡ states.Unparsed }
         ensures verdict { Tells result (Accepts bytes.now) }
         ensures shown { IfOk result (λ types. (m : Module) × Judges bytes.now m × Shows types m) }
+        ensures refused { RefusedAsRead result bytes.now }
         ensures ended { OnOk result (self.new ≡ states.Ended) }
         ensures failed { OnErr result (self.new ≡ states.Failed) }
     {
@@ -95,6 +97,7 @@ impl Validator {
 pub fn validate(alloc: Global, id: ValidatorId, bytes: &[u8]) -> Result<Types, Error>
     ensures verdict { Tells result (Accepts bytes.now) }
     ensures shown { IfOk result (λ types. (m : Module) × Judges bytes.now m × Shows types m) }
+    ensures refused { RefusedAsRead result bytes.now }
 {
     Validator::new(alloc, id).validate_all(bytes)
 }
@@ -159,6 +162,7 @@ impl<'a> TypesRef<'a> {
 fn judge(alloc: Global, bytes: &[u8]) -> Result<Types, Error>
     ensures verdict { Tells result (Accepts bytes.now) }
     ensures shown { IfOk result (λ types. (m : Module) × Judges bytes.now m × Shows types m) }
+    ensures refused { RefusedAsRead result bytes.now }
 {
     let mut reader = BinaryReader::new(bytes, 0);
     let module = read_module(alloc, &mut reader)?;

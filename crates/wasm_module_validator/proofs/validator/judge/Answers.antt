@@ -1,10 +1,14 @@
 -- A refusal of the sections or of a function denies the whole; a yes is shown by its module.
 use Rattle.std.proofs.Common.{◌≡◌, ℕ, ◌≤◌, length, arith, sym, ap, ◌∙◌, subst, List}
 use Rattle.std.proofs.lemmas.Result.{err_from_is_err_and}
+use Rattle.wasm_types_decoding.specs.Decoder.{State}
+use Rattle.wasm_types_error.specs.ErrorValue.{ErrorValue}
 use Rattle.wasm_module_validator.specs.Answers.{Denies}
 use Rattle.wasm_module_validator.specs.Accepts.{Accepts, Judges}
 use Rattle.wasm_module_validator.specs.Syntax.{Module}
 use Rattle.wasm_module_validator.specs.Judged.{few_frames, shown_at, accepted_at}
+use Rattle.wasm_module_validator.specs.Frames.{module_frames}
+use Rattle.wasm_module_validator.specs.Refusals.{FailsFrames, stands_at_begin, fails_frames, frames_read}
 use Rattle.wasm_module_validator.proofs.Judging.{not_read, not_judged}
 use Rattle.wasm_module_validator.proofs.validator.judge.Goals as goal
 
@@ -39,3 +43,19 @@ pub returns-clause-shown : goal.returns-clause-shown
 returns-clause-shown c =
     let m = shown_at c.new-reader.result _ _ c.in_ok-module.ensures c.in_ok-validate_bodies.ensures in
     (m.0, (let J : List ℕ → Type 0 = λ bs. Judges bs m.0 in subst J c.new-reader.ensures.rest m.1), record { types = ap length c.as_slice-types.ensures.value ∙ sym m.2; functions = ap length c.as_slice-functions.ensures.value ∙ sym m.3 })
+
+pub returns-in_err-module-clause-refused : goal.returns-in_err-module-clause-refused
+returns-in_err-module-clause-refused c =
+    let p = err_from_is_err_and c.from_residual.result c.from_residual.ensures.1 in
+    let n = c.new-reader.ensures in
+    let e = c.in_err-module.field-0.0 in
+    let at = stands_at_begin c.new-reader.result _ n.rest n.place n.start n.features in
+    rw (p.1, p.2) (let P : State → Type 0 = λ s. FailsFrames e (module_frames s) in subst P at (fails_frames e (module_frames c.new-reader.result) c.in_err-module.ensures))
+
+pub returns-in_err-validate_bodies-clause-refused : goal.returns-in_err-validate_bodies-clause-refused
+returns-in_err-validate_bodies-clause-refused c =
+    let p = err_from_is_err_and c.from_residual-in_err-validate_bodies.result c.from_residual-in_err-validate_bodies.ensures.1 in
+    let n = c.new-reader.ensures in
+    let e = c.in_err-validate_bodies.field-0.0 in
+    let at = stands_at_begin c.new-reader.result _ n.rest n.place n.start n.features in
+    rw (p.1, p.2) (let P : State → Type 0 = λ s. FailsFrames e (module_frames s) in subst P at (frames_read e (module_frames c.new-reader.result) _ _ c.in_ok-module.ensures))
