@@ -1,6 +1,7 @@
 //! Visits of control, of what takes operands of any type, of exceptions and of continuations.
 #![tactic(auto)]
 
+mod boxed;
 mod dispatch;
 mod forwarding;
 mod visits;

@@ -1,6 +1,7 @@
 //! Visits of structs, arrays, casts and descriptors.
 #![tactic(auto)]
 
+mod boxed;
 mod dispatch;
 mod forwarding;
 mod visits;

@@ -1,6 +1,7 @@
 //! Visits of integers.
 #![tactic(auto)]
 
+mod boxed;
 mod forwarding;
 mod visits;
 

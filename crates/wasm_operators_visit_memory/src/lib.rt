@@ -1,6 +1,7 @@
 //! Visits of variables, memories and tables, of references and of constants.
 #![tactic(auto)]
 
+mod boxed;
 mod dispatch;
 mod forwarding;
 mod visits;

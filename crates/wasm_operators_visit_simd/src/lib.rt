@@ -1,6 +1,7 @@
 //! Visits of vectors: memory accesses, constants, lanes and bits.
 #![tactic(auto)]
 
+mod boxed;
 mod forwarding;
 mod visits;
 
