@@ -38,18 +38,136 @@ floats64 : Identity float64_eq.ghosts.eq
 floats64 = record { sound = λ x y h. ap (λ (bits : ℕ). record { 0 = bits }) (numbers.sound x.0 y.0 h); itself = λ x. numbers.itself x.0 }
 
 pub controls : (same_value : ValueEqualityIsIdentity) → Identity control_eq.ghosts.eq
-controls same_value = variants (control.enum static_lft) _
-    (none, (none, (one (blocks same_value), (one (blocks same_value), (one (blocks same_value), (none, (none,
-    (one numbers, (one numbers, (one labels, (none, (one numbers, (two numbers numbers, (one numbers,
-    (two numbers numbers, (one numbers, (one numbers, (none, (one numbers, (one numbers, tt))))))))))))))))))))
+controls same_value = variants (control.enum static_lft) _ (
+  none,
+  (
+    none,
+    (
+      one (blocks same_value),
+      (
+        one (blocks same_value),
+        (
+          one (blocks same_value),
+          (
+            none,
+            (
+              none,
+              (
+                one numbers,
+                (
+                  one numbers,
+                  (
+                    one labels,
+                    (
+                      none,
+                      (
+                        one numbers,
+                        (
+                          two numbers numbers,
+                          (
+                            one numbers,
+                            (two numbers numbers, (one numbers, (one numbers, (none, (one numbers, (one numbers, tt)))))),
+                          ),
+                        ),
+                      ),
+                    ),
+                  ),
+                ),
+              ),
+            ),
+          ),
+        ),
+      ),
+    ),
+  ),
+)
 
 pub memories : Identity memory_eq.ghosts.eq
-memories = variants memory.enum _
-    (one numbers, (one numbers, (one numbers, (one numbers, (one numbers, (one arguments, (one arguments,
-    (one arguments, (one arguments, (one arguments, (one arguments, (one arguments, (one arguments, (one arguments,
-    (one arguments, (one arguments, (one arguments, (one arguments, (one arguments, (one arguments, (one arguments,
-    (one arguments, (one arguments, (one arguments, (one arguments, (one arguments, (one arguments, (one arguments,
-    (one numbers, (one numbers, tt))))))))))))))))))))))))))))))
+memories = variants memory.enum _ (
+  one numbers,
+  (
+    one numbers,
+    (
+      one numbers,
+      (
+        one numbers,
+        (
+          one numbers,
+          (
+            one arguments,
+            (
+              one arguments,
+              (
+                one arguments,
+                (
+                  one arguments,
+                  (
+                    one arguments,
+                    (
+                      one arguments,
+                      (
+                        one arguments,
+                        (
+                          one arguments,
+                          (
+                            one arguments,
+                            (
+                              one arguments,
+                              (
+                                one arguments,
+                                (
+                                  one arguments,
+                                  (
+                                    one arguments,
+                                    (
+                                      one arguments,
+                                      (
+                                        one arguments,
+                                        (
+                                          one arguments,
+                                          (
+                                            one arguments,
+                                            (
+                                              one arguments,
+                                              (
+                                                one arguments,
+                                                (
+                                                  one arguments,
+                                                  (
+                                                    one arguments,
+                                                    (
+                                                      one arguments,
+                                                      (
+                                                        one arguments,
+                                                        (one numbers, (one numbers, tt)),
+                                                      ),
+                                                    ),
+                                                  ),
+                                                ),
+                                              ),
+                                            ),
+                                          ),
+                                        ),
+                                      ),
+                                    ),
+                                  ),
+                                ),
+                              ),
+                            ),
+                          ),
+                        ),
+                      ),
+                    ),
+                  ),
+                ),
+              ),
+            ),
+          ),
+        ),
+      ),
+    ),
+  ),
+)
 
 pub consts : Identity const_eq.ghosts.eq
 consts = variants const.enum _

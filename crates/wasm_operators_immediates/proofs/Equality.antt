@@ -1,18 +1,13 @@
 -- `==` of immediates, from that of types upwards.
-use Rattle.std.proofs.Common.{◌≡◌, ◌↔◌, IsTrue, Bool, true, ◌&&◌, nat_eq, ℕ, List, Option, refl, ap}
+use Rattle.std.proofs.Common.{◌≡◌, ◌↔◌, IsTrue, Bool, true, ◌&&◌, nat_eq, ℕ, List, refl, ap}
 use Rattle.std.specs.Option.{option_eq}
 use Rattle.std.specs.Cmp.{unsigned_Decides}
 use lib.Pointwise.{pointwise}
 use Rattle.wasm_types_values.specs.Laws.{ValueEqualityIsIdentity}
 use Rattle.wasm_operators_immediates.specs.Tables.{Labels, CatchTable, same_labels, catch_table_of}
-use Rattle.wasm_operators_immediates.specs.declared.block.BlockType.{BlockType}
-use Rattle.wasm_operators_immediates.specs.declared.handlers.Catch.{Catch}
-use Rattle.wasm_operators_immediates.specs.declared.handlers.Handle.{Handle}
 use Rattle.wasm_operators_immediates.specs.declared.handlers.TryTable.{TryTable}
 use Rattle.wasm_operators_immediates.specs.declared.handlers.ResumeTable.{ResumeTable}
 use Rattle.wasm_operators_immediates.specs.declared.memory.MemArg.{MemArg}
-use Rattle.wasm_operators_immediates.specs.declared.memory.MemArgOrdering.{MemArgOrdering}
-use Rattle.wasm_operators_immediates.specs.declared.vector.V128.{V128}
 use Rattle.wasm_operators_immediates.specs.contracts.block.BlockType as block
 use Rattle.wasm_operators_immediates.specs.contracts.handlers.Catch as catch
 use Rattle.wasm_operators_immediates.specs.contracts.handlers.Handle as handle

@@ -3,7 +3,6 @@ use Rattle.std.proofs.Common.{◌≡◌, Bool, true, false, ◌&&◌, List, [], 
 use Rattle.std.specs.Option.{option_eq}
 use lib.Pointwise.{pointwise}
 use denote.Struct.Field.{Field}
-use denote.Struct.Values.{Values}
 use denote.Enum.Declared.{Choice, Record, Declared, values_one}
 use denote.Enum.Compared.{Each, by}
 use denote.Enum.Bare.{Bare, sameb, same_true, true_same}

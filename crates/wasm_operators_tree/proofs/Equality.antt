@@ -6,8 +6,6 @@ use Rattle.wasm_operators_basic.proofs.Equality.{controls, parametrics, exceptio
 use Rattle.wasm_operators_extended.proofs.Equality.{bulks, gcs, descriptors, atomics, shareds, continuations}
 use Rattle.wasm_operators_simd.proofs.Equality.{simds, simd_numerics}
 use Rattle.wasm_operators_basic.specs.contracts.control.ControlOperatorPartialEq.TheImpl as control_eq
-use Rattle.wasm_operators_basic.specs.contracts.control.ParametricOperatorPartialEq.TheImpl as parametric_eq
-use Rattle.wasm_operators_basic.specs.contracts.exceptions.ExceptionOperatorPartialEq.TheImpl as exception_eq
 use Rattle.wasm_operators_basic.specs.contracts.memory.MemoryOperatorPartialEq.TheImpl as memory_eq
 use Rattle.wasm_operators_basic.specs.contracts.numeric.ConstOperatorPartialEq.TheImpl as const_eq
 use Rattle.wasm_operators_basic.specs.contracts.numeric.NumericOperatorPartialEq.TheImpl as numeric_eq
@@ -18,7 +16,6 @@ use Rattle.wasm_operators_simd.specs.contracts.vector.SimdOperatorPartialEq.TheI
 use Rattle.wasm_operators_simd.specs.contracts.vector_numeric.SimdNumericOperatorPartialEq.TheImpl as simd_numeric_eq
 use Rattle.wasm_operators_extended.specs.contracts.atomic.AtomicOperatorPartialEq.TheImpl as atomic_eq
 use Rattle.wasm_operators_extended.specs.contracts.atomic.SharedOperatorPartialEq.TheImpl as shared_eq
-use Rattle.wasm_operators_extended.specs.contracts.continuation.ContinuationOperatorPartialEq.TheImpl as continuation_eq
 use Rattle.wasm_operators_tree.specs.declared.operator.Operator.{Operator}
 use Rattle.wasm_operators_tree.specs.declared.operator.Operator.TheVariants as operator
 use Rattle.wasm_operators_tree.specs.contracts.operator.OperatorPartialEq.TheImpl as operator_eq
