@@ -9,7 +9,7 @@ use Rattle.wasm_types_reader.specs.contracts.words.Ieee64PartialEq.TheImpl as fl
 use Rattle.wasm_types_values.specs.Laws.{ValueEqualityIsIdentity}
 use Rattle.wasm_types_values.specs.contracts.value.ValTypePartialEq.TheImpl as value_eq
 use Rattle.wasm_operators_immediates.specs.contracts.block.BlockTypePartialEq.TheImpl as block_eq
-use Rattle.wasm_operators_immediates.proofs.Telling.{Identity, none, one, two, variants, tags, lists, Tells, complete}
+use Rattle.wasm_operators_immediates.proofs.Telling.{Identity, none, one, two, variants, tags, lists, ◌&◌, Tells, complete}
 use Rattle.wasm_operators_immediates.proofs.Equality.{identity, numbers, arguments, labels, blocks, try_tables}
 use Rattle.wasm_operators_basic.specs.contracts.control.ControlOperator as control
 use Rattle.wasm_operators_basic.specs.contracts.control.ControlOperatorPartialEq.TheImpl as control_eq
@@ -38,140 +38,22 @@ floats64 : Identity float64_eq.ghosts.eq
 floats64 = record { sound = λ x y h. ap (λ (bits : ℕ). record { 0 = bits }) (numbers.sound x.0 y.0 h); itself = λ x. numbers.itself x.0 }
 
 pub controls : (same_value : ValueEqualityIsIdentity) → Identity control_eq.ghosts.eq
-controls same_value = variants (control.enum static_lft) _ (
-  none,
-  (
-    none,
-    (
-      one (blocks same_value),
-      (
-        one (blocks same_value),
-        (
-          one (blocks same_value),
-          (
-            none,
-            (
-              none,
-              (
-                one numbers,
-                (
-                  one numbers,
-                  (
-                    one labels,
-                    (
-                      none,
-                      (
-                        one numbers,
-                        (
-                          two numbers numbers,
-                          (
-                            one numbers,
-                            (two numbers numbers, (one numbers, (one numbers, (none, (one numbers, (one numbers, tt)))))),
-                          ),
-                        ),
-                      ),
-                    ),
-                  ),
-                ),
-              ),
-            ),
-          ),
-        ),
-      ),
-    ),
-  ),
-)
+controls same_value = variants (control.enum static_lft) _
+    (none & none & one (blocks same_value) & one (blocks same_value) & one (blocks same_value) & none & none &
+    one numbers & one numbers & one labels & none & one numbers & two numbers numbers & one numbers &
+    two numbers numbers & one numbers & one numbers & none & one numbers & one numbers & tt)
 
 pub memories : Identity memory_eq.ghosts.eq
-memories = variants memory.enum _ (
-  one numbers,
-  (
-    one numbers,
-    (
-      one numbers,
-      (
-        one numbers,
-        (
-          one numbers,
-          (
-            one arguments,
-            (
-              one arguments,
-              (
-                one arguments,
-                (
-                  one arguments,
-                  (
-                    one arguments,
-                    (
-                      one arguments,
-                      (
-                        one arguments,
-                        (
-                          one arguments,
-                          (
-                            one arguments,
-                            (
-                              one arguments,
-                              (
-                                one arguments,
-                                (
-                                  one arguments,
-                                  (
-                                    one arguments,
-                                    (
-                                      one arguments,
-                                      (
-                                        one arguments,
-                                        (
-                                          one arguments,
-                                          (
-                                            one arguments,
-                                            (
-                                              one arguments,
-                                              (
-                                                one arguments,
-                                                (
-                                                  one arguments,
-                                                  (
-                                                    one arguments,
-                                                    (
-                                                      one arguments,
-                                                      (
-                                                        one arguments,
-                                                        (one numbers, (one numbers, tt)),
-                                                      ),
-                                                    ),
-                                                  ),
-                                                ),
-                                              ),
-                                            ),
-                                          ),
-                                        ),
-                                      ),
-                                    ),
-                                  ),
-                                ),
-                              ),
-                            ),
-                          ),
-                        ),
-                      ),
-                    ),
-                  ),
-                ),
-              ),
-            ),
-          ),
-        ),
-      ),
-    ),
-  ),
-)
+memories = variants memory.enum _
+    (one numbers & one numbers & one numbers & one numbers & one numbers & one arguments & one arguments &
+    one arguments & one arguments & one arguments & one arguments & one arguments & one arguments & one arguments &
+    one arguments & one arguments & one arguments & one arguments & one arguments & one arguments & one arguments &
+    one arguments & one arguments & one arguments & one arguments & one arguments & one arguments & one arguments &
+    one numbers & one numbers & tt)
 
 pub consts : Identity const_eq.ghosts.eq
 consts = variants const.enum _
-    (one signed, (one signed, (one floats32, (one floats64, tt))))
+    (one signed & one signed & one floats32 & one floats64 & tt)
 
 pub numerics : Identity numeric_eq.ghosts.eq
 numerics = tags numeric.the_type tt

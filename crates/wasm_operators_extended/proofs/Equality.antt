@@ -3,7 +3,7 @@
 use Rattle.std.proofs.Common.{◌≡◌, ℕ, true, ◌&&◌, nat_eq, sym, ap, true≢false}
 use Rattle.wasm_types_values.specs.Laws.{HeapEqualityIsIdentity, ReferenceEqualityIsIdentity}
 use Rattle.wasm_operators_immediates.specs.contracts.handlers.ResumeTablePartialEq.TheImpl as resume_eq
-use Rattle.wasm_operators_immediates.proofs.Telling.{Identity, none, one, two, three, variants, Tells, complete, first, second, both}
+use Rattle.wasm_operators_immediates.proofs.Telling.{Identity, none, one, two, three, variants, ◌&◌, Tells, complete, first, second, both}
 use Rattle.wasm_operators_immediates.proofs.Equality.{identity, numbers, orderings, arguments, resume_tables}
 use Rattle.wasm_operators_extended.specs.contracts.bulk.BulkOperator as bulk
 use Rattle.wasm_operators_extended.specs.contracts.bulk.BulkOperatorPartialEq.TheImpl as bulk_eq
@@ -22,481 +22,52 @@ use Rattle.wasm_operators_extended.specs.Trees as tree
 use Rattle.wasm_operators_extended.specs.Trees.{continuation_of}
 
 pub bulks : (same_heap : HeapEqualityIsIdentity) → Identity bulk_eq.ghosts.eq
-bulks same_heap = variants bulk.enum _ (
-  one numbers,
-  (
-    one numbers,
-    (
-      one (identity same_heap),
-      (
-        none,
-        (
-          one numbers,
-          (
-            two numbers numbers,
-            (
-              one numbers,
-              (
-                two numbers numbers,
-                (
-                  one numbers,
-                  (
-                    two numbers numbers,
-                    (
-                      one numbers,
-                      (
-                        two numbers numbers,
-                        (
-                          one numbers,
-                          (one numbers, (one numbers, (one numbers, tt))),
-                        ),
-                      ),
-                    ),
-                  ),
-                ),
-              ),
-            ),
-          ),
-        ),
-      ),
-    ),
-  ),
-)
+bulks same_heap = variants bulk.enum _
+    (one numbers & one numbers & one (identity same_heap) & none & one numbers & two numbers numbers &
+    one numbers & two numbers numbers & one numbers & two numbers numbers & one numbers & two numbers numbers &
+    one numbers & one numbers & one numbers & one numbers & tt)
 
 pub gcs : (same_heap : HeapEqualityIsIdentity) (same_reference : ReferenceEqualityIsIdentity) → Identity gc_eq.ghosts.eq
-gcs same_heap same_reference = variants gc.enum _ (
-  none,
-  (
-    one numbers,
-    (
-      one numbers,
-      (
-        two numbers numbers,
-        (
-          two numbers numbers,
-          (
-            two numbers numbers,
-            (
-              two numbers numbers,
-              (
-                one numbers,
-                (
-                  one numbers,
-                  (
-                    two numbers numbers,
-                    (
-                      two numbers numbers,
-                      (
-                        two numbers numbers,
-                        (
-                          one numbers,
-                          (
-                            one numbers,
-                            (
-                              one numbers,
-                              (
-                                one numbers,
-                                (
-                                  none,
-                                  (
-                                    one numbers,
-                                    (
-                                      two numbers numbers,
-                                      (
-                                        two numbers numbers,
-                                        (
-                                          two numbers numbers,
-                                          (
-                                            one (identity same_heap),
-                                            (
-                                              one (identity same_heap),
-                                              (
-                                                one (identity same_heap),
-                                                (
-                                                  one (identity same_heap),
-                                                  (
-                                                    three numbers (identity same_reference) (identity same_reference),
-                                                    (
-                                                      three numbers (identity same_reference) (identity same_reference),
-                                                      (
-                                                        none,
-                                                        (
-                                                          none,
-                                                          (
-                                                            none,
-                                                            (
-                                                              none,
-                                                              (
-                                                                none,
-                                                                tt,
-                                                              ),
-                                                            ),
-                                                          ),
-                                                        ),
-                                                      ),
-                                                    ),
-                                                  ),
-                                                ),
-                                              ),
-                                            ),
-                                          ),
-                                        ),
-                                      ),
-                                    ),
-                                  ),
-                                ),
-                              ),
-                            ),
-                          ),
-                        ),
-                      ),
-                    ),
-                  ),
-                ),
-              ),
-            ),
-          ),
-        ),
-      ),
-    ),
-  ),
-)
+gcs same_heap same_reference = variants gc.enum _
+    (none & one numbers & one numbers & two numbers numbers & two numbers numbers & two numbers numbers &
+    two numbers numbers & one numbers & one numbers & two numbers numbers & two numbers numbers &
+    two numbers numbers & one numbers & one numbers & one numbers & one numbers & none & one numbers &
+    two numbers numbers & two numbers numbers & two numbers numbers & one (identity same_heap) &
+    one (identity same_heap) & one (identity same_heap) & one (identity same_heap) &
+    three numbers (identity same_reference) (identity same_reference) &
+    three numbers (identity same_reference) (identity same_reference) & none & none & none & none & none & tt)
 
 pub descriptors : (same_heap : HeapEqualityIsIdentity) (same_reference : ReferenceEqualityIsIdentity) → Identity descriptor_eq.ghosts.eq
-descriptors same_heap same_reference = variants descriptor.enum _ (
-  one numbers,
-  (
-    one numbers,
-    (
-      one numbers,
-      (
-        one (identity same_heap),
-        (
-          one (identity same_heap),
-          (
-            three numbers (identity same_reference) (identity same_reference),
-            (three numbers (identity same_reference) (identity same_reference), tt),
-          ),
-        ),
-      ),
-    ),
-  ),
-)
+descriptors same_heap same_reference = variants descriptor.enum _
+    (one numbers & one numbers & one numbers & one (identity same_heap) & one (identity same_heap) &
+    three numbers (identity same_reference) (identity same_reference) &
+    three numbers (identity same_reference) (identity same_reference) & tt)
 
 pub atomics : Identity atomic_eq.ghosts.eq
-atomics = variants atomic.enum _ (
-  one arguments,
-  (
-    one arguments,
-    (
-      one arguments,
-      (
-        none,
-        (
-          one arguments,
-          (
-            one arguments,
-            (
-              one arguments,
-              (
-                one arguments,
-                (
-                  one arguments,
-                  (
-                    one arguments,
-                    (
-                      one arguments,
-                      (
-                        one arguments,
-                        (
-                          one arguments,
-                          (
-                            one arguments,
-                            (
-                              one arguments,
-                              (
-                                one arguments,
-                                (
-                                  one arguments,
-                                  (
-                                    one arguments,
-                                    (
-                                      one arguments,
-                                      (
-                                        one arguments,
-                                        (
-                                          one arguments,
-                                          (
-                                            one arguments,
-                                            (
-                                              one arguments,
-                                              (
-                                                one arguments,
-                                                (
-                                                  one arguments,
-                                                  (
-                                                    one arguments,
-                                                    (
-                                                      one arguments,
-                                                      (
-                                                        one arguments,
-                                                        (
-                                                          one arguments,
-                                                          (
-                                                            one arguments,
-                                                            (
-                                                              one arguments,
-                                                              (
-                                                                one arguments,
-                                                                (
-                                                                  one arguments,
-                                                                  (
-                                                                    one arguments,
-                                                                    (
-                                                                      one arguments,
-                                                                      (
-                                                                        one arguments,
-                                                                        (
-                                                                          one arguments,
-                                                                          (
-                                                                            one arguments,
-                                                                            (
-                                                                              one arguments,
-                                                                              (
-                                                                                one arguments,
-                                                                                (
-                                                                                  one arguments,
-                                                                                  (
-                                                                                    one arguments,
-                                                                                    (
-                                                                                      one arguments,
-                                                                                      (
-                                                                                        one arguments,
-                                                                                        (
-                                                                                          one arguments,
-                                                                                          (
-                                                                                            one arguments,
-                                                                                            (
-                                                                                              one arguments,
-                                                                                              (
-                                                                                                one arguments,
-                                                                                                (
-                                                                                                  one arguments,
-                                                                                                  (
-                                                                                                    one arguments,
-                                                                                                    (
-                                                                                                      one arguments,
-                                                                                                      (
-                                                                                                        one arguments,
-                                                                                                        (
-                                                                                                          one arguments,
-                                                                                                          (
-                                                                                                            one arguments,
-                                                                                                            (
-                                                                                                              one arguments,
-                                                                                                              (
-                                                                                                                one arguments,
-                                                                                                                (
-                                                                                                                  one arguments,
-                                                                                                                  (
-                                                                                                                    one arguments,
-                                                                                                                    (
-                                                                                                                      one arguments,
-                                                                                                                      (
-                                                                                                                        one arguments,
-                                                                                                                        (
-                                                                                                                          one arguments,
-                                                                                                                          (
-                                                                                                                            one arguments,
-                                                                                                                            (
-                                                                                                                              one arguments,
-                                                                                                                              (
-                                                                                                                                one arguments,
-                                                                                                                                (
-                                                                                                                                  one arguments,
-                                                                                                                                  (
-                                                                                                                                    one arguments,
-                                                                                                                                    (
-                                                                                                                                      one arguments,
-                                                                                                                                      tt,
-                                                                                                                                    ),
-                                                                                                                                  ),
-                                                                                                                                ),
-                                                                                                                              ),
-                                                                                                                            ),
-                                                                                                                          ),
-                                                                                                                        ),
-                                                                                                                      ),
-                                                                                                                    ),
-                                                                                                                  ),
-                                                                                                                ),
-                                                                                                              ),
-                                                                                                            ),
-                                                                                                          ),
-                                                                                                        ),
-                                                                                                      ),
-                                                                                                    ),
-                                                                                                  ),
-                                                                                                ),
-                                                                                              ),
-                                                                                            ),
-                                                                                          ),
-                                                                                        ),
-                                                                                      ),
-                                                                                    ),
-                                                                                  ),
-                                                                                ),
-                                                                              ),
-                                                                            ),
-                                                                          ),
-                                                                        ),
-                                                                      ),
-                                                                    ),
-                                                                  ),
-                                                                ),
-                                                              ),
-                                                            ),
-                                                          ),
-                                                        ),
-                                                      ),
-                                                    ),
-                                                  ),
-                                                ),
-                                              ),
-                                            ),
-                                          ),
-                                        ),
-                                      ),
-                                    ),
-                                  ),
-                                ),
-                              ),
-                            ),
-                          ),
-                        ),
-                      ),
-                    ),
-                  ),
-                ),
-              ),
-            ),
-          ),
-        ),
-      ),
-    ),
-  ),
-)
+atomics = variants atomic.enum _
+    (one arguments & one arguments & one arguments & none & one arguments & one arguments & one arguments &
+    one arguments & one arguments & one arguments & one arguments & one arguments & one arguments & one arguments &
+    one arguments & one arguments & one arguments & one arguments & one arguments & one arguments & one arguments &
+    one arguments & one arguments & one arguments & one arguments & one arguments & one arguments & one arguments &
+    one arguments & one arguments & one arguments & one arguments & one arguments & one arguments & one arguments &
+    one arguments & one arguments & one arguments & one arguments & one arguments & one arguments & one arguments &
+    one arguments & one arguments & one arguments & one arguments & one arguments & one arguments & one arguments &
+    one arguments & one arguments & one arguments & one arguments & one arguments & one arguments & one arguments &
+    one arguments & one arguments & one arguments & one arguments & one arguments & one arguments & one arguments &
+    one arguments & one arguments & one arguments & one arguments & tt)
 
 pub shareds : Identity shared_eq.ghosts.eq
-shareds = variants shared.enum _ (
-  two orderings numbers,
-  (
-    two orderings numbers,
-    (
-      two orderings numbers,
-      (
-        two orderings numbers,
-        (
-          two orderings numbers,
-          (
-            two orderings numbers,
-            (
-              two orderings numbers,
-              (
-                two orderings numbers,
-                (
-                  two orderings numbers,
-                  (
-                    two orderings numbers,
-                    (
-                      two orderings numbers,
-                      (
-                        two orderings numbers,
-                        (
-                          two orderings numbers,
-                          (
-                            three orderings numbers numbers,
-                            (
-                              three orderings numbers numbers,
-                              (
-                                three orderings numbers numbers,
-                                (
-                                  three orderings numbers numbers,
-                                  (
-                                    three orderings numbers numbers,
-                                    (
-                                      three orderings numbers numbers,
-                                      (
-                                        three orderings numbers numbers,
-                                        (
-                                          three orderings numbers numbers,
-                                          (
-                                            three orderings numbers numbers,
-                                            (
-                                              three orderings numbers numbers,
-                                              (
-                                                three orderings numbers numbers,
-                                                (
-                                                  two orderings numbers,
-                                                  (
-                                                    two orderings numbers,
-                                                    (
-                                                      two orderings numbers,
-                                                      (
-                                                        two orderings numbers,
-                                                        (
-                                                          two orderings numbers,
-                                                          (
-                                                            two orderings numbers,
-                                                            (
-                                                              two orderings numbers,
-                                                              (
-                                                                two orderings numbers,
-                                                                (
-                                                                  two orderings numbers,
-                                                                  (
-                                                                    two orderings numbers,
-                                                                    (
-                                                                      two orderings numbers,
-                                                                      (
-                                                                        none,
-                                                                        tt,
-                                                                      ),
-                                                                    ),
-                                                                  ),
-                                                                ),
-                                                              ),
-                                                            ),
-                                                          ),
-                                                        ),
-                                                      ),
-                                                    ),
-                                                  ),
-                                                ),
-                                              ),
-                                            ),
-                                          ),
-                                        ),
-                                      ),
-                                    ),
-                                  ),
-                                ),
-                              ),
-                            ),
-                          ),
-                        ),
-                      ),
-                    ),
-                  ),
-                ),
-              ),
-            ),
-          ),
-        ),
-      ),
-    ),
-  ),
-)
+shareds = variants shared.enum _
+    (two orderings numbers & two orderings numbers & two orderings numbers & two orderings numbers &
+    two orderings numbers & two orderings numbers & two orderings numbers & two orderings numbers &
+    two orderings numbers & two orderings numbers & two orderings numbers & two orderings numbers &
+    two orderings numbers & three orderings numbers numbers & three orderings numbers numbers &
+    three orderings numbers numbers & three orderings numbers numbers & three orderings numbers numbers &
+    three orderings numbers numbers & three orderings numbers numbers & three orderings numbers numbers &
+    three orderings numbers numbers & three orderings numbers numbers & three orderings numbers numbers &
+    two orderings numbers & two orderings numbers & two orderings numbers & two orderings numbers &
+    two orderings numbers & two orderings numbers & two orderings numbers & two orderings numbers &
+    two orderings numbers & two orderings numbers & two orderings numbers & none & tt)
 
 continuation_sound : (x y : ContinuationOperator) → continuation_eq.ghosts.eq x y ≡ true → continuation_of x ≡ continuation_of y
 continuation_sound (continuation.ContNew a) (continuation.ContNew b) h = ap tree.ContNew (numbers.sound a b h)

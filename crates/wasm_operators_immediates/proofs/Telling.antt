@@ -54,6 +54,11 @@ three p q r = also p (two q r)
 
 -- ---- enums
 
+infixr 10 ◌&◌
+-- the test of a variant's fields, and those of the variants behind it
+abbrev pub ◌&◌ : {A B : Type 0} → A → B → A × B
+a & b = (a, b)
+
 -- the test of each variant's fields
 abbrev pub Identities : (Fss : List (List Field)) → Each Bool Fss → Type 0
 Identities [] each = Unit {0}
