@@ -3,3 +3,4 @@ pub mod Passing
 pub mod Bytes
 pub mod Makers
 pub mod Telling
+pub mod Equality

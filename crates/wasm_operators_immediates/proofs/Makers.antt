@@ -1,5 +1,5 @@
 -- How an operator is made of its immediates again.
-use Rattle.std.proofs.Common.{ℕ, ℤ, List, [], ◌∷◌, Bool, false, Option, Some, None}
+use Rattle.std.proofs.Common.{ℕ, ℤ, List, [], ◌∷◌, false, Option, Some, None}
 use Rattle.wasm_types_reader.specs.declared.words.Ieee32.{Ieee32}
 use Rattle.wasm_types_reader.specs.declared.words.Ieee64.{Ieee64}
 use Rattle.wasm_types_values.specs.declared.heap.HeapType.{HeapType}

@@ -3,7 +3,6 @@ use Rattle.std.proofs.Common.{◌≡◌, Bool, true, false, ◌&&◌, List, [], 
 use Rattle.std.specs.Option.{option_eq}
 use lib.Pointwise.{pointwise}
 use denote.Struct.Field.{Field}
-use denote.Struct.Values.{Values}
 use denote.Enum.Declared.{Choice, Record, Declared, values_one}
 use denote.Enum.Compared.{Each, by}
 use denote.Enum.Bare.{Bare, sameb, same_true, true_same}
@@ -54,6 +53,11 @@ pub three : {A B C : Type 0} {test : A → A → Bool} {next : B → B → Bool}
 three p q r = also p (two q r)
 
 -- ---- enums
+
+infixr 10 ◌&◌
+-- the test of a variant's fields, and those of the variants behind it
+abbrev pub ◌&◌ : {A B : Type 0} → A → B → A × B
+a & b = (a, b)
 
 -- the test of each variant's fields
 abbrev pub Identities : (Fss : List (List Field)) → Each Bool Fss → Type 0

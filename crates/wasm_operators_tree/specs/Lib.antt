@@ -3,3 +3,4 @@ pub mod Table
 pub mod Immediates
 pub mod Frames
 pub mod Laws
+pub mod Equality
