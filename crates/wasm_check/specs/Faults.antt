@@ -1,5 +1,6 @@
 -- Why a run came to no verdict.
-use Rattle.std.specs.Prelude.{◌≡◌, ℕ, ◌<◌, ◌^◌, List, length, IfSome, Option}
+use Rattle.std.specs.Prelude.{◌≡◌, ℕ, ◌<◌, ◌^◌, List, ◌++◌, codes, length, IfSome, Option}
+use Rattle.std.specs.Fmt.{decimal}
 use Rattle.wasm_check.specs.declared.error.CheckError.{CheckError}
 use Rattle.wasm_check.specs.declared.error.CheckError.TheVariants.{Read, TooLong, OutOfMemory, Write}
 
@@ -20,3 +21,10 @@ FailsReading index said (Read i) = i ≡ index
 FailsReading index said (TooLong i) = (i ≡ index) × IsTooLong said
 FailsReading index said (OutOfMemory i) = i ≡ index
 FailsReading index said Write = ⊥
+
+-- what an error writes
+abbrev pub error_text : CheckError → List ℕ
+error_text (Read i) = codes "input " ++ decimal i ++ codes ": cannot read"
+error_text (TooLong i) = codes "input " ++ decimal i ++ codes ": too long"
+error_text (OutOfMemory i) = codes "input " ++ decimal i ++ codes ": out of memory"
+error_text Write = codes "cannot write"

@@ -1,5 +1,5 @@
 -- What the program does with the files that it is given.
-use Rattle.std.specs.Prelude.{◌≡◌, ◌⊎◌, ℕ, ◌<◌, codes, length, List, map, Contains, slice_get, Option, Some, Result, Ok, Err}
+use Rattle.std.specs.Prelude.{◌≡◌, ◌⊎◌, ℕ, ◌<◌, codes, length, List, ◌++◌, map, Contains, slice_get, Option, Some, Result, Ok, Err}
 use Rattle.std.specs.Borrow.{Bor}
 use Rattle.std.specs.Io.KnownBytes.{Keeps}
 use Rattle.wasm_check.specs.declared.error.CheckError.{CheckError}
@@ -68,3 +68,16 @@ pub record Reports (old new : Option (List ℕ)) (status : Status) : Type 0 wher
   pub names : List (List ℕ)
   pub some : 0 < length names
   pub reported : ReportsFiles names old new status
+
+-- what is written of a file at which the judging stopped
+abbrev pub stopped_text : CheckError → List ℕ → List ℕ
+stopped_text (Read i) name = codes "wasm-check: " ++ name ++ codes ": cannot read"
+stopped_text (TooLong i) name = codes "wasm-check: " ++ name ++ codes ": too long"
+stopped_text (OutOfMemory i) name = codes "wasm-check: " ++ name ++ codes ": out of memory"
+stopped_text Write name = codes "wasm-check: cannot write"
+
+-- what a fault writes
+abbrev pub fault_text : Fault → List ℕ
+fault_text (faults.CannotOpen name) = codes "wasm-check: " ++ name.now ++ codes ": cannot open"
+fault_text (faults.Stopped error name) = stopped_text error name.now
+fault_text faults.OutOfMemory = codes "wasm-check: out of memory"

@@ -27,6 +27,11 @@ enum Fault<'a> {
 }
 
 impl fmt::Display for Fault<'_> {
+    ghost use Rattle.std.specs.Prelude.{Some};
+    ghost use Rattle.wasm_check.specs.Files.{fault_text};
+
+    ghost output = { λ f. Some (fault_text f) };
+
     fn fmt<W: fmt::Write>(&self, f: &mut fmt::Formatter<W>) -> fmt::Result {
         match self {
             Fault::CannotOpen(name) => write!(f, "wasm-check: {name}: cannot open"),

@@ -33,6 +33,11 @@ impl CheckError {
 }
 
 impl fmt::Display for CheckError {
+    ghost use Rattle.std.specs.Prelude.{Some};
+    ghost use Rattle.wasm_check.specs.Faults.{error_text};
+
+    ghost output = { λ e. Some (error_text e) };
+
     fn fmt<W: fmt::Write>(&self, f: &mut fmt::Formatter<W>) -> fmt::Result {
         match self {
             CheckError::Read(index) => write!(f, "input {index}: cannot read"),

@@ -1,14 +1,12 @@
 -- What a refusal of a part says of the whole.
-use Rattle.std.proofs.Common.{◌≡◌, ℕ, ◌+◌, ◌<◌, List, length, refl, sym, ap, ◌∙◌, subst}
-use Rattle.std.specs.Prelude.{slice_get}
-use Rattle.wasm_types_decoding.specs.declared.Refusal.TheVariants as refusals
-use Rattle.wasm_types_decoding.specs.Decoder.{State, Outcome, Done, Short, Fault}
+use Rattle.std.proofs.Common.{◌≡◌, ℕ, sym, ◌∙◌, subst}
+use Rattle.wasm_types_decoding.specs.Decoder.{State, Outcome, Done}
 use Rattle.wasm_types_decoding.specs.Exact.{value_is}
 use Rattle.wasm_types_error.specs.declared.error.ErrorKind.{ErrorKind}
 use Rattle.wasm_types_error.specs.declared.error.ErrorKind.TheVariants as kinds
 use Rattle.wasm_types_reader.specs.Reading.{FailsAt}
 use Rattle.wasm_module_validator.specs.Accepts.{Accepts}
-use Rattle.wasm_module_validator.specs.Answers.{Denies, denies, denies_from}
+use Rattle.wasm_module_validator.specs.Answers.{Denies, denies_from}
 use Rattle.wasm_module_validator.specs.Frames.{Frames, module_frames}
 use Rattle.wasm_module_validator.specs.Judged.{AreAccepted, IsAcceptedAt, at_accepted}
 

@@ -1,10 +1,9 @@
 -- The places of refusals: each is among the bytes of the body.
-use Rattle.std.proofs.Common.{◌≡◌, ℕ, ◌+◌, ◌≤◌, List, ◌++◌, length, refl, sym, ap, subst, ◌∙◌, arith}
+use Rattle.std.proofs.Common.{◌≡◌, ℕ, ◌≤◌, List, length, ap, subst, arith}
 use Rattle.std.specs.Prelude.{Result, Ok, Err}
 use Rattle.std.proofs.lemmas.List.{length-append}
-use Rattle.wasm_types_decoding.specs.Decoder.{State, Outcome, Done, Short, Fault, Decoder, Takes, Reaches}
+use Rattle.wasm_types_decoding.specs.Decoder.{State, Outcome, Decoder, Reaches}
 use Rattle.wasm_types_decoding.specs.Places.{end_of, StaysIn, RefusesWithin}
-use Rattle.wasm_types_decoding.specs.declared.Refusal.TheVariants as refusals
 use Rattle.wasm_types_error.specs.declared.error.ErrorKind.{ErrorKind}
 use Rattle.wasm_types_error.specs.declared.error.ErrorKind.TheVariants.{EndOfData, MissingFeature, OutOfMemory, Failed, Other}
 use Rattle.wasm_types_error.specs.ErrorValue.{ErrorValue}

@@ -1,5 +1,5 @@
 -- What the validator accepts.
-use Rattle.std.specs.Prelude.{◌≡◌, ℕ, List, length}
+use Rattle.std.specs.Prelude.{ℕ, List}
 use Rattle.wasm_module_validator.specs.Syntax.{Module}
 use Rattle.wasm_module_validator.specs.Binary.{SpellsModule}
 use Rattle.wasm_module_validator.specs.Validation.{IsValidModule}

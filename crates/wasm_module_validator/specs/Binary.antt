@@ -1,5 +1,5 @@
 -- Which bytes spell a module (WebAssembly 3.0, binary format), within the limits of this implementation.
-use Rattle.std.specs.Prelude.{◌≡◌, ℕ, ℤ, ◌≤◌, ◌⊎◌, List, [], ◌∷◌, ◌++◌, length}
+use Rattle.std.specs.Prelude.{◌≡◌, ℕ, ◌≤◌, ◌⊎◌, List, [], ◌∷◌, ◌++◌, length}
 use Rattle.wasm_types_decoding.specs.Decoder.{Grammar}
 use Rattle.wasm_types_decoding.specs.Leb.{IsUnsigned, IsSigned, IsListed}
 use Rattle.wasm_types_decoding.specs.Lists.{IsListedWithin}

@@ -1,11 +1,11 @@
 -- A module as its frames and the functions in them: why reading the one and judging the others decides what is accepted.
-use Rattle.std.proofs.Common.{◌≡◌, ℕ, zero, suc, ◌+◌, ◌<◌, ◌≤◌, List, [], ◌∷◌, ◌++◌, length, refl, sym, ap, ◌∙◌, subst, append_assoc, Bool, true, false, cond, arith, ◌⊎◌, inl, inr, Option, Some, None}
-use Rattle.std.specs.Prelude.{◌==◌, if◌then◌else◌, slice_get}
-use Rattle.std.proofs.lemmas.List.{append-nil, length-append}
-use Rattle.std.proofs.lemmas.Bool.{eqb-true, eqb-false, eq-eqb}
+use Rattle.std.proofs.Common.{◌≡◌, ℕ, zero, suc, ◌+◌, ◌<◌, ◌≤◌, List, [], ◌∷◌, ◌++◌, length, refl, sym, ap, ◌∙◌, subst, Bool, true, false, cond, arith, inl, inr, Option, Some}
+use Rattle.std.specs.Prelude.{◌==◌, slice_get}
+use Rattle.std.proofs.lemmas.List.{append-nil}
+use Rattle.std.proofs.lemmas.Bool.{eqb-true}
 use Rattle.std.proofs.lemmas.Option.{slice_get_within}
 use Rattle.wasm_types_decoding.specs.declared.Refusal.TheVariants.{Other}
-use Rattle.wasm_types_decoding.specs.Decoder.{State, Outcome, Done, Short, Fault, Decoder, Grammar, ◌>>=◌, pure, bytes, continue_with, Many, Decides, Takes, Then}
+use Rattle.wasm_types_decoding.specs.Decoder.{State, Done, Fault, Grammar, ◌>>=◌, pure, bytes, Many, Decides, Takes, Then}
 use Rattle.wasm_types_decoding.specs.Exact.{done_then, value_is, state_is, decides->>=, decides-same, decides-if, decides-pure, decides-bytes, Exactly}
 use Rattle.wasm_types_decoding.specs.ListLaws.{decides-refuse_at, decides-from_place}
 use Rattle.wasm_types_decoding.specs.Lists.{refuse_at}
@@ -13,10 +13,9 @@ use Rattle.std.specs.Str.{bytes_eq}
 use Rattle.std.proofs.lemmas.Slice.Eq.{bytes_eq-Decides}
 use Rattle.wasm_types_decoding.specs.Leb.{IsUnsigned, IsListed}
 use Rattle.wasm_types_decoding.specs.Lists.{IsListedWithin}
-use Rattle.wasm_types_decoding.specs.Text.{IsSized}
 use Rattle.wasm_module_validator.specs.Syntax.{FunctionType, Function, Module}
-use Rattle.wasm_module_validator.specs.Binary.{SpellsFunctionType, SpellsFunction, SpellsWithin, SpellsEntry, SpellsSection, SpellsModule, header}
-use Rattle.wasm_module_validator.specs.Validation.{IsValidFunction, AreValidFunctions, IsValidModule}
+use Rattle.wasm_module_validator.specs.Binary.{SpellsFunctionType, SpellsFunction, SpellsEntry, SpellsSection, header}
+use Rattle.wasm_module_validator.specs.Validation.{AreValidFunctions}
 use Rattle.wasm_module_validator.specs.Accepts.{Judges, Accepts}
 use Rattle.wasm_module_validator.specs.Bodies.{AcceptsBody}
 use Rattle.wasm_module_validator.specs.Types.{function_type}

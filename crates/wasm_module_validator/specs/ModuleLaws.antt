@@ -1,23 +1,19 @@
 -- The sections of a module, one after another, are read exactly as they are spelled.
-use Rattle.std.proofs.Common.{◌≡◌, ℕ, zero, suc, ◌+◌, ◌<◌, ◌≤◌, List, [], ◌∷◌, ◌++◌, length, refl, sym, ap, ◌∙◌, subst, append_assoc, Bool, true, false, cond, arith, ◌⊎◌, inl, inr}
-use Rattle.std.specs.Prelude.{nat_lt, ◌==◌, if◌then◌else◌, ◌≢◌}
-use Rattle.std.proofs.lemmas.List.{append-nil, length-append}
+use Rattle.std.proofs.Common.{◌≡◌, ℕ, zero, suc, ◌+◌, ◌<◌, ◌≤◌, List, [], ◌∷◌, ◌++◌, length, refl, sym, ap, ◌∙◌, subst, Bool, true, false, cond, arith, ◌⊎◌, inl, inr}
+use Rattle.std.specs.Prelude.{nat_lt, ◌==◌}
+use Rattle.std.proofs.lemmas.List.{append-nil}
 use Rattle.std.proofs.lemmas.Bool.{ltb-true, ltb-false, eqb-true, eqb-false, eq-eqb}
 use Rattle.wasm_types_decoding.specs.declared.Refusal.TheVariants.{Other}
-use Rattle.wasm_types_decoding.specs.Decoder.{State, Outcome, Done, Short, Fault, Decoder, Grammar, ◌>>=◌, pure, repeated, continue_with, Decides, Takes, Then, Many}
-use Rattle.wasm_types_decoding.specs.Laws.{takes_none}
-use Rattle.wasm_types_decoding.specs.Exact.{decides-same, decides->>=, decides-if, decides-pure, decides-repeated, done_then, value_is, state_is, same_state}
+use Rattle.wasm_types_decoding.specs.Decoder.{State, Done, Decoder, Grammar, ◌>>=◌, pure, repeated, Decides, Takes, Then, Many}
+use Rattle.wasm_types_decoding.specs.Exact.{decides-same, decides->>=, decides-if, decides-pure, decides-repeated}
 use Rattle.wasm_types_decoding.specs.Leb.{u32, IsUnsigned, IsListed}
 use Rattle.wasm_types_decoding.specs.LebLaws.{decides-u32}
 use Rattle.wasm_types_decoding.specs.Lists.{refuse_at, IsListedWithin}
 use Rattle.wasm_types_decoding.specs.ListLaws.{decides-refuse_at, decides-from_place}
 use Rattle.wasm_types_decoding.specs.Text.{IsSized}
-use Rattle.wasm_module_validator.specs.Syntax.{FunctionType}
-use Rattle.wasm_module_validator.specs.Binary.{SpellsFunctionType}
-use Rattle.wasm_module_validator.specs.Types.{function_type}
-use Rattle.wasm_module_validator.specs.TypeLaws.{head_is, tail_is, decides-function_type}
-use Rattle.wasm_module_validator.specs.Frames.{IsCounted, Frames, begins, contents, section, items, at_most_or, below_or, type_index, body, as_many_or, entries, no_entries, at_end, type_section, function_section, code_section, frames}
-use Rattle.wasm_module_validator.specs.FrameLaws.{decides-along, decides-body}
+use Rattle.wasm_module_validator.specs.TypeLaws.{head_is}
+use Rattle.wasm_module_validator.specs.Frames.{IsCounted, begins, contents, section, items, at_most_or, below_or, type_index, body, as_many_or, entries}
+use Rattle.wasm_module_validator.specs.FrameLaws.{decides-body}
 use Rattle.wasm_module_validator.specs.SectionLaws.{decides-contents}
 
 -- ---- lists and numbers with a limit

@@ -1,22 +1,17 @@
 -- The sections of a module are read exactly as they are spelled.
-use Rattle.std.proofs.Common.{◌≡◌, ℕ, ◌+◌, ◌-◌, ◌<◌, ◌≤◌, List, [], ◌∷◌, ◌++◌, length, take, drop, refl, sym, ap, ◌∙◌, subst, append_assoc, Bool, true, false, cond, arith, ltb, ◌⊎◌, inl, inr}
-use Rattle.std.specs.Prelude.{nat_lt, ◌==◌, if◌then◌else◌, ◌≢◌}
-use Rattle.std.proofs.lemmas.List.{append-nil}
-use Rattle.std.proofs.lemmas.Bool.{ltb-true, ltb-false, cases_lt, eqb-true}
+use Rattle.std.proofs.Common.{◌≡◌, ℕ, ◌+◌, ◌-◌, ◌<◌, ◌≤◌, List, ◌∷◌, length, take, drop, refl, sym, ap, ◌∙◌, subst, arith, inl, inr}
+use Rattle.std.proofs.lemmas.Bool.{cases_lt}
 use Rattle.wasm_types_decoding.specs.declared.Refusal.TheVariants.{Other}
-use Rattle.wasm_types_decoding.specs.Decoder.{State, Outcome, Done, Short, Fault, Decoder, Grammar, ◌>>=◌, pure, byte, bytes, repeated, continue_with, ended, within, inside, Decides, Takes, Then, Many}
-use Rattle.wasm_types_decoding.specs.Laws.{bytes-enough, bytes-short, takes_none}
-use Rattle.wasm_types_decoding.specs.Exact.{decides-same, decides-byte, decides->>=, decides-if, decides-pure, decides-repeated, done_then, value_is, state_is, same_state}
-use Rattle.wasm_types_decoding.specs.Leb.{u32, IsUnsigned, IsListed}
-use Rattle.wasm_types_decoding.specs.LebLaws.{decides-u32}
-use Rattle.wasm_types_decoding.specs.Lists.{refuse_at, at_most_or as at_most_or_size, size_within, listed_within, IsListedWithin}
-use Rattle.wasm_types_decoding.specs.ListLaws.{decides-refuse_at, decides-from_place, decides-listed_within}
+use Rattle.wasm_types_decoding.specs.Decoder.{State, Outcome, Done, Short, Fault, Decoder, Grammar, ◌>>=◌, byte, continue_with, ended, within, Decides}
+use Rattle.wasm_types_decoding.specs.Laws.{bytes-enough, bytes-short}
+use Rattle.wasm_types_decoding.specs.Exact.{decides-same, decides-byte, done_then}
+use Rattle.wasm_types_decoding.specs.Leb.{u32}
 use Rattle.wasm_types_decoding.specs.Text.{sized, IsSized}
 use Rattle.wasm_types_decoding.specs.TextLaws.{decides-sized}
 use Rattle.wasm_types_reader.specs.Parts.{counted_part, next_part, part_at}
-use Rattle.wasm_module_validator.specs.Frames.{begins, finished, entered, contents, section, items, at_most_or, below_or, type_index}
+use Rattle.wasm_module_validator.specs.Frames.{finished, contents}
 use Rattle.wasm_module_validator.specs.FrameLaws.{decides-along}
-use Rattle.wasm_module_validator.specs.TypeLaws.{head_is, tail_is}
+use Rattle.wasm_module_validator.specs.TypeLaws.{tail_is}
 
 -- ---- decoders that give the same values
 

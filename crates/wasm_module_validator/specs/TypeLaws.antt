@@ -3,9 +3,9 @@ use Rattle.std.proofs.Common.{◌≡◌, ℕ, zero, suc, List, [], ◌∷◌, �
 use Rattle.std.specs.Prelude.{◌&&◌}
 use Rattle.std.proofs.lemmas.List.{append-nil}
 use Rattle.wasm_types_decoding.specs.declared.Refusal.TheVariants.{Other}
-use Rattle.wasm_types_decoding.specs.Decoder.{Decoder, Grammar, ◌>>=◌, pure, refuse, byte, IsLawful, Decides, Then, Many}
+use Rattle.wasm_types_decoding.specs.Decoder.{Grammar, ◌>>=◌, pure, byte, IsLawful, Decides, Then, Many}
 use Rattle.wasm_types_decoding.specs.Laws.{lawful-byte, lawful->>=, lawful-pure, lawful-refuse, lawful-choice, lawful-if}
-use Rattle.wasm_types_decoding.specs.Exact.{decides->>=, decides-same, decides-pure, decides-if, decides-map, Mapped, has_tag, decides-choice}
+use Rattle.wasm_types_decoding.specs.Exact.{decides->>=, decides-same, decides-pure, decides-if, has_tag, decides-choice}
 use Rattle.wasm_types_decoding.specs.Lists.{refuse_at, IsListedWithin}
 use Rattle.wasm_types_decoding.specs.ListLaws.{lawful-from_place, decides-from_place, lawful-refuse_at, decides-refuse_at}
 use Rattle.wasm_types_values.specs.ValueExact.{SpelledValue}

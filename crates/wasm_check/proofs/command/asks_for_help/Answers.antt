@@ -16,8 +16,7 @@ returns-then-eq g c = (
 pub loop-word-preserved : goal.loop-word-preserved
 loop-word-preserved g c =
     let text = g.S.AsStr.text in
-    let is = λ (d : List ℕ). text_is text c.args.words.now c.loop-word.word-index c.word-item.result d c.loop-word-test.true c.word-item.is in
-    (
+    let is = λ (d : List ℕ). text_is text c.args.words.now c.loop-word.word-index c.word-item.result d c.loop-word-test.true c.word-item.is in (
       below_more _ _ c.loop-word.invariant.0 (λ e. other_text _ _ _ c.eq.ensures c.if-eq.false (c.as_str-text.ensures ∙ sym (is (codes "--help")) ∙ e)),
       below_more _ _ c.loop-word.invariant.1 (λ e. other_text _ _ _ c.eq-else-eq.ensures c.if-eq-2.false (c.as_str-text.ensures ∙ sym (is (codes "-h")) ∙ e)),
     )

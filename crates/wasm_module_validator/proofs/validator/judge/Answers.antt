@@ -1,12 +1,10 @@
 -- A refusal of the sections or of a function denies the whole; a yes is shown by its module.
-use Rattle.std.proofs.Common.{◌≡◌, ℕ, ◌≤◌, length, arith, sym, ap, ◌∙◌, subst, List}
+use Rattle.std.proofs.Common.{◌≡◌, ℕ, length, arith, sym, ap, ◌∙◌, subst, List}
 use Rattle.std.proofs.lemmas.Result.{err_from_is_err_and}
 use Rattle.wasm_types_decoding.specs.Decoder.{State}
-use Rattle.wasm_types_error.specs.ErrorValue.{ErrorValue}
 use Rattle.wasm_module_validator.specs.Answers.{Denies}
 use Rattle.wasm_module_validator.specs.Accepts.{Accepts, Judges}
-use Rattle.wasm_module_validator.specs.Syntax.{Module}
-use Rattle.wasm_module_validator.specs.Judged.{few_frames, shown_at, accepted_at}
+use Rattle.wasm_module_validator.specs.Judged.{few_frames, shown_at}
 use Rattle.wasm_module_validator.specs.Frames.{module_frames}
 use Rattle.wasm_module_validator.specs.Refusals.{FailsFrames, stands_at_begin, fails_frames, frames_read}
 use Rattle.wasm_module_validator.proofs.Judging.{not_read, not_judged}

@@ -1,8 +1,7 @@
 -- Each function is accepted by its place; where one isn't, not all are.
-use Rattle.std.proofs.Common.{◌≡◌, ℕ, ◌<◌, ◌≤◌, length, arith, sym, ap, ◌∙◌, below_more}
+use Rattle.std.proofs.Common.{◌≡◌, ◌<◌, ◌≤◌, length, arith, ap, below_more}
 use Rattle.std.proofs.lemmas.List.{length-map}
 use Rattle.std.proofs.lemmas.Result.{err_from_is_err_and}
-use Rattle.wasm_types_decoding.specs.Decoder.{State}
 use Rattle.wasm_module_validator.specs.declared.sections.FunctionBody.{FunctionBody}
 use Rattle.wasm_module_validator.specs.Answers.{denies, denies_from}
 use Rattle.wasm_module_validator.specs.Entries.{bodies}
