@@ -1,0 +1,75 @@
+//! Visits of all operators.
+#![tactic(auto)]
+
+ghost use Rattle.std.specs.Prelude.{◌≡◌, IfOk, IfErr};
+ghost use Rattle.wasm_operators_tree.specs.Op.{op_of};
+
+use std::alloc::AllocError;
+use wasm_operators_tree::Operator;
+use wasm_operators_visit_atomic::visit_atomic;
+use wasm_operators_visit_control::{
+    visit_continuation, visit_control, visit_exception, visit_parametric,
+};
+use wasm_operators_visit_gc::{visit_descriptor, visit_gc};
+use wasm_operators_visit_memory::{visit_bulk, visit_const, visit_memory};
+use wasm_operators_visit_numbers::visit_numeric;
+use wasm_operators_visit_operator::{VisitOperator, copy};
+use wasm_operators_visit_shared::visit_shared;
+use wasm_operators_visit_simd::VisitSimd;
+use wasm_operators_visit_simd_floats::VisitSimdFloats;
+use wasm_operators_visit_simd_narrow::VisitSimdNarrow;
+use wasm_operators_visit_simd_wide::VisitSimdWide;
+use wasm_operators_visit_vectors::{visit_simd, visit_simd_numeric};
+
+/// A visitor of all operators, those on vectors too.
+pub trait VisitSimdOperator<'a>: VisitOperator<'a>
+    + VisitSimd<'a>
+    + VisitSimdNarrow<'a>
+    + VisitSimdWide<'a>
+    + VisitSimdFloats<'a> {
+    /// Tells the visitor of any operator that is its to keep, by the visit that belongs to it. It takes no memory.
+    fn visit_simd_owned(&mut self, op: Operator<'a>) -> Self::Output
+        ensures { Self.visits self.old (op_of op.entry) result self.new };
+
+    /// Tells the visitor of any operator by the visit that belongs to it, which gets a copy of the operator's tables.
+    ///
+    /// # Errors
+    ///
+    /// Where there is no memory for the copy. The visitor is then told nothing.
+    fn visit_simd_operator(&mut self, op: &Operator<'a>) -> Result<Self::Output, AllocError>
+        ensures visited { IfOk result (λ answer. Self.visits self.old (op_of op.now) answer self.new) }
+        ensures kept { IfErr result (λ _. self.new ≡ self.old) };
+}
+
+impl<'a, V> VisitSimdOperator<'a> for V
+where
+    V: VisitOperator<'a>
+        + VisitSimd<'a>
+        + VisitSimdNarrow<'a>
+        + VisitSimdWide<'a>
+        + VisitSimdFloats<'a>,
+{
+    fn visit_simd_owned(&mut self, op: Operator<'a>) -> Self::Output {
+        match op {
+            Operator::Control(op) => visit_control(self, op),
+            Operator::Parametric(op) => visit_parametric(self, op),
+            Operator::Exception(op) => visit_exception(self, op),
+            Operator::Memory(op) => visit_memory(self, op),
+            Operator::Const(op) => visit_const(self, op),
+            Operator::Numeric(op) => visit_numeric(self, op),
+            Operator::Bulk(op) => visit_bulk(self, op),
+            Operator::Gc(op) => visit_gc(self, op),
+            Operator::Descriptor(op) => visit_descriptor(self, op),
+            Operator::Simd(op) => visit_simd(self, op),
+            Operator::SimdNumeric(op) => visit_simd_numeric(self, op),
+            Operator::Atomic(op) => visit_atomic(self, op),
+            Operator::Shared(op) => visit_shared(self, op),
+            Operator::Continuation(op) => visit_continuation(self, op),
+        }
+    }
+
+    fn visit_simd_operator(&mut self, op: &Operator<'a>) -> Result<Self::Output, AllocError> {
+        let op = copy(op)?;
+        Ok(self.visit_simd_owned(op))
+    }
+}
