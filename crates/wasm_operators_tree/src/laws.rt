@@ -17,8 +17,8 @@ pub const fn rows_follow_from_codes()
     ensures kinds { KindsFollowFromCodes }
 {}
 
-/// An operator is what its prefix, its code and its immediates say. `select` with a type alone has two forms with one
-/// code, `TypedSelect` for one type and `TypedSelectMulti` for any other number.
+/// An operator is what its prefix, its code and its immediates say. `select` with types alone has two forms with one
+/// code, `TypedSelect` for one type and `TypedSelectMulti` for any other number, which the law asks for.
 pub const fn codes_tell_operators_apart()
     ensures { CodesTellOperatorsApart }
 {}
