@@ -1,8 +1,9 @@
 //! Operators of WebAssembly and visitors of them.
 //!
 //! A visitor implements the traits of groups (`VisitControl`, `VisitMemory` and so on), one visit for each operator, under
-//! the relation that its `Visitor` states. It is then a `VisitOperator`: this name stands for all visits together but those
-//! on vectors.
+//! the relation that its `Visitor` states. It is then a `VisitOperator`, the name for all visits together but those of
+//! vectors, and with `VisitSimd`, `VisitSimdNarrow`, `VisitSimdWide` and `VisitSimdFloats` a `VisitSimdOperator`, which is
+//! all of them.
 #![tactic(auto)]
 
 pub use wasm_operators_basic::{
@@ -28,3 +29,8 @@ pub use wasm_operators_visit_integers::VisitIntegers;
 pub use wasm_operators_visit_memory::VisitMemory;
 pub use wasm_operators_visit_operator::{VisitOperator, is_simd};
 pub use wasm_operators_visit_shared::VisitShared;
+pub use wasm_operators_visit_simd::VisitSimd;
+pub use wasm_operators_visit_simd_floats::VisitSimdFloats;
+pub use wasm_operators_visit_simd_narrow::VisitSimdNarrow;
+pub use wasm_operators_visit_simd_operator::VisitSimdOperator;
+pub use wasm_operators_visit_simd_wide::VisitSimdWide;
