@@ -63,9 +63,8 @@ code_of (Err fault) = 2
 abbrev pub AsksForHelp : List (List ℕ) → Type 0
 AsksForHelp words = Contains words (codes "--help") ⊎ Contains words (codes "-h")
 
--- Some files, at least one, were judged: a line was written for each, and the status says whether all are valid.
-pub record Reports (old new : Option (List ℕ)) (status : Status) : Type 0 where
-  pub names : List (List ℕ)
+-- These files, at least one, were judged: a line was written for each, and the status says whether all are valid.
+pub record Reports (names : List (List ℕ)) (old new : Option (List ℕ)) (status : Status) : Type 0 where
   pub some : 0 < length names
   pub reported : ReportsFiles names old new status
 

@@ -3,4 +3,5 @@ pub mod Lines
 pub mod Faults
 pub mod Verdict
 pub mod Reports
+pub mod Words
 pub mod Files

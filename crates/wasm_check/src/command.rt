@@ -2,6 +2,8 @@
 ghost use Rattle.std.specs.Prelude.{◌≡◌, ◌↔◌, ℕ, ◌<◌, ◌≤◌, ◌⊎◌, List, map, length, IfOk, IfErr, IsTrue};
 ghost use Rattle.std.specs.Io.KnownBytes.{Keeps};
 ghost use Rattle.wasm_check.specs.declared.judging.Status.TheVariants.{AllValid, SomeInvalid};
+ghost use Rattle.clap.specs.Words.{found_of, rows_of};
+ghost use Rattle.wasm_check.specs.Words.{matches_on, files_of};
 ghost use Rattle.wasm_check.specs.Files.{texts, code_of, IsPlaced, IsNamed, FailsOpening, ReportsFiles, StopsFiles, AsksForHelp, Reports};
 
 use crate::error::CheckError;
@@ -47,7 +49,9 @@ impl fmt::Display for Fault<'_> {
 }
 
 /// The words, read as a command line.
-fn parse<'a, S: AsStr>(alloc: Global, words: &'a [S]) -> Result<ArgMatches<'a>, clap::Error> {
+fn parse<'a, S: AsStr>(alloc: Global, words: &'a [S]) -> Result<ArgMatches<'a>, clap::Error>
+    ensures { IfOk result (λ m. rows_of (found_of m) ≡ matches_on (map S.text words.now)) }
+{
     let files = Arg::new(alloc, "FILE")
         .help("A file to judge")
         .required(true)
@@ -195,13 +199,15 @@ where
     ensures known { result ≤ 2 }
     ensures quiet { result < 2 → Keeps (E.contents err.old) (E.contents err.new) }
     ensures valid { result ≡ 0 → AsksForHelp (map S.text words.now)
-        ⊎ Reports (W.contents out.old) (W.contents out.new) AllValid }
-    ensures invalid { result ≡ 1 → Reports (W.contents out.old) (W.contents out.new) SomeInvalid }
+        ⊎ Reports (files_of (map S.text words.now)) (W.contents out.old) (W.contents out.new) AllValid }
+    ensures invalid { result ≡ 1 → Reports (files_of (map S.text words.now)) (W.contents out.old) (W.contents out.new) SomeInvalid }
 {
     let alloc = rt.alloc();
     match parse(alloc, words) {
         Ok(matches) => {
-            let names = matches.get_strs("FILE").unwrap_or(&[]);
+            let Some(names) = matches.get_strs("FILE") else {
+                return 2;
+            };
             if names.is_empty() {
                 return 2;
             }
