@@ -20,10 +20,6 @@ wasm_check = with_rule (new_app (codes "wasm-check")) file_rule
 abbrev pub matches_on : List (List ℕ) → List Row
 matches_on words = matches_of wasm_check words
 
--- the files of these matches, in order
-abbrev pub files_in : List Row → List (List ℕ)
-files_in rows = unwrap_or (all_of (codes "FILE") rows) []
-
 -- the files that the words name, in order
 abbrev pub files_of : List (List ℕ) → List (List ℕ)
-files_of words = files_in (matches_on words)
+files_of words = unwrap_or (all_of (codes "FILE") (matches_on words)) []
