@@ -1,9 +1,8 @@
 //! Visits of atomic accesses to globals, tables, structs and arrays.
 #![tactic(auto)]
 
-mod dispatch;
+mod boxed;
 mod forwarding;
 mod visits;
 
-pub use dispatch::visit_shared;
 pub use visits::VisitShared;

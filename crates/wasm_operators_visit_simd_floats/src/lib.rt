@@ -1,6 +1,7 @@
 //! Visits of vectors of floats.
 #![tactic(auto)]
 
+mod boxed;
 mod forwarding;
 mod visits;
 

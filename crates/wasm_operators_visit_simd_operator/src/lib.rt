@@ -6,7 +6,6 @@ ghost use Rattle.wasm_operators_tree.specs.Op.{op_of};
 
 use std::alloc::AllocError;
 use wasm_operators_tree::Operator;
-use wasm_operators_visit_atomic::visit_atomic;
 use wasm_operators_visit_control::{
     visit_continuation, visit_control, visit_exception, visit_parametric,
 };
@@ -14,11 +13,11 @@ use wasm_operators_visit_gc::{visit_descriptor, visit_gc};
 use wasm_operators_visit_memory::{visit_bulk, visit_const, visit_memory};
 use wasm_operators_visit_numbers::visit_numeric;
 use wasm_operators_visit_operator::{VisitOperator, copy};
-use wasm_operators_visit_shared::visit_shared;
 use wasm_operators_visit_simd::VisitSimd;
 use wasm_operators_visit_simd_floats::VisitSimdFloats;
 use wasm_operators_visit_simd_narrow::VisitSimdNarrow;
 use wasm_operators_visit_simd_wide::VisitSimdWide;
+use wasm_operators_visit_threads::{visit_atomic, visit_shared};
 use wasm_operators_visit_vectors::{visit_simd, visit_simd_numeric};
 
 /// A visitor of all operators, those on vectors too.

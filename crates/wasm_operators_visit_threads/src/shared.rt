@@ -2,8 +2,8 @@
 
 ghost use Rattle.wasm_operators_tree.specs.Op.{Op};
 
-use crate::VisitShared;
 use wasm_operators_extended::SharedOperator;
+use wasm_operators_visit_shared::VisitShared;
 
 /// Tells a visitor of this atomic access to a global, a table, a struct or an array, by the visit that belongs to it.
 #[inline]

@@ -2,8 +2,8 @@
 
 ghost use Rattle.wasm_operators_tree.specs.Op.{Op};
 
-use crate::VisitAtomic;
 use wasm_operators_extended::AtomicOperator;
+use wasm_operators_visit_atomic::VisitAtomic;
 
 /// Tells a visitor of this atomic access to a memory, by the visit that belongs to it.
 #[inline]
