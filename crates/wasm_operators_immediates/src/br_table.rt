@@ -160,6 +160,10 @@ impl<'a> Model for BrTableTargets<'a> {
 impl<'a> Iterator for BrTableTargets<'a> {
     type Item = u32;
 
+    ghost use Rattle.std.specs.Prelude.{Some, IfSome};
+    ghost use Rattle.std.specs.Iterator.{UpTo};
+    ghost use Rattle.std.specs.Iterator.SizeHint.{IsWithinCount};
+
     ghost next_gives = { YieldsFirst (λ rest. rest) };
 
     ghost remaining = { item_count (λ rest. rest) };
@@ -175,7 +179,11 @@ impl<'a> Iterator for BrTableTargets<'a> {
         Some(target)
     }
 
-    fn size_hint(&self) -> (usize, Option<usize>) {
+    fn size_hint(&self) -> (usize, Option<usize>)
+        ensures exact { result ≡ (length self.now, Some (length self.now)) }
+        ensures lower { IsWithinCount result.0 (item_count (λ rest. rest) self.now) }
+        ensures upper { IfSome result.1 (UpTo (item_count (λ rest. rest) self.now)) }
+    {
         let len = self.len();
         (len, Some(len))
     }
