@@ -1,0 +1,26 @@
+//! A recorder of vectors. Its visits stand in one file for each trait, which `docs/operators/make_recorder.py` wrote from the
+//! list of operators (`docs/operators/operators.csv`).
+#![tactic(auto)]
+
+ghost use Rattle.wasm_operators_recorder.specs.Records.{Records};
+
+mod simd;
+mod simd_floats;
+mod simd_narrow;
+mod simd_wide;
+
+use wasm_operators_recorder::{Opcode, Recorder};
+use wasm_operators_visit::Visitor;
+
+/// Answers the opcode of each operator on vectors.
+#[derive(Clone, Copy, Debug, PartialEq, Eq)]
+pub struct VectorRecorder {
+    /// The record of those that it was told.
+    pub recorder: Recorder,
+}
+
+impl<'a> Visitor<'a> for VectorRecorder {
+    type Output = Opcode;
+
+    ghost visits = { λ before op answer after. Records before.recorder op answer after.recorder };
+}
