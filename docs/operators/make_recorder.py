@@ -38,7 +38,7 @@ def parameters(text):
 def body(rows, group, variant):
     row = rows[GROUPS[group], variant]
     prefix = "None" if row["prefix"] == "-" else f"Some(0x{row['prefix']})"
-    return f"self.recorder.record({prefix}, 0x{row['code']})"
+    return f"self.record({prefix}, 0x{row['code']})"
 
 
 def write(folder, rows, crate, recorder, part):

@@ -6,282 +6,282 @@ use wasm_operators_visit_floats::VisitFloats;
 
 impl<'a> VisitFloats<'a> for NumberRecorder {
     fn visit_f32_eq(&mut self) -> Opcode {
-        self.recorder.record(None, 0x5b)
+        self.record(None, 0x5b)
     }
 
     fn visit_f32_ne(&mut self) -> Opcode {
-        self.recorder.record(None, 0x5c)
+        self.record(None, 0x5c)
     }
 
     fn visit_f32_lt(&mut self) -> Opcode {
-        self.recorder.record(None, 0x5d)
+        self.record(None, 0x5d)
     }
 
     fn visit_f32_gt(&mut self) -> Opcode {
-        self.recorder.record(None, 0x5e)
+        self.record(None, 0x5e)
     }
 
     fn visit_f32_le(&mut self) -> Opcode {
-        self.recorder.record(None, 0x5f)
+        self.record(None, 0x5f)
     }
 
     fn visit_f32_ge(&mut self) -> Opcode {
-        self.recorder.record(None, 0x60)
+        self.record(None, 0x60)
     }
 
     fn visit_f64_eq(&mut self) -> Opcode {
-        self.recorder.record(None, 0x61)
+        self.record(None, 0x61)
     }
 
     fn visit_f64_ne(&mut self) -> Opcode {
-        self.recorder.record(None, 0x62)
+        self.record(None, 0x62)
     }
 
     fn visit_f64_lt(&mut self) -> Opcode {
-        self.recorder.record(None, 0x63)
+        self.record(None, 0x63)
     }
 
     fn visit_f64_gt(&mut self) -> Opcode {
-        self.recorder.record(None, 0x64)
+        self.record(None, 0x64)
     }
 
     fn visit_f64_le(&mut self) -> Opcode {
-        self.recorder.record(None, 0x65)
+        self.record(None, 0x65)
     }
 
     fn visit_f64_ge(&mut self) -> Opcode {
-        self.recorder.record(None, 0x66)
+        self.record(None, 0x66)
     }
 
     fn visit_f32_abs(&mut self) -> Opcode {
-        self.recorder.record(None, 0x8b)
+        self.record(None, 0x8b)
     }
 
     fn visit_f32_neg(&mut self) -> Opcode {
-        self.recorder.record(None, 0x8c)
+        self.record(None, 0x8c)
     }
 
     fn visit_f32_ceil(&mut self) -> Opcode {
-        self.recorder.record(None, 0x8d)
+        self.record(None, 0x8d)
     }
 
     fn visit_f32_floor(&mut self) -> Opcode {
-        self.recorder.record(None, 0x8e)
+        self.record(None, 0x8e)
     }
 
     fn visit_f32_trunc(&mut self) -> Opcode {
-        self.recorder.record(None, 0x8f)
+        self.record(None, 0x8f)
     }
 
     fn visit_f32_nearest(&mut self) -> Opcode {
-        self.recorder.record(None, 0x90)
+        self.record(None, 0x90)
     }
 
     fn visit_f32_sqrt(&mut self) -> Opcode {
-        self.recorder.record(None, 0x91)
+        self.record(None, 0x91)
     }
 
     fn visit_f32_add(&mut self) -> Opcode {
-        self.recorder.record(None, 0x92)
+        self.record(None, 0x92)
     }
 
     fn visit_f32_sub(&mut self) -> Opcode {
-        self.recorder.record(None, 0x93)
+        self.record(None, 0x93)
     }
 
     fn visit_f32_mul(&mut self) -> Opcode {
-        self.recorder.record(None, 0x94)
+        self.record(None, 0x94)
     }
 
     fn visit_f32_div(&mut self) -> Opcode {
-        self.recorder.record(None, 0x95)
+        self.record(None, 0x95)
     }
 
     fn visit_f32_min(&mut self) -> Opcode {
-        self.recorder.record(None, 0x96)
+        self.record(None, 0x96)
     }
 
     fn visit_f32_max(&mut self) -> Opcode {
-        self.recorder.record(None, 0x97)
+        self.record(None, 0x97)
     }
 
     fn visit_f32_copysign(&mut self) -> Opcode {
-        self.recorder.record(None, 0x98)
+        self.record(None, 0x98)
     }
 
     fn visit_f64_abs(&mut self) -> Opcode {
-        self.recorder.record(None, 0x99)
+        self.record(None, 0x99)
     }
 
     fn visit_f64_neg(&mut self) -> Opcode {
-        self.recorder.record(None, 0x9a)
+        self.record(None, 0x9a)
     }
 
     fn visit_f64_ceil(&mut self) -> Opcode {
-        self.recorder.record(None, 0x9b)
+        self.record(None, 0x9b)
     }
 
     fn visit_f64_floor(&mut self) -> Opcode {
-        self.recorder.record(None, 0x9c)
+        self.record(None, 0x9c)
     }
 
     fn visit_f64_trunc(&mut self) -> Opcode {
-        self.recorder.record(None, 0x9d)
+        self.record(None, 0x9d)
     }
 
     fn visit_f64_nearest(&mut self) -> Opcode {
-        self.recorder.record(None, 0x9e)
+        self.record(None, 0x9e)
     }
 
     fn visit_f64_sqrt(&mut self) -> Opcode {
-        self.recorder.record(None, 0x9f)
+        self.record(None, 0x9f)
     }
 
     fn visit_f64_add(&mut self) -> Opcode {
-        self.recorder.record(None, 0xa0)
+        self.record(None, 0xa0)
     }
 
     fn visit_f64_sub(&mut self) -> Opcode {
-        self.recorder.record(None, 0xa1)
+        self.record(None, 0xa1)
     }
 
     fn visit_f64_mul(&mut self) -> Opcode {
-        self.recorder.record(None, 0xa2)
+        self.record(None, 0xa2)
     }
 
     fn visit_f64_div(&mut self) -> Opcode {
-        self.recorder.record(None, 0xa3)
+        self.record(None, 0xa3)
     }
 
     fn visit_f64_min(&mut self) -> Opcode {
-        self.recorder.record(None, 0xa4)
+        self.record(None, 0xa4)
     }
 
     fn visit_f64_max(&mut self) -> Opcode {
-        self.recorder.record(None, 0xa5)
+        self.record(None, 0xa5)
     }
 
     fn visit_f64_copysign(&mut self) -> Opcode {
-        self.recorder.record(None, 0xa6)
+        self.record(None, 0xa6)
     }
 
     fn visit_i32_trunc_f32_s(&mut self) -> Opcode {
-        self.recorder.record(None, 0xa8)
+        self.record(None, 0xa8)
     }
 
     fn visit_i32_trunc_f32_u(&mut self) -> Opcode {
-        self.recorder.record(None, 0xa9)
+        self.record(None, 0xa9)
     }
 
     fn visit_i32_trunc_f64_s(&mut self) -> Opcode {
-        self.recorder.record(None, 0xaa)
+        self.record(None, 0xaa)
     }
 
     fn visit_i32_trunc_f64_u(&mut self) -> Opcode {
-        self.recorder.record(None, 0xab)
+        self.record(None, 0xab)
     }
 
     fn visit_i64_trunc_f32_s(&mut self) -> Opcode {
-        self.recorder.record(None, 0xae)
+        self.record(None, 0xae)
     }
 
     fn visit_i64_trunc_f32_u(&mut self) -> Opcode {
-        self.recorder.record(None, 0xaf)
+        self.record(None, 0xaf)
     }
 
     fn visit_i64_trunc_f64_s(&mut self) -> Opcode {
-        self.recorder.record(None, 0xb0)
+        self.record(None, 0xb0)
     }
 
     fn visit_i64_trunc_f64_u(&mut self) -> Opcode {
-        self.recorder.record(None, 0xb1)
+        self.record(None, 0xb1)
     }
 
     fn visit_f32_convert_i32_s(&mut self) -> Opcode {
-        self.recorder.record(None, 0xb2)
+        self.record(None, 0xb2)
     }
 
     fn visit_f32_convert_i32_u(&mut self) -> Opcode {
-        self.recorder.record(None, 0xb3)
+        self.record(None, 0xb3)
     }
 
     fn visit_f32_convert_i64_s(&mut self) -> Opcode {
-        self.recorder.record(None, 0xb4)
+        self.record(None, 0xb4)
     }
 
     fn visit_f32_convert_i64_u(&mut self) -> Opcode {
-        self.recorder.record(None, 0xb5)
+        self.record(None, 0xb5)
     }
 
     fn visit_f32_demote_f64(&mut self) -> Opcode {
-        self.recorder.record(None, 0xb6)
+        self.record(None, 0xb6)
     }
 
     fn visit_f64_convert_i32_s(&mut self) -> Opcode {
-        self.recorder.record(None, 0xb7)
+        self.record(None, 0xb7)
     }
 
     fn visit_f64_convert_i32_u(&mut self) -> Opcode {
-        self.recorder.record(None, 0xb8)
+        self.record(None, 0xb8)
     }
 
     fn visit_f64_convert_i64_s(&mut self) -> Opcode {
-        self.recorder.record(None, 0xb9)
+        self.record(None, 0xb9)
     }
 
     fn visit_f64_convert_i64_u(&mut self) -> Opcode {
-        self.recorder.record(None, 0xba)
+        self.record(None, 0xba)
     }
 
     fn visit_f64_promote_f32(&mut self) -> Opcode {
-        self.recorder.record(None, 0xbb)
+        self.record(None, 0xbb)
     }
 
     fn visit_i32_reinterpret_f32(&mut self) -> Opcode {
-        self.recorder.record(None, 0xbc)
+        self.record(None, 0xbc)
     }
 
     fn visit_i64_reinterpret_f64(&mut self) -> Opcode {
-        self.recorder.record(None, 0xbd)
+        self.record(None, 0xbd)
     }
 
     fn visit_f32_reinterpret_i32(&mut self) -> Opcode {
-        self.recorder.record(None, 0xbe)
+        self.record(None, 0xbe)
     }
 
     fn visit_f64_reinterpret_i64(&mut self) -> Opcode {
-        self.recorder.record(None, 0xbf)
+        self.record(None, 0xbf)
     }
 
     fn visit_i32_trunc_sat_f32_s(&mut self) -> Opcode {
-        self.recorder.record(Some(0xfc), 0x00)
+        self.record(Some(0xfc), 0x00)
     }
 
     fn visit_i32_trunc_sat_f32_u(&mut self) -> Opcode {
-        self.recorder.record(Some(0xfc), 0x01)
+        self.record(Some(0xfc), 0x01)
     }
 
     fn visit_i32_trunc_sat_f64_s(&mut self) -> Opcode {
-        self.recorder.record(Some(0xfc), 0x02)
+        self.record(Some(0xfc), 0x02)
     }
 
     fn visit_i32_trunc_sat_f64_u(&mut self) -> Opcode {
-        self.recorder.record(Some(0xfc), 0x03)
+        self.record(Some(0xfc), 0x03)
     }
 
     fn visit_i64_trunc_sat_f32_s(&mut self) -> Opcode {
-        self.recorder.record(Some(0xfc), 0x04)
+        self.record(Some(0xfc), 0x04)
     }
 
     fn visit_i64_trunc_sat_f32_u(&mut self) -> Opcode {
-        self.recorder.record(Some(0xfc), 0x05)
+        self.record(Some(0xfc), 0x05)
     }
 
     fn visit_i64_trunc_sat_f64_s(&mut self) -> Opcode {
-        self.recorder.record(Some(0xfc), 0x06)
+        self.record(Some(0xfc), 0x06)
     }
 
     fn visit_i64_trunc_sat_f64_u(&mut self) -> Opcode {
-        self.recorder.record(Some(0xfc), 0x07)
+        self.record(Some(0xfc), 0x07)
     }
 }

@@ -7,35 +7,35 @@ use wasm_operators_visit_shared::VisitShared;
 
 impl<'a> VisitShared<'a> for ThreadRecorder {
     fn visit_global_atomic_get(&mut self, _ordering: Ordering, _global_index: u32) -> Opcode {
-        self.recorder.record(Some(0xfe), 0x4f)
+        self.record(Some(0xfe), 0x4f)
     }
 
     fn visit_global_atomic_set(&mut self, _ordering: Ordering, _global_index: u32) -> Opcode {
-        self.recorder.record(Some(0xfe), 0x50)
+        self.record(Some(0xfe), 0x50)
     }
 
     fn visit_global_atomic_rmw_add(&mut self, _ordering: Ordering, _global_index: u32) -> Opcode {
-        self.recorder.record(Some(0xfe), 0x51)
+        self.record(Some(0xfe), 0x51)
     }
 
     fn visit_global_atomic_rmw_sub(&mut self, _ordering: Ordering, _global_index: u32) -> Opcode {
-        self.recorder.record(Some(0xfe), 0x52)
+        self.record(Some(0xfe), 0x52)
     }
 
     fn visit_global_atomic_rmw_and(&mut self, _ordering: Ordering, _global_index: u32) -> Opcode {
-        self.recorder.record(Some(0xfe), 0x53)
+        self.record(Some(0xfe), 0x53)
     }
 
     fn visit_global_atomic_rmw_or(&mut self, _ordering: Ordering, _global_index: u32) -> Opcode {
-        self.recorder.record(Some(0xfe), 0x54)
+        self.record(Some(0xfe), 0x54)
     }
 
     fn visit_global_atomic_rmw_xor(&mut self, _ordering: Ordering, _global_index: u32) -> Opcode {
-        self.recorder.record(Some(0xfe), 0x55)
+        self.record(Some(0xfe), 0x55)
     }
 
     fn visit_global_atomic_rmw_xchg(&mut self, _ordering: Ordering, _global_index: u32) -> Opcode {
-        self.recorder.record(Some(0xfe), 0x56)
+        self.record(Some(0xfe), 0x56)
     }
 
     fn visit_global_atomic_rmw_cmpxchg(
@@ -43,23 +43,23 @@ impl<'a> VisitShared<'a> for ThreadRecorder {
         _ordering: Ordering,
         _global_index: u32,
     ) -> Opcode {
-        self.recorder.record(Some(0xfe), 0x57)
+        self.record(Some(0xfe), 0x57)
     }
 
     fn visit_table_atomic_get(&mut self, _ordering: Ordering, _table_index: u32) -> Opcode {
-        self.recorder.record(Some(0xfe), 0x58)
+        self.record(Some(0xfe), 0x58)
     }
 
     fn visit_table_atomic_set(&mut self, _ordering: Ordering, _table_index: u32) -> Opcode {
-        self.recorder.record(Some(0xfe), 0x59)
+        self.record(Some(0xfe), 0x59)
     }
 
     fn visit_table_atomic_rmw_xchg(&mut self, _ordering: Ordering, _table_index: u32) -> Opcode {
-        self.recorder.record(Some(0xfe), 0x5a)
+        self.record(Some(0xfe), 0x5a)
     }
 
     fn visit_table_atomic_rmw_cmpxchg(&mut self, _ordering: Ordering, _table_index: u32) -> Opcode {
-        self.recorder.record(Some(0xfe), 0x5b)
+        self.record(Some(0xfe), 0x5b)
     }
 
     fn visit_struct_atomic_get(
@@ -68,7 +68,7 @@ impl<'a> VisitShared<'a> for ThreadRecorder {
         _struct_type_index: u32,
         _field_index: u32,
     ) -> Opcode {
-        self.recorder.record(Some(0xfe), 0x5c)
+        self.record(Some(0xfe), 0x5c)
     }
 
     fn visit_struct_atomic_get_s(
@@ -77,7 +77,7 @@ impl<'a> VisitShared<'a> for ThreadRecorder {
         _struct_type_index: u32,
         _field_index: u32,
     ) -> Opcode {
-        self.recorder.record(Some(0xfe), 0x5d)
+        self.record(Some(0xfe), 0x5d)
     }
 
     fn visit_struct_atomic_get_u(
@@ -86,7 +86,7 @@ impl<'a> VisitShared<'a> for ThreadRecorder {
         _struct_type_index: u32,
         _field_index: u32,
     ) -> Opcode {
-        self.recorder.record(Some(0xfe), 0x5e)
+        self.record(Some(0xfe), 0x5e)
     }
 
     fn visit_struct_atomic_set(
@@ -95,7 +95,7 @@ impl<'a> VisitShared<'a> for ThreadRecorder {
         _struct_type_index: u32,
         _field_index: u32,
     ) -> Opcode {
-        self.recorder.record(Some(0xfe), 0x5f)
+        self.record(Some(0xfe), 0x5f)
     }
 
     fn visit_struct_atomic_rmw_add(
@@ -104,7 +104,7 @@ impl<'a> VisitShared<'a> for ThreadRecorder {
         _struct_type_index: u32,
         _field_index: u32,
     ) -> Opcode {
-        self.recorder.record(Some(0xfe), 0x60)
+        self.record(Some(0xfe), 0x60)
     }
 
     fn visit_struct_atomic_rmw_sub(
@@ -113,7 +113,7 @@ impl<'a> VisitShared<'a> for ThreadRecorder {
         _struct_type_index: u32,
         _field_index: u32,
     ) -> Opcode {
-        self.recorder.record(Some(0xfe), 0x61)
+        self.record(Some(0xfe), 0x61)
     }
 
     fn visit_struct_atomic_rmw_and(
@@ -122,7 +122,7 @@ impl<'a> VisitShared<'a> for ThreadRecorder {
         _struct_type_index: u32,
         _field_index: u32,
     ) -> Opcode {
-        self.recorder.record(Some(0xfe), 0x62)
+        self.record(Some(0xfe), 0x62)
     }
 
     fn visit_struct_atomic_rmw_or(
@@ -131,7 +131,7 @@ impl<'a> VisitShared<'a> for ThreadRecorder {
         _struct_type_index: u32,
         _field_index: u32,
     ) -> Opcode {
-        self.recorder.record(Some(0xfe), 0x63)
+        self.record(Some(0xfe), 0x63)
     }
 
     fn visit_struct_atomic_rmw_xor(
@@ -140,7 +140,7 @@ impl<'a> VisitShared<'a> for ThreadRecorder {
         _struct_type_index: u32,
         _field_index: u32,
     ) -> Opcode {
-        self.recorder.record(Some(0xfe), 0x64)
+        self.record(Some(0xfe), 0x64)
     }
 
     fn visit_struct_atomic_rmw_xchg(
@@ -149,7 +149,7 @@ impl<'a> VisitShared<'a> for ThreadRecorder {
         _struct_type_index: u32,
         _field_index: u32,
     ) -> Opcode {
-        self.recorder.record(Some(0xfe), 0x65)
+        self.record(Some(0xfe), 0x65)
     }
 
     fn visit_struct_atomic_rmw_cmpxchg(
@@ -158,23 +158,23 @@ impl<'a> VisitShared<'a> for ThreadRecorder {
         _struct_type_index: u32,
         _field_index: u32,
     ) -> Opcode {
-        self.recorder.record(Some(0xfe), 0x66)
+        self.record(Some(0xfe), 0x66)
     }
 
     fn visit_array_atomic_get(&mut self, _ordering: Ordering, _array_type_index: u32) -> Opcode {
-        self.recorder.record(Some(0xfe), 0x67)
+        self.record(Some(0xfe), 0x67)
     }
 
     fn visit_array_atomic_get_s(&mut self, _ordering: Ordering, _array_type_index: u32) -> Opcode {
-        self.recorder.record(Some(0xfe), 0x68)
+        self.record(Some(0xfe), 0x68)
     }
 
     fn visit_array_atomic_get_u(&mut self, _ordering: Ordering, _array_type_index: u32) -> Opcode {
-        self.recorder.record(Some(0xfe), 0x69)
+        self.record(Some(0xfe), 0x69)
     }
 
     fn visit_array_atomic_set(&mut self, _ordering: Ordering, _array_type_index: u32) -> Opcode {
-        self.recorder.record(Some(0xfe), 0x6a)
+        self.record(Some(0xfe), 0x6a)
     }
 
     fn visit_array_atomic_rmw_add(
@@ -182,7 +182,7 @@ impl<'a> VisitShared<'a> for ThreadRecorder {
         _ordering: Ordering,
         _array_type_index: u32,
     ) -> Opcode {
-        self.recorder.record(Some(0xfe), 0x6b)
+        self.record(Some(0xfe), 0x6b)
     }
 
     fn visit_array_atomic_rmw_sub(
@@ -190,7 +190,7 @@ impl<'a> VisitShared<'a> for ThreadRecorder {
         _ordering: Ordering,
         _array_type_index: u32,
     ) -> Opcode {
-        self.recorder.record(Some(0xfe), 0x6c)
+        self.record(Some(0xfe), 0x6c)
     }
 
     fn visit_array_atomic_rmw_and(
@@ -198,11 +198,11 @@ impl<'a> VisitShared<'a> for ThreadRecorder {
         _ordering: Ordering,
         _array_type_index: u32,
     ) -> Opcode {
-        self.recorder.record(Some(0xfe), 0x6d)
+        self.record(Some(0xfe), 0x6d)
     }
 
     fn visit_array_atomic_rmw_or(&mut self, _ordering: Ordering, _array_type_index: u32) -> Opcode {
-        self.recorder.record(Some(0xfe), 0x6e)
+        self.record(Some(0xfe), 0x6e)
     }
 
     fn visit_array_atomic_rmw_xor(
@@ -210,7 +210,7 @@ impl<'a> VisitShared<'a> for ThreadRecorder {
         _ordering: Ordering,
         _array_type_index: u32,
     ) -> Opcode {
-        self.recorder.record(Some(0xfe), 0x6f)
+        self.record(Some(0xfe), 0x6f)
     }
 
     fn visit_array_atomic_rmw_xchg(
@@ -218,7 +218,7 @@ impl<'a> VisitShared<'a> for ThreadRecorder {
         _ordering: Ordering,
         _array_type_index: u32,
     ) -> Opcode {
-        self.recorder.record(Some(0xfe), 0x70)
+        self.record(Some(0xfe), 0x70)
     }
 
     fn visit_array_atomic_rmw_cmpxchg(
@@ -226,10 +226,10 @@ impl<'a> VisitShared<'a> for ThreadRecorder {
         _ordering: Ordering,
         _array_type_index: u32,
     ) -> Opcode {
-        self.recorder.record(Some(0xfe), 0x71)
+        self.record(Some(0xfe), 0x71)
     }
 
     fn visit_ref_i31_shared(&mut self) -> Opcode {
-        self.recorder.record(Some(0xfe), 0x72)
+        self.record(Some(0xfe), 0x72)
     }
 }
