@@ -1,11 +1,10 @@
 //! Control, exceptions and continuations, and what takes operands of any type.
 use crate::answers::assert_answers;
-use crate::rows::{CONTINUATION, CONTROL, EXCEPTION, PARAMETRIC};
+use crate::rows::{CONTINUATION, CONTROL, EXCEPTION, PARAMETRIC, resumption_rows};
 use std::test::Fail;
 use wasm_operators_basic::{ControlOperator, ExceptionOperator, ParametricOperator};
-use wasm_operators_extended::ContinuationOperator;
-use wasm_operators_immediates::{BlockType, BrTable, Catch, Handle, ResumeTable, TryTable};
-use wasm_operators_info::Proposal::{Exceptions, Mvp, ReferenceTypes, StackSwitching};
+use wasm_operators_immediates::{BlockType, BrTable, Catch, TryTable};
+use wasm_operators_info::Proposal::{Exceptions, Mvp, ReferenceTypes};
 use wasm_operators_recorder::Recorder;
 use wasm_operators_recorder_control::ControlRecorder;
 use wasm_operators_visit_control::{
@@ -81,32 +80,7 @@ fn exceptions(rt: HostRuntime) -> Result<(), Fail> {
 
 #[test]
 fn continuations(rt: HostRuntime) -> Result<(), Fail> {
-    let handlers = vec![in rt.alloc();
-        Handle::OnLabel { tag: 1, label: 2 },
-        Handle::OnSwitch { tag: 3 },
-    ]?;
-    let one = ResumeTable { handlers };
-    let two = one.clone()?;
-    let three = one.clone()?;
-    let (cont_type_index, tag_index) = (1, 2);
-    let resume = ContinuationOperator::Resume {
-        cont_type_index,
-        resume_table: one,
-    };
-    let throw = ContinuationOperator::ResumeThrow {
-        cont_type_index,
-        tag_index,
-        resume_table: two,
-    };
-    let throw_ref = ContinuationOperator::ResumeThrowRef {
-        cont_type_index,
-        resume_table: three,
-    };
-    let owned = [
-        (resume, StackSwitching, "resume", None, 0xe3),
-        (throw, StackSwitching, "resume_throw", None, 0xe4),
-        (throw_ref, StackSwitching, "resume_throw_ref", None, 0xe5),
-    ];
+    let owned = resumption_rows(rt.alloc())?;
     let mut recorder = ControlRecorder {
         recorder: Recorder::new(),
     };

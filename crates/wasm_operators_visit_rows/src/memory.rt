@@ -1,15 +1,13 @@
 //! Variables, memories, tables and references, structs and arrays, and constants.
 use crate::answers::assert_answers;
+use crate::rows::constant_rows;
 use std::test::Fail;
-use wasm_operators_basic::ConstOperator;
-use wasm_operators_info::Proposal::Mvp;
 use wasm_operators_recorder::Recorder;
 use wasm_operators_recorder_control::ControlRecorder;
 use wasm_operators_rows_basic::MEMORY;
 use wasm_operators_rows_extended::{BULK, DESCRIPTOR, GC};
 use wasm_operators_visit_gc::{visit_descriptor, visit_gc};
 use wasm_operators_visit_memory::{visit_bulk, visit_const, visit_memory};
-use wasm_types_reader::{Ieee32, Ieee64};
 
 #[test]
 fn memory(rt: HostRuntime) -> Result<(), Fail> {
@@ -41,37 +39,7 @@ fn bulk(rt: HostRuntime) -> Result<(), Fail> {
 
 #[test]
 fn constants(rt: HostRuntime) -> Result<(), Fail> {
-    let (single, double) = (Ieee32::from_bits(1), Ieee64::from_bits(1));
-    let rows = [
-        (
-            ConstOperator::I32Const { value: -1 },
-            Mvp,
-            "i32.const",
-            None,
-            0x41,
-        ),
-        (
-            ConstOperator::I64Const { value: -1 },
-            Mvp,
-            "i64.const",
-            None,
-            0x42,
-        ),
-        (
-            ConstOperator::F32Const { value: single },
-            Mvp,
-            "f32.const",
-            None,
-            0x43,
-        ),
-        (
-            ConstOperator::F64Const { value: double },
-            Mvp,
-            "f64.const",
-            None,
-            0x44,
-        ),
-    ];
+    let rows = constant_rows();
     let mut recorder = ControlRecorder {
         recorder: Recorder::new(),
     };

@@ -1,11 +1,13 @@
-//! Rows of the list of operators, of the groups of which some keep something in memory.
+//! Rows of the list of operators, of the groups of which some keep something in memory, and of constants.
 use crate::answers::Row;
-use wasm_operators_basic::{ControlOperator, ExceptionOperator, ParametricOperator};
+use std::alloc::{AllocError, Global};
+use wasm_operators_basic::{ConstOperator, ControlOperator, ExceptionOperator, ParametricOperator};
 use wasm_operators_extended::ContinuationOperator;
-use wasm_operators_immediates::BlockType;
+use wasm_operators_immediates::{BlockType, Handle, ResumeTable};
 use wasm_operators_info::Proposal::{
     Exceptions, FunctionReferences, LegacyExceptions, Mvp, ReferenceTypes, StackSwitching, TailCall,
 };
+use wasm_types_reader::{Ieee32, Ieee64};
 use wasm_types_values::ValType;
 
 pub const CONTROL: [Row<ControlOperator<'static>>; 19] = [
@@ -228,3 +230,65 @@ pub const CONTINUATION: [Row<ContinuationOperator>; 4] = [
         0xe6,
     ),
 ];
+
+pub fn constant_rows() -> [Row<ConstOperator>; 4] {
+    let (single, double) = (Ieee32::from_bits(1), Ieee64::from_bits(1));
+    [
+        (
+            ConstOperator::I32Const { value: -1 },
+            Mvp,
+            "i32.const",
+            None,
+            0x41,
+        ),
+        (
+            ConstOperator::I64Const { value: -1 },
+            Mvp,
+            "i64.const",
+            None,
+            0x42,
+        ),
+        (
+            ConstOperator::F32Const { value: single },
+            Mvp,
+            "f32.const",
+            None,
+            0x43,
+        ),
+        (
+            ConstOperator::F64Const { value: double },
+            Mvp,
+            "f64.const",
+            None,
+            0x44,
+        ),
+    ]
+}
+
+pub fn resumption_rows(alloc: Global) -> Result<[Row<ContinuationOperator>; 3], AllocError> {
+    let handlers = vec![in alloc;
+        Handle::OnLabel { tag: 1, label: 2 },
+        Handle::OnSwitch { tag: 3 },
+    ]?;
+    let one = ResumeTable { handlers };
+    let (two, three) = (one.clone()?, one.clone()?);
+    let (cont_type_index, tag_index) = (1, 2);
+    let resume = ContinuationOperator::Resume {
+        cont_type_index,
+        resume_table: one,
+    };
+    let throw = ContinuationOperator::ResumeThrow {
+        cont_type_index,
+        tag_index,
+        resume_table: two,
+    };
+    let throw_ref = ContinuationOperator::ResumeThrowRef {
+        cont_type_index,
+        resume_table: three,
+    };
+    Ok([
+        (resume, StackSwitching, "resume", None, 0xe3),
+        (throw, StackSwitching, "resume_throw", None, 0xe4),
+        (throw_ref, StackSwitching, "resume_throw_ref", None, 0xe5),
+    ])
+}
