@@ -1,5 +1,4 @@
 //! That an answer is what the list of operators has.
-use std::alloc::AllocError;
 use std::process::Abort;
 use wasm_operators_info::Proposal;
 use wasm_operators_recorder::Opcode;
@@ -7,21 +6,7 @@ use wasm_operators_recorder::Opcode;
 // A row of the list: an operator, its proposal, its name, the prefix if there is one, and the code.
 pub type Row<O> = (O, Proposal, &'static str, Option<u8>, u32);
 
-// That each of these operators, told so, is answered by its opcode.
-pub fn assert_answers<O: Clone + Drop, F: FnMut(O) -> Opcode + Drop>(
-    rt: &impl Abort,
-    rows: &[Row<O>],
-    mut tell: F,
-) -> Result<(), AllocError>
-    requires { F.IsAlwaysCallable tell }
-{
-    for (op, _, name, prefix, code) in rows {
-        let opcode = Opcode {
-            prefix: *prefix,
-            code: *code,
-        };
-        let answer = tell(op.clone()?);
-        assert!(rt; answer == opcode, "{name}");
-    }
-    Ok(())
+// That this is the opcode with this prefix and this code, of the operator of this name.
+pub fn assert_opcode(rt: &impl Abort, answer: Opcode, name: &str, prefix: Option<u8>, code: u32) {
+    assert!(rt; answer == Opcode { prefix, code }, "{name}");
 }

@@ -1,13 +1,49 @@
 //! Variables, memories, tables and references, structs and arrays, and constants.
-use crate::answers::assert_answers;
+use crate::answers::assert_opcode;
 use crate::rows::constant_rows;
+use std::process::Abort;
 use std::test::Fail;
-use wasm_operators_recorder::Recorder;
+use wasm_operators_recorder::{Opcode, Recorder};
 use wasm_operators_recorder_control::ControlRecorder;
 use wasm_operators_rows_basic::MEMORY;
 use wasm_operators_rows_extended::{BULK, DESCRIPTOR, GC};
-use wasm_operators_visit_gc::{visit_descriptor, visit_gc};
-use wasm_operators_visit_memory::{visit_bulk, visit_const, visit_memory};
+use wasm_operators_visit_gc::{VisitGc, visit_descriptor, visit_gc};
+use wasm_operators_visit_memory::{VisitMemory, visit_bulk, visit_const, visit_memory};
+
+fn tell_memory<'a, V: VisitMemory<'a, Output = Opcode>>(rt: &impl Abort, visitor: &mut V) {
+    for (op, _, name, prefix, code) in MEMORY.iter() {
+        let answer = visit_memory(visitor, *op);
+        assert_opcode(rt, answer, name, *prefix, *code);
+    }
+}
+
+fn tell_bulk<'a, V: VisitMemory<'a, Output = Opcode>>(rt: &impl Abort, visitor: &mut V) {
+    for (op, _, name, prefix, code) in BULK {
+        let answer = visit_bulk(visitor, op);
+        assert_opcode(rt, answer, name, prefix, code);
+    }
+}
+
+fn tell_const<'a, V: VisitMemory<'a, Output = Opcode>>(rt: &impl Abort, visitor: &mut V) {
+    for (op, _, name, prefix, code) in constant_rows() {
+        let answer = visit_const(visitor, op);
+        assert_opcode(rt, answer, name, prefix, code);
+    }
+}
+
+fn tell_gc<'a, V: VisitGc<'a, Output = Opcode>>(rt: &impl Abort, visitor: &mut V) {
+    for (op, _, name, prefix, code) in GC {
+        let answer = visit_gc(visitor, op);
+        assert_opcode(rt, answer, name, prefix, code);
+    }
+}
+
+fn tell_descriptor<'a, V: VisitGc<'a, Output = Opcode>>(rt: &impl Abort, visitor: &mut V) {
+    for (op, _, name, prefix, code) in DESCRIPTOR {
+        let answer = visit_descriptor(visitor, op);
+        assert_opcode(rt, answer, name, prefix, code);
+    }
+}
 
 #[test]
 fn memory(rt: HostRuntime) -> Result<(), Fail> {
@@ -15,9 +51,9 @@ fn memory(rt: HostRuntime) -> Result<(), Fail> {
         recorder: Recorder::new(),
     };
     let mut boxed = Box::new(rt.alloc(), recorder)?;
-    assert_answers(&rt, &MEMORY, |op| visit_memory(&mut recorder, op))?;
-    assert_answers(&rt, &MEMORY, |op| visit_memory(&mut &mut recorder, op))?;
-    assert_answers(&rt, &MEMORY, |op| visit_memory(&mut boxed, op))?;
+    tell_memory(&rt, &mut recorder);
+    tell_memory(&rt, &mut &mut recorder);
+    tell_memory(&rt, &mut boxed);
     assert_eq!(rt; recorder.recorder.count, 60);
     assert_eq!(rt; boxed.recorder.count, 30);
     Ok(())
@@ -29,9 +65,9 @@ fn bulk(rt: HostRuntime) -> Result<(), Fail> {
         recorder: Recorder::new(),
     };
     let mut boxed = Box::new(rt.alloc(), recorder)?;
-    assert_answers(&rt, &BULK, |op| visit_bulk(&mut recorder, op))?;
-    assert_answers(&rt, &BULK, |op| visit_bulk(&mut &mut recorder, op))?;
-    assert_answers(&rt, &BULK, |op| visit_bulk(&mut boxed, op))?;
+    tell_bulk(&rt, &mut recorder);
+    tell_bulk(&rt, &mut &mut recorder);
+    tell_bulk(&rt, &mut boxed);
     assert_eq!(rt; recorder.recorder.count, 32);
     assert_eq!(rt; boxed.recorder.count, 16);
     Ok(())
@@ -39,14 +75,13 @@ fn bulk(rt: HostRuntime) -> Result<(), Fail> {
 
 #[test]
 fn constants(rt: HostRuntime) -> Result<(), Fail> {
-    let rows = constant_rows();
     let mut recorder = ControlRecorder {
         recorder: Recorder::new(),
     };
     let mut boxed = Box::new(rt.alloc(), recorder)?;
-    assert_answers(&rt, &rows, |op| visit_const(&mut recorder, op))?;
-    assert_answers(&rt, &rows, |op| visit_const(&mut &mut recorder, op))?;
-    assert_answers(&rt, &rows, |op| visit_const(&mut boxed, op))?;
+    tell_const(&rt, &mut recorder);
+    tell_const(&rt, &mut &mut recorder);
+    tell_const(&rt, &mut boxed);
     assert_eq!(rt; recorder.recorder.count, 8);
     assert_eq!(rt; boxed.recorder.count, 4);
     Ok(())
@@ -58,9 +93,9 @@ fn gc(rt: HostRuntime) -> Result<(), Fail> {
         recorder: Recorder::new(),
     };
     let mut boxed = Box::new(rt.alloc(), recorder)?;
-    assert_answers(&rt, &GC, |op| visit_gc(&mut recorder, op))?;
-    assert_answers(&rt, &GC, |op| visit_gc(&mut &mut recorder, op))?;
-    assert_answers(&rt, &GC, |op| visit_gc(&mut boxed, op))?;
+    tell_gc(&rt, &mut recorder);
+    tell_gc(&rt, &mut &mut recorder);
+    tell_gc(&rt, &mut boxed);
     assert_eq!(rt; recorder.recorder.count, 64);
     assert_eq!(rt; boxed.recorder.count, 32);
     Ok(())
@@ -72,13 +107,9 @@ fn descriptors(rt: HostRuntime) -> Result<(), Fail> {
         recorder: Recorder::new(),
     };
     let mut boxed = Box::new(rt.alloc(), recorder)?;
-    assert_answers(&rt, &DESCRIPTOR, |op| visit_descriptor(&mut recorder, op))?;
-    assert_answers(
-        &rt,
-        &DESCRIPTOR,
-        |op| visit_descriptor(&mut &mut recorder, op),
-    )?;
-    assert_answers(&rt, &DESCRIPTOR, |op| visit_descriptor(&mut boxed, op))?;
+    tell_descriptor(&rt, &mut recorder);
+    tell_descriptor(&rt, &mut &mut recorder);
+    tell_descriptor(&rt, &mut boxed);
     assert_eq!(rt; recorder.recorder.count, 14);
     assert_eq!(rt; boxed.recorder.count, 7);
     Ok(())

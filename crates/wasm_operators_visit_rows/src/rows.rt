@@ -1,13 +1,14 @@
 //! Rows of the list of operators, of the groups of which some keep something in memory, and of constants.
 use crate::answers::Row;
 use std::alloc::{AllocError, Global};
+use std::test::Fail;
 use wasm_operators_basic::{ConstOperator, ControlOperator, ExceptionOperator, ParametricOperator};
 use wasm_operators_extended::ContinuationOperator;
-use wasm_operators_immediates::{BlockType, Handle, ResumeTable};
+use wasm_operators_immediates::{BlockType, BrTable, Catch, Handle, ResumeTable, TryTable};
 use wasm_operators_info::Proposal::{
     Exceptions, FunctionReferences, LegacyExceptions, Mvp, ReferenceTypes, StackSwitching, TailCall,
 };
-use wasm_types_reader::{Ieee32, Ieee64};
+use wasm_types_reader::{BinaryReader, Ieee32, Ieee64};
 use wasm_types_values::ValType;
 
 pub const CONTROL: [Row<ControlOperator<'static>>; 19] = [
@@ -291,4 +292,20 @@ pub fn resumption_rows(alloc: Global) -> Result<[Row<ContinuationOperator>; 3], 
         (throw, StackSwitching, "resume_throw", None, 0xe4),
         (throw_ref, StackSwitching, "resume_throw_ref", None, 0xe5),
     ])
+}
+
+pub fn some_labels(alloc: Global) -> Result<BrTable<'static>, Fail> {
+    let table = BinaryReader::new(&[0x02, 0x01, 0x02, 0x00], 0).read::<BrTable>(alloc)?;
+    Ok(table)
+}
+
+pub fn some_types(alloc: Global) -> Result<Vec<ValType>, AllocError> {
+    let types = vec![in alloc; ValType::I32, ValType::I64]?;
+    Ok(types)
+}
+
+pub fn some_catches(alloc: Global) -> Result<TryTable, AllocError> {
+    let catches = vec![in alloc; Catch::One { tag: 1, label: 2 }, Catch::All { label: 0 }]?;
+    let ty = BlockType::Val(ValType::I32);
+    Ok(TryTable { ty, catches })
 }
