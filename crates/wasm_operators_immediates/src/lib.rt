@@ -9,6 +9,7 @@ mod frames;
 mod handlers;
 pub mod laws;
 mod memory;
+mod read_block;
 mod read_br_table;
 mod vector;
 
