@@ -3,6 +3,8 @@ pub mod Numbers
 pub mod Labels
 pub mod Blocks
 pub mod BlockLaws
+pub mod Handlers
+pub mod HandlerLaws
 pub mod Kinds
 pub mod Immediates
 pub mod Laws
