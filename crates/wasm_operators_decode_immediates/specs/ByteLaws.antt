@@ -3,10 +3,9 @@ use Rattle.std.proofs.Common.{◌≡◌, ℕ, ◌<◌, ◌≤◌, List, [], ◌�
 use Rattle.std.specs.Prelude.{nat_lt, ◌==◌}
 use Rattle.std.proofs.lemmas.Bool.{eqb-true, eqb-false, ltb-true, ltb-false}
 use Rattle.wasm_types_decoding.specs.declared.Refusal.TheVariants.{Other}
-use Rattle.wasm_types_decoding.specs.Decoder.{Decoder, Grammar, ◌>>=◌, pure, refuse, byte, bytes, repeated, choice, IsLawful, Decides, Many}
+use Rattle.wasm_types_decoding.specs.Decoder.{refuse, byte, bytes, choice, IsLawful, Decides}
 use Rattle.wasm_types_decoding.specs.Laws.{lawful-byte, lawful->>=, lawful-pure, lawful-refuse, lawful-if, lawful-bytes, lawful-repeated, lawful-choice}
-use Rattle.wasm_types_decoding.specs.Exact.{Exactly, Mapped, Reads, ReadsTagged, decides-same, decides-pure, decides-refuse, decides-if, decides-map, decides-byte, decides-bytes, decides-repeated, decides-table, sound-pure, reads-pure}
-use Rattle.wasm_types_decoding.specs.Leb.{u32, IsUnsigned}
+use Rattle.wasm_types_decoding.specs.Exact.{Exactly, Mapped, ReadsTagged, decides-same, decides-pure, decides-refuse, decides-if, decides-map, decides-byte, decides-bytes, decides-repeated, decides-table, sound-pure, reads-pure}
 use Rattle.wasm_types_decoding.specs.LebLaws.{lawful-unsigned, decides-u32}
 use Rattle.wasm_types_decoding.specs.ListLaws.{lawful-listed_within, decides-listed_within}
 use Rattle.wasm_types_values.specs.DecodeValues.{value_type}

@@ -3,12 +3,11 @@ use Rattle.std.proofs.Common.{◌≡◌, ℕ, ◌+◌, ◌/◌, ◌%◌, ◌<◌
 use Rattle.std.specs.Prelude.{nat_lt, ◌==◌}
 use Rattle.std.proofs.lemmas.Bool.{eqb-true, eqb-false, ltb-true, ltb-false}
 use Rattle.wasm_types_decoding.specs.declared.Refusal.TheVariants.{Other}
-use Rattle.wasm_types_decoding.specs.Decoder.{Decoder, Grammar, ◌>>=◌, pure, refuse, byte, IsLawful, Decides, Then}
+use Rattle.wasm_types_decoding.specs.Decoder.{Grammar, ◌>>=◌, pure, byte, IsLawful, Decides, Then}
 use Rattle.wasm_types_decoding.specs.Laws.{lawful-byte, lawful->>=, lawful-pure, lawful-refuse, lawful-if}
 use Rattle.wasm_types_decoding.specs.Exact.{Mapped, decides->>=, decides-same, decides-refuse, decides-if, decides-map, decides-byte}
 use Rattle.wasm_types_decoding.specs.Leb.{u32, IsUnsigned}
 use Rattle.wasm_types_decoding.specs.LebLaws.{lawful-unsigned, decides-u32}
-use Rattle.wasm_types_values.specs.declared.heap.HeapType.{HeapType}
 use Rattle.wasm_types_values.specs.Reference.{Reference}
 use Rattle.wasm_types_values.specs.Decode.{heap_type, reference, long_reference}
 use Rattle.wasm_types_values.specs.DecodeLaws.{lawful-heap_type}

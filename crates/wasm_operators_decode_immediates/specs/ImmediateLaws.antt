@@ -1,6 +1,6 @@
 -- Each kind of immediate is read lawfully, and exactly where bytes spell one.
-use Rattle.std.proofs.Common.{◌≡◌, ℕ, List, refl, sym, subst}
-use Rattle.wasm_types_decoding.specs.Decoder.{State, Done, Decoder, Grammar, ◌>>=◌, pure, IsLawful, Decides}
+use Rattle.std.proofs.Common.{◌≡◌, ℕ, List, refl, subst}
+use Rattle.wasm_types_decoding.specs.Decoder.{Done, Decoder, Grammar, pure, IsLawful, Decides}
 use Rattle.wasm_types_decoding.specs.Laws.{lawful->>=, lawful-pure}
 use Rattle.wasm_types_decoding.specs.Exact.{Sound, Reads, sound-map, reads-map}
 use Rattle.wasm_types_decoding.specs.Leb.{u32, s32, s64, IsUnsigned, IsSigned}

@@ -5,8 +5,6 @@ use Rattle.wasm_types_decoding.specs.Decoder.{Decoder, Grammar, ◌>>=◌, pure}
 use Rattle.wasm_types_decoding.specs.Leb.{u32, s32, s64, IsUnsigned, IsSigned}
 use Rattle.wasm_types_decoding.specs.Text.{word, IsWord}
 use Rattle.wasm_types_features.specs.Features.{has, MultiMemory, CallIndirectOverlong}
-use Rattle.wasm_types_reader.specs.declared.words.Ieee32.{Ieee32}
-use Rattle.wasm_types_reader.specs.declared.words.Ieee64.{Ieee64}
 use Rattle.wasm_types_values.specs.Decode.{heap_type}
 use Rattle.wasm_types_values.specs.HeapExact.{Spelled}
 use Rattle.wasm_operators_immediates.specs.Kinds as kind

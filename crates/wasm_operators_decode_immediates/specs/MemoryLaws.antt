@@ -1,19 +1,17 @@
 -- Memory arguments are read lawfully, and exactly where bytes spell them.
 use Rattle.std.proofs.Common.{◌≡◌, ℕ, List, [], ◌++◌, refl, sym, ap, ◌∙◌, subst, Bool, true, false, Option, Some, None}
-use Rattle.std.specs.Prelude.{◌==◌}
 use Rattle.wasm_types_decoding.specs.declared.Refusal.TheVariants.{Other}
-use Rattle.wasm_types_decoding.specs.Decoder.{Decoder, Grammar, ◌>>=◌, pure, IsLawful, Decides, Then}
+use Rattle.wasm_types_decoding.specs.Decoder.{Grammar, IsLawful, Decides, Then}
 use Rattle.wasm_types_decoding.specs.Laws.{lawful->>=, lawful-pure}
 use Rattle.wasm_types_decoding.specs.Exact.{Mapped, decides->>=, decides-same, decides-pure, decides-map}
-use Rattle.wasm_types_decoding.specs.Leb.{u32, u64, IsUnsigned}
+use Rattle.wasm_types_decoding.specs.Leb.{IsUnsigned}
 use Rattle.wasm_types_decoding.specs.LebLaws.{lawful-unsigned, decides-u32, decides-u64}
-use Rattle.wasm_types_features.specs.Features.{has, MultiMemory, Memory64, SharedEverythingThreads}
+use Rattle.wasm_types_features.specs.Features.{has, MultiMemory, Memory64}
 use Rattle.wasm_operators_immediates.specs.declared.memory.MemArg.{MemArg}
 use Rattle.wasm_operators_immediates.specs.declared.memory.MemArgOrdering.{MemArgOrdering}
 use Rattle.wasm_operators_immediates.specs.declared.memory.MemArgOrdering.TheVariants.{Op, Rmw}
 use Rattle.wasm_operators_immediates.specs.declared.memory.MemArgTarget.TheVariants.{Memory}
 use Rattle.wasm_operators_immediates.specs.Kinds.{Access, Plain, Atomic, ReadModifyWrite}
-use Rattle.wasm_operators_immediates.specs.Blocks.{refuse_here}
 use Rattle.wasm_operators_immediates.specs.BlockLaws.{lawful-refuse_here, decides-refuse_here}
 use Rattle.wasm_operators_decode_immediates.specs.declared.memory_argument.Flags.{Flags}
 use Rattle.wasm_operators_decode_immediates.specs.Bytes.{ordering_by, SpelledOrdering}

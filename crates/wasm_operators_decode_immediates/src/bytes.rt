@@ -17,22 +17,22 @@ pub const MAX_WASM_SELECT_TYPES: usize = 10;
 
 // A byte that is zero. Another is refused with this message.
 #[tactic(auto, using(wasm_types_decoding::specs::Laws::reaches_self, wasm_types_decoding::specs::Laws::reaches_then), unfolding(crate::specs::Bytes::zero_byte))]
-fn read_zero<'a>(message: &str, reader: &mut BinaryReader<'a>) -> Result<u32>
-    ensures answer { Gives (λ n. n) result reader.new (zero_byte reader.old) }
+fn read_zero<'a>(message: &str, reader: &mut BinaryReader<'a>) -> Result<()>
+    ensures answer { Gives (λ u. 0) result reader.new (zero_byte reader.old) }
     ensures no_memory { NeedsNoMemory result }
     ensures forward { Reaches reader.old reader.new }
 {
     let offset = reader.original_position();
     let byte = reader.read_u8()?;
     if byte == 0 {
-        return Ok(0);
+        return Ok(());
     }
     Err(Error::new(message, offset))
 }
 
 /// The byte of `atomic.fence`, which is zero; another is refused at its place (the proposal on threads).
-pub fn read_zero_byte<'a>(reader: &mut BinaryReader<'a>) -> Result<u32>
-    ensures answer { Gives (λ n. n) result reader.new (zero_byte reader.old) }
+pub fn read_zero_byte<'a>(reader: &mut BinaryReader<'a>) -> Result<()>
+    ensures answer { Gives (λ u. 0) result reader.new (zero_byte reader.old) }
     ensures no_memory { NeedsNoMemory result }
     ensures forward { Reaches reader.old reader.new }
 {
@@ -49,7 +49,8 @@ fn read_index_or_zero<'a>(allowed: bool, reader: &mut BinaryReader<'a>) -> Resul
     if allowed {
         return reader.read_var_u32();
     }
-    read_zero("zero byte expected", reader)
+    read_zero("zero byte expected", reader)?;
+    Ok(0)
 }
 
 /// The memory of `memory.size` and the like: an index where several memories are allowed, else a byte that is zero

@@ -52,19 +52,12 @@ fn flags_error(offset: u64) -> Error
     ensures kind { result.kind ≡ Other }
     ensures offset { result.offset ≡ offset }
 {
-    Error::new(
-        "malformed memop alignment: alignment too large",
-        offset,
-    )
+    Error::new("malformed memop alignment: alignment too large", offset)
 }
 
 // The flags, where an ordering and a memory may be named or not.
 #[tactic(auto, using(wasm_types_decoding::specs::Laws::reaches_self, wasm_types_decoding::specs::Laws::reaches_then), unfolding(crate::specs::MemoryArguments::flags))]
-fn read_flags<'a>(
-    may_order: bool,
-    may_name: bool,
-    reader: &mut BinaryReader<'a>,
-) -> Result<Flags>
+fn read_flags<'a>(may_order: bool, may_name: bool, reader: &mut BinaryReader<'a>) -> Result<Flags>
     ensures answer { Gives (λ f. f) result reader.new (flags may_order may_name reader.old) }
     ensures no_memory { NeedsNoMemory result }
     ensures forward { Reaches reader.old reader.new }
@@ -107,10 +100,7 @@ fn read_memory<'a>(named: bool, reader: &mut BinaryReader<'a>) -> Result<u32>
 
 // The ordering of an access.
 #[tactic(auto, using(wasm_types_decoding::specs::Laws::reaches_self, wasm_types_decoding::specs::Laws::reaches_then), unfolding(crate::specs::MemoryArguments::access_ordering))]
-fn read_access_ordering<'a>(
-    access: Access,
-    reader: &mut BinaryReader<'a>,
-) -> Result<MemArgOrdering>
+fn read_access_ordering<'a>(access: Access, reader: &mut BinaryReader<'a>) -> Result<MemArgOrdering>
     ensures answer { Gives (λ o. o) result reader.new (access_ordering (access_of access) reader.old) }
     ensures no_memory { NeedsNoMemory result }
     ensures forward { Reaches reader.old reader.new }

@@ -8,16 +8,15 @@ use Rattle.wasm_types_decoding.specs.declared.Refusal.{Refusal}
 use Rattle.wasm_types_decoding.specs.declared.Refusal.TheVariants.{Other}
 use Rattle.wasm_types_decoding.specs.Decoder.{State, Outcome, Done, Short, Fault, Decoder, Grammar, continue_with, ◌>>=◌, pure, byte, IsLawful, IsBeyond, GoesForward, TakesOne, Decides, Takes, Then}
 use Rattle.wasm_types_decoding.specs.Laws.{lawful-byte, lawful->>=, lawful-pure, lawful-if, lawful-look, TakesOne-byte}
-use Rattle.wasm_types_decoding.specs.Exact.{Sound, Reads, Mapped, decides->>=, decides-same, decides-pure, decides-if, decides-map, decides-byte, decides-look_apart}
+use Rattle.wasm_types_decoding.specs.Exact.{Sound, Mapped, decides->>=, decides-pure, decides-if, decides-map, decides-byte, decides-look_apart}
 use Rattle.wasm_types_decoding.specs.Leb.{s33, signed, seven_bits, IsSigned, nonnegative, negative, longer}
 use Rattle.wasm_types_decoding.specs.SignedLaws.{lawful-signed, decides-s33}
-use Rattle.wasm_types_values.specs.declared.heap.AbstractHeapType.{AbstractHeapType}
 use Rattle.wasm_types_values.specs.declared.heap.HeapType.{HeapType}
 use Rattle.wasm_types_values.specs.declared.heap.HeapType.TheVariants.{Abstract, Concrete, Exact}
 use Rattle.wasm_types_values.specs.declared.value.ValType.{ValType}
 use Rattle.wasm_types_values.specs.declared.value.ValType.TheVariants.{I32, I64, F32, F64, V128, Ref}
 use Rattle.wasm_types_values.specs.Trees.{abstract_of, heap_of}
-use Rattle.wasm_types_values.specs.Spells.{abstract_byte, null_byte, SpellsReference}
+use Rattle.wasm_types_values.specs.Spells.{abstract_byte, SpellsReference}
 use Rattle.wasm_types_values.specs.Decode.{begins_index}
 use Rattle.wasm_types_values.specs.DecodeValues.{value_type, value_type_after}
 use Rattle.wasm_types_values.specs.DecodeLaws.{lawful-value_type, lawful-value_type_after}

@@ -1,5 +1,5 @@
 -- Block types as bytes (WebAssembly 3.0, binary format, control instructions), and how they are read.
-use Rattle.std.specs.Prelude.{◌≡◌, ℕ, ◌<◌, ◌^◌, ◌==◌, List, [], ◌∷◌, Bool, true, false, nat_lt, if◌then◌else◌, ℤ, pos, negsuc}
+use Rattle.std.specs.Prelude.{◌≡◌, ℕ, ◌<◌, ◌^◌, ◌==◌, [], ◌∷◌, Bool, true, false, nat_lt, if◌then◌else◌, ℤ, pos, negsuc}
 use Rattle.wasm_types_decoding.specs.declared.Refusal.{Refusal}
 use Rattle.wasm_types_decoding.specs.declared.Refusal.TheVariants.{Other}
 use Rattle.wasm_types_decoding.specs.Decoder.{Decoder, Grammar, Fault, ◌>>=◌, pure, byte, look}

@@ -1,7 +1,7 @@
 -- Clauses and handlers are read lawfully, and exactly where bytes spell them.
-use Rattle.std.proofs.Common.{◌≡◌, ℕ, List, [], ◌∷◌, ◌++◌, refl, sym, ap, subst}
+use Rattle.std.proofs.Common.{ℕ, List, ◌∷◌, refl, sym, ap, subst}
 use Rattle.wasm_types_decoding.specs.declared.Refusal.TheVariants.{Other}
-use Rattle.wasm_types_decoding.specs.Decoder.{Decoder, Grammar, ◌>>=◌, pure, refuse, byte, choice, IsLawful, Decides, Then}
+use Rattle.wasm_types_decoding.specs.Decoder.{Grammar, ◌>>=◌, pure, refuse, byte, choice, IsLawful, Decides, Then}
 use Rattle.wasm_types_decoding.specs.Laws.{lawful-byte, lawful->>=, lawful-pure, lawful-refuse, lawful-choice}
 use Rattle.wasm_types_decoding.specs.Exact.{Sound, Reads, ReadsTagged, Mapped, decides->>=, decides-same, decides-map, decides-table, sound-map, reads-map}
 use Rattle.wasm_types_decoding.specs.Leb.{u32, IsUnsigned}
