@@ -23,8 +23,8 @@ fn read_zero<'a>(message: &str, reader: &mut BinaryReader<'a>) -> Result<()>
     ensures forward { Reaches reader.old reader.new }
 {
     let offset = reader.original_position();
-    let byte = reader.read_u8()?;
-    if byte == 0 {
+    let zero = reader.read_u8()?;
+    if zero == 0 {
         return Ok(());
     }
     Err(Error::new(message, offset))
