@@ -1,6 +1,10 @@
 pub mod Tables
 pub mod Numbers
 pub mod Labels
+pub mod Blocks
+pub mod BlockLaws
+pub mod Handlers
+pub mod HandlerLaws
 pub mod Kinds
 pub mod Immediates
 pub mod Laws

@@ -9,7 +9,9 @@ mod frames;
 mod handlers;
 pub mod laws;
 mod memory;
+mod read_block;
 mod read_br_table;
+mod read_handlers;
 mod vector;
 
 pub use block::BlockType;
@@ -18,4 +20,5 @@ pub use frames::{FrameKind, FrameStack};
 pub use handlers::{Catch, Handle, ResumeTable, TryTable};
 pub use memory::{MemArg, MemArgOrdering, MemArgTarget, Ordering};
 pub use read_br_table::MAX_WASM_BR_TABLE_SIZE;
+pub use read_handlers::{MAX_WASM_CATCHES, MAX_WASM_HANDLERS};
 pub use vector::V128;

@@ -5,8 +5,9 @@ use std::test::Fail;
 use wasm_operators_recorder::{Opcode, Recorder};
 use wasm_operators_recorder_threads::ThreadRecorder;
 use wasm_operators_rows_extended::{ATOMIC, SHARED};
-use wasm_operators_visit_atomic::{VisitAtomic, visit_atomic};
-use wasm_operators_visit_shared::{VisitShared, visit_shared};
+use wasm_operators_visit_atomic::VisitAtomic;
+use wasm_operators_visit_shared::VisitShared;
+use wasm_operators_visit_threads::{visit_atomic, visit_shared};
 
 fn tell_atomic<'a, V: VisitAtomic<'a, Output = Opcode>>(rt: &impl Abort, visitor: &mut V) {
     for (op, _, name, prefix, code) in ATOMIC.iter() {

@@ -1,0 +1,9 @@
+-- What ordering an access may name, as the table of immediates has it.
+use Rattle.wasm_operators_immediates.specs.Kinds as kind
+use Rattle.wasm_operators_decode_immediates.specs.declared.memory_argument.Access.{Access}
+use Rattle.wasm_operators_decode_immediates.specs.declared.memory_argument.Access.TheVariants.{Plain, Atomic, ReadModifyWrite}
+
+abbrev pub access_of : Access → kind.Access
+access_of Plain = kind.Plain
+access_of Atomic = kind.Atomic
+access_of ReadModifyWrite = kind.ReadModifyWrite

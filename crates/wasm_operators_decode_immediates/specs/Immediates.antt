@@ -1,0 +1,118 @@
+-- Immediates by their kind: how each is read where some features are allowed, and the bytes that spell it (WebAssembly 3.0,
+-- binary format, instructions).
+use Rattle.std.specs.Prelude.{◌≡◌, ℕ, List, Bool, false}
+use Rattle.wasm_types_decoding.specs.Decoder.{Decoder, Grammar, ◌>>=◌, pure}
+use Rattle.wasm_types_decoding.specs.Leb.{u32, s32, s64, IsUnsigned, IsSigned}
+use Rattle.wasm_types_decoding.specs.Text.{word, IsWord}
+use Rattle.wasm_types_features.specs.Features.{has, MultiMemory, CallIndirectOverlong}
+use Rattle.wasm_types_values.specs.Decode.{heap_type}
+use Rattle.wasm_types_values.specs.HeapExact.{Spelled}
+use Rattle.wasm_operators_immediates.specs.Kinds as kind
+use Rattle.wasm_operators_immediates.specs.Kinds.{Kind, IndexSpace, Memories, Tables}
+use Rattle.wasm_operators_immediates.specs.Labels.{labels, SpelledLabels}
+use Rattle.wasm_operators_immediates.specs.Blocks.{block_type, SpelledBlock}
+use Rattle.wasm_operators_immediates.specs.Handlers.{try_table, handlers, SpelledTryTable, SpelledHandlers}
+use Rattle.wasm_operators_immediates.specs.Immediates.{Immediate, kind_of, Index, IndexOrZero, Label, Block, BranchTable, MemoryArgument, MemoryOrdering, Heap, CastBranch, ValueTypes, I32Constant, I64Constant, F32Constant, F64Constant, V128Constant, Lane, Lanes, Count, TryTable, Handlers, ZeroByte}
+use Rattle.wasm_operators_decode_immediates.specs.declared.cast.CastBranch.{CastBranch as Branch}
+use Rattle.wasm_operators_decode_immediates.specs.Bytes.{zero_byte, index_or_zero, ordering_by, lane, shuffle, vector, select_types, IsZero, IsIndexOrZero, SpelledOrdering, IsLane, IsShuffle, SpelledVector, SpelledTypes}
+use Rattle.wasm_operators_decode_immediates.specs.MemoryArguments.{memory_argument, SpelledMemArg}
+use Rattle.wasm_operators_decode_immediates.specs.Casts.{branch, cast_branch, SpelledCast}
+
+-- whether an index may stand in the place of a byte that the first release reserved: of memories and of tables, each by a
+-- feature of its own; no operator has another there
+abbrev pub may_index : ℕ → IndexSpace → Bool
+may_index features Memories = has MultiMemory features
+may_index features Tables = has CallIndirectOverlong features
+may_index features space = false
+
+-- ---- decoders
+
+-- f of what was read
+abbrev pub read_as : {A : Type 0} → Decoder A → (A → Immediate) → Decoder Immediate
+read_as d f = d >>= λ x. pure (f x)
+
+abbrev pub of_branch : Branch → Immediate
+of_branch c = CastBranch c.relative_depth c.from_ref_type c.to_ref_type
+
+abbrev pub of_bits32 : ℕ → Immediate
+of_bits32 n = F32Constant (record { 0 = n })
+
+abbrev pub of_bits64 : ℕ → Immediate
+of_bits64 n = F64Constant (record { 0 = n })
+
+abbrev pub of_zero : ℕ → Immediate
+of_zero n = ZeroByte
+
+unfoldable pub immediate : ℕ → Kind → Decoder Immediate
+immediate features (kind.Index space) = read_as u32 (Index space)
+immediate features (kind.IndexOrZero space) = read_as (index_or_zero (may_index features space)) (IndexOrZero space)
+immediate features kind.Label = read_as u32 Label
+immediate features kind.Block = read_as block_type Block
+immediate features kind.BranchTable = read_as labels BranchTable
+immediate features (kind.MemoryArgument access natural) = read_as (memory_argument features access natural) (MemoryArgument access natural)
+immediate features kind.MemoryOrdering = read_as (ordering_by 0x01) MemoryOrdering
+immediate features kind.Heap = read_as heap_type Heap
+immediate features kind.CastBranch = read_as cast_branch of_branch
+immediate features kind.ValueTypes = read_as select_types ValueTypes
+immediate features kind.I32Constant = read_as s32 I32Constant
+immediate features kind.I64Constant = read_as s64 I64Constant
+immediate features kind.F32Constant = read_as (word 4) of_bits32
+immediate features kind.F64Constant = read_as (word 8) of_bits64
+immediate features kind.V128Constant = read_as vector V128Constant
+immediate features (kind.Lane lanes) = read_as (lane lanes) (Lane lanes)
+immediate features kind.Lanes = read_as shuffle Lanes
+immediate features kind.Count = read_as u32 Count
+immediate features kind.TryTable = read_as try_table TryTable
+immediate features kind.Handlers = read_as handlers Handlers
+immediate features kind.ZeroByte = read_as zero_byte of_zero
+
+-- ---- grammars
+
+abbrev pub SpelledImmediate : ℕ → Grammar Immediate
+-- x:idx
+SpelledImmediate features (Index space n) text = IsUnsigned 32 n text
+-- x:idx, or 0x00 where the feature is not allowed
+SpelledImmediate features (IndexOrZero space n) text = IsIndexOrZero (may_index features space) n text
+-- l:labelidx
+SpelledImmediate features (Label depth) text = IsUnsigned 32 depth text
+-- bt:blocktype
+SpelledImmediate features (Block ty) text = SpelledBlock ty text
+-- l*:list(labelidx) l_N:labelidx
+SpelledImmediate features (BranchTable l) text = SpelledLabels l text
+-- m:memarg
+SpelledImmediate features (MemoryArgument access natural m) text = SpelledMemArg features access natural m text
+-- an ordering
+SpelledImmediate features (MemoryOrdering o) text = SpelledOrdering 0x01 o text
+-- ht:heaptype
+SpelledImmediate features (Heap ty) text = Spelled ty text
+-- castop l:labelidx ht_1:heaptype ht_2:heaptype
+SpelledImmediate features (CastBranch depth from to) text = SpelledCast (branch depth from to) text
+-- t*:list(valtype)
+SpelledImmediate features (ValueTypes tys) text = SpelledTypes tys text
+-- n:i32
+SpelledImmediate features (I32Constant value) text = IsSigned 32 value text
+-- n:i64
+SpelledImmediate features (I64Constant value) text = IsSigned 64 value text
+-- p:f32
+SpelledImmediate features (F32Constant bits) text = IsWord 4 bits.0 text
+-- p:f64
+SpelledImmediate features (F64Constant bits) text = IsWord 8 bits.0 text
+-- b*:byte^16
+SpelledImmediate features (V128Constant value) text = SpelledVector value text
+-- l:laneidx
+SpelledImmediate features (Lane lanes l) text = IsLane lanes l text
+-- l*:laneidx^16
+SpelledImmediate features (Lanes l) text = IsShuffle l text
+-- n:u32
+SpelledImmediate features (Count number) text = IsUnsigned 32 number text
+-- bt:blocktype c*:list(catch)
+SpelledImmediate features (TryTable t) text = SpelledTryTable t text
+-- hdl*:list(hdl)
+SpelledImmediate features (Handlers h) text = SpelledHandlers h text
+-- 0x00
+SpelledImmediate features ZeroByte text = IsZero 0 text
+
+-- an immediate of this kind, and its bytes
+pub record OfKind (features : ℕ) (k : Kind) (i : Immediate) (text : List ℕ) : Type 0 where
+  pub kind : kind_of i ≡ k
+  pub spelled : SpelledImmediate features i text

@@ -1,0 +1,115 @@
+//! The types of blocks from their bytes.
+
+ghost use Rattle.std.specs.Prelude.{◌≡◌};
+ghost use Rattle.wasm_types_decoding.specs.Decoder.{Reaches};
+ghost use Rattle.wasm_types_error.specs.declared.error.ErrorKind.TheVariants.{Other};
+ghost use Rattle.wasm_types_reader.specs.Reading.{Gives, NeedsNoMemory};
+ghost use Rattle.wasm_operators_immediates.specs.Blocks.{begins_value, function_block, value_block, empty_block, block_type};
+
+use crate::BlockType;
+use std::alloc::Global;
+use wasm_types_reader::{BinaryReader, Error, FromReader, Result};
+use wasm_types_values::ValType;
+
+// Whether a byte begins a value type, where it begins no index.
+#[inline]
+fn is_start_of_value(byte: u8) -> bool
+    ensures { result ≡ begins_value byte }
+{
+    if byte < 0x63 {
+        false
+    } else if byte < 0x66 {
+        true
+    } else if byte < 0x68 {
+        false
+    } else if byte < 0x76 {
+        true
+    } else {
+        byte > 0x7a
+    }
+}
+
+// The error of what is no type of a block.
+#[cold]
+fn no_block_type(offset: u64) -> Error
+    ensures kind { result.kind ≡ Other }
+    ensures offset { result.offset ≡ offset }
+{
+    Error::new("invalid function type", offset)
+}
+
+// A function type, by its index in a number with a sign.
+#[tactic(auto, using(wasm_types_decoding::specs::Laws::reaches_self, wasm_types_decoding::specs::Laws::reaches_then), unfolding(crate::specs::Blocks::function_block))]
+fn read_function<'a>(reader: &mut BinaryReader<'a>) -> Result<BlockType>
+    ensures answer { Gives (λ ty. ty) result reader.new (function_block reader.old) }
+    ensures no_memory { NeedsNoMemory result }
+    ensures forward { Reaches reader.old reader.new }
+{
+    let index = reader.read_var_s33()?;
+    if index < 0 {
+        return Err(no_block_type(reader.original_position()));
+    }
+    if index > u32::MAX as i64 {
+        return Err(no_block_type(reader.original_position()));
+    }
+    Ok(BlockType::FuncType(index as u32))
+}
+
+// A value type.
+#[tactic(auto, using(wasm_types_decoding::specs::Laws::reaches_self, wasm_types_decoding::specs::Laws::reaches_then), unfolding(crate::specs::Blocks::value_block))]
+fn read_value<'a>(alloc: Global, reader: &mut BinaryReader<'a>) -> Result<BlockType>
+    ensures answer { Gives (λ ty. ty) result reader.new (value_block reader.old) }
+    ensures no_memory { NeedsNoMemory result }
+    ensures forward { Reaches reader.old reader.new }
+{
+    let ty = ValType::from_reader(alloc, reader)?;
+    Ok(BlockType::Val(ty))
+}
+
+// The byte of the empty type.
+#[tactic(auto, using(wasm_types_decoding::specs::Laws::reaches_self, wasm_types_decoding::specs::Laws::reaches_then), unfolding(crate::specs::Blocks::empty_block))]
+fn read_empty<'a>(reader: &mut BinaryReader<'a>) -> Result<BlockType>
+    ensures answer { Gives (λ ty. ty) result reader.new (empty_block reader.old) }
+    ensures no_memory { NeedsNoMemory result }
+    ensures forward { Reaches reader.old reader.new }
+{
+    let byte = reader.read_u8()?;
+    if byte == 0x40 {
+        return Ok(BlockType::Empty);
+    }
+    Err(no_block_type(reader.original_position()))
+}
+
+impl<'a> FromReader<'a> for BlockType {
+    ghost use Rattle.wasm_operators_immediates.specs.declared.block.BlockType.{BlockType as TheType};
+    ghost use Rattle.wasm_operators_immediates.specs.Blocks.{SpelledBlock};
+    ghost use Rattle.wasm_operators_immediates.specs.BlockLaws.{lawful-block_type, decides-block_type};
+
+    ghost Value = { TheType };
+
+    ghost view = { λ ty. ty };
+
+    ghost decoder = { block_type };
+
+    ghost grammar = { SpelledBlock };
+
+    ghost lawful = { lawful-block_type };
+
+    ghost exact = { decides-block_type };
+
+    #[tactic(auto, using(wasm_types_decoding::specs::Laws::reaches_self, wasm_types_decoding::specs::Laws::reaches_then), unfolding(crate::specs::Blocks::block_type))]
+    fn from_reader(alloc: Global, reader: &mut BinaryReader<'a>) -> Result<BlockType>
+        ensures answer { Gives (λ ty. ty) result reader.new (block_type reader.old) }
+        ensures forward { Reaches reader.old reader.new }
+        ensures no_memory { NeedsNoMemory result }
+    {
+        let first = reader.peek()?;
+        if first < 0x40 || first > 0x7f {
+            return read_function(reader);
+        }
+        if is_start_of_value(first) {
+            return read_value(alloc, reader);
+        }
+        read_empty(reader)
+    }
+}

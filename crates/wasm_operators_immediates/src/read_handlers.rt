@@ -1,0 +1,168 @@
+//! The clauses of `try_table` and the handlers of `resume` from their bytes.
+
+ghost use Rattle.std.specs.Prelude.{◌≡◌};
+ghost use Rattle.wasm_types_decoding.specs.Decoder.{Reaches};
+ghost use Rattle.wasm_types_error.specs.declared.error.ErrorKind.TheVariants.{Other};
+ghost use Rattle.wasm_types_reader.specs.Reading.{Gives, NeedsNoMemory};
+ghost use Rattle.wasm_operators_immediates.specs.Handlers.{clause, handle, try_table, handlers};
+
+use crate::{BlockType, Catch, Handle, ResumeTable, TryTable};
+use std::alloc::Global;
+use wasm_types_reader::{BinaryReader, Error, FromReader, Result, read_list};
+
+/// The most clauses of a `try_table`.
+pub const MAX_WASM_CATCHES: usize = 10_000;
+
+/// The most handlers of a `resume`.
+pub const MAX_WASM_HANDLERS: usize = 10_000;
+
+// The error of a byte that begins no clause or handler.
+#[cold]
+fn leading_byte_error(byte: u8, desc: &str, offset: u64) -> Error
+    ensures kind { result.kind ≡ Other }
+    ensures offset { result.offset ≡ offset }
+{
+    Error::fmt(
+        format_args!("invalid leading byte (0x{byte:x}) for {desc}"),
+        offset,
+    )
+}
+
+impl<'a> FromReader<'a> for Catch {
+    ghost use Rattle.wasm_operators_immediates.specs.declared.handlers.Catch.{Catch as TheClause};
+    ghost use Rattle.wasm_operators_immediates.specs.Handlers.{SpelledCatch};
+    ghost use Rattle.wasm_operators_immediates.specs.HandlerLaws.{lawful-clause, decides-clause};
+
+    ghost Value = { TheClause };
+
+    ghost view = { λ c. c };
+
+    ghost decoder = { clause };
+
+    ghost grammar = { SpelledCatch };
+
+    ghost lawful = { lawful-clause };
+
+    ghost exact = { decides-clause };
+
+    #[tactic(auto, using(wasm_types_decoding::specs::Laws::reaches_self, wasm_types_decoding::specs::Laws::reaches_then), unfolding(crate::specs::Handlers::clause, crate::specs::Handlers::clause_after))]
+    fn from_reader(_alloc: Global, reader: &mut BinaryReader<'a>) -> Result<Catch>
+        ensures answer { Gives (λ c. c) result reader.new (clause reader.old) }
+        ensures forward { Reaches reader.old reader.new }
+        ensures no_memory { NeedsNoMemory result }
+    {
+        let offset = reader.original_position();
+        let byte = reader.read_u8()?;
+        match byte {
+            0x00 => {
+                let tag = reader.read_var_u32()?;
+                let label = reader.read_var_u32()?;
+                Ok(Catch::One { tag, label })
+            }
+            0x01 => {
+                let tag = reader.read_var_u32()?;
+                let label = reader.read_var_u32()?;
+                Ok(Catch::OneRef { tag, label })
+            }
+            0x02 => {
+                let label = reader.read_var_u32()?;
+                Ok(Catch::All { label })
+            }
+            0x03 => {
+                let label = reader.read_var_u32()?;
+                Ok(Catch::AllRef { label })
+            }
+            _ => Err(leading_byte_error(byte, "catch", offset)),
+        }
+    }
+}
+
+impl<'a> FromReader<'a> for TryTable {
+    ghost use Rattle.wasm_operators_immediates.specs.Tables.{CatchTable, catch_table_of};
+    ghost use Rattle.wasm_operators_immediates.specs.Handlers.{SpelledTryTable};
+    ghost use Rattle.wasm_operators_immediates.specs.HandlerLaws.{lawful-try_table, decides-try_table};
+
+    ghost Value = { CatchTable };
+
+    ghost view = { catch_table_of };
+
+    ghost decoder = { try_table };
+
+    ghost grammar = { SpelledTryTable };
+
+    ghost lawful = { lawful-try_table };
+
+    ghost exact = { decides-try_table };
+
+    #[tactic(auto, using(wasm_types_decoding::specs::Laws::reaches_self, wasm_types_decoding::specs::Laws::reaches_then), unfolding(crate::specs::Handlers::try_table))]
+    fn from_reader(alloc: Global, reader: &mut BinaryReader<'a>) -> Result<TryTable> {
+        let ty = BlockType::from_reader(alloc, reader)?;
+        let catches = read_list(alloc, MAX_WASM_CATCHES, "catches", reader)?;
+        Ok(TryTable { ty, catches })
+    }
+}
+
+impl<'a> FromReader<'a> for Handle {
+    ghost use Rattle.wasm_operators_immediates.specs.declared.handlers.Handle.{Handle as TheHandler};
+    ghost use Rattle.wasm_operators_immediates.specs.Handlers.{SpelledHandle};
+    ghost use Rattle.wasm_operators_immediates.specs.HandlerLaws.{lawful-handle, decides-handle};
+
+    ghost Value = { TheHandler };
+
+    ghost view = { λ h. h };
+
+    ghost decoder = { handle };
+
+    ghost grammar = { SpelledHandle };
+
+    ghost lawful = { lawful-handle };
+
+    ghost exact = { decides-handle };
+
+    #[tactic(auto, using(wasm_types_decoding::specs::Laws::reaches_self, wasm_types_decoding::specs::Laws::reaches_then), unfolding(crate::specs::Handlers::handle, crate::specs::Handlers::handle_after))]
+    fn from_reader(_alloc: Global, reader: &mut BinaryReader<'a>) -> Result<Handle>
+        ensures answer { Gives (λ h. h) result reader.new (handle reader.old) }
+        ensures forward { Reaches reader.old reader.new }
+        ensures no_memory { NeedsNoMemory result }
+    {
+        let offset = reader.original_position();
+        let byte = reader.read_u8()?;
+        match byte {
+            0x00 => {
+                let tag = reader.read_var_u32()?;
+                let label = reader.read_var_u32()?;
+                Ok(Handle::OnLabel { tag, label })
+            }
+            0x01 => {
+                let tag = reader.read_var_u32()?;
+                Ok(Handle::OnSwitch { tag })
+            }
+            _ => Err(leading_byte_error(byte, "on clause", offset)),
+        }
+    }
+}
+
+impl<'a> FromReader<'a> for ResumeTable {
+    ghost use Rattle.std.specs.Prelude.{List};
+    ghost use Rattle.wasm_operators_immediates.specs.declared.handlers.Handle.{Handle as TheHandler};
+    ghost use Rattle.wasm_operators_immediates.specs.Handlers.{SpelledHandlers};
+    ghost use Rattle.wasm_operators_immediates.specs.HandlerLaws.{lawful-handlers, decides-handlers};
+
+    ghost Value = { List TheHandler };
+
+    ghost view = { λ t. t.handlers.items };
+
+    ghost decoder = { handlers };
+
+    ghost grammar = { SpelledHandlers };
+
+    ghost lawful = { lawful-handlers };
+
+    ghost exact = { decides-handlers };
+
+    #[tactic(auto, using(wasm_types_decoding::specs::Laws::reaches_self, wasm_types_decoding::specs::Laws::reaches_then), unfolding(crate::specs::Handlers::handlers))]
+    fn from_reader(alloc: Global, reader: &mut BinaryReader<'a>) -> Result<ResumeTable> {
+        let handlers = read_list(alloc, MAX_WASM_HANDLERS, "resume table", reader)?;
+        Ok(ResumeTable { handlers })
+    }
+}
