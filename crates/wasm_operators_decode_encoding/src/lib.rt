@@ -1,0 +1,38 @@
+//! Operators of WebAssembly as bytes have them: an opcode, and immediates of the kinds that belong to it (WebAssembly 3.0,
+//! binary format, instructions).
+#![tactic(auto)]
+
+ghost use Rattle.std.specs.Prelude.{◌≡◌, IsTrue, ℕ, List, Some};
+ghost use Rattle.wasm_types_decoding.specs.Decoder.{IsLawful, Decides};
+ghost use Rattle.wasm_operators_immediates.specs.Kinds.{Kind};
+ghost use Rattle.wasm_operators_tree.specs.Op.{Op};
+ghost use Rattle.wasm_operators_tree.specs.Immediates.{is_canonical, kinds_of};
+ghost use Rattle.wasm_operators_decode_encoding.specs.Sequences.{immediates, OfKinds};
+ghost use Rattle.wasm_operators_decode_encoding.specs.Opcodes.{opcode, SpelledOpcode};
+ghost use Rattle.wasm_operators_decode_encoding.specs.Coded.{operator, kinds_at, SpelledCoded};
+ghost use Rattle.wasm_operators_decode_encoding.specs.Operators.{opcode_of, coded_of, SpelledOperator};
+
+/// Opcodes, and immediates one after the other, whatever features are allowed: a value and a fault stay whatever bytes
+/// follow, a want of bytes is exact, and a value is read exactly where a front of the bytes spells it.
+pub const fn opcodes_and_immediates_are_lawful()
+    ensures opcodes { IsLawful opcode }
+    ensures opcodes_exact { Decides opcode SpelledOpcode }
+    ensures immediates { (features : ℕ) (ks : List Kind) → IsLawful (immediates features ks) }
+    ensures immediates_exact { (features : ℕ) (ks : List Kind) → Decides (immediates features ks) (OfKinds features ks) }
+{}
+
+/// Operators, each an opcode with the immediates that belong to it, whatever features are allowed: a value and a fault stay
+/// whatever bytes follow, a want of bytes is exact, and a value is read exactly where a front of the bytes spells it.
+pub const fn operators_are_lawful()
+    ensures lawful { (features : ℕ) → IsLawful (operator features) }
+    ensures exact { (features : ℕ) → Decides (operator features) (SpelledCoded features) }
+{}
+
+/// What bytes tell of an operator. Behind its opcode stand immediates of its own kinds; it is spelled exactly where its opcode
+/// and immediates are, in the form that bytes give it; and no other operator of that form has the same opcode and immediates.
+pub const fn operators_are_spelled()
+    ensures kinds { (o : Op) → kinds_at (opcode_of o) ≡ Some (kinds_of o) }
+    ensures spelled { (features : ℕ) (o : Op) (text : List ℕ) → SpelledOperator features o text → IsTrue (is_canonical o) × SpelledCoded features (coded_of o) text }
+    ensures spells { (features : ℕ) (o : Op) (text : List ℕ) → IsTrue (is_canonical o) × SpelledCoded features (coded_of o) text → SpelledOperator features o text }
+    ensures apart { (a b : Op) → IsTrue (is_canonical a) → IsTrue (is_canonical b) → coded_of a ≡ coded_of b → a ≡ b }
+{}
