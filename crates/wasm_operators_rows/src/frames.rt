@@ -1,4 +1,5 @@
 //! Which operators fit which frames, how many operators there are, and how large they are.
+use crate::expect::same;
 use std::mem::size_of;
 use wasm_operators_basic::{ControlOperator, ExceptionOperator, MemoryOperator, NumericOperator};
 use wasm_operators_immediates::{BrTable, FrameKind, FrameStack, MemArg};
@@ -56,21 +57,21 @@ fn frames(rt: HostRuntime) {
 #[test]
 fn counts(rt: HostRuntime) {
     let basic = MEMORY.len() + NUMERIC.len();
-    assert_eq!(rt; basic, 30 + 140);
+    same(&rt, basic, 30 + 140);
     let extended = BULK.len() + GC.len() + DESCRIPTOR.len() + ATOMIC.len() + SHARED.len();
-    assert_eq!(rt; extended, 16 + 32 + 7 + 67 + 36);
-    assert_eq!(rt; SIMD.len() + SIMD_NUMERIC.len(), 256);
+    same(&rt, extended, 16 + 32 + 7 + 67 + 36);
+    same(&rt, SIMD.len() + SIMD_NUMERIC.len(), 256);
     // Those of the groups in `owned`: control and calls, parametric, exceptions, constants, continuations.
-    assert_eq!(rt; basic + extended + 256 + 20 + 4 + 8 + 4 + 7, 627);
+    same(&rt, basic + extended + 256 + 20 + 4 + 8 + 4 + 7, 627);
 }
 
 #[test]
 fn sizes(rt: HostRuntime) {
-    assert_eq!(rt; size_of::<NumericOperator>(), 1);
-    assert_eq!(rt; size_of::<MemArg>(), 24);
-    assert_eq!(rt; size_of::<MemoryOperator>(), 32);
-    assert_eq!(rt; size_of::<BrTable>(), 24);
-    assert_eq!(rt; size_of::<Operator>(), 56);
+    same(&rt, size_of::<NumericOperator>(), 1);
+    same(&rt, size_of::<MemArg>(), 24);
+    same(&rt, size_of::<MemoryOperator>(), 32);
+    same(&rt, size_of::<BrTable>(), 24);
+    same(&rt, size_of::<Operator>(), 56);
 }
 
 #[test]

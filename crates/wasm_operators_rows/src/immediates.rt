@@ -1,4 +1,5 @@
 //! Tables of labels from bytes, and vectors as numbers.
+use crate::expect::same;
 use std::test::Fail;
 use wasm_operators_immediates::{BrTable, MemArgTarget, V128};
 use wasm_types_reader::BinaryReader;
@@ -8,15 +9,15 @@ fn labels(rt: HostRuntime) -> Result<(), Fail> {
     // Two targets, the second in a longer spelling, and a default.
     let mut reader = BinaryReader::new(&[0x02, 0x01, 0x82, 0x00, 0x80, 0x01, 0x0b], 40);
     let table = reader.read::<BrTable>(rt.alloc())?;
-    assert_eq!(rt; reader.bytes_remaining(), 1);
-    assert_eq!(rt; table.len(), 2);
+    same(&rt, reader.bytes_remaining(), 1);
+    same(&rt, table.len(), 2);
     assert!(rt; !table.is_empty());
-    assert_eq!(rt; table.default(), 128);
+    same(&rt, table.default(), 128);
     let mut targets = table.targets();
-    assert_eq!(rt; targets.len(), 2);
-    assert_eq!(rt; targets.next(), Some(1));
-    assert_eq!(rt; targets.next(), Some(2));
-    assert_eq!(rt; targets.next(), None);
+    same(&rt, targets.len(), 2);
+    same(&rt, targets.next(), Some(1));
+    same(&rt, targets.next(), Some(2));
+    same(&rt, targets.next(), None);
     let plain = BinaryReader::new(&[0x02, 0x01, 0x02, 0x80, 0x01], 0).read::<BrTable>(rt.alloc())?;
     assert!(rt; table == plain);
     assert!(rt; table.clone() == table);
@@ -24,7 +25,7 @@ fn labels(rt: HostRuntime) -> Result<(), Fail> {
     assert!(rt; table != other);
     let none = BinaryReader::new(&[0x00, 0x05], 0).read::<BrTable>(rt.alloc())?;
     assert!(rt; none.is_empty());
-    assert_eq!(rt; none.targets().next(), None);
+    same(&rt, none.targets().next(), None);
     Ok(())
 }
 
@@ -43,26 +44,27 @@ fn refused_labels(rt: HostRuntime) {
         match reader.read::<BrTable>(rt.alloc()) {
             Ok(_) => panic!(rt; "labels are read"),
             Err(error) => {
-                assert_eq!(rt; error.kind().number(), kind);
-                assert_eq!(rt; error.offset(), offset);
+                same(&rt, error.kind().number(), kind);
+                same(&rt, error.offset(), offset);
             }
         }
-        assert_eq!(rt; reader.original_position(), 0);
+        same(&rt, reader.original_position(), 0);
     }
 }
 
 #[test]
 fn vectors(rt: HostRuntime) {
     let one = V128::from(1u128);
-    assert_eq!(rt;
+    same(
+        &rt,
         *one.bytes(),
-        [1, 0, 0, 0, 0, 0, 0, 0, 0, 0, 0, 0, 0, 0, 0, 0]
+        [1, 0, 0, 0, 0, 0, 0, 0, 0, 0, 0, 0, 0, 0, 0, 0],
     );
-    assert_eq!(rt; one.i128(), 1);
+    same(&rt, one.i128(), 1);
     let minus_two = V128::from(-2i128);
-    assert_eq!(rt; minus_two.bytes()[0], 0xfe);
-    assert_eq!(rt; minus_two.bytes()[15], 0xff);
-    assert_eq!(rt; u128::from(minus_two), u128::MAX - 1);
-    assert_eq!(rt; i128::from(minus_two), -2);
+    same(&rt, minus_two.bytes()[0], 0xfe);
+    same(&rt, minus_two.bytes()[15], 0xff);
+    same(&rt, u128::from(minus_two), u128::MAX - 1);
+    same(&rt, i128::from(minus_two), -2);
     assert!(rt; MemArgTarget::default() == MemArgTarget::Memory);
 }

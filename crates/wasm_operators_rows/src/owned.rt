@@ -1,4 +1,5 @@
 //! The operators of the list that keep something in memory, and those of their groups; clones.
+use crate::expect::same;
 use crate::listed::assert_told;
 use std::alloc::Global;
 use std::test::Fail;
@@ -353,7 +354,7 @@ fn clones(rt: HostRuntime) -> Result<(), Fail> {
     assert!(rt; block.clone()? == block);
     assert!(rt; block != select);
     let resume_table = resume_table(rt.alloc())?;
-    assert_eq!(rt; resume_table.len(), 2);
+    same(&rt, resume_table.len(), 2);
     let resume = Operator::Continuation(ContinuationOperator::Resume {
         cont_type_index: 1,
         resume_table,

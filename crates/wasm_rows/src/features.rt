@@ -1,5 +1,6 @@
 // The bits, the names and the named sets against tables that were written out by hand.
 
+use crate::expect::same;
 use bitflags::Flags;
 use wasm_types_features::{WasmFeatures, WasmFeaturesInflated};
 
@@ -53,16 +54,16 @@ fn names_stand_for_their_bits(rt: HostRuntime) {
             "{name}"
         );
     }
-    assert_eq!(rt; WasmFeatures::from_name("MVP"), None);
-    assert_eq!(rt; WasmFeatures::all().bits(), 0x0fff_ffff);
+    same(&rt, WasmFeatures::from_name("MVP"), None);
+    same(&rt, WasmFeatures::all().bits(), 0x0fff_ffff);
 }
 
 #[test]
 fn named_sets_have_their_features(rt: HostRuntime) {
     let mvp = ["FLOATS", "GC_TYPES"];
-    assert_eq!(rt; set_of_names(&mvp), Some(WasmFeatures::MVP));
+    same(&rt, set_of_names(&mvp), Some(WasmFeatures::MVP));
     let wasm1 = ["FLOATS", "GC_TYPES", "MUTABLE_GLOBAL"];
-    assert_eq!(rt; set_of_names(&wasm1), Some(WasmFeatures::WASM1));
+    same(&rt, set_of_names(&wasm1), Some(WasmFeatures::WASM1));
     let wasm2 = [
         "FLOATS",
         "GC_TYPES",
@@ -74,7 +75,7 @@ fn named_sets_have_their_features(rt: HostRuntime) {
         "REFERENCE_TYPES",
         "SIMD",
     ];
-    assert_eq!(rt; set_of_names(&wasm2), Some(WasmFeatures::WASM2));
+    same(&rt, set_of_names(&wasm2), Some(WasmFeatures::WASM2));
     let wasm3 = [
         "FLOATS",
         "GC_TYPES",
@@ -95,7 +96,7 @@ fn named_sets_have_their_features(rt: HostRuntime) {
         "EXCEPTIONS",
         "MEMORY64",
     ];
-    assert_eq!(rt; set_of_names(&wasm3), Some(WasmFeatures::WASM3));
+    same(&rt, set_of_names(&wasm3), Some(WasmFeatures::WASM3));
     let lime1 = [
         "FLOATS",
         "GC_TYPES",
@@ -107,10 +108,10 @@ fn named_sets_have_their_features(rt: HostRuntime) {
         "BULK_MEMORY_OPT",
         "CALL_INDIRECT_OVERLONG",
     ];
-    assert_eq!(rt; set_of_names(&lime1), Some(WasmFeatures::LIME1));
+    same(&rt, set_of_names(&lime1), Some(WasmFeatures::LIME1));
     let mut wasm3_and_components = WasmFeatures::WASM3;
     wasm3_and_components.insert(WasmFeatures::COMPONENT_MODEL);
-    assert_eq!(rt; WasmFeatures::default(), wasm3_and_components);
+    same(&rt, WasmFeatures::default(), wasm3_and_components);
 }
 
 #[test]
@@ -126,7 +127,7 @@ fn accessors_want_every_bit(rt: HostRuntime) {
 fn inflated_form_and_back(rt: HostRuntime) {
     let wasm2 = WasmFeaturesInflated::from(WasmFeatures::WASM2);
     assert!(rt; wasm2.simd && wasm2.reference_types && !wasm2.gc);
-    assert_eq!(rt; WasmFeatures::from(wasm2), WasmFeatures::WASM2);
+    same(&rt, WasmFeatures::from(wasm2), WasmFeatures::WASM2);
     // Where one of the two fields is not set, neither name's two bits are all in.
     let halves = WasmFeaturesInflated {
         call_indirect_overlong: false,

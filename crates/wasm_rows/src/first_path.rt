@@ -1,5 +1,6 @@
 //! Modules of function types, functions and bodies (WebAssembly 3.0, binary format, modules).
 
+use crate::expect::same;
 use std::test::Fail;
 use wasm_module_validator::{Validator, ValidatorId, validate};
 use wasm_types::{Error, ErrorKind};
@@ -93,7 +94,7 @@ fn judged(rt: &HostRuntime, bytes: &[u8]) -> Result<(u32, u32), Error> {
 
 #[test]
 fn bare_header(rt: HostRuntime) -> Result<(), Fail> {
-    assert_eq!(rt; judged(&rt, &BARE_HEADER)?, (0, 0));
+    same(&rt, judged(&rt, &BARE_HEADER)?, (0, 0));
     Ok(())
 }
 
@@ -103,29 +104,29 @@ fn short_or_wrong_header(rt: HostRuntime) -> Result<(), Fail> {
         let Err(error) = judged(&rt, bytes) else {
             return Err(Fail::from("a short header is accepted"));
         };
-        assert_eq!(rt; error.kind().number(), 1);
+        same(&rt, error.kind().number(), 1);
         assert!(rt; error.needed_hint().is_some());
     }
     let Err(error) = judged(&rt, &VERSION_TWO) else {
         return Err(Fail::from("version 2 is accepted"));
     };
-    assert_eq!(rt; error.kind(), ErrorKind::Other);
+    same(&rt, error.kind(), ErrorKind::Other);
     assert!(rt; error.message() == "unknown binary version: 0x2");
     Ok(())
 }
 
 #[test]
 fn padded_size(rt: HostRuntime) -> Result<(), Fail> {
-    assert_eq!(rt; judged(&rt, &PADDED_SIZE)?, (1, 0));
-    assert_eq!(rt; judged(&rt, &SIZE_OF_FIVE_BYTES)?, (1, 0));
+    same(&rt, judged(&rt, &PADDED_SIZE)?, (1, 0));
+    same(&rt, judged(&rt, &SIZE_OF_FIVE_BYTES)?, (1, 0));
     assert!(rt; judged(&rt, &SIZE_OF_SIX_BYTES).is_err());
     Ok(())
 }
 
 #[test]
 fn const_42(rt: HostRuntime) -> Result<(), Fail> {
-    assert_eq!(rt; judged(&rt, &CONST_42)?, (1, 1));
-    assert_eq!(rt; judged(&rt, &PARAMETERS)?, (1, 1));
+    same(&rt, judged(&rt, &CONST_42)?, (1, 1));
+    same(&rt, judged(&rt, &PARAMETERS)?, (1, 1));
     Ok(())
 }
 
@@ -136,9 +137,9 @@ fn empty_body(rt: HostRuntime) -> Result<(), Fail> {
     let Err(error) = validator.validate_all(&EMPTY_BODY) else {
         return Err(Fail::from("an empty body gives a number"));
     };
-    assert_eq!(rt; error.offset(), 0x18);
+    same(&rt, error.offset(), 0x18);
     assert!(rt; error.message() == "type mismatch: expected i32 but nothing on stack");
-    assert_eq!(rt; error.kind().number(), 5);
+    same(&rt, error.kind().number(), 5);
     assert!(rt; !validator.is_fresh());
     Ok(())
 }
@@ -155,13 +156,13 @@ fn no_end(rt: HostRuntime) {
 
 #[test]
 fn unreachable_add(rt: HostRuntime) -> Result<(), Fail> {
-    assert_eq!(rt; judged(&rt, &UNREACHABLE_ADD)?, (1, 1));
+    same(&rt, judged(&rt, &UNREACHABLE_ADD)?, (1, 1));
     Ok(())
 }
 
 #[test]
 fn many_locals(rt: HostRuntime) -> Result<(), Fail> {
-    assert_eq!(rt; judged(&rt, &MANY_LOCALS)?, (1, 1));
+    same(&rt, judged(&rt, &MANY_LOCALS)?, (1, 1));
     let Err(error) = judged(&rt, &TOO_MANY_LOCALS) else {
         return Err(Fail::from("50,001 locals are accepted"));
     };

@@ -4,6 +4,8 @@
 #[cfg(test)]
 mod bodies;
 #[cfg(test)]
+mod expect;
+#[cfg(test)]
 mod features;
 #[cfg(test)]
 mod first_path;

@@ -1,5 +1,6 @@
 //! Types from bytes that others wrote down, and what no clause says of them: texts, messages and counts at their limits.
 
+use crate::expect::same;
 use std::alloc::{AllocError, Global};
 use std::cmp::Ordering;
 use std::hash::{DefaultHasher, Hash, Hasher};
@@ -69,7 +70,11 @@ fn abstract_heap_types(rt: HostRuntime) -> std::result::Result<(), Fail> {
             "{byte:x}"
         );
         let short = read_reference(rt.alloc(), &[byte])?;
-        assert_eq!(rt; short, RefType::new(true, alone).unwrap_or(RefType::FUNC));
+        same(
+            &rt,
+            short,
+            RefType::new(true, alone).unwrap_or(RefType::FUNC),
+        );
         assert!(rt; short.to_string(rt.alloc())?.as_str() == word, "{byte:x}");
         assert_eq!(rt;
             read_reference(rt.alloc(), &[0x63, byte])?,
@@ -94,11 +99,12 @@ fn abstract_heap_types(rt: HostRuntime) -> std::result::Result<(), Fail> {
 #[test]
 fn heap_types_by_index(rt: HostRuntime) -> std::result::Result<(), Fail> {
     let zero = HeapType::Concrete(UnpackedIndex::Module(0));
-    assert_eq!(rt; read_heap_type(rt.alloc(), &[0x80, 0x00])?, zero);
-    assert_eq!(rt; read_heap_type(rt.alloc(), &[0x00])?, zero);
-    assert_eq!(rt;
+    same(&rt, read_heap_type(rt.alloc(), &[0x80, 0x00])?, zero);
+    same(&rt, read_heap_type(rt.alloc(), &[0x00])?, zero);
+    same(
+        &rt,
         read_heap_type(rt.alloc(), &[0x62, 0x05])?,
-        HeapType::Exact(UnpackedIndex::Module(5))
+        HeapType::Exact(UnpackedIndex::Module(5)),
     );
     for bytes in [
         [0xf0, 0x7f].as_slice(),
@@ -106,7 +112,7 @@ fn heap_types_by_index(rt: HostRuntime) -> std::result::Result<(), Fail> {
         &[0x62, 0x80, 0x80, 0xc0, 0x00],
     ] {
         let error = read_heap_type(rt.alloc(), bytes).err();
-        assert_eq!(rt; error.map(|error| error.kind().number()), Some(5));
+        same(&rt, error.map(|error| error.kind().number()), Some(5));
     }
     Ok(())
 }
@@ -154,14 +160,15 @@ fn texts(rt: HostRuntime) -> std::result::Result<(), Fail> {
 #[test]
 fn kinds(rt: HostRuntime) -> std::result::Result<(), Fail> {
     let func = FuncType::new(rt.alloc(), [ValType::I32], [ValType::I64, ValType::FUNCREF])?;
-    assert_eq!(rt; func.results().len(), 2);
+    same(&rt, func.results().len(), 2);
     let ty = SubType::func(rt.alloc(), func, true);
-    assert_eq!(rt;
+    same(
+        &rt,
         ty.to_string(rt.alloc())?.as_str(),
-        "(shared (func (param i32) (result i64 funcref)))"
+        "(shared (func (param i32) (result i64 funcref)))",
     );
     if let CompositeInnerType::Func(_) = ty.composite_type.inner {
-        assert_eq!(rt; ty.unwrap_func().params().len(), 1);
+        same(&rt, ty.unwrap_func().params().len(), 1);
     }
     let ty = read_subtype(rt.alloc(), &[0x5e, 0x78, 0x01])?;
     let element = FieldType {
@@ -173,11 +180,19 @@ fn kinds(rt: HostRuntime) -> std::result::Result<(), Fail> {
     }
     let ty = read_subtype(rt.alloc(), &[0x5f, 0x01, 0x78, 0x01])?;
     if let CompositeInnerType::Struct(_) = ty.composite_type.inner {
-        assert_eq!(rt; ty.unwrap_struct().fields.first().copied(), Some(element));
+        same(
+            &rt,
+            ty.unwrap_struct().fields.first().copied(),
+            Some(element),
+        );
     }
     let ty = read_subtype(rt.alloc(), &[0x5d, 0x07])?;
     if let CompositeInnerType::Cont(_) = ty.composite_type.inner {
-        assert_eq!(rt; Some(ty.unwrap_cont().0), PackedIndex::from_module_index(7));
+        same(
+            &rt,
+            Some(ty.unwrap_cont().0),
+            PackedIndex::from_module_index(7),
+        );
     }
     Ok(())
 }
@@ -190,13 +205,13 @@ fn a_group_and_its_only_type(rt: HostRuntime) -> std::result::Result<(), Fail> {
     assert!(rt; !alone.is_explicit_rec_group());
     assert!(rt; group == alone);
     assert!(rt; group.cmp(&alone) == Ordering::Equal);
-    assert_eq!(rt; hash_of(&group), hash_of(&alone));
+    same(&rt, hash_of(&group), hash_of(&alone));
     for (offset, ty) in group.into_types_and_offsets() {
-        assert_eq!(rt; offset, 12);
+        same(&rt, offset, 12);
         assert!(rt; ty.is_final);
     }
     for (offset, _) in alone.into_types_and_offsets() {
-        assert_eq!(rt; offset, 10);
+        same(&rt, offset, 10);
     }
     Ok(())
 }
@@ -213,7 +228,7 @@ fn groups_in_order(rt: HostRuntime) -> std::result::Result<(), Fail> {
     assert!(rt; none < func);
     assert!(rt; func < two);
     assert!(rt; two < array);
-    assert_eq!(rt; none.types().len(), 0);
+    same(&rt, none.types().len(), 0);
     Ok(())
 }
 
@@ -240,24 +255,28 @@ fn counts_at_their_limits(rt: HostRuntime) -> std::result::Result<(), Fail> {
     let params = counted(rt.alloc(), 0x60, &[0xe8, 0x07], 1000, &[0x7f])?;
     let ty = read_subtype(rt.alloc(), &params)?;
     if let CompositeInnerType::Func(func) = &ty.composite_type.inner {
-        assert_eq!(rt; func.params().len(), 1000);
+        same(&rt, func.params().len(), 1000);
     }
     let params = counted(rt.alloc(), 0x60, &[0xe9, 0x07], 1001, &[0x7f])?;
     let error = read_subtype(rt.alloc(), &params)
         .err()
         .expect(&rt, "1,001 parameters");
-    assert_eq!(rt; error.message(), "function params size is out of bounds");
-    assert_eq!(rt; error.offset(), 1);
+    same(
+        &rt,
+        error.message(),
+        "function params size is out of bounds",
+    );
+    same(&rt, error.offset(), 1);
     let fields = counted(rt.alloc(), 0x5f, &[0x90, 0x4e], 10_000, &[0x7f, 0x00])?;
     let ty = read_subtype(rt.alloc(), &fields)?;
     if let CompositeInnerType::Struct(ty) = &ty.composite_type.inner {
-        assert_eq!(rt; ty.fields.len(), 10_000);
+        same(&rt, ty.fields.len(), 10_000);
     }
     let fields = counted(rt.alloc(), 0x5f, &[0x91, 0x4e], 10_001, &[0x7f, 0x00])?;
     let error = read_subtype(rt.alloc(), &fields)
         .err()
         .expect(&rt, "10,001 fields");
-    assert_eq!(rt; error.message(), "struct fields size is out of bounds");
+    same(&rt, error.message(), "struct fields size is out of bounds");
     Ok(())
 }
 
@@ -266,17 +285,21 @@ fn a_count_of_types_alone(rt: HostRuntime) -> std::result::Result<(), Fail> {
     let error = read_group(rt.alloc(), &[0x4e, 0xc0, 0x84, 0x3d])
         .err()
         .expect(&rt, "no type");
-    assert_eq!(rt; error.needed_hint(), Some(1));
-    assert_eq!(rt; error.offset(), 4);
+    same(&rt, error.needed_hint(), Some(1));
+    same(&rt, error.offset(), 4);
     let error = read_group(rt.alloc(), &[0x4e, 0xc1, 0x84, 0x3d])
         .err()
         .expect(&rt, "too many");
-    assert_eq!(rt; error.message(), "rec group types size is out of bounds");
-    assert_eq!(rt; error.kind().number(), 5);
+    same(
+        &rt,
+        error.message(),
+        "rec group types size is out of bounds",
+    );
+    same(&rt, error.kind().number(), 5);
     let error = read_group(rt.alloc(), &[0x50, 0x02, 0x00, 0x00, 0x5f, 0x00])
         .err()
         .expect(&rt, "two supertypes");
-    assert_eq!(rt; error.message(), "supertype idxs size is out of bounds");
+    same(&rt, error.message(), "supertype idxs size is out of bounds");
     Ok(())
 }
 
@@ -295,7 +318,7 @@ fn malformed_types(rt: HostRuntime) -> std::result::Result<(), Fail> {
     ];
     for (bytes, offset, message) in rows {
         let error = read_group(rt.alloc(), bytes).err().expect(&rt, message);
-        assert_eq!(rt; error.message(), message);
+        same(&rt, error.message(), message);
         assert_eq!(rt; error.offset(), offset, "{message}");
         assert_eq!(rt; error.kind().number(), 5, "{message}");
     }
@@ -308,16 +331,16 @@ fn ten_types_and_their_clone(rt: HostRuntime) -> std::result::Result<(), Fail> {
     let group = match read_group(rt.alloc(), &TEN_TYPES) {
         Ok(group) => group,
         Err(error) => {
-            assert_eq!(rt; error.kind().number(), 3);
+            same(&rt, error.kind().number(), 3);
             return Ok(());
         }
     };
-    assert_eq!(rt; group.types().len(), 10);
+    same(&rt, group.types().len(), 10);
     if let Ok(copy) = group.clone() {
         assert!(rt; copy == group);
-        assert_eq!(rt; copy.types().len(), 10);
+        same(&rt, copy.types().len(), 10);
     }
-    assert_eq!(rt; group.types().len(), 10);
+    same(&rt, group.types().len(), 10);
     Ok(())
 }
 
@@ -345,7 +368,7 @@ fn indices_one_further(rt: HostRuntime) -> std::result::Result<(), Fail> {
     ];
     for (place, text) in texts {
         if let Some(ty) = group.types().get(place) {
-            assert_eq!(rt; ty.to_string(rt.alloc())?.as_str(), text);
+            same(&rt, ty.to_string(rt.alloc())?.as_str(), text);
         }
     }
     Ok(())
@@ -360,15 +383,15 @@ fn addresses_and_pages(rt: HostRuntime) {
         maximum: None,
         page_size_log2: None,
     };
-    assert_eq!(rt; memory.index_type(), ValType::I64);
-    assert_eq!(rt; memory.page_size(), 65_536);
+    same(&rt, memory.index_type(), ValType::I64);
+    same(&rt, memory.page_size(), 65_536);
     let memory = MemoryType {
         memory64: false,
         page_size_log2: Some(0),
         ..memory
     };
-    assert_eq!(rt; memory.index_type(), ValType::I32);
-    assert_eq!(rt; memory.page_size(), 1);
+    same(&rt, memory.index_type(), ValType::I32);
+    same(&rt, memory.page_size(), 1);
     let table = TableType {
         element_type: RefType::FUNCREF,
         table64: true,
@@ -376,5 +399,5 @@ fn addresses_and_pages(rt: HostRuntime) {
         maximum: Some(10),
         shared: false,
     };
-    assert_eq!(rt; table.index_type(), ValType::I64);
+    same(&rt, table.index_type(), ValType::I64);
 }

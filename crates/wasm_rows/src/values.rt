@@ -1,4 +1,5 @@
 //! What no clause says: the messages of refused types. The bytes are those of the standard's rules and their edges.
+use crate::expect::same;
 use std::test::Fail;
 use wasm_types_reader::{BinaryReader, Result};
 use wasm_types_values::{AbstractHeapType, HeapType, RefType, UnpackedIndex, ValType};
@@ -12,17 +13,20 @@ fn read_reference(alloc: std::alloc::Global, bytes: &[u8]) -> Result<RefType> {
 fn references(rt: HostRuntime) -> std::result::Result<(), Fail> {
     let largest = read_reference(rt.alloc(), &[0x64, 0xff, 0xff, 0x3f])?;
     assert!(rt; !largest.is_nullable());
-    assert_eq!(rt;
+    same(
+        &rt,
         largest.heap_type(),
-        HeapType::Concrete(UnpackedIndex::Module(1048575))
+        HeapType::Concrete(UnpackedIndex::Module(1048575)),
     );
-    assert_eq!(rt;
+    same(
+        &rt,
         read_reference(rt.alloc(), &[0x63, 0x70])?,
-        RefType::FUNCREF
+        RefType::FUNCREF,
     );
-    assert_eq!(rt;
+    same(
+        &rt,
         read_reference(rt.alloc(), &[0x64, 0x80, 0x00])?.heap_type(),
-        HeapType::Concrete(UnpackedIndex::Module(0))
+        HeapType::Concrete(UnpackedIndex::Module(0)),
     );
     Ok(())
 }
@@ -46,13 +50,13 @@ fn refusals(rt: HostRuntime) {
             Err(error) => {
                 assert_eq!(rt; error.kind().number(), 5, "{message}");
                 assert_eq!(rt; error.offset(), offset, "{message}");
-                assert_eq!(rt; error.message(), message);
+                same(&rt, error.message(), message);
             }
         }
     }
     match BinaryReader::new(&[0x40], 7).read::<ValType>(rt.alloc()) {
         Ok(_) => panic!(rt; "40 is a value type"),
-        Err(error) => assert_eq!(rt; error.message(), "invalid value type"),
+        Err(error) => same(&rt, error.message(), "invalid value type"),
     }
     assert!(rt; AbstractHeapType::NoFunc.is_subtype_of(AbstractHeapType::Func));
 }
