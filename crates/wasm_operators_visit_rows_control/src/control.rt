@@ -1,8 +1,8 @@
 //! Control, exceptions and continuations, and what takes operands of any type.
-use crate::answers::{Row, assert_opcode};
+use crate::answers::assert_code;
 use crate::rows::{
-    CONTINUATION, CONTROL, EXCEPTION, PARAMETRIC, resumption_rows, some_catches, some_labels,
-    some_types,
+    continuation_rows, control_rows, exception_rows, parametric_rows, resumption_rows,
+    some_catches, some_labels, some_types,
 };
 use std::process::Abort;
 use std::test::Fail;
@@ -21,12 +21,12 @@ fn tell_control<'a, V: VisitControl<'a, Output = Opcode>>(
     visitor: &mut V,
     targets: BrTable<'a>,
 ) {
-    for (op, _, name, prefix, code) in CONTROL {
+    for (op, code) in control_rows() {
         let answer = visit_control(visitor, op);
-        assert_opcode(rt, answer, name, prefix, code);
+        assert_code(rt, answer, code);
     }
     let answer = visit_control(visitor, ControlOperator::BrTable { targets });
-    assert_opcode(rt, answer, "br_table", None, 0x0e);
+    assert_code(rt, answer, 0x0e);
 }
 
 fn tell_parametric<'a, V: VisitControl<'a, Output = Opcode>>(
@@ -34,12 +34,12 @@ fn tell_parametric<'a, V: VisitControl<'a, Output = Opcode>>(
     visitor: &mut V,
     tys: Vec<ValType>,
 ) {
-    for (op, _, name, prefix, code) in PARAMETRIC {
+    for (op, code) in parametric_rows() {
         let answer = visit_parametric(visitor, op);
-        assert_opcode(rt, answer, name, prefix, code);
+        assert_code(rt, answer, code);
     }
     let answer = visit_parametric(visitor, ParametricOperator::TypedSelectMulti { tys });
-    assert_opcode(rt, answer, "select", None, 0x1c);
+    assert_code(rt, answer, 0x1c);
 }
 
 fn tell_exception<'a, V: VisitControl<'a, Output = Opcode>>(
@@ -47,26 +47,26 @@ fn tell_exception<'a, V: VisitControl<'a, Output = Opcode>>(
     visitor: &mut V,
     try_table: TryTable,
 ) {
-    for (op, _, name, prefix, code) in EXCEPTION {
+    for (op, code) in exception_rows() {
         let answer = visit_exception(visitor, op);
-        assert_opcode(rt, answer, name, prefix, code);
+        assert_code(rt, answer, code);
     }
     let answer = visit_exception(visitor, ExceptionOperator::TryTable { try_table });
-    assert_opcode(rt, answer, "try_table", None, 0x1f);
+    assert_code(rt, answer, 0x1f);
 }
 
 fn tell_continuation<'a, V: VisitControl<'a, Output = Opcode>>(
     rt: &impl Abort,
     visitor: &mut V,
-    resumptions: [Row<ContinuationOperator>; 3],
+    resumptions: [(ContinuationOperator, u32); 3],
 ) {
-    for (op, _, name, prefix, code) in CONTINUATION {
+    for (op, code) in continuation_rows() {
         let answer = visit_continuation(visitor, op);
-        assert_opcode(rt, answer, name, prefix, code);
+        assert_code(rt, answer, code);
     }
-    for (op, _, name, prefix, code) in resumptions {
+    for (op, code) in resumptions {
         let answer = visit_continuation(visitor, op);
-        assert_opcode(rt, answer, name, prefix, code);
+        assert_code(rt, answer, code);
     }
 }
 
