@@ -1,4 +1,4 @@
-//! Rows of the list of operators, of the groups of which some keep something in memory: an operator, its name and its code.
+//! Rows of the list of operators, of the groups of which some keep something in memory: an operator and its code.
 use std::alloc::{AllocError, Global};
 use std::test::Fail;
 use wasm_operators_basic::{ControlOperator, ExceptionOperator, ParametricOperator};
