@@ -7,7 +7,7 @@ use wasm_operators_immediates::{BlockType, BrTable, Catch, Handle, ResumeTable, 
 use wasm_types_reader::BinaryReader;
 use wasm_types_values::ValType;
 
-pub fn control_rows<'a>() -> [(ControlOperator<'a>, u32); 19] {
+pub(crate) fn control_rows<'a>() -> [(ControlOperator<'a>, u32); 19] {
     [
         (ControlOperator::Unreachable, 0x00),
         (ControlOperator::Nop, 0x01),
@@ -58,7 +58,7 @@ pub fn control_rows<'a>() -> [(ControlOperator<'a>, u32); 19] {
     ]
 }
 
-pub fn parametric_rows() -> [(ParametricOperator, u32); 3] {
+pub(crate) fn parametric_rows() -> [(ParametricOperator, u32); 3] {
     [
         (ParametricOperator::Drop, 0x1a),
         (ParametricOperator::Select, 0x1b),
@@ -66,7 +66,7 @@ pub fn parametric_rows() -> [(ParametricOperator, u32); 3] {
     ]
 }
 
-pub fn exception_rows() -> [(ExceptionOperator, u32); 7] {
+pub(crate) fn exception_rows() -> [(ExceptionOperator, u32); 7] {
     [
         (
             ExceptionOperator::Try {
@@ -83,7 +83,7 @@ pub fn exception_rows() -> [(ExceptionOperator, u32); 7] {
     ]
 }
 
-pub fn continuation_rows() -> [(ContinuationOperator, u32); 4] {
+pub(crate) fn continuation_rows() -> [(ContinuationOperator, u32); 4] {
     [
         (ContinuationOperator::ContNew { cont_type_index: 7 }, 0xe0),
         (
@@ -104,7 +104,9 @@ pub fn continuation_rows() -> [(ContinuationOperator, u32); 4] {
     ]
 }
 
-pub fn resumption_rows(alloc: Global) -> Result<[(ContinuationOperator, u32); 3], AllocError> {
+pub(crate) fn resumption_rows(
+    alloc: Global,
+) -> Result<[(ContinuationOperator, u32); 3], AllocError> {
     let handlers = vec![in alloc;
         Handle::OnLabel { tag: 1, label: 2 },
         Handle::OnSwitch { tag: 3 },
@@ -128,17 +130,17 @@ pub fn resumption_rows(alloc: Global) -> Result<[(ContinuationOperator, u32); 3]
     Ok([(resume, 0xe3), (throw, 0xe4), (throw_ref, 0xe5)])
 }
 
-pub fn some_labels(alloc: Global) -> Result<BrTable<'static>, Fail> {
+pub(crate) fn some_labels(alloc: Global) -> Result<BrTable<'static>, Fail> {
     let table = BinaryReader::new(&[0x02, 0x01, 0x02, 0x00], 0).read::<BrTable>(alloc)?;
     Ok(table)
 }
 
-pub fn some_types(alloc: Global) -> Result<Vec<ValType>, AllocError> {
+pub(crate) fn some_types(alloc: Global) -> Result<Vec<ValType>, AllocError> {
     let types = vec![in alloc; ValType::I32, ValType::I64]?;
     Ok(types)
 }
 
-pub fn some_catches(alloc: Global) -> Result<TryTable, AllocError> {
+pub(crate) fn some_catches(alloc: Global) -> Result<TryTable, AllocError> {
     let catches = vec![in alloc; Catch::One { tag: 1, label: 2 }, Catch::All { label: 0 }]?;
     let ty = BlockType::Val(ValType::I32);
     Ok(TryTable { ty, catches })

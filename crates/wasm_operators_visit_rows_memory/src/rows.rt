@@ -3,7 +3,7 @@
 use wasm_operators_basic::ConstOperator;
 use wasm_types_reader::{Ieee32, Ieee64};
 
-pub fn constant_rows() -> [(ConstOperator, u32); 4] {
+pub(crate) fn constant_rows() -> [(ConstOperator, u32); 4] {
     let (single, double) = (Ieee32::from_bits(1), Ieee64::from_bits(1));
     [
         (ConstOperator::I32Const { value: -1 }, 0x41),

@@ -4,6 +4,6 @@ use std::fmt::Debug;
 use std::process::Abort;
 
 /// Ends the test where the two differ.
-pub fn same<T: PartialEq + Debug + Drop>(rt: &impl Abort, found: T, wanted: T) {
+pub(crate) fn same<T: PartialEq + Debug + Drop>(rt: &impl Abort, found: T, wanted: T) {
     assert_eq!(rt; found, wanted);
 }
