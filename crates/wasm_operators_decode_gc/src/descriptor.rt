@@ -1,7 +1,7 @@
 //! Operators of descriptors from their bytes.
 
 ghost use Rattle.std.specs.Prelude.{◌≡◌, IfOk, option_map, Some, None, [], ◌∷◌};
-ghost use Rattle.wasm_types_reader.specs.Reading.{Gives};
+ghost use Rattle.wasm_types_reader.specs.Reading.{Gives, NeedsNoMemory};
 ghost use Rattle.wasm_operators_info.specs.Info.{Info};
 ghost use Rattle.wasm_operators_immediates.specs.Kinds.{Types};
 ghost use Rattle.wasm_operators_immediates.specs.Immediates.{Heap, Index};
@@ -30,7 +30,7 @@ pub enum DescriptorShape {
     Cast,
 }
 
-/// What stands behind this code behind `fb`, if it is one of the group's.
+/// The shape of what stands behind `fb` and this code, if the code is one of the group's.
 pub fn descriptor_shape(code: u32) -> Option<DescriptorShape>
     ensures { descriptor_kinds code ≡ option_map descriptor_shape_kinds result }
 {
@@ -101,7 +101,7 @@ fn of_cast(code: u32, cast: CastBranch) -> DescriptorOperator
 ///
 /// # Errors
 ///
-/// Where the bytes spell no such immediates.
+/// Where the bytes spell no such immediates. The reader may then stand behind some of them.
 #[tactic(auto, unfolding(wasm_operators_decode_immediates::specs::Immediates::immediate))]
 pub fn read_descriptor<'a>(
     alloc: Global,
@@ -113,6 +113,7 @@ pub fn read_descriptor<'a>(
     ensures answer { Gives descriptor_immediates result reader.new (immediates reader.old.features (descriptor_shape_kinds shape) reader.old) }
     ensures code { IfOk result (λ o. (descriptor_info o).code ≡ code) }
     ensures prefix { IfOk result (λ o. (descriptor_info o).prefix ≡ Some 0xfb) }
+    ensures no_memory { NeedsNoMemory result }
 {
     match shape {
         DescriptorShape::Type => {

@@ -1,7 +1,7 @@
 //! Structs, arrays, casts and `i31` from their bytes.
 
 ghost use Rattle.std.specs.Prelude.{◌≡◌, IfOk, option_map, Some, None, [], ◌∷◌};
-ghost use Rattle.wasm_types_reader.specs.Reading.{Gives};
+ghost use Rattle.wasm_types_reader.specs.Reading.{Gives, NeedsNoMemory};
 ghost use Rattle.wasm_operators_info.specs.Info.{Info};
 ghost use Rattle.wasm_operators_immediates.specs.Kinds.{DataSegments, Elements, Fields, Types};
 ghost use Rattle.wasm_operators_immediates.specs.Immediates.{Count, Heap, Index};
@@ -42,7 +42,7 @@ pub enum GcShape {
     Cast,
 }
 
-/// What stands behind this code behind `fb`, if it is one of the group's.
+/// The shape of what stands behind `fb` and this code, if the code is one of the group's.
 pub fn gc_shape(code: u32) -> Option<GcShape>
     ensures { gc_kinds code ≡ option_map gc_shape_kinds result }
 {
@@ -259,7 +259,7 @@ fn of_cast(code: u32, cast: CastBranch) -> GcOperator
 ///
 /// # Errors
 ///
-/// Where the bytes spell no such immediates.
+/// Where the bytes spell no such immediates. The reader may then stand behind some of them.
 #[tactic(auto, unfolding(wasm_operators_decode_immediates::specs::Immediates::immediate))]
 pub fn read_gc<'a>(
     alloc: Global,
@@ -271,6 +271,7 @@ pub fn read_gc<'a>(
     ensures answer { Gives gc_immediates result reader.new (immediates reader.old.features (gc_shape_kinds shape) reader.old) }
     ensures code { IfOk result (λ o. (gc_info o).code ≡ code) }
     ensures prefix { IfOk result (λ o. (gc_info o).prefix ≡ Some 0xfb) }
+    ensures no_memory { NeedsNoMemory result }
 {
     match shape {
         GcShape::Type => {
