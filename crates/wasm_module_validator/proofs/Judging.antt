@@ -6,7 +6,7 @@ use Rattle.wasm_types_error.specs.declared.error.ErrorKind.{ErrorKind}
 use Rattle.wasm_types_error.specs.declared.error.ErrorKind.TheVariants as kinds
 use Rattle.wasm_types_reader.specs.Reading.{FailsAt}
 use Rattle.wasm_module_validator.specs.Accepts.{Accepts}
-use Rattle.wasm_module_validator.specs.Answers.{Denies, denies_from}
+use Rattle.wasm_module_validator_bodies.specs.Answers.{Denies, denies_from}
 use Rattle.wasm_module_validator.specs.Frames.{Frames, module_frames}
 use Rattle.wasm_module_validator.specs.Judged.{AreAccepted, IsAcceptedAt, at_accepted}
 

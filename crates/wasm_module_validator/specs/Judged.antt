@@ -13,11 +13,13 @@ use Rattle.std.specs.Str.{bytes_eq}
 use Rattle.std.proofs.lemmas.Slice.Eq.{bytes_eq-Decides}
 use Rattle.wasm_types_decoding.specs.Leb.{IsUnsigned, IsListed}
 use Rattle.wasm_types_decoding.specs.Lists.{IsListedWithin}
-use Rattle.wasm_module_validator.specs.Syntax.{FunctionType, Function, Module}
-use Rattle.wasm_module_validator.specs.Binary.{SpellsFunctionType, SpellsFunction, SpellsEntry, SpellsSection, header}
+use Rattle.wasm_module_validator_bodies.specs.Syntax.{FunctionType, Function}
+use Rattle.wasm_module_validator.specs.Syntax.{Module}
+use Rattle.wasm_module_validator_bodies.specs.Binary.{SpellsFunction}
+use Rattle.wasm_module_validator.specs.Binary.{SpellsFunctionType, SpellsEntry, SpellsSection, header}
 use Rattle.wasm_module_validator.specs.Validation.{AreValidFunctions}
 use Rattle.wasm_module_validator.specs.Accepts.{Judges, Accepts}
-use Rattle.wasm_module_validator.specs.Bodies.{AcceptsBody}
+use Rattle.wasm_module_validator_bodies.specs.Bodies.{AcceptsBody}
 use Rattle.wasm_module_validator.specs.Types.{function_type}
 use Rattle.wasm_module_validator.specs.TypeLaws.{decides-function_type}
 use Rattle.wasm_module_validator.specs.Frames.{IsCounted, Frames, begins, items, type_index, entries, no_entries, at_end, type_section, function_section, code_section, frames, preamble, magic_or, version_or, module_frames}

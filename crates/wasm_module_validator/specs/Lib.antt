@@ -1,18 +1,13 @@
--- The rules, in reading order.
+-- The rules for a module, in reading order, over those for a function.
 pub mod Syntax
 pub mod Binary
 pub mod Validation
 pub mod Accepts
 -- What contracts say beside them.
 pub mod Answers
-pub mod Bodies
-pub mod Operands
-pub mod Locals
 -- How bytes are read, and why that is exact.
 pub mod Types
 pub mod TypeLaws
-pub mod Operators
-pub mod OperatorLaws
 pub mod Frames
 pub mod Refusals
 pub mod Entries

@@ -11,7 +11,7 @@ use Rattle.wasm_types_decoding.specs.LebLaws.{decides-u32}
 use Rattle.wasm_types_decoding.specs.Lists.{refuse_at, IsListedWithin}
 use Rattle.wasm_types_decoding.specs.ListLaws.{decides-refuse_at, decides-from_place}
 use Rattle.wasm_types_decoding.specs.Text.{IsSized}
-use Rattle.wasm_module_validator.specs.TypeLaws.{head_is}
+use Rattle.wasm_module_validator_bodies.specs.TypeLaws.{head_is}
 use Rattle.wasm_module_validator.specs.Frames.{IsCounted, begins, contents, section, items, at_most_or, below_or, type_index, body, as_many_or, entries}
 use Rattle.wasm_module_validator.specs.FrameLaws.{decides-body}
 use Rattle.wasm_module_validator.specs.SectionLaws.{decides-contents}

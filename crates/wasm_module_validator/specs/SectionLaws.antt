@@ -11,7 +11,7 @@ use Rattle.wasm_types_decoding.specs.TextLaws.{decides-sized}
 use Rattle.wasm_types_reader.specs.Parts.{counted_part, next_part, part_at}
 use Rattle.wasm_module_validator.specs.Frames.{finished, contents}
 use Rattle.wasm_module_validator.specs.FrameLaws.{decides-along}
-use Rattle.wasm_module_validator.specs.TypeLaws.{tail_is}
+use Rattle.wasm_module_validator_bodies.specs.TypeLaws.{tail_is}
 
 -- ---- decoders that give the same values
 

@@ -1,29 +1,14 @@
--- How types are read, as decoders.
-use Rattle.std.specs.Prelude.{ℕ, List, [], ◌∷◌, Bool, true, false, ◌&&◌, if◌then◌else◌}
+-- How function types are read, as decoders.
+use Rattle.std.specs.Prelude.{ℕ, List, [], ◌∷◌, Bool, ◌&&◌, if◌then◌else◌}
 use Rattle.std.specs.List.{list_all}
 use Rattle.wasm_types_decoding.specs.declared.Refusal.TheVariants.{Other}
 use Rattle.wasm_types_decoding.specs.Decoder.{Decoder, ◌>>=◌, pure, refuse, byte, choice}
 use Rattle.wasm_types_decoding.specs.Lists.{refuse_at}
 use Rattle.wasm_types_values.specs.declared.value.ValType.{ValType}
-use Rattle.wasm_types_values.specs.declared.value.ValType.TheVariants.{I32, I64, F32, F64, V128, Ref}
 use Rattle.wasm_types_fields.specs.Spells.{Signature}
 use Rattle.wasm_types_fields.specs.Decode.{signature}
-use Rattle.wasm_module_validator.specs.Syntax.{FunctionType}
-
-abbrev pub val_types : List (ℕ × Decoder ValType)
-val_types = (0x7f, pure I32) ∷ (0x7e, pure I64) ∷ (0x7d, pure F32) ∷ (0x7c, pure F64) ∷ []
-
-unfoldable pub val_type : Decoder ValType
-val_type = byte >>= choice val_types (refuse Other 1)
-
--- the number types
-abbrev pub is_number : ValType → Bool
-is_number I32 = true
-is_number I64 = true
-is_number F32 = true
-is_number F64 = true
-is_number V128 = false
-is_number (Ref r) = false
+use Rattle.wasm_module_validator_bodies.specs.Syntax.{FunctionType}
+use Rattle.wasm_module_validator_bodies.specs.Types.{is_number}
 
 abbrev pub are_numbers : List ValType → Bool
 are_numbers = list_all is_number

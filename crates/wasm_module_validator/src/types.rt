@@ -1,13 +1,12 @@
-//! Types of values and of functions, as the sections of a module give them.
+//! Types of functions, as the type section of a module gives them.
 
 ghost use Rattle.std.specs.Prelude.{◌≡◌};
-ghost use Rattle.wasm_types_decoding.specs.Decoder.{Reaches};
-ghost use Rattle.wasm_types_error.specs.declared.error.ErrorKind.TheVariants.{Other};
-ghost use Rattle.wasm_types_reader.specs.Reading.{Gives};
-ghost use Rattle.wasm_module_validator.specs.Types.{val_type, is_number, are_numbers};
+ghost use Rattle.wasm_module_validator_bodies.specs.Types.{is_number};
+ghost use Rattle.wasm_module_validator.specs.Types.{are_numbers};
 
 use std::alloc::Global;
 use std::marker::Model;
+use wasm_module_validator_bodies::invalid_value_type;
 use wasm_types::{BinaryReader, Error, FromReader, FuncType, Result, ValType};
 
 /// Whether it is a number type: the language of this stage has values of no other (WebAssembly 3.0, structure, number types).
@@ -28,36 +27,12 @@ fn are_number_types(types: &[ValType]) -> bool
     types.iter().all(|ty| is_number_type(*ty))
 }
 
-/// The next number type (WebAssembly 3.0, binary format, number types). Where it is refused the reader may have gone on.
-#[tactic(auto, using(wasm_types_decoding::specs::Laws::reaches_self, wasm_types_decoding::specs::Laws::reaches_then), unfolding(crate::specs::Types::val_type))]
-pub(crate) fn read_number_type(reader: &mut BinaryReader<'_>) -> Result<ValType>
-    ensures answer { Gives (λ t. t) result reader.new (val_type reader.old) }
-    ensures forward { Reaches reader.old reader.new }
-{
-    let start = reader.original_position();
-    match reader.read_u8()? {
-        0x7f => Ok(ValType::I32),
-        0x7e => Ok(ValType::I64),
-        0x7d => Ok(ValType::F32),
-        0x7c => Ok(ValType::F64),
-        _ => Err(invalid_value_type(start)),
-    }
-}
-
-#[cold]
-fn invalid_value_type(offset: u64) -> Error
-    ensures kind { result.kind ≡ Other }
-    ensures offset { result.offset ≡ offset }
-{
-    Error::new("invalid value type", offset)
-}
-
 /// An entry of the type section: a function type over number types (WebAssembly 3.0, binary format, type section).
 #[derive(Drop)]
 pub struct TypeEntry(pub FuncType);
 
 impl Model for TypeEntry {
-    ghost use Rattle.wasm_module_validator.specs.Syntax.{FunctionType};
+    ghost use Rattle.wasm_module_validator_bodies.specs.Syntax.{FunctionType};
 
     ghost Value = { FunctionType };
 
@@ -65,7 +40,7 @@ impl Model for TypeEntry {
 }
 
 impl<'a> FromReader<'a> for TypeEntry {
-    ghost use Rattle.wasm_module_validator.specs.Syntax.{FunctionType};
+    ghost use Rattle.wasm_module_validator_bodies.specs.Syntax.{FunctionType};
     ghost use Rattle.wasm_module_validator.specs.Binary.{SpellsFunctionType};
     ghost use Rattle.wasm_module_validator.specs.Types.{function_type};
     ghost use Rattle.wasm_module_validator.specs.TypeLaws.{lawful-function_type, decides-function_type};

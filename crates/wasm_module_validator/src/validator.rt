@@ -3,16 +3,17 @@
 ghost use Rattle.std.specs.Prelude.{◌≡◌, ◌↔◌, IsTrue, IfOk, OnOk, OnErr};
 ghost use Rattle.wasm_module_validator.specs.declared.validator.State.TheVariants as states;
 ghost use Rattle.wasm_module_validator.specs.Accepts.{Accepts, Judges};
-ghost use Rattle.wasm_module_validator.specs.Answers.{Tells, Counts, Shows};
+ghost use Rattle.wasm_module_validator_bodies.specs.Answers.{Tells};
+ghost use Rattle.wasm_module_validator.specs.Answers.{Counts, Shows};
 ghost use Rattle.wasm_module_validator.specs.Refusals.{RefusedAsRead};
 ghost use Rattle.wasm_module_validator.specs.Syntax.{Module};
 ghost use Rattle.wasm_module_validator.specs.Entries.{bodies};
 ghost use Rattle.wasm_module_validator.specs.Judged.{AreAccepted, AcceptsAt};
 
-use crate::body::FuncValidator;
 use crate::sections::{ModuleFrames, read_module};
 use std::alloc::Global;
 use std::marker::Model;
+use wasm_module_validator_bodies::FuncValidator;
 use wasm_types::{BinaryReader, Error};
 
 /// Tells a validator from others; the caller makes each number once.
