@@ -9,9 +9,9 @@ use Rattle.wasm_types_error.specs.declared.error.ErrorKind.TheVariants as kinds
 use Rattle.wasm_types_error.specs.ErrorValue.{ErrorValue}
 use Rattle.wasm_types_reader.specs.Reading.{FailsAt}
 use Rattle.wasm_module_validator.specs.Accepts.{Accepts}
-use Rattle.wasm_module_validator_bodies.specs.Syntax.{FunctionType}
+use Rattle.wasm_module_validator_operands.specs.Syntax.{FunctionType}
 use Rattle.wasm_module_validator_bodies.specs.Bodies.{AcceptsBody}
-use Rattle.wasm_module_validator_bodies.specs.Answers.{Denies, denies_from, Tells}
+use Rattle.wasm_module_validator_operands.specs.Answers.{Denies, denies_from, Tells}
 use Rattle.wasm_module_validator.specs.Frames.{Frames, module_frames}
 use Rattle.wasm_module_validator.specs.Judged.{AreAccepted, AcceptsAt, IsAcceptedAt, at_accepted}
 

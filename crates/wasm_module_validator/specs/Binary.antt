@@ -4,7 +4,7 @@ use Rattle.wasm_types_decoding.specs.Decoder.{Grammar}
 use Rattle.wasm_types_decoding.specs.Leb.{IsUnsigned, IsListed}
 use Rattle.wasm_types_decoding.specs.Lists.{IsListedWithin}
 use Rattle.wasm_types_decoding.specs.Text.{IsSized}
-use Rattle.wasm_module_validator_bodies.specs.Syntax.{FunctionType, Function}
+use Rattle.wasm_module_validator_operands.specs.Syntax.{FunctionType, Function}
 use Rattle.wasm_module_validator_bodies.specs.Binary.{SpellsValType, SpellsFunction}
 use Rattle.wasm_module_validator.specs.Syntax.{Module}
 

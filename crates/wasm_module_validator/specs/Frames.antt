@@ -6,7 +6,7 @@ use Rattle.wasm_types_decoding.specs.Decoder.{State, Outcome, Done, Short, Fault
 use Rattle.wasm_types_decoding.specs.Leb.{u32, IsUnsigned}
 use Rattle.wasm_types_decoding.specs.Lists.{refuse_at}
 use Rattle.wasm_types_reader.specs.Parts.{counted_part}
-use Rattle.wasm_module_validator_bodies.specs.Syntax.{FunctionType}
+use Rattle.wasm_module_validator_operands.specs.Syntax.{FunctionType}
 use Rattle.wasm_module_validator.specs.Types.{function_type}
 
 -- the magic number and version 1, each of four bytes; else the place where they begin is refused

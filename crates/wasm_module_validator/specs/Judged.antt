@@ -13,7 +13,7 @@ use Rattle.std.specs.Str.{bytes_eq}
 use Rattle.std.proofs.lemmas.Slice.Eq.{bytes_eq-Decides}
 use Rattle.wasm_types_decoding.specs.Leb.{IsUnsigned, IsListed}
 use Rattle.wasm_types_decoding.specs.Lists.{IsListedWithin}
-use Rattle.wasm_module_validator_bodies.specs.Syntax.{FunctionType, Function}
+use Rattle.wasm_module_validator_operands.specs.Syntax.{FunctionType, Function}
 use Rattle.wasm_module_validator.specs.Syntax.{Module}
 use Rattle.wasm_module_validator_bodies.specs.Binary.{SpellsFunction}
 use Rattle.wasm_module_validator.specs.Binary.{SpellsFunctionType, SpellsEntry, SpellsSection, header}

@@ -7,7 +7,7 @@ use Rattle.wasm_types_error.specs.declared.error.ErrorKind.TheVariants as kinds
 use Rattle.wasm_types_error.specs.ErrorValue.{ErrorValue}
 use Rattle.wasm_types_features.specs.Sets.{bits_of, default_features}
 use Rattle.wasm_types_reader.specs.Reading.{FailsAt, Fails}
-use Rattle.wasm_module_validator_bodies.specs.Answers.{UnlessMemory}
+use Rattle.wasm_module_validator_operands.specs.Answers.{UnlessMemory}
 use Rattle.wasm_module_validator.specs.Frames.{Frames, module_frames}
 
 -- a reader before the first byte of a module

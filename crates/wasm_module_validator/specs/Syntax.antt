@@ -1,6 +1,6 @@
 -- Modules as plain trees (WebAssembly 3.0, structure). Types and functions are named by their places.
 use Rattle.std.specs.Prelude.{ℕ, List}
-use Rattle.wasm_module_validator_bodies.specs.Syntax.{FunctionType, Function}
+use Rattle.wasm_module_validator_operands.specs.Syntax.{FunctionType, Function}
 
 -- A module: its function types, the type of each of its functions, and what each function does (structure, modules).
 pub record Module : Type 0 where

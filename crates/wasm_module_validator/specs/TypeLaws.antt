@@ -14,7 +14,7 @@ use Rattle.wasm_types_fields.specs.Decode.{signature}
 use Rattle.wasm_types_fields.specs.DecodeLaws.{lawful-signature, decides-signature}
 use Rattle.wasm_types_values.specs.declared.value.ValType.{ValType}
 use Rattle.wasm_types_values.specs.declared.value.ValType.TheVariants.{I32, I64, F32, F64, V128, Ref}
-use Rattle.wasm_module_validator_bodies.specs.Syntax.{FunctionType}
+use Rattle.wasm_module_validator_operands.specs.Syntax.{FunctionType}
 use Rattle.wasm_module_validator_bodies.specs.Binary.{SpellsValType}
 use Rattle.wasm_module_validator_bodies.specs.Types.{is_number}
 use Rattle.wasm_module_validator_bodies.specs.TypeLaws.{head_is, tail_is}

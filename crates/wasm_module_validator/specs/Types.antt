@@ -7,7 +7,7 @@ use Rattle.wasm_types_decoding.specs.Lists.{refuse_at}
 use Rattle.wasm_types_values.specs.declared.value.ValType.{ValType}
 use Rattle.wasm_types_fields.specs.Spells.{Signature}
 use Rattle.wasm_types_fields.specs.Decode.{signature}
-use Rattle.wasm_module_validator_bodies.specs.Syntax.{FunctionType}
+use Rattle.wasm_module_validator_operands.specs.Syntax.{FunctionType}
 use Rattle.wasm_module_validator_bodies.specs.Types.{is_number}
 
 abbrev pub are_numbers : List ValType → Bool

@@ -1,7 +1,7 @@
 -- Which modules are valid (WebAssembly 3.0, validation).
 use Rattle.std.specs.Prelude.{◌≡◌, ℕ, List, [], ◌∷◌, slice_get, Some}
-use Rattle.wasm_module_validator_bodies.specs.Syntax.{FunctionType, Function}
-use Rattle.wasm_module_validator_bodies.specs.Validation.{IsValidFunction}
+use Rattle.wasm_module_validator_operands.specs.Syntax.{FunctionType, Function}
+use Rattle.wasm_module_validator_operands.specs.Validation.{IsValidFunction}
 use Rattle.wasm_module_validator.specs.Syntax.{Module}
 
 -- each function has a type of the module and is valid (validation, modules); there are as many declared as defined

@@ -32,7 +32,7 @@ fn are_number_types(types: &[ValType]) -> bool
 pub struct TypeEntry(pub FuncType);
 
 impl Model for TypeEntry {
-    ghost use Rattle.wasm_module_validator_bodies.specs.Syntax.{FunctionType};
+    ghost use Rattle.wasm_module_validator_operands.specs.Syntax.{FunctionType};
 
     ghost Value = { FunctionType };
 
@@ -40,7 +40,7 @@ impl Model for TypeEntry {
 }
 
 impl<'a> FromReader<'a> for TypeEntry {
-    ghost use Rattle.wasm_module_validator_bodies.specs.Syntax.{FunctionType};
+    ghost use Rattle.wasm_module_validator_operands.specs.Syntax.{FunctionType};
     ghost use Rattle.wasm_module_validator.specs.Binary.{SpellsFunctionType};
     ghost use Rattle.wasm_module_validator.specs.Types.{function_type};
     ghost use Rattle.wasm_module_validator.specs.TypeLaws.{lawful-function_type, decides-function_type};

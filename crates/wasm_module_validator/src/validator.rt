@@ -3,7 +3,7 @@
 ghost use Rattle.std.specs.Prelude.{◌≡◌, ◌↔◌, IsTrue, IfOk, OnOk, OnErr};
 ghost use Rattle.wasm_module_validator.specs.declared.validator.State.TheVariants as states;
 ghost use Rattle.wasm_module_validator.specs.Accepts.{Accepts, Judges};
-ghost use Rattle.wasm_module_validator_bodies.specs.Answers.{Tells};
+ghost use Rattle.wasm_module_validator_operands.specs.Answers.{Tells};
 ghost use Rattle.wasm_module_validator.specs.Answers.{Counts, Shows};
 ghost use Rattle.wasm_module_validator.specs.Refusals.{RefusedAsRead};
 ghost use Rattle.wasm_module_validator.specs.Syntax.{Module};

@@ -7,15 +7,16 @@ use Rattle.wasm_types_decoding.specs.LebLaws.{decides-u32}
 use Rattle.wasm_types_error.specs.declared.error.ErrorKind.{ErrorKind}
 use Rattle.wasm_types_reader.specs.Reading.{FailsAt}
 use Rattle.wasm_types_values.specs.declared.value.ValType.{ValType}
-use Rattle.wasm_module_validator_bodies.specs.Syntax.{LocalGroup, Code}
+use Rattle.wasm_module_validator_operands.specs.Syntax.{LocalGroup, Code}
 use Rattle.wasm_module_validator_bodies.specs.Binary.{SpellsLocalGroup, SpellsExpression}
-use Rattle.wasm_module_validator_bodies.specs.Validation.{OperandType, Typed, stack, expanded}
+use Rattle.wasm_module_validator_operands.specs.Validation.{OperandType, Typed, stack, expanded}
 use Rattle.wasm_module_validator_bodies.specs.Bodies.{AcceptsBody}
-use Rattle.wasm_module_validator_bodies.specs.Answers.{Denies}
+use Rattle.wasm_module_validator_operands.specs.Answers.{Denies}
 use Rattle.wasm_module_validator_bodies.specs.Operators.{local_group}
 use Rattle.wasm_module_validator_bodies.specs.OperatorLaws.{decides-local_group}
-use Rattle.wasm_module_validator_bodies.specs.Operands.{Known, Covers, fresh, function_type, GroupsLeft, BodyLeft}
-use Rattle.wasm_module_validator_bodies.proofs.Covering.{denies_also}
+use Rattle.wasm_module_validator_operands.specs.Operands.{Known, Covers, fresh}
+use Rattle.wasm_module_validator_bodies.specs.Remaining.{function_type, GroupsLeft, BodyLeft}
+use Rattle.wasm_module_validator_operands.proofs.Covering.{denies_also}
 use Rattle.wasm_module_validator_bodies.proofs.Reading.{Begins, read_is, was_spelled, refused}
 
 -- ---- groups, and their tree

@@ -8,7 +8,7 @@ use Rattle.wasm_types_error.specs.declared.error.ErrorKind.{ErrorKind}
 use Rattle.wasm_types_error.specs.declared.error.ErrorKind.TheVariants.{EndOfData, MissingFeature, OutOfMemory, Failed, Other}
 use Rattle.wasm_types_error.specs.ErrorValue.{ErrorValue}
 use Rattle.wasm_types_reader.specs.Reading.{FailsAt}
-use Rattle.wasm_module_validator_bodies.specs.Answers.{UnlessMemory, RefusedWithin}
+use Rattle.wasm_module_validator_operands.specs.Answers.{UnlessMemory, RefusedWithin}
 
 unless_memory_from : (k : ErrorKind) (P Q : Type 0) → (P → Q) → UnlessMemory k P → UnlessMemory k Q
 unless_memory_from (EndOfData h) P Q f p = f p

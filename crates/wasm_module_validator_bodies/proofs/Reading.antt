@@ -5,7 +5,7 @@ use Rattle.wasm_types_decoding.specs.Exact.{value_is, state_is}
 use Rattle.wasm_types_error.specs.declared.error.ErrorKind.{ErrorKind}
 use Rattle.wasm_types_error.specs.declared.error.ErrorKind.TheVariants as kinds
 use Rattle.wasm_types_reader.specs.Reading.{FailsAt}
-use Rattle.wasm_module_validator_bodies.specs.Answers.{Denies}
+use Rattle.wasm_module_validator_operands.specs.Answers.{Denies}
 
 -- bytes that begin with what spells a value
 pub record Begins {A : Type 0} (g : Grammar A) (bytes : List ℕ) : Type 0 where

@@ -10,14 +10,15 @@ use Rattle.wasm_types_reader.specs.Reading.{FailsAt}
 use Rattle.wasm_types_values.specs.declared.value.ValType.{ValType}
 use Rattle.wasm_module_validator_bodies.specs.declared.operators.Operator.{Operator}
 use Rattle.wasm_module_validator_bodies.specs.declared.operators.Operator.TheVariants.{Unreachable, Nop, End, Drop, LocalGet, I32Const, I64Const, I32Add, I64Add}
-use Rattle.wasm_module_validator_bodies.specs.Syntax.{Instruction, unreachable, nop, drop, local_get, i32_const, i64_const, i32_add, i64_add, Code, done, plain}
+use Rattle.wasm_module_validator_operands.specs.Syntax.{Instruction, unreachable, nop, drop, local_get, i32_const, i64_const, i32_add, i64_add, Code, done, plain}
 use Rattle.wasm_module_validator_bodies.specs.Binary.{SpellsInstruction, SpellsExpression}
-use Rattle.wasm_module_validator_bodies.specs.Validation.{OperandType, stack, Steps, Typed}
-use Rattle.wasm_module_validator_bodies.specs.Answers.{Denies}
+use Rattle.wasm_module_validator_operands.specs.Validation.{OperandType, stack, Steps, Typed}
+use Rattle.wasm_module_validator_operands.specs.Answers.{Denies}
 use Rattle.wasm_module_validator_bodies.specs.Operators.{SpellsOperator, operator}
 use Rattle.wasm_module_validator_bodies.specs.OperatorLaws.{decides-operator}
-use Rattle.wasm_module_validator_bodies.specs.Operands.{Does, Known, Stacks, Stepped, MayStep, Visits, Ended, MayEnd, Continues, Closes, BodyLeft, Taken, MayTake}
-use Rattle.wasm_module_validator_bodies.proofs.Covering.{all_match_refl, covers_above, does_also, denies_also}
+use Rattle.wasm_module_validator_operands.specs.Operands.{Does, Known, Stacks, Stepped, MayStep, Visits, Ended, MayEnd}
+use Rattle.wasm_module_validator_bodies.specs.Remaining.{Continues, Closes, BodyLeft, Taken, MayTake}
+use Rattle.wasm_module_validator_operands.proofs.Covering.{all_match_refl, covers_above, does_also, denies_also}
 use Rattle.wasm_module_validator_bodies.proofs.Reading.{Begins, reads, read_is, was_spelled, refused}
 
 -- ---- operators and instructions

@@ -1,9 +1,9 @@
 -- Which bytes the entry of a function may have in the code section (WebAssembly 3.0, binary format, code section, and
 -- validation, functions).
 use Rattle.std.specs.Prelude.{ℕ, List}
-use Rattle.wasm_module_validator_bodies.specs.Syntax.{FunctionType, Function}
+use Rattle.wasm_module_validator_operands.specs.Syntax.{FunctionType, Function}
 use Rattle.wasm_module_validator_bodies.specs.Binary.{SpellsFunction}
-use Rattle.wasm_module_validator_bodies.specs.Validation.{IsValidFunction}
+use Rattle.wasm_module_validator_operands.specs.Validation.{IsValidFunction}
 
 -- all of the bytes spell what a function of this type does, and that is valid
 abbrev pub AcceptsBody : FunctionType → List ℕ → Type 0

@@ -1,12 +1,8 @@
--- The rules for one function, in reading order.
-pub mod Syntax
+-- Which bytes a function may have, over the rules for functions.
 pub mod Binary
-pub mod Validation
 pub mod Bodies
--- What contracts say beside them.
-pub mod Answers
-pub mod Operands
-pub mod Locals
+-- What contracts say beside it.
+pub mod Remaining
 -- How bytes are read, and why that is exact.
 pub mod Types
 pub mod TypeLaws

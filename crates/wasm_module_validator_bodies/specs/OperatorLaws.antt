@@ -12,7 +12,7 @@ use Rattle.wasm_types_values.specs.declared.value.ValType.{ValType}
 use Rattle.wasm_types_values.specs.declared.value.ValType.TheVariants.{I32, I64, F32, F64}
 use Rattle.wasm_module_validator_bodies.specs.declared.operators.Operator.{Operator}
 use Rattle.wasm_module_validator_bodies.specs.declared.operators.Operator.TheVariants.{Unreachable, Nop, End, Drop, LocalGet, I32Const, I64Const, I32Add, I64Add}
-use Rattle.wasm_module_validator_bodies.specs.Syntax.{LocalGroup}
+use Rattle.wasm_module_validator_operands.specs.Syntax.{LocalGroup}
 use Rattle.wasm_module_validator_bodies.specs.Binary.{SpellsValType, SpellsLocalGroup}
 use Rattle.wasm_module_validator_bodies.specs.Types.{val_type, val_types}
 use Rattle.wasm_module_validator_bodies.specs.TypeLaws.{lawful-val_type, decides-val_type}

@@ -5,7 +5,7 @@ use Rattle.wasm_types_decoding.specs.Decoder.{Decoder, Grammar, ◌>>=◌, pure,
 use Rattle.wasm_types_decoding.specs.Leb.{u32, s32, s64}
 use Rattle.wasm_module_validator_bodies.specs.declared.operators.Operator.{Operator}
 use Rattle.wasm_module_validator_bodies.specs.declared.operators.Operator.TheVariants.{Unreachable, Nop, End, Drop, LocalGet, I32Const, I64Const, I32Add, I64Add}
-use Rattle.wasm_module_validator_bodies.specs.Syntax.{unreachable, nop, drop, local_get, i32_const, i64_const, i32_add, i64_add, LocalGroup}
+use Rattle.wasm_module_validator_operands.specs.Syntax.{unreachable, nop, drop, local_get, i32_const, i64_const, i32_add, i64_add, LocalGroup}
 use Rattle.wasm_module_validator_bodies.specs.Binary.{SpellsInstruction}
 use Rattle.wasm_module_validator_bodies.specs.Types.{val_type}
 

@@ -3,14 +3,15 @@
 ghost use Rattle.std.specs.Prelude.{◌≡◌, ◌↔◌, ◌≤◌, List, [], length, false};
 ghost use Rattle.wasm_types_error.specs.declared.error.ErrorKind.TheVariants.{Other};
 ghost use Rattle.wasm_types_values.specs.declared.value.ValType.{ValType as TheValType};
-ghost use Rattle.wasm_module_validator_bodies.specs.Answers.{Tells, RefusedAt, RefusedWithin};
+ghost use Rattle.wasm_module_validator_operands.specs.Answers.{Tells, RefusedAt, RefusedWithin};
 ghost use Rattle.wasm_types_decoding.specs.Decoder.{Reaches};
 ghost use Rattle.wasm_module_validator_bodies.specs.Bodies.{AcceptsBody};
-ghost use Rattle.wasm_module_validator_bodies.specs.Operands.{Does, fresh, function_type, GroupsLeft, BodyLeft, Taken, MayTake};
+ghost use Rattle.wasm_module_validator_operands.specs.Operands.{Does, fresh};
+ghost use Rattle.wasm_module_validator_bodies.specs.Remaining.{function_type, GroupsLeft, BodyLeft, Taken, MayTake};
 
-use crate::operands::OperatorValidator;
 use crate::operators::{LocalGroup, Operator};
 use std::alloc::Global;
+use wasm_module_validator_operands::OperatorValidator;
 use wasm_types_fields::FuncType;
 use wasm_types_reader::{BinaryReader, Error, Result};
 use wasm_types_values::ValType;

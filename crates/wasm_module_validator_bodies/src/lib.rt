@@ -6,8 +6,6 @@
 #![tactic(auto)]
 
 mod body;
-mod locals;
-mod operands;
 mod operators;
 mod types;
 

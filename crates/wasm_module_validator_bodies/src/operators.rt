@@ -85,7 +85,7 @@ pub struct LocalGroup {
 }
 
 impl<'a> FromReader<'a> for LocalGroup {
-    ghost use Rattle.wasm_module_validator_bodies.specs.Syntax.{LocalGroup as TheLocalGroup};
+    ghost use Rattle.wasm_module_validator_operands.specs.Syntax.{LocalGroup as TheLocalGroup};
     ghost use Rattle.wasm_module_validator_bodies.specs.Binary.{SpellsLocalGroup};
     ghost use Rattle.wasm_module_validator_bodies.specs.Operators.{local_group};
     ghost use Rattle.wasm_module_validator_bodies.specs.OperatorLaws.{lawful-local_group, decides-local_group};

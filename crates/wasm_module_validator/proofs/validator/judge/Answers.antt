@@ -2,7 +2,7 @@
 use Rattle.std.proofs.Common.{◌≡◌, ℕ, length, arith, sym, ap, ◌∙◌, subst, List}
 use Rattle.std.proofs.lemmas.Result.{err_from_is_err_and}
 use Rattle.wasm_types_decoding.specs.Decoder.{State}
-use Rattle.wasm_module_validator_bodies.specs.Answers.{Denies}
+use Rattle.wasm_module_validator_operands.specs.Answers.{Denies}
 use Rattle.wasm_module_validator.specs.Accepts.{Accepts, Judges}
 use Rattle.wasm_module_validator.specs.Judged.{few_frames, shown_at}
 use Rattle.wasm_module_validator.specs.Frames.{module_frames}

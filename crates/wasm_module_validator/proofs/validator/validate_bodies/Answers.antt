@@ -3,7 +3,7 @@ use Rattle.std.proofs.Common.{◌≡◌, ◌<◌, ◌≤◌, length, arith, ap, 
 use Rattle.std.proofs.lemmas.List.{length-map}
 use Rattle.std.proofs.lemmas.Result.{err_from_is_err_and}
 use Rattle.wasm_module_validator.specs.declared.sections.FunctionBody.{FunctionBody}
-use Rattle.wasm_module_validator_bodies.specs.Answers.{denies, denies_from}
+use Rattle.wasm_module_validator_operands.specs.Answers.{denies, denies_from}
 use Rattle.wasm_module_validator.specs.Entries.{bodies}
 use Rattle.wasm_module_validator.specs.Judged.{AreAccepted, AcceptsAt, accepted_index, index_accepted, as_many_accepted}
 use Rattle.wasm_module_validator.proofs.validator.validate_bodies.Goals as goal

@@ -3,9 +3,9 @@ use Rattle.std.proofs.Common.{◌≡◌, List, ℕ, Option, Some, ap, ◌∙◌,
 use Rattle.std.specs.Prelude.{slice_get}
 use Rattle.std.proofs.lemmas.Option.{slice_get-map}
 use Rattle.wasm_types_decoding.specs.Decoder.{State}
-use Rattle.wasm_module_validator_bodies.specs.Syntax.{FunctionType}
+use Rattle.wasm_module_validator_operands.specs.Syntax.{FunctionType}
 use Rattle.wasm_module_validator_bodies.specs.Bodies.{AcceptsBody}
-use Rattle.wasm_module_validator_bodies.specs.Answers.{Tells}
+use Rattle.wasm_module_validator_operands.specs.Answers.{Tells}
 use Rattle.wasm_module_validator.specs.declared.sections.FunctionBody.{FunctionBody}
 use Rattle.wasm_module_validator.specs.Entries.{bodies}
 use Rattle.wasm_module_validator.proofs.Judging.{found_at, tells_at}

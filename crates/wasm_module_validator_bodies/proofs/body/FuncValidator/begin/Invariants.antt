@@ -1,5 +1,5 @@
 use Rattle.std.proofs.Common.{◌≡◌, ◌≤◌, take, length}
-use Rattle.wasm_module_validator_bodies.specs.Operands.{fresh}
+use Rattle.wasm_module_validator_operands.specs.Operands.{fresh}
 use Rattle.wasm_module_validator_bodies.proofs.body.FuncValidator.begin.Given as goal
 
 abbrev pub invariant-loop-param : goal.invariant-loop-param

@@ -1,5 +1,5 @@
-use Rattle.wasm_module_validator_bodies.specs.Syntax.{unreachable, nop, drop, local_get, i32_const, i64_const, i32_add, i64_add}
-use Rattle.wasm_module_validator_bodies.proofs.Exchanging.{nop_stepped}
+use Rattle.wasm_module_validator_operands.specs.Syntax.{unreachable, nop, drop, local_get, i32_const, i64_const, i32_add, i64_add}
+use Rattle.wasm_module_validator_operands.proofs.Exchanging.{nop_stepped}
 use Rattle.wasm_module_validator_bodies.proofs.Steps.{instruction_taken, instruction_visited, end_visited}
 use Rattle.wasm_module_validator_bodies.proofs.body.FuncValidator.op.Goals as goal
 

@@ -4,7 +4,7 @@ use Rattle.wasm_types_decoding.specs.Laws.{reaches_then}
 use Rattle.wasm_module_validator_bodies.specs.Operators.{local_group}
 use Rattle.wasm_module_validator_bodies.specs.OperatorLaws.{within-local_group}
 use Rattle.wasm_module_validator_bodies.proofs.Places.{read_refused, refused_there}
-use Rattle.wasm_module_validator_bodies.proofs.Covering.{denies_also}
+use Rattle.wasm_module_validator_operands.proofs.Covering.{denies_also}
 use Rattle.wasm_module_validator_bodies.proofs.Groups.{group_refused, too_many, known_more, next_left}
 use Rattle.wasm_module_validator_bodies.proofs.body.FuncValidator.read_groups.Goals as goal
 

@@ -3,7 +3,7 @@ use Rattle.wasm_types_decoding.specs.Laws.{reaches_self}
 use Rattle.wasm_types_decoding.specs.Leb.{u32}
 use Rattle.wasm_types_decoding.specs.Places.{within-unsigned}
 use Rattle.wasm_module_validator_bodies.proofs.Places.{read_refused, refused_there, within_further}
-use Rattle.wasm_module_validator_bodies.proofs.Covering.{does_also}
+use Rattle.wasm_module_validator_operands.proofs.Covering.{does_also}
 use Rattle.wasm_module_validator_bodies.proofs.Groups.{count_refused, entry_read, entry_may}
 use Rattle.wasm_module_validator_bodies.proofs.body.FuncValidator.read_locals.Goals as goal
 

@@ -4,7 +4,7 @@ use Rattle.wasm_types_decoding.specs.Laws.{reaches_then}
 use Rattle.wasm_module_validator_bodies.specs.Operators.{operator}
 use Rattle.wasm_module_validator_bodies.specs.OperatorLaws.{within-operator}
 use Rattle.wasm_module_validator_bodies.proofs.Places.{read_refused, refused_there, whatever}
-use Rattle.wasm_module_validator_bodies.proofs.Covering.{denies_also}
+use Rattle.wasm_module_validator_operands.proofs.Covering.{denies_also}
 use Rattle.wasm_module_validator_bodies.proofs.Steps.{operator_refused, step, step_refused, fewer, not_closed, denied, length_is}
 use Rattle.wasm_module_validator_bodies.proofs.body.FuncValidator.read_operators.Goals as goal
 

@@ -1,5 +1,0 @@
-use Rattle.wasm_module_validator_bodies.proofs.Exchanging.{popped_last}
-use Rattle.wasm_module_validator_bodies.proofs.operands.OperatorValidator.pop_any.Goals as goal
-
-pub returns-in-Some-clause-does : goal.returns-in-Some-clause-does
-returns-in-Some-clause-does c = rw (← c.self.view_is) (popped_last _ _ _ c.in-Some.field-0 _ _ c.in-Some.ensures.items)

@@ -1,6 +1,0 @@
-use Rattle.wasm_module_validator_bodies.proofs.Covering.{does_also}
-use Rattle.wasm_module_validator_bodies.proofs.Exchanging.{dropped, drop_may}
-use Rattle.wasm_module_validator_bodies.proofs.operands.OperatorValidator.visit_drop.Goals as goal
-
-pub returns-clause-visits : goal.returns-clause-visits
-returns-clause-visits c = does_also c.pop_any.result (dropped c.args.self.now c.pop_any.new.self) (drop_may c.args.self.now) c.pop_any.ensures.does
