@@ -22,7 +22,7 @@ pub enum BulkShape {
     DataMemory,
     /// The index of a data segment.
     Data,
-    /// The index of a memory and the index of a memory.
+    /// The indices of two memories.
     MemoryMemory,
     /// The index of a memory.
     Memory,
@@ -30,7 +30,7 @@ pub enum BulkShape {
     ElementTable,
     /// The index of an element segment.
     Element,
-    /// The index of a table and the index of a table.
+    /// The indices of two tables.
     TableTable,
     /// The index of a table.
     Table,
@@ -114,10 +114,7 @@ fn of_element_table(code: u32, elem_index: u32, table: u32) -> BulkOperator
     ensures prefix { (bulk_info result).prefix ≡ Some 0xfc }
 {
     match code {
-        0x0c => BulkOperator::TableInit {
-            elem_index,
-            table,
-        },
+        0x0c => BulkOperator::TableInit { elem_index, table },
         _ => unreachable!(),
     }
 }

@@ -75,7 +75,7 @@ fn of_global(code: u32, global_index: u32) -> MemoryOperator
     }
 }
 
-// The operator with this code, which carries this.
+// The operator with this code, which carries this. Only the contract reads `natural`.
 fn of_access(code: u32, natural: u8, memarg: MemArg) -> MemoryOperator
     requires { memory_kinds code ≡ Some (memory_shape_kinds (MemoryShape.Access natural)) }
     ensures immediates { memory_immediates result ≡ MemoryArgument Plain natural memarg ∷ [] }
