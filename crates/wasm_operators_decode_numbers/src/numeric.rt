@@ -7,7 +7,7 @@ ghost use Rattle.wasm_operators_decode_encoding.specs.Groups.{numeric_kinds};
 
 use wasm_operators_basic::NumericOperator;
 
-// The operator with this code, a test or a comparison of integers.
+// The test or comparison of integers with this code.
 fn integer_comparison(code: u32) -> NumericOperator
     requires from { 0x45 ≤ code }
     requires to { code ≤ 0x5a }
@@ -41,7 +41,7 @@ fn integer_comparison(code: u32) -> NumericOperator
     }
 }
 
-// The operator with this code, a comparison of floats.
+// The comparison of floats with this code.
 fn float_comparison(code: u32) -> NumericOperator
     requires from { 0x5b ≤ code }
     requires to { code ≤ 0x66 }
@@ -65,7 +65,7 @@ fn float_comparison(code: u32) -> NumericOperator
     }
 }
 
-// The operator with this code, on integers of 32 bits.
+// The operator on integers of 32 bits with this code.
 fn i32_arithmetic(code: u32) -> NumericOperator
     requires from { 0x67 ≤ code }
     requires to { code ≤ 0x78 }
@@ -95,7 +95,7 @@ fn i32_arithmetic(code: u32) -> NumericOperator
     }
 }
 
-// The operator with this code, on integers of 64 bits.
+// The operator on integers of 64 bits with this code.
 fn i64_arithmetic(code: u32) -> NumericOperator
     requires from { 0x79 ≤ code }
     requires to { code ≤ 0x8a }
@@ -125,7 +125,7 @@ fn i64_arithmetic(code: u32) -> NumericOperator
     }
 }
 
-// The operator with this code, on floats of 32 bits.
+// The operator on floats of 32 bits with this code.
 fn f32_arithmetic(code: u32) -> NumericOperator
     requires from { 0x8b ≤ code }
     requires to { code ≤ 0x98 }
@@ -151,7 +151,7 @@ fn f32_arithmetic(code: u32) -> NumericOperator
     }
 }
 
-// The operator with this code, on floats of 64 bits.
+// The operator on floats of 64 bits with this code.
 fn f64_arithmetic(code: u32) -> NumericOperator
     requires from { 0x99 ≤ code }
     requires to { code ≤ 0xa6 }
@@ -177,7 +177,7 @@ fn f64_arithmetic(code: u32) -> NumericOperator
     }
 }
 
-// The operator with this code, from one type of numbers to another.
+// The conversion with this code.
 fn conversion(code: u32) -> NumericOperator
     requires from { 0xa7 ≤ code }
     requires to { code ≤ 0xbf }
@@ -214,7 +214,7 @@ fn conversion(code: u32) -> NumericOperator
     }
 }
 
-// The operator with this code, which extends a sign.
+// The extension of a sign with this code.
 fn sign_extension(code: u32) -> NumericOperator
     requires from { 0xc0 ≤ code }
     requires to { code ≤ 0xc4 }
@@ -232,7 +232,7 @@ fn sign_extension(code: u32) -> NumericOperator
 }
 
 /// The operator with this code, if there is one in the group. It carries nothing.
-#[tactic(auto, using(crate::proofs::NumericCodes::known, crate::proofs::NumericCodes::none_below, crate::proofs::NumericCodes::none_above))]
+#[tactic(auto, using(crate::proofs::NumericCodes::numeric_codes))]
 pub fn numeric_of(code: u32) -> Option<NumericOperator>
     ensures known { numeric_kinds code ≡ option_map (λ _. []) result }
     ensures code { IfSome result (λ o. (numeric_info o).code ≡ code) }
