@@ -36,7 +36,7 @@ abbrev pub const_kinds : ℕ → Option (List Kind)
 const_kinds = kinds_by (rows const_info const_immediates None const_list)
 
 -- numbers
-abbrev pub numeric_kinds : ℕ → Option (List Kind)
+unfoldable pub numeric_kinds : ℕ → Option (List Kind)
 numeric_kinds = kinds_by (rows numeric_info numeric_immediates None numeric_list)
 
 -- tables and references
@@ -78,7 +78,7 @@ abbrev pub simd_kinds : ℕ → Option (List Kind)
 simd_kinds = kinds_by (rows simd_info simd_immediates (Some 0xfd) simd_list)
 
 -- vectors: numbers
-abbrev pub simd_numeric_kinds : ℕ → Option (List Kind)
+unfoldable pub simd_numeric_kinds : ℕ → Option (List Kind)
 simd_numeric_kinds = kinds_by (rows simd_numeric_info simd_numeric_immediates (Some 0xfd) simd_numeric_list)
 
 -- ---- codes behind 0xfe

@@ -10,5 +10,6 @@ pub mod SequenceLaws
 pub mod OpcodeLaws
 pub mod CodedLaws
 pub mod RowLaws
+pub mod RunLaws
 pub mod TableLaws
 pub mod OperatorLaws

@@ -13,6 +13,7 @@ use Rattle.wasm_operators_tree.specs.Op as op
 use Rattle.wasm_operators_tree.specs.Op.{Op}
 use Rattle.wasm_operators_tree.specs.Immediates.{kinds_of}
 use Rattle.wasm_operators_decode_encoding.specs.Rows.{Row, rows}
+use Rattle.wasm_operators_decode_encoding.specs.Groups.{numeric_kinds, simd_numeric_kinds}
 use Rattle.wasm_operators_decode_encoding.specs.Coded.{kinds_behind, kinds_at}
 use Rattle.wasm_operators_decode_encoding.specs.RowLaws.{own_kinds, own_kinds_of_two, from_group}
 use Rattle.wasm_operators_decode_encoding.specs.Operators.{opcode_of}
@@ -89,6 +90,7 @@ fe_others = shared_rows ∷ []
 -- ---- each operator's own kinds
 
 pub own_kinds_at : (o : Op) → kinds_at (opcode_of o) ≡ Some (kinds_of o)
+unfolding numeric_kinds simd_numeric_kinds
 own_kinds_at (op.Control o) = own_kinds control_info control_immediates control_list o (control_told o) kinds_behind None refl (from_group 0 control_rows plain_others refl)
 own_kinds_at (op.Parametric o) = own_kinds parametric_info parametric_immediates parametric_list o (parametric_told o) kinds_behind None refl (from_group 1 control_rows plain_others refl)
 own_kinds_at (op.Exception o) = own_kinds exception_info exception_immediates exception_list o (exception_told o) kinds_behind None refl (from_group 2 control_rows plain_others refl)

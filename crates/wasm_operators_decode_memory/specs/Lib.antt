@@ -1,0 +1,4 @@
+pub mod Bulk
+pub mod BulkPlain
+pub mod Const
+pub mod Memory

@@ -1,0 +1,27 @@
+-- Which codes of one byte are of this group.
+use Rattle.std.proofs.Common.{◌≡◌, ◌<◌, ℕ, List, [], Some, None, refl}
+use Rattle.wasm_operators_info.specs.Info.{Info}
+use Rattle.wasm_operators_basic.specs.declared.numeric.NumericOperator.{NumericOperator}
+use Rattle.wasm_operators_basic.specs.Table.{numeric_info}
+use Rattle.wasm_operators_basic.specs.Immediates.{numeric_immediates}
+use Rattle.wasm_operators_basic.proofs.Codes.{numeric_list, numeric_told}
+use Rattle.wasm_operators_decode_encoding.specs.Rows.{Row, rows}
+use Rattle.wasm_operators_decode_encoding.specs.Groups.{numeric_kinds}
+use Rattle.wasm_operators_decode_encoding.specs.RunLaws.{own_kinds_behind, none_below, none_above}
+
+abbrev numeric_rows : List Row
+numeric_rows = rows numeric_info numeric_immediates None numeric_list
+
+pub known : (o : NumericOperator) → (numeric_info o).prefix ≡ None → numeric_kinds (numeric_info o).code ≡ Some []
+unfolding numeric_kinds
+known o p = own_kinds_behind numeric_info numeric_immediates numeric_list o (numeric_told o) None p
+
+pub below : (code : ℕ) → code < 0x45 → numeric_kinds code ≡ None
+unfolding numeric_kinds
+below = none_below 0x45 numeric_rows refl
+
+pub above : (code : ℕ) → 0xc4 < code → numeric_kinds code ≡ None
+unfolding numeric_kinds
+above = none_above 0xc4 numeric_rows refl
+
+pub ruleset numeric_codes = (known, below, above)
