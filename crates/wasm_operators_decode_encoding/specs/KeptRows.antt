@@ -1,7 +1,7 @@
 -- Some of a group's rows alone, chosen by their codes: they have the kinds that all rows have at such a code.
-use Rattle.std.proofs.Common.{◌≡◌, ◌∙◌, ℕ, Bool, true, false, ◌&&◌, leb, List, [], ◌∷◌, Option, Some, None, refl, sym, ap}
+use Rattle.std.proofs.Common.{◌≡◌, ◌≤◌, ◌∙◌, ℕ, Bool, true, false, ◌&&◌, leb, List, [], ◌∷◌, Option, Some, None, refl, sym, ap}
 use Rattle.std.specs.Prelude.{◌==◌, if◌then◌else◌}
-use Rattle.std.proofs.lemmas.Bool.{eqb-true, and_parts, both_ways}
+use Rattle.std.proofs.lemmas.Bool.{eqb-true, le-leb, and_parts, both_ways}
 use Rattle.wasm_operators_immediates.specs.Kinds.{Kind}
 use Rattle.wasm_operators_decode_encoding.specs.Rows.{Row, kinds_by}
 
@@ -9,6 +9,9 @@ use Rattle.wasm_operators_decode_encoding.specs.Rows.{Row, kinds_by}
 
 abbrev pub between : ℕ → ℕ → ℕ → Bool
 between from to code = leb from code && leb code to
+
+pub is_between : (from to code : ℕ) → from ≤ code → code ≤ to → between from to code ≡ true
+is_between from to code low high = ap (λ (b : Bool). b && leb code to) (le-leb from code low) ∙ le-leb code to high
 
 abbrev pub kept : (ℕ → Bool) → List Row → List Row
 kept keep [] = []

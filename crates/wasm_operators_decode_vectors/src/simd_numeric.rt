@@ -4,14 +4,14 @@ ghost use Rattle.std.specs.Prelude.{◌≡◌, IfSome, option_map, Some, None, [
 ghost use Rattle.wasm_operators_info.specs.Info.{Info};
 ghost use Rattle.wasm_operators_simd.specs.Table.{simd_numeric_info};
 ghost use Rattle.wasm_operators_decode_encoding.specs.Groups.{simd_numeric_kinds};
-ghost use Rattle.wasm_operators_decode_vectors.specs.Runs.{run_kinds};
+ghost use Rattle.wasm_operators_decode_vectors.specs.SimdNumeric.{simd_numeric_run};
 
 use wasm_operators_simd::SimdNumericOperator;
 
 // The operator with this code, if there is one from 0x00 to 0x22: swizzles and splats.
-#[tactic(auto, unfolding(crate::specs::Runs::run_kinds))]
+#[tactic(auto, unfolding(crate::specs::SimdNumeric::simd_numeric_run))]
 fn splat(code: u32) -> Option<SimdNumericOperator>
-    ensures known { run_kinds 0x00 0x22 code ≡ option_map (λ _. []) result }
+    ensures known { simd_numeric_run 0x00 0x22 code ≡ option_map (λ _. []) result }
     ensures code { IfSome result (λ o. (simd_numeric_info o).code ≡ code) }
     ensures prefix { IfSome result (λ o. (simd_numeric_info o).prefix ≡ Some 0xfd) }
 {
@@ -28,9 +28,9 @@ fn splat(code: u32) -> Option<SimdNumericOperator>
 }
 
 // The operator with this code, if there is one from 0x23 to 0x36: comparisons of lanes of 8 and 16 bits.
-#[tactic(auto, unfolding(crate::specs::Runs::run_kinds))]
+#[tactic(auto, unfolding(crate::specs::SimdNumeric::simd_numeric_run))]
 fn narrow_comparison(code: u32) -> Option<SimdNumericOperator>
-    ensures known { run_kinds 0x23 0x36 code ≡ option_map (λ _. []) result }
+    ensures known { simd_numeric_run 0x23 0x36 code ≡ option_map (λ _. []) result }
     ensures code { IfSome result (λ o. (simd_numeric_info o).code ≡ code) }
     ensures prefix { IfSome result (λ o. (simd_numeric_info o).prefix ≡ Some 0xfd) }
 {
@@ -60,9 +60,9 @@ fn narrow_comparison(code: u32) -> Option<SimdNumericOperator>
 }
 
 // The operator with this code, if there is one from 0x37 to 0x4c: comparisons of wider lanes.
-#[tactic(auto, unfolding(crate::specs::Runs::run_kinds))]
+#[tactic(auto, unfolding(crate::specs::SimdNumeric::simd_numeric_run))]
 fn wide_comparison(code: u32) -> Option<SimdNumericOperator>
-    ensures known { run_kinds 0x37 0x4c code ≡ option_map (λ _. []) result }
+    ensures known { simd_numeric_run 0x37 0x4c code ≡ option_map (λ _. []) result }
     ensures code { IfSome result (λ o. (simd_numeric_info o).code ≡ code) }
     ensures prefix { IfSome result (λ o. (simd_numeric_info o).prefix ≡ Some 0xfd) }
 {
@@ -94,9 +94,9 @@ fn wide_comparison(code: u32) -> Option<SimdNumericOperator>
 }
 
 // The operator with this code, if there is one from 0x4d to 0x5d: on all bits alike.
-#[tactic(auto, unfolding(crate::specs::Runs::run_kinds))]
+#[tactic(auto, unfolding(crate::specs::SimdNumeric::simd_numeric_run))]
 fn bitwise(code: u32) -> Option<SimdNumericOperator>
-    ensures known { run_kinds 0x4d 0x5d code ≡ option_map (λ _. []) result }
+    ensures known { simd_numeric_run 0x4d 0x5d code ≡ option_map (λ _. []) result }
     ensures code { IfSome result (λ o. (simd_numeric_info o).code ≡ code) }
     ensures prefix { IfSome result (λ o. (simd_numeric_info o).prefix ≡ Some 0xfd) }
 {
@@ -113,9 +113,9 @@ fn bitwise(code: u32) -> Option<SimdNumericOperator>
 }
 
 // The operator with this code, if there is one from 0x5e to 0x6d: on lanes of 8 bits, and between floats.
-#[tactic(auto, unfolding(crate::specs::Runs::run_kinds))]
+#[tactic(auto, unfolding(crate::specs::SimdNumeric::simd_numeric_run))]
 fn i8x16(code: u32) -> Option<SimdNumericOperator>
-    ensures known { run_kinds 0x5e 0x6d code ≡ option_map (λ _. []) result }
+    ensures known { simd_numeric_run 0x5e 0x6d code ≡ option_map (λ _. []) result }
     ensures code { IfSome result (λ o. (simd_numeric_info o).code ≡ code) }
     ensures prefix { IfSome result (λ o. (simd_numeric_info o).prefix ≡ Some 0xfd) }
 {
@@ -141,9 +141,9 @@ fn i8x16(code: u32) -> Option<SimdNumericOperator>
 }
 
 // The operator with this code, if there is one from 0x6e to 0x7f: arithmetic on lanes of 8 bits, and sums of pairs.
-#[tactic(auto, unfolding(crate::specs::Runs::run_kinds))]
+#[tactic(auto, unfolding(crate::specs::SimdNumeric::simd_numeric_run))]
 fn i8x16_arithmetic(code: u32) -> Option<SimdNumericOperator>
-    ensures known { run_kinds 0x6e 0x7f code ≡ option_map (λ _. []) result }
+    ensures known { simd_numeric_run 0x6e 0x7f code ≡ option_map (λ _. []) result }
     ensures code { IfSome result (λ o. (simd_numeric_info o).code ≡ code) }
     ensures prefix { IfSome result (λ o. (simd_numeric_info o).prefix ≡ Some 0xfd) }
 {
@@ -171,9 +171,9 @@ fn i8x16_arithmetic(code: u32) -> Option<SimdNumericOperator>
 }
 
 // The operator with this code, if there is one from 0x80 to 0x8d: on lanes of 16 bits.
-#[tactic(auto, unfolding(crate::specs::Runs::run_kinds))]
+#[tactic(auto, unfolding(crate::specs::SimdNumeric::simd_numeric_run))]
 fn i16x8(code: u32) -> Option<SimdNumericOperator>
-    ensures known { run_kinds 0x80 0x8d code ≡ option_map (λ _. []) result }
+    ensures known { simd_numeric_run 0x80 0x8d code ≡ option_map (λ _. []) result }
     ensures code { IfSome result (λ o. (simd_numeric_info o).code ≡ code) }
     ensures prefix { IfSome result (λ o. (simd_numeric_info o).prefix ≡ Some 0xfd) }
 {
@@ -197,9 +197,9 @@ fn i16x8(code: u32) -> Option<SimdNumericOperator>
 }
 
 // The operator with this code, if there is one from 0x8e to 0x9f: arithmetic on lanes of 16 bits.
-#[tactic(auto, unfolding(crate::specs::Runs::run_kinds))]
+#[tactic(auto, unfolding(crate::specs::SimdNumeric::simd_numeric_run))]
 fn i16x8_arithmetic(code: u32) -> Option<SimdNumericOperator>
-    ensures known { run_kinds 0x8e 0x9f code ≡ option_map (λ _. []) result }
+    ensures known { simd_numeric_run 0x8e 0x9f code ≡ option_map (λ _. []) result }
     ensures code { IfSome result (λ o. (simd_numeric_info o).code ≡ code) }
     ensures prefix { IfSome result (λ o. (simd_numeric_info o).prefix ≡ Some 0xfd) }
 {
@@ -226,9 +226,9 @@ fn i16x8_arithmetic(code: u32) -> Option<SimdNumericOperator>
 }
 
 // The operator with this code, if there is one from 0xa0 to 0xbf: on lanes of 32 bits.
-#[tactic(auto, unfolding(crate::specs::Runs::run_kinds))]
+#[tactic(auto, unfolding(crate::specs::SimdNumeric::simd_numeric_run))]
 fn i32x4(code: u32) -> Option<SimdNumericOperator>
-    ensures known { run_kinds 0xa0 0xbf code ≡ option_map (λ _. []) result }
+    ensures known { simd_numeric_run 0xa0 0xbf code ≡ option_map (λ _. []) result }
     ensures code { IfSome result (λ o. (simd_numeric_info o).code ≡ code) }
     ensures prefix { IfSome result (λ o. (simd_numeric_info o).prefix ≡ Some 0xfd) }
 {
@@ -261,9 +261,9 @@ fn i32x4(code: u32) -> Option<SimdNumericOperator>
 }
 
 // The operator with this code, if there is one from 0xc0 to 0xdf: on lanes of 64 bits.
-#[tactic(auto, unfolding(crate::specs::Runs::run_kinds))]
+#[tactic(auto, unfolding(crate::specs::SimdNumeric::simd_numeric_run))]
 fn i64x2(code: u32) -> Option<SimdNumericOperator>
-    ensures known { run_kinds 0xc0 0xdf code ≡ option_map (λ _. []) result }
+    ensures known { simd_numeric_run 0xc0 0xdf code ≡ option_map (λ _. []) result }
     ensures code { IfSome result (λ o. (simd_numeric_info o).code ≡ code) }
     ensures prefix { IfSome result (λ o. (simd_numeric_info o).prefix ≡ Some 0xfd) }
 {
@@ -297,9 +297,9 @@ fn i64x2(code: u32) -> Option<SimdNumericOperator>
 }
 
 // The operator with this code, if there is one from 0xe0 to 0xeb: on floats of 32 bits.
-#[tactic(auto, unfolding(crate::specs::Runs::run_kinds))]
+#[tactic(auto, unfolding(crate::specs::SimdNumeric::simd_numeric_run))]
 fn f32x4(code: u32) -> Option<SimdNumericOperator>
-    ensures known { run_kinds 0xe0 0xeb code ≡ option_map (λ _. []) result }
+    ensures known { simd_numeric_run 0xe0 0xeb code ≡ option_map (λ _. []) result }
     ensures code { IfSome result (λ o. (simd_numeric_info o).code ≡ code) }
     ensures prefix { IfSome result (λ o. (simd_numeric_info o).prefix ≡ Some 0xfd) }
 {
@@ -320,9 +320,9 @@ fn f32x4(code: u32) -> Option<SimdNumericOperator>
 }
 
 // The operator with this code, if there is one from 0xec to 0xf7: on floats of 64 bits.
-#[tactic(auto, unfolding(crate::specs::Runs::run_kinds))]
+#[tactic(auto, unfolding(crate::specs::SimdNumeric::simd_numeric_run))]
 fn f64x2(code: u32) -> Option<SimdNumericOperator>
-    ensures known { run_kinds 0xec 0xf7 code ≡ option_map (λ _. []) result }
+    ensures known { simd_numeric_run 0xec 0xf7 code ≡ option_map (λ _. []) result }
     ensures code { IfSome result (λ o. (simd_numeric_info o).code ≡ code) }
     ensures prefix { IfSome result (λ o. (simd_numeric_info o).prefix ≡ Some 0xfd) }
 {
@@ -343,9 +343,9 @@ fn f64x2(code: u32) -> Option<SimdNumericOperator>
 }
 
 // The operator with this code, if there is one from 0xf8 to 0xff: between integers and floats.
-#[tactic(auto, unfolding(crate::specs::Runs::run_kinds))]
+#[tactic(auto, unfolding(crate::specs::SimdNumeric::simd_numeric_run))]
 fn conversion(code: u32) -> Option<SimdNumericOperator>
-    ensures known { run_kinds 0xf8 0xff code ≡ option_map (λ _. []) result }
+    ensures known { simd_numeric_run 0xf8 0xff code ≡ option_map (λ _. []) result }
     ensures code { IfSome result (λ o. (simd_numeric_info o).code ≡ code) }
     ensures prefix { IfSome result (λ o. (simd_numeric_info o).prefix ≡ Some 0xfd) }
 {
@@ -363,9 +363,9 @@ fn conversion(code: u32) -> Option<SimdNumericOperator>
 }
 
 // The operator with this code, if there is one from 0x100 to 0x113: relaxed ones.
-#[tactic(auto, unfolding(crate::specs::Runs::run_kinds))]
+#[tactic(auto, unfolding(crate::specs::SimdNumeric::simd_numeric_run))]
 fn relaxed(code: u32) -> Option<SimdNumericOperator>
-    ensures known { run_kinds 0x100 0x113 code ≡ option_map (λ _. []) result }
+    ensures known { simd_numeric_run 0x100 0x113 code ≡ option_map (λ _. []) result }
     ensures code { IfSome result (λ o. (simd_numeric_info o).code ≡ code) }
     ensures prefix { IfSome result (λ o. (simd_numeric_info o).prefix ≡ Some 0xfd) }
 {
@@ -395,7 +395,7 @@ fn relaxed(code: u32) -> Option<SimdNumericOperator>
 }
 
 /// The operator with this code, if there is one in the group. It carries nothing.
-#[tactic(auto, using(crate::proofs::Runs::in_run, crate::proofs::Runs::none_above))]
+#[tactic(auto, using(crate::proofs::SimdNumericCodes::in_run, crate::proofs::SimdNumericCodes::none_above))]
 pub fn simd_numeric_of(code: u32) -> Option<SimdNumericOperator>
     ensures known { simd_numeric_kinds code ≡ option_map (λ _. []) result }
     ensures code { IfSome result (λ o. (simd_numeric_info o).code ≡ code) }
