@@ -24,7 +24,7 @@ pub enum SharedShape {
     OrderingGlobal,
     /// An ordering and the index of a table.
     OrderingTable,
-    /// An ordering and the index of a type and the index of a field.
+    /// An ordering, and the indices of a type and a field.
     OrderingTypeField,
     /// An ordering and the index of a type.
     OrderingType,
@@ -56,7 +56,6 @@ fn of_ordering_global(code: u32, ordering: Ordering, global_index: u32) -> Share
     ensures prefix { (shared_info result).prefix ≡ Some 0xfe }
 {
     match code {
-        0x51..=0x57 => of_global_rmw(code, ordering, global_index),
         0x4f => SharedOperator::GlobalAtomicGet {
             ordering,
             global_index,
@@ -65,15 +64,17 @@ fn of_ordering_global(code: u32, ordering: Ordering, global_index: u32) -> Share
             ordering,
             global_index,
         },
+        0x51..=0x53 => of_global_add_sub_and(code, ordering, global_index),
+        0x54..=0x57 => of_global_or_xor_exchange(code, ordering, global_index),
         _ => unreachable!(),
     }
 }
 
 // The operator with this code, which carries this.
-fn of_global_rmw(code: u32, ordering: Ordering, global_index: u32) -> SharedOperator
+fn of_global_add_sub_and(code: u32, ordering: Ordering, global_index: u32) -> SharedOperator
     requires kinds { shared_kinds code ≡ Some (shared_shape_kinds SharedShape.OrderingGlobal) }
     requires from { 0x51 ≤ code }
-    requires to { code ≤ 0x57 }
+    requires to { code ≤ 0x53 }
     ensures immediates { shared_immediates result ≡ MemoryOrdering ordering ∷ Index Globals global_index ∷ [] }
     ensures code { (shared_info result).code ≡ code }
     ensures prefix { (shared_info result).prefix ≡ Some 0xfe }
@@ -91,6 +92,20 @@ fn of_global_rmw(code: u32, ordering: Ordering, global_index: u32) -> SharedOper
             ordering,
             global_index,
         },
+        _ => unreachable!(),
+    }
+}
+
+// The operator with this code, which carries this.
+fn of_global_or_xor_exchange(code: u32, ordering: Ordering, global_index: u32) -> SharedOperator
+    requires kinds { shared_kinds code ≡ Some (shared_shape_kinds SharedShape.OrderingGlobal) }
+    requires from { 0x54 ≤ code }
+    requires to { code ≤ 0x57 }
+    ensures immediates { shared_immediates result ≡ MemoryOrdering ordering ∷ Index Globals global_index ∷ [] }
+    ensures code { (shared_info result).code ≡ code }
+    ensures prefix { (shared_info result).prefix ≡ Some 0xfe }
+{
+    match code {
         0x54 => SharedOperator::GlobalAtomicRmwOr {
             ordering,
             global_index,
@@ -152,7 +167,6 @@ fn of_ordering_type_field(
     ensures prefix { (shared_info result).prefix ≡ Some 0xfe }
 {
     match code {
-        0x60..=0x66 => of_type_field_rmw(code, ordering, struct_type_index, field_index),
         0x5c => SharedOperator::StructAtomicGet {
             ordering,
             struct_type_index,
@@ -173,12 +187,14 @@ fn of_ordering_type_field(
             struct_type_index,
             field_index,
         },
+        0x60..=0x62 => of_field_add_sub_and(code, ordering, struct_type_index, field_index),
+        0x63..=0x66 => of_field_or_xor_exchange(code, ordering, struct_type_index, field_index),
         _ => unreachable!(),
     }
 }
 
 // The operator with this code, which carries this.
-fn of_type_field_rmw(
+fn of_field_add_sub_and(
     code: u32,
     ordering: Ordering,
     struct_type_index: u32,
@@ -186,7 +202,7 @@ fn of_type_field_rmw(
 ) -> SharedOperator
     requires kinds { shared_kinds code ≡ Some (shared_shape_kinds SharedShape.OrderingTypeField) }
     requires from { 0x60 ≤ code }
-    requires to { code ≤ 0x66 }
+    requires to { code ≤ 0x62 }
     ensures immediates { shared_immediates result ≡ MemoryOrdering ordering ∷ Index Types struct_type_index ∷ Index Fields field_index ∷ [] }
     ensures code { (shared_info result).code ≡ code }
     ensures prefix { (shared_info result).prefix ≡ Some 0xfe }
@@ -207,6 +223,25 @@ fn of_type_field_rmw(
             struct_type_index,
             field_index,
         },
+        _ => unreachable!(),
+    }
+}
+
+// The operator with this code, which carries this.
+fn of_field_or_xor_exchange(
+    code: u32,
+    ordering: Ordering,
+    struct_type_index: u32,
+    field_index: u32,
+) -> SharedOperator
+    requires kinds { shared_kinds code ≡ Some (shared_shape_kinds SharedShape.OrderingTypeField) }
+    requires from { 0x63 ≤ code }
+    requires to { code ≤ 0x66 }
+    ensures immediates { shared_immediates result ≡ MemoryOrdering ordering ∷ Index Types struct_type_index ∷ Index Fields field_index ∷ [] }
+    ensures code { (shared_info result).code ≡ code }
+    ensures prefix { (shared_info result).prefix ≡ Some 0xfe }
+{
+    match code {
         0x63 => SharedOperator::StructAtomicRmwOr {
             ordering,
             struct_type_index,
@@ -239,7 +274,6 @@ fn of_ordering_type(code: u32, ordering: Ordering, array_type_index: u32) -> Sha
     ensures prefix { (shared_info result).prefix ≡ Some 0xfe }
 {
     match code {
-        0x6b..=0x71 => of_type_rmw(code, ordering, array_type_index),
         0x67 => SharedOperator::ArrayAtomicGet {
             ordering,
             array_type_index,
@@ -256,15 +290,17 @@ fn of_ordering_type(code: u32, ordering: Ordering, array_type_index: u32) -> Sha
             ordering,
             array_type_index,
         },
+        0x6b..=0x6d => of_item_add_sub_and(code, ordering, array_type_index),
+        0x6e..=0x71 => of_item_or_xor_exchange(code, ordering, array_type_index),
         _ => unreachable!(),
     }
 }
 
 // The operator with this code, which carries this.
-fn of_type_rmw(code: u32, ordering: Ordering, array_type_index: u32) -> SharedOperator
+fn of_item_add_sub_and(code: u32, ordering: Ordering, array_type_index: u32) -> SharedOperator
     requires kinds { shared_kinds code ≡ Some (shared_shape_kinds SharedShape.OrderingType) }
     requires from { 0x6b ≤ code }
-    requires to { code ≤ 0x71 }
+    requires to { code ≤ 0x6d }
     ensures immediates { shared_immediates result ≡ MemoryOrdering ordering ∷ Index Types array_type_index ∷ [] }
     ensures code { (shared_info result).code ≡ code }
     ensures prefix { (shared_info result).prefix ≡ Some 0xfe }
@@ -282,6 +318,20 @@ fn of_type_rmw(code: u32, ordering: Ordering, array_type_index: u32) -> SharedOp
             ordering,
             array_type_index,
         },
+        _ => unreachable!(),
+    }
+}
+
+// The operator with this code, which carries this.
+fn of_item_or_xor_exchange(code: u32, ordering: Ordering, array_type_index: u32) -> SharedOperator
+    requires kinds { shared_kinds code ≡ Some (shared_shape_kinds SharedShape.OrderingType) }
+    requires from { 0x6e ≤ code }
+    requires to { code ≤ 0x71 }
+    ensures immediates { shared_immediates result ≡ MemoryOrdering ordering ∷ Index Types array_type_index ∷ [] }
+    ensures code { (shared_info result).code ≡ code }
+    ensures prefix { (shared_info result).prefix ≡ Some 0xfe }
+{
+    match code {
         0x6e => SharedOperator::ArrayAtomicRmwOr {
             ordering,
             array_type_index,

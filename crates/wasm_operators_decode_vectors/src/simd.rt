@@ -28,7 +28,7 @@ pub enum SimdShape {
     Shuffle,
     /// The index of a lane, below this number.
     Lane(u8),
-    /// The argument of an access with this exponent of its natural alignment and the index of a lane, below this number.
+    /// The argument of such an access, and the index of a lane, below this number.
     AccessLane(u8, u8),
 }
 
