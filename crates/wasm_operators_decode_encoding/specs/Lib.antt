@@ -2,6 +2,7 @@
 pub mod Sequences
 pub mod Opcodes
 pub mod Rows
+pub mod KeptRows
 pub mod Groups
 pub mod Coded
 pub mod Operators

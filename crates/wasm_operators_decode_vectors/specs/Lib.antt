@@ -1,0 +1,2 @@
+pub mod Simd
+pub mod SimdNumeric
