@@ -1,7 +1,7 @@
 //! Continuations from their bytes.
 
-ghost use Rattle.std.specs.Prelude.{◌≡◌, IfOk, option_map, Some, None, [], ◌∷◌};
-ghost use Rattle.wasm_types_reader.specs.Reading.{Gives};
+ghost use Rattle.std.specs.Prelude.{◌≡◌, ◌≢◌, IfOk, option_map, Some, None, [], ◌∷◌};
+ghost use Rattle.wasm_types_reader.specs.Reading.{Gives, NeedsNoMemory};
 ghost use Rattle.wasm_operators_info.specs.Info.{Info};
 ghost use Rattle.wasm_operators_immediates.specs.Kinds.{Tags, Types};
 ghost use Rattle.wasm_operators_immediates.specs.Immediates.{Handlers, Index};
@@ -171,6 +171,7 @@ pub fn read_continuation<'a>(
     ensures answer { Gives (λ o. continuation_immediates (continuation_of o)) result reader.new (immediates reader.old.features (continuation_shape_kinds shape) reader.old) }
     ensures code { IfOk result (λ o. (continuation_info (continuation_of o)).code ≡ code) }
     ensures prefix { IfOk result (λ o. (continuation_info (continuation_of o)).prefix ≡ None) }
+    ensures no_memory { shape ≢ ContinuationShape.TypeHandlers → shape ≢ ContinuationShape.TypeTagHandlers → NeedsNoMemory result }
 {
     match shape {
         ContinuationShape::Type => {
@@ -195,12 +196,7 @@ pub fn read_continuation<'a>(
             let cont_type_index = reader.read_var_u32()?;
             let tag_index = reader.read_var_u32()?;
             let resume_table = ResumeTable::from_reader(alloc, reader)?;
-            Ok(of_type_tag_handlers(
-                code,
-                cont_type_index,
-                tag_index,
-                resume_table,
-            ))
+            Ok(of_type_tag_handlers(code, cont_type_index, tag_index, resume_table))
         }
         ContinuationShape::TypeTag => {
             let cont_type_index = reader.read_var_u32()?;

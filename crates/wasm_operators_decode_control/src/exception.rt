@@ -1,7 +1,7 @@
 //! Exceptions from their bytes.
 
-ghost use Rattle.std.specs.Prelude.{◌≡◌, IfOk, option_map, Some, None, [], ◌∷◌};
-ghost use Rattle.wasm_types_reader.specs.Reading.{Gives};
+ghost use Rattle.std.specs.Prelude.{◌≡◌, ◌≢◌, IfOk, option_map, Some, None, [], ◌∷◌};
+ghost use Rattle.wasm_types_reader.specs.Reading.{Gives, NeedsNoMemory};
 ghost use Rattle.wasm_operators_info.specs.Info.{Info};
 ghost use Rattle.wasm_operators_immediates.specs.Kinds.{Tags};
 ghost use Rattle.wasm_operators_immediates.specs.Immediates as carried;
@@ -134,6 +134,7 @@ pub fn read_exception<'a>(
     ensures answer { Gives (λ o. exception_immediates (exception_of o)) result reader.new (immediates reader.old.features (exception_shape_kinds shape) reader.old) }
     ensures code { IfOk result (λ o. (exception_info (exception_of o)).code ≡ code) }
     ensures prefix { IfOk result (λ o. (exception_info (exception_of o)).prefix ≡ None) }
+    ensures no_memory { shape ≢ ExceptionShape.Clauses → NeedsNoMemory result }
 {
     match shape {
         ExceptionShape::Block => {

@@ -1,7 +1,7 @@
 //! What takes operands of any type from its bytes.
 
-ghost use Rattle.std.specs.Prelude.{◌≡◌, IfOk, IsTrue, option_map, Some, None, [], ◌∷◌};
-ghost use Rattle.wasm_types_reader.specs.Reading.{Gives};
+ghost use Rattle.std.specs.Prelude.{◌≡◌, ◌≢◌, IfOk, IsTrue, option_map, Some, None, [], ◌∷◌};
+ghost use Rattle.wasm_types_reader.specs.Reading.{Gives, NeedsNoMemory};
 ghost use Rattle.wasm_operators_info.specs.Info.{Info};
 ghost use Rattle.wasm_operators_immediates.specs.Immediates.{ValueTypes};
 ghost use Rattle.wasm_operators_basic.specs.Immediates.{parametric_immediates, is_canonical};
@@ -99,6 +99,7 @@ pub fn read_parametric<'a>(
     ensures code { IfOk result (λ o. (parametric_info (parametric_of o)).code ≡ code) }
     ensures prefix { IfOk result (λ o. (parametric_info (parametric_of o)).prefix ≡ None) }
     ensures canonical { IfOk result (λ o. IsTrue (is_canonical (parametric_of o))) }
+    ensures no_memory { shape ≢ ParametricShape.Types → NeedsNoMemory result }
 {
     match shape {
         ParametricShape::Nothing => Ok(of_nothing(code)),
