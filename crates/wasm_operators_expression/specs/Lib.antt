@@ -1,0 +1,6 @@
+-- The rules, in reading order.
+pub mod Roles
+pub mod Code
+pub mod Spelling
+-- What contracts say beside them.
+pub mod Frames

@@ -1,0 +1,2 @@
+//! Expressions of WebAssembly: operators in frames, as trees and as bytes (WebAssembly 3.0, binary format, expressions).
+#![tactic(auto)]
