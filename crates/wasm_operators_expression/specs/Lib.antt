@@ -4,3 +4,6 @@ pub mod Code
 pub mod Spelling
 -- What contracts say beside them.
 pub mod Frames
+-- What is proved of it.
+pub mod FrameLaws
+pub mod SpellingLaws

@@ -1,2 +1,4 @@
 //! Expressions of WebAssembly: operators in frames, as trees and as bytes (WebAssembly 3.0, binary format, expressions).
 #![tactic(auto)]
+
+pub mod laws;
