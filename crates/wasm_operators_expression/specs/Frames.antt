@@ -26,9 +26,13 @@ frames_behind CatchAll frames.LegacyCatch ks = Some (frames.LegacyCatchAll ∷ k
 frames_behind r k ks = None
 
 -- the same where no frame may be open; then nothing may follow
+abbrev pub behind : Role → List FrameKind → Option (List FrameKind)
+behind r [] = None
+behind r (k ∷ ks) = frames_behind r k ks
+
+-- what an operator makes of the frames
 abbrev pub after : Op → List FrameKind → Option (List FrameKind)
-after o [] = None
-after o (k ∷ ks) = frames_behind (role_of o) k ks
+after o ks = behind (role_of o) ks
 
 -- these bytes are operators that close these frames
 abbrev pub BytesClose : ℕ → List FrameKind → List ℕ → Type 0

@@ -7,17 +7,8 @@ use Rattle.wasm_operators_basic.specs.declared.control.ControlOperator.{ControlO
 use Rattle.wasm_operators_basic.specs.declared.control.ControlOperator.TheVariants as control
 use Rattle.wasm_operators_tree.specs.Op as op
 use Rattle.wasm_operators_tree.specs.Op.{Op, ExceptionTree}
-
-pub data Role : Type 0 where
-  -- nothing
-  Plain : Role
-  -- it opens a frame of this kind
-  Opens : FrameKind → Role
-  Else : Role
-  Catch : Role
-  CatchAll : Role
-  Delegate : Role
-  End : Role
+pub use Rattle.wasm_operators_expression.specs.declared.roles.Role.{Role}
+pub use Rattle.wasm_operators_expression.specs.declared.roles.Role.TheVariants.{Plain, Opens, Else, Catch, CatchAll, Delegate, End}
 
 abbrev pub control_role : ControlOperator → Role
 control_role (control.Block blockty) = Opens frames.Block
