@@ -1,0 +1,4 @@
+pub mod Control
+pub mod Parametric
+pub mod Exception
+pub mod Continuation

@@ -1,0 +1,82 @@
+//! What operators are for the nesting of instructions.
+
+ghost use Rattle.std.specs.Prelude.{◌≡◌};
+ghost use Rattle.wasm_operators_basic.specs.Trees.{exception_of};
+ghost use Rattle.wasm_operators_tree.specs.Op.{op_of};
+ghost use Rattle.wasm_operators_expression.specs.Roles.{role_of, control_role, exception_role};
+
+use wasm_operators_basic::{ControlOperator, ExceptionOperator};
+use wasm_operators_immediates::FrameKind;
+use wasm_operators_tree::Operator;
+
+/// What an operator is for the nesting of instructions.
+#[derive(Clone, Copy)]
+pub enum Role {
+    /// Nothing.
+    Plain,
+    /// It opens a frame of this kind.
+    Opens(FrameKind),
+    /// `else`.
+    Else,
+    /// `catch` of the older exceptions.
+    Catch,
+    /// `catch_all` of the older exceptions.
+    CatchAll,
+    /// `delegate` of the older exceptions.
+    Delegate,
+    /// `end`.
+    End,
+}
+
+impl Role {
+    /// What this operator is for the nesting of instructions.
+    #[inline]
+    pub fn of(op: &Operator) -> Role
+        ensures { result ≡ role_of (op_of op.now) }
+    {
+        match op {
+            Operator::Control(op) => control(op),
+            Operator::Exception(op) => exception(op),
+            Operator::Parametric(_)
+            | Operator::Memory(_)
+            | Operator::Const(_)
+            | Operator::Numeric(_)
+            | Operator::Bulk(_)
+            | Operator::Gc(_)
+            | Operator::Descriptor(_)
+            | Operator::Simd(_)
+            | Operator::SimdNumeric(_)
+            | Operator::Atomic(_)
+            | Operator::Shared(_)
+            | Operator::Continuation(_) => Role::Plain,
+        }
+    }
+}
+
+#[inline]
+fn control(op: &ControlOperator) -> Role
+    ensures { result ≡ control_role op.now }
+{
+    match op {
+        ControlOperator::Block { .. } => Role::Opens(FrameKind::Block),
+        ControlOperator::Loop { .. } => Role::Opens(FrameKind::Loop),
+        ControlOperator::If { .. } => Role::Opens(FrameKind::If),
+        ControlOperator::Else => Role::Else,
+        ControlOperator::End => Role::End,
+        _ => Role::Plain,
+    }
+}
+
+#[inline]
+fn exception(op: &ExceptionOperator) -> Role
+    ensures { result ≡ exception_role (exception_of op.now) }
+{
+    match op {
+        ExceptionOperator::Try { .. } => Role::Opens(FrameKind::LegacyTry),
+        ExceptionOperator::TryTable { .. } => Role::Opens(FrameKind::TryTable),
+        ExceptionOperator::Catch { .. } => Role::Catch,
+        ExceptionOperator::CatchAll => Role::CatchAll,
+        ExceptionOperator::Delegate { .. } => Role::Delegate,
+        _ => Role::Plain,
+    }
+}
