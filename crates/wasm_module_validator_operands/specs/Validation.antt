@@ -1,5 +1,5 @@
 -- Which functions are valid (WebAssembly 3.0, validation).
-use Rattle.std.specs.Prelude.{◌≡◌, ℕ, ◌≤◌, List, [], ◌∷◌, ◌++◌, length, map, reverse, replicate, slice_get, Some}
+use Rattle.std.specs.Prelude.{◌≡◌, ◌≤◌, List, [], ◌∷◌, ◌++◌, length, map, reverse, replicate, slice_get, Some}
 use Rattle.wasm_types_values.specs.declared.value.ValType.{ValType}
 use Rattle.wasm_types_values.specs.declared.value.ValType.TheVariants.{I32, I64}
 use Rattle.wasm_module_validator_operands.specs.Syntax.{FunctionType, Instruction, unreachable, nop, drop, local_get, i32_const, i64_const, i32_add, i64_add, Code, done, plain, LocalGroup, Function}

@@ -1,5 +1,5 @@
 -- The index, the type and the body are those at the function's place.
-use Rattle.std.proofs.Common.{◌≡◌, List, ℕ, Option, Some, ap, ◌∙◌, option_map, subst}
+use Rattle.std.proofs.Common.{◌≡◌, List, ℕ, Some, ap, ◌∙◌, option_map, subst}
 use Rattle.std.specs.Prelude.{slice_get}
 use Rattle.std.proofs.lemmas.Option.{slice_get-map}
 use Rattle.wasm_types_decoding.specs.Decoder.{State}

@@ -14,6 +14,6 @@ never_ok P (Err e) n = tt
 
 pub returns-clause-ended : goal.returns-clause-ended
 returns-clause-ended c = elim c.if-is_ok.branch [
-    then-is_ok w ↦ known_on_ok c.judge-judged.result w.self-is
+  | then-is_ok w ↦ known_on_ok c.judge-judged.result w.self-is
   | else-is_ok w ↦ never_ok _ c.judge-judged.result (sym c.is_ok.ensures.value ∙ w.if-is_ok.false)
 ]
