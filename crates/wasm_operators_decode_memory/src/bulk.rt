@@ -1,6 +1,6 @@
 //! Ranges of memories and tables, and tables, from their bytes.
 
-ghost use Rattle.std.specs.Prelude.{◌≡◌, IfOk, option_map, Some, None, [], ◌∷◌};
+ghost use Rattle.std.specs.Prelude.{◌≡◌, IfOk, option_map, Some, [], ◌∷◌};
 ghost use Rattle.wasm_types_reader.specs.Reading.{Gives, NeedsNoMemory};
 ghost use Rattle.wasm_operators_info.specs.Info.{Info};
 ghost use Rattle.wasm_operators_immediates.specs.Kinds.{DataSegments, Elements, Memories, Tables};

@@ -1,4 +1,4 @@
-//! Variables and memory accesses from their bytes.
+//! Variables and memories from their bytes.
 
 ghost use Rattle.std.specs.Prelude.{◌≡◌, IfOk, option_map, Some, None, [], ◌∷◌};
 ghost use Rattle.wasm_types_reader.specs.Reading.{Gives, NeedsNoMemory};

@@ -1,6 +1,5 @@
--- Which codes of one byte are of this group.
+-- Which codes of one byte are of numbers.
 use Rattle.std.proofs.Common.{◌≡◌, ◌<◌, ℕ, List, [], Some, None, refl}
-use Rattle.wasm_operators_info.specs.Info.{Info}
 use Rattle.wasm_operators_basic.specs.declared.numeric.NumericOperator.{NumericOperator}
 use Rattle.wasm_operators_basic.specs.Table.{numeric_info}
 use Rattle.wasm_operators_basic.specs.Immediates.{numeric_immediates}

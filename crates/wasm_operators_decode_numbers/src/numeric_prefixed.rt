@@ -1,6 +1,6 @@
 //! Operators on numbers from codes behind `fc`.
 
-ghost use Rattle.std.specs.Prelude.{◌≡◌, IfSome, option_map, Some, None, []};
+ghost use Rattle.std.specs.Prelude.{◌≡◌, IfSome, option_map, Some, []};
 ghost use Rattle.wasm_operators_info.specs.Info.{Info};
 ghost use Rattle.wasm_operators_basic.specs.Table.{numeric_info};
 ghost use Rattle.wasm_operators_decode_encoding.specs.Groups.{numeric_prefixed_kinds};
