@@ -1,5 +1,5 @@
 -- Some of a group's rows alone, chosen by their codes: they have the kinds that all rows have at such a code.
-use Rattle.std.proofs.Common.{◌≡◌, ◌≤◌, ◌∙◌, ℕ, Bool, true, false, ◌&&◌, leb, List, [], ◌∷◌, Option, Some, None, refl, sym, ap}
+use Rattle.std.proofs.Common.{◌≡◌, ◌≤◌, ◌∙◌, ℕ, Bool, true, false, ◌&&◌, leb, List, [], ◌∷◌, Some, refl, sym, ap}
 use Rattle.std.specs.Prelude.{◌==◌, if◌then◌else◌}
 use Rattle.std.proofs.lemmas.Bool.{eqb-true, le-leb, and_parts, both_ways}
 use Rattle.wasm_operators_immediates.specs.Kinds.{Kind}
