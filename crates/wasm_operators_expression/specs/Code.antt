@@ -2,7 +2,6 @@
 use Rattle.std.specs.Prelude.{◌≡◌, true, List, [], ◌∷◌, ◌++◌, Some}
 use Rattle.wasm_operators_immediates.specs.declared.frames.FrameKind.{FrameKind}
 use Rattle.wasm_operators_immediates.specs.declared.frames.FrameKind.TheVariants.{Block}
-use Rattle.wasm_operators_tree.specs.Op as op
 use Rattle.wasm_operators_tree.specs.Op.{Op}
 use Rattle.wasm_operators_expression.specs.Roles.{Plain, Opens, role_of, turned, closes}
 

@@ -91,7 +91,7 @@ module _ (o : Op) (k : FrameKind) (ks : List FrameKind) (os : List Op) where
     step_at (at_open j r e) c =
         let d = subst (λ (is : List FrameKind). Closes is os) e c in
         let f : os ≡ (walk d.0 ++ walk d.4.0) ++ d.4.1 =
-            d.3 ∙ ap (λ (xs : List Op). walk d.0 ++ xs) d.4.3 ∙ sym (append_assoc (walk d.0) (walk d.4.0) d.4.1) in
+        d.3 ∙ ap (λ (xs : List Op). walk d.0 ++ xs) d.4.3 ∙ sym (append_assoc (walk d.0) (walk d.4.0) d.4.1) in
         (nested o d.0 d.4.0, d.4.1, (j, r, d.2, d.4.2), ap (λ (xs : List Op). o ∷ xs) f, d.4.4)
     step_at (at_turn j r e) c =
         let d = subst (λ (is : List FrameKind). Closes is os) e c in

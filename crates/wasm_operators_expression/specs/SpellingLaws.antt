@@ -1,11 +1,11 @@
 -- What an operator makes of the frames, told by bytes; and bytes have one tree.
 use Rattle.std.proofs.Common.{◌≡◌, ◌↔◌, ℕ, ◌+◌, List, [], ◌∷◌, ◌++◌, length, Some, None, IsTrue, refl, sym, ◌∙◌, ap, subst, append-nil}
-use Rattle.wasm_types_decoding.specs.Decoder.{State, Outcome, Done, Takes}
+use Rattle.wasm_types_decoding.specs.Decoder.{State, Done, Takes}
 use Rattle.wasm_operators_immediates.specs.declared.frames.FrameKind.{FrameKind}
 use Rattle.wasm_operators_immediates.specs.declared.frames.FrameKind.TheVariants.{Block}
 use Rattle.wasm_operators_tree.specs.Op.{Op}
 use Rattle.wasm_operators_tree.specs.Immediates.{is_canonical}
-use Rattle.wasm_operators_decode_encoding.specs.Coded.{Coded, operator, SpelledCoded}
+use Rattle.wasm_operators_decode_encoding.specs.Coded.{Coded, operator}
 use Rattle.wasm_operators_decode_encoding.specs.CodedLaws.{decides-operator}
 use Rattle.wasm_operators_decode_encoding.specs.Operators.{coded_of, SpelledOperator}
 use Rattle.wasm_operators_decode_encoding.specs.OperatorLaws.{spelled_to, spelled_from, coded_apart}
@@ -68,8 +68,8 @@ module _ (features : ℕ) where
       bytes_step = (
         λ (os, c, h). bytes_step_to os c h,
         λ (js, e, (os, c, h)).
-          let found = read_spelled in
-          (o ∷ os, (closes_step o k ks os).1 (js, e, c), (found.0, t.rest, found.2, h, found.1.parts)),
+            let found = read_spelled in
+            (o ∷ os, (closes_step o k ks os).1 (js, e, c), (found.0, t.rest, found.2, h, found.1.parts)),
       )
 
     -- where it may stand
@@ -77,8 +77,8 @@ module _ (features : ℕ) where
     bytes_go_on [] js e = absurd cc
     bytes_go_on (k ∷ ks) js e = (
       λ h.
-        let step = (bytes_step k ks).0 h in
-        subst (λ (is : List FrameKind). BytesClose features is t.rest) (same_frames step.0 js (sym step.1 ∙ e)) step.2,
+          let step = (bytes_step k ks).0 h in
+          subst (λ (is : List FrameKind). BytesClose features is t.rest) (same_frames step.0 js (sym step.1 ∙ e)) step.2,
       λ h. (bytes_step k ks).1 (js, e, h),
     )
 
@@ -104,8 +104,8 @@ module _ (features : ℕ) where
     pub bytes_expression : BytesClose features (Block ∷ []) text ↔ ((c : Code) × SpelledExpression features c text)
     bytes_expression = (
       λ (os, (c, rest, i, e, f), h).
-        let whole : os ≡ walk c = e ∙ ap (λ (xs : List Op). walk c ++ xs) f ∙ append-nil (walk c) in
-        (c, record { expression = i; spelled = subst (λ (xs : List Op). SpelledOperators features xs text) whole h }),
+          let whole : os ≡ walk c = e ∙ ap (λ (xs : List Op). walk c ++ xs) f ∙ append-nil (walk c) in
+          (c, record { expression = i; spelled = subst (λ (xs : List Op). SpelledOperators features xs text) whole h }),
       λ (c, h). (walk c, (c, [], h.expression, sym (append-nil (walk c)), refl), h.spelled),
     )
 

@@ -1,6 +1,6 @@
 //! The frames that are open.
 
-ghost use Rattle.std.specs.Prelude.{◌≡◌, ◌∷◌, [], List, length, is_ok, if◌then◌else◌, IsOk, OnErr, IfOk, OnOk, Some, None, ◌==◌};
+ghost use Rattle.std.specs.Prelude.{◌≡◌, ◌∷◌, [], List, length, is_ok, if◌then◌else◌, IsOk, OnErr, IfOk, IsFalse, Some, None, ◌==◌};
 ghost use Rattle.wasm_operators_immediates.specs.declared.frames.FrameKind.{FrameKind as Kind};
 ghost use Rattle.wasm_operators_tree.specs.Op.{op_of};
 ghost use Rattle.wasm_operators_expression.specs.Frames.{behind, after};
@@ -101,6 +101,49 @@ impl ControlStack {
         ensures { self.new ≡ self.old }
     {
         self.around.reserve(additional)
+    }
+
+    /// What an operator makes of the frames, if it may come next: it may leave them, open a frame, close the innermost, or
+    /// turn it, as `else` does. Where it may not it answers false, and the frames stay as they were.
+    ///
+    /// # Errors
+    /// The operator opens a frame, and there is no memory. The frames stay as they were.
+    #[inline]
+    pub fn advance(&mut self, op: &Operator) -> Result<bool, AllocError>
+        ensures fits { IfOk result (λ fits. after (op_of op.now) self.old ≡ (if fits then Some self.new else None)) }
+        ensures stays { IfOk result (λ fits. IsFalse fits → self.new ≡ self.old) }
+        ensures refused { OnErr result (self.new ≡ self.old) }
+        ensures memory { OnErr result ((frame : Kind) × (after (op_of op.now) self.old ≡ Some (frame ∷ self.old))) }
+    {
+        self.follow(Role::of(op))
+    }
+
+    /// What an operator of this role makes of the frames, if it may come next.
+    fn follow(&mut self, role: Role) -> Result<bool, AllocError>
+        ensures fits { IfOk result (λ fits. behind role self.old ≡ (if fits then Some self.new else None)) }
+        ensures stays { IfOk result (λ fits. IsFalse fits → self.new ≡ self.old) }
+        ensures refused { OnErr result (self.new ≡ self.old) }
+        ensures memory { OnErr result ((frame : Kind) × (behind role self.old ≡ Some (frame ∷ self.old))) }
+    {
+        let Some(frame) = self.innermost else {
+            return Ok(false);
+        };
+        if let Role::Opens(opened) = role {
+            self.push(opened)?;
+            return Ok(true);
+        }
+        if role.closes(frame) {
+            self.pop();
+            return Ok(true);
+        }
+        if let Role::Plain = role {
+            return Ok(true);
+        }
+        let Some(next) = role.turned(frame) else {
+            return Ok(false);
+        };
+        self.innermost = Some(next);
+        Ok(true)
     }
 }
 

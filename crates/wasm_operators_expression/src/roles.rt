@@ -3,7 +3,7 @@
 ghost use Rattle.std.specs.Prelude.{◌≡◌};
 ghost use Rattle.wasm_operators_basic.specs.Trees.{exception_of};
 ghost use Rattle.wasm_operators_tree.specs.Op.{op_of};
-ghost use Rattle.wasm_operators_expression.specs.Roles.{role_of, control_role, exception_role};
+ghost use Rattle.wasm_operators_expression.specs.Roles.{role_of, control_role, exception_role, closes, turned};
 
 use wasm_operators_basic::{ControlOperator, ExceptionOperator};
 use wasm_operators_immediates::FrameKind;
@@ -49,6 +49,40 @@ impl Role {
             | Operator::Atomic(_)
             | Operator::Shared(_)
             | Operator::Continuation(_) => Role::Plain,
+        }
+    }
+
+    /// Whether an operator of this role closes such a frame.
+    #[inline]
+    pub fn closes(self, frame: FrameKind) -> bool
+        ensures { result ≡ closes self frame }
+    {
+        match self {
+            Role::End => true,
+            Role::Delegate => matches!(frame, FrameKind::LegacyTry),
+            _ => false,
+        }
+    }
+
+    /// The kind that an operator of this role makes of such a frame, if it turns it.
+    #[inline]
+    pub fn turned(self, frame: FrameKind) -> Option<FrameKind>
+        ensures { result ≡ turned self frame }
+    {
+        let clause = match self {
+            Role::Else => {
+                return match frame {
+                    FrameKind::If => Some(FrameKind::Else),
+                    _ => None,
+                };
+            }
+            Role::Catch => FrameKind::LegacyCatch,
+            Role::CatchAll => FrameKind::LegacyCatchAll,
+            _ => return None,
+        };
+        match frame {
+            FrameKind::LegacyTry | FrameKind::LegacyCatch => Some(clause),
+            _ => None,
         }
     }
 }
