@@ -1,0 +1,31 @@
+-- Which operators keep a list in memory, by the kinds of what stands behind their opcode. To read another takes no memory.
+use Rattle.std.specs.Prelude.{Bool, true, false, ◌||◌, List, [], ◌∷◌, Option, Some, None}
+use Rattle.wasm_types_decoding.specs.Decoder.{State, Outcome, Done, Short, Fault}
+use Rattle.wasm_operators_immediates.specs.Kinds as kind
+use Rattle.wasm_operators_immediates.specs.Kinds.{Kind}
+use Rattle.wasm_operators_decode_encoding.specs.Opcodes.{Opcode, opcode}
+use Rattle.wasm_operators_decode_encoding.specs.Coded.{kinds_at}
+
+abbrev pub is_list : Kind → Bool
+is_list kind.ValueTypes = true
+is_list kind.TryTable = true
+is_list kind.Handlers = true
+is_list k = false
+
+abbrev pub has_list : List Kind → Bool
+has_list [] = false
+has_list (k ∷ ks) = is_list k || has_list ks
+
+-- what was found behind an opcode
+abbrev pub keeps_list : Option (List Kind) → Bool
+keeps_list None = false
+keeps_list (Some ks) = has_list ks
+
+abbrev pub keeps_list_behind : Outcome Opcode → Bool
+keeps_list_behind (Done o t) = keeps_list (kinds_at o)
+keeps_list_behind (Short p h) = false
+keeps_list_behind (Fault k p) = false
+
+-- the operator that begins here keeps a list
+abbrev pub keeps_list_at : State → Bool
+keeps_list_at s = keeps_list_behind (opcode s)
