@@ -5,9 +5,10 @@ ghost use Rattle.wasm_types_reader.specs.Reading.{Gives, NeedsNoMemory};
 ghost use Rattle.wasm_operators_tree.specs.Op.{op_of};
 ghost use Rattle.wasm_operators_tree.specs.Immediates.{is_canonical};
 ghost use Rattle.wasm_operators_decode_encoding.specs.Opcodes.{plain};
-ghost use Rattle.wasm_operators_decode_encoding.specs.Coded.{behind, plain_kinds};
+ghost use Rattle.wasm_operators_decode_encoding.specs.Coded.{behind, carried_by, plain_kinds};
 ghost use Rattle.wasm_operators_decode_encoding.specs.Operators.{coded_of};
 ghost use Rattle.wasm_operators_decode.specs.Memory.{keeps_list};
+ghost use Rattle.wasm_operators_decode.specs.Plain.{further_kinds};
 
 use crate::refusal::illegal_opcode;
 use std::alloc::Global;
@@ -54,6 +55,20 @@ pub fn read_plain<'a>(
         let op = read_const(code, shape, reader)?;
         return Ok(Operator::Const(op));
     }
+    read_further(alloc, code, offset, reader)
+}
+
+// The same of the groups that are asked last.
+fn read_further<'a>(
+    alloc: Global,
+    code: u32,
+    offset: u64,
+    reader: &mut BinaryReader<'a>,
+) -> Result<Operator<'a>>
+    ensures answer { Gives (λ o. coded_of (op_of o)) result reader.new (carried_by reader.old.features offset (plain code) (further_kinds code) reader.old) }
+    ensures canonical { IfOk result (λ o. IsTrue (is_canonical (op_of o))) }
+    ensures no_memory { keeps_list (further_kinds code) ≡ false → NeedsNoMemory result }
+{
     if let Some(op) = numeric_of(code) {
         return Ok(Operator::Numeric(op));
     }
