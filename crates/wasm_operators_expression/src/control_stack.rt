@@ -103,6 +103,20 @@ impl ControlStack {
         self.around.reserve(additional)
     }
 
+    /// The same frames once more.
+    ///
+    /// # Errors
+    /// There is no memory.
+    pub fn clone(&self) -> Result<ControlStack, AllocError>
+        ensures { IfOk result (λ copy. copy ≡ self.now) }
+    {
+        let around = self.around.clone()?;
+        Ok(ControlStack {
+            innermost: self.innermost,
+            around,
+        })
+    }
+
     /// What an operator makes of the frames, if it may come next: it may leave them, open a frame, close the innermost, or
     /// turn it, as `else` does. Where it may not it answers false, and the frames stay as they were.
     ///
