@@ -4,7 +4,7 @@ use Rattle.wasm_types_error.specs.ErrorValue.{ErrorValue}
 use Rattle.wasm_types_error.specs.declared.error.ErrorKind.{ErrorKind}
 use Rattle.wasm_types_values.specs.declared.value.ValType.{ValType}
 use Rattle.wasm_module_validator_operands.specs.Validation.{OperandType, bottom, value, Matches, AllMatch, values}
-use Rattle.wasm_module_validator_operands.specs.Answers.{Denies, denies_from}
+use Rattle.wasm_module_validator_operands.specs.Answers.{Denies, denies_from, Tells}
 use Rattle.wasm_module_validator_operands.specs.Operands.{Covers, Does}
 
 pub matches_refl : (t : OperandType) → Matches t t
@@ -45,3 +45,7 @@ denies_also k {P} {Q} f d = denies_from k P Q f d
 pub does_also : {X : Type 0} (r : Result X ErrorValue) {P Q R S : Type 0} → (P → R) → (S → Q) → Does r P Q → Does r R S
 does_also (Ok x) f g d = f d
 does_also (Err e) f g d = denies_also e.kind g d
+
+pub tells_also : {X : Type 0} (r : Result X ErrorValue) {P Q : Type 0} → (P → Q) → (Q → P) → Tells r P → Tells r Q
+tells_also (Ok x) f g h = f h
+tells_also (Err e) f g h = denies_also e.kind g h

@@ -37,3 +37,6 @@ returns c =
     let same : length module'.functions.items ≡ length (bodies module'.bodies.items) = omega arith in
     let done : length module'.functions.items ≤ c.loop-place.place = omega arith in
     index_accepted _ _ _ same (λ i lt. c.loop-place.invariant i (omega (arith, lt, done)))
+
+pub loop-place-init : goal.loop-place-init
+loop-place-init c = λ i lt. absurd (omega (arith, lt))

@@ -17,3 +17,12 @@ returns-clause-ended c = elim c.if-is_ok.branch [
   | then-is_ok w ↦ known_on_ok c.judge-judged.result w.self-is
   | else-is_ok w ↦ never_ok _ c.judge-judged.result (sym c.is_ok.ensures.value ∙ w.if-is_ok.false)
 ]
+
+pub returns-clause-verdict : goal.returns-clause-verdict
+returns-clause-verdict c = c.judge-judged.ensures.verdict
+
+pub returns-clause-shown : goal.returns-clause-shown
+returns-clause-shown c = c.judge-judged.ensures.shown
+
+pub returns-clause-refused : goal.returns-clause-refused
+returns-clause-refused c = c.judge-judged.ensures.refused

@@ -1,6 +1,6 @@
 use Rattle.std.proofs.Common.{◌≡◌, ◌+◌, ◌-◌, suc, arith}
 use Rattle.std.proofs.lemmas.Result.{err_from_is_err_and}
-use Rattle.wasm_types_decoding.specs.Laws.{reaches_then}
+use Rattle.wasm_types_decoding.specs.Laws.{reaches_self, reaches_then}
 use Rattle.wasm_module_validator_bodies.specs.Operators.{local_group}
 use Rattle.wasm_module_validator_bodies.specs.OperatorLaws.{within-local_group}
 use Rattle.wasm_module_validator_bodies.proofs.Places.{read_refused, refused_there}
@@ -21,6 +21,14 @@ returns-in_err-define_locals-clause-does c =
     let p = err_from_is_err_and c.from_residual-in_err-define_locals.result c.from_residual-in_err-define_locals.ensures.1 in
     rw (p.1, p.2)
     (denies_also _ (λ (results, a). (results, (c.loop.invariant.left results).1 a)) (too_many _ _ c.loop.self.validator.locals c.loop.reader _ _ n c.in_ok-group.ensures.answer _ c.in_err-define_locals.ensures.does))
+
+pub loop-init : goal.loop-init
+loop-init c = record {
+  known = c.requires.begun;
+  within = c.requires.within;
+  left = λ results. let all : c.args.count - 0 ≡ c.args.count = omega arith in rw all (λ left. left, λ left. left);
+  forward = reaches_self c.args.reader.now;
+}
 
 pub loop-preserved : goal.loop-preserved
 loop-preserved c =

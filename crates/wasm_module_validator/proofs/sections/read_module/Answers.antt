@@ -1,0 +1,20 @@
+-- What was read of the header and of each section is the module's, where nothing follows.
+use Rattle.std.proofs.Common.{◌≡◌, ◌∙◌, ℕ, true, length, refl, rules, subst}
+use Rattle.std.specs.Prelude.{◌==◌}
+use Rattle.wasm_types_decoding.specs.Decoder.{Done}
+use Rattle.wasm_module_validator.specs.Frames.{function_section, code_section, frames, module_frames}
+use Rattle.wasm_module_validator.specs.Entries.{bodies}
+use Rattle.wasm_module_validator.proofs.sections.read_module.Goals as goal
+
+pub returns : goal.returns
+unfolding frames module_frames
+returns c =
+    let types = c.in_ok-types.types in
+    let functions = c.in_ok-functions.functions in
+    let at_functions = c.read_type_section.new.reader in
+    let at_code = c.read_function_section.new.reader in
+    let at_end = c.read_code_section.new.reader in
+    let declared = subst (λ (n : ℕ). function_section n at_functions ≡ Done functions.items at_code) (c.len.ensures ∙ types.ok.0) c.in_ok-functions.ensures.answer in
+    let defined = subst (λ (n : ℕ). code_section n at_code ≡ Done (bodies c.in_ok-bodies.bodies.items) at_end) (c.len-2.ensures ∙ functions.ok.0) c.in_ok-bodies.ensures.answer in
+    let whole : (length at_end.rest == 0) ≡ true = search rules in
+    rw (c.in_ok-read_header.ensures, c.in_ok-types.ensures.answer, declared, defined, whole) refl
