@@ -1,0 +1,2 @@
+//! Readers of operators in frames, and of expressions (WebAssembly 3.0, binary format, expressions).
+#![tactic(auto)]
