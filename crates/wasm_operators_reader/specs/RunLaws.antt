@@ -1,5 +1,6 @@
 -- What a reader reads from its start to its end is an expression, and an expression is read so.
-use Rattle.std.proofs.Common.{◌≡◌, ◌↔◌, ◌⊎◌, inl, inr, ℕ, ◌+◌, ◌<◌, List, [], ◌∷◌, ◌++◌, length, Option, Some, None, refl, sym, ◌∙◌, ap, subst, append-nil, arith}
+use Rattle.std.proofs.Common.{◌≡◌, ◌↔◌, ◌⊎◌, inl, inr, ℕ, ◌+◌, ◌<◌, List, [], ◌∷◌, ◌++◌, length, Option, Some, None, refl, sym, ◌∙◌, ap, subst, append-nil, map, arith}
+use Rattle.std.proofs.lemmas.List.{map-append}
 use Rattle.wasm_types_decoding.specs.Decoder.{State, Done}
 use Rattle.wasm_types_error.specs.ErrorValue.{ErrorValue}
 use Rattle.wasm_types_reader.specs.Reading.{IsNotMemory}
@@ -20,6 +21,10 @@ use Rattle.wasm_operators_reader.specs.StandingLaws.{some_left, unread}
 pub run_more : (os : List Op) (s t u : Standing) (o : Op) → Runs s os t → Reads t o u → Runs s (os ++ o ∷ []) u
 run_more [] s t u o e h = (u, subst (λ (v : Standing). Reads v o u) e h, refl)
 run_more (p ∷ os) s t u o (m, r, more) h = (m, r, run_more os m t u o more h)
+
+-- the same where values stand for the operators
+pub run_pushed : {A : Type 0} (view : A → Op) (xs : List A) (x : A) (s t u : Standing) → Runs s (map view xs) t → Reads t (view x) u → Runs s (map view (xs ++ x ∷ [])) u
+run_pushed view xs x s t u e h = rw map-append (run_more (map view xs) s t u (view x) e h)
 
 -- ---- from a run to an expression
 

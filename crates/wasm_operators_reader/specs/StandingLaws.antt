@@ -33,6 +33,9 @@ module _ (features : ℕ) (s t : State) (c : Coded) (read : operator features s 
   pub some_left : 0 < length s.rest
   some_left = omega (arith, fewer_left)
 
+pub reads_fewer : (s : Standing) (o : Op) (t : Standing) → Reads s o t → length t.bytes.rest < length s.bytes.rest
+reads_fewer s o t h = fewer_left s.bytes.features s.bytes t.bytes (coded_of o) h.read
+
 -- ---- one step
 
 same_coded : (c d : Coded) (t u : State) → Done c t ≡ Done d u → c ≡ d
