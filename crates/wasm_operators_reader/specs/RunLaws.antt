@@ -1,5 +1,5 @@
 -- What a reader reads from its start to its end is an expression, and an expression is read so.
-use Rattle.std.proofs.Common.{◌≡◌, ◌↔◌, ◌⊎◌, inl, inr, ℕ, ◌+◌, ◌<◌, List, [], ◌∷◌, ◌++◌, length, Option, Some, None, refl, sym, ◌∙◌, ap, subst, append-nil, map, arith}
+use Rattle.std.proofs.Common.{◌≡◌, inl, inr, ℕ, ◌+◌, List, [], ◌∷◌, ◌++◌, length, Some, None, refl, sym, ◌∙◌, ap, subst, append-nil, map, arith}
 use Rattle.std.proofs.lemmas.List.{map-append}
 use Rattle.wasm_types_decoding.specs.Decoder.{State, Done}
 use Rattle.wasm_types_error.specs.ErrorValue.{ErrorValue}
@@ -8,7 +8,6 @@ use Rattle.wasm_operators_immediates.specs.declared.frames.FrameKind.{FrameKind}
 use Rattle.wasm_operators_immediates.specs.declared.frames.FrameKind.TheVariants.{Block}
 use Rattle.wasm_operators_tree.specs.Op.{Op}
 use Rattle.wasm_operators_decode_encoding.specs.Coded.{Coded, operator}
-use Rattle.wasm_operators_decode_encoding.specs.Operators.{coded_of}
 use Rattle.wasm_operators_expression.specs.Code.{Code, walk}
 use Rattle.wasm_operators_expression.specs.Spelling.{SpelledOperators, SpelledExpression}
 use Rattle.wasm_operators_expression.specs.Frames.{Closes, after, BytesClose}
@@ -39,8 +38,7 @@ run_spelled [] s t e f =
     (rw frames refl, ap (λ (u : Standing). u.bytes.rest) (sym e) ∙ f.bytes)
 run_spelled (o ∷ os) s t (m, r, more) f =
     let rest = run_spelled os m t more f in
-    let found = read_spelled s.bytes.features s.bytes m.bytes o r.read r.canonical in
-    (
+    let found = read_spelled s.bytes.features s.bytes m.bytes o r.read r.canonical in (
       closes_at o os s.frames m.frames r.fits rest.0,
       (found.0, m.bytes.rest, found.2, subst (λ (n : ℕ). SpelledOperators n os m.bytes.rest) found.1.features rest.1, found.1.parts),
     )

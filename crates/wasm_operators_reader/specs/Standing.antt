@@ -10,6 +10,7 @@ use Rattle.wasm_operators_tree.specs.Op.{Op}
 use Rattle.wasm_operators_tree.specs.Immediates.{is_canonical}
 use Rattle.wasm_operators_decode_encoding.specs.Coded.{operator}
 use Rattle.wasm_operators_decode_encoding.specs.Operators.{coded_of}
+use Rattle.wasm_operators_decode.specs.Memory.{keeps_list_at}
 use Rattle.wasm_operators_expression.specs.Frames.{after}
 
 -- its bytes, and the frames that are open, the innermost first
@@ -48,6 +49,19 @@ RefusesIn (k ∷ ks) s e = Fails e (operator s.bytes.features s.bytes) ⊎ (IsUn
 
 abbrev pub Refuses : Standing → ErrorValue → Type 0
 Refuses s e = RefusesIn s.frames s e
+
+-- an operator begins here that may come next, and opens a frame
+pub record IsOpening (s : Standing) : Type 0 where
+  pub op : Op
+  pub behind : State
+  pub frame : FrameKind
+  pub canonical : IsTrue (is_canonical op)
+  pub read : operator s.bytes.features s.bytes ≡ Done (coded_of op) behind
+  pub opens : after op s.frames ≡ Some (frame ∷ s.frames)
+
+-- memory is wanted for a list that the operator keeps, or for a frame
+abbrev pub WantsMemory : Standing → Type 0
+WantsMemory s = IsTrue (keeps_list_at s.bytes) ⊎ IsOpening s
 
 -- it reads these operators, one after the other
 abbrev pub Runs : Standing → List Op → Standing → Type 0

@@ -1,5 +1,5 @@
 -- A step of a reader is one alone, and a refusal is none.
-use Rattle.std.proofs.Common.{nat_eq, false, ◌≡◌, inl, inr, ℕ, ◌<◌, List, [], ◌∷◌, length, Option, Some, None, refl, sym, ◌∙◌, ap, subst, length-append, arith}
+use Rattle.std.proofs.Common.{nat_eq, Bool, true, false, IsTrue, ◌≡◌, inl, inr, ℕ, ◌<◌, List, [], ◌∷◌, length, Option, Some, None, refl, sym, ◌∙◌, ap, subst, length-append, arith}
 use Rattle.wasm_types_decoding.specs.Decoder.{State, Outcome, Done}
 use Rattle.wasm_types_error.specs.declared.error.ErrorKind.{ErrorKind}
 use Rattle.wasm_types_error.specs.declared.error.ErrorKind.TheVariants.{EndOfData, MissingFeature, OutOfMemory, Failed, Other}
@@ -12,8 +12,9 @@ use Rattle.wasm_operators_decode_encoding.specs.Coded.{Coded, operator}
 use Rattle.wasm_operators_decode_encoding.specs.CodedLaws.{decides-operator}
 use Rattle.wasm_operators_decode_encoding.specs.Operators.{coded_of}
 use Rattle.wasm_operators_decode_encoding.specs.OperatorLaws.{coded_apart}
+use Rattle.wasm_operators_decode.specs.Memory.{keeps_list_at}
 use Rattle.wasm_operators_expression.specs.Frames.{after}
-use Rattle.wasm_operators_reader.specs.Standing.{Standing, Reads, RefusesIn, Refuses}
+use Rattle.wasm_operators_reader.specs.Standing.{Standing, Reads, RefusesIn, Refuses, WantsMemory}
 
 -- ---- an operator has bytes
 
@@ -96,3 +97,13 @@ refuses_fault s e o f = refuses_in s e s.frames o f
 -- where it refuses it reads nothing, unless memory ran out
 pub refused_no_step : (s : Standing) (e : ErrorValue) → Refuses s e → IsNotMemory e.kind → (o : Op) (t : Standing) → Reads s o t → ⊥
 refused_no_step s e r n o t h = refused_at s e s.frames refl r n o t h
+
+-- ---- memory
+
+not_true : (b : Bool) → (IsTrue b → ⊥) → b ≡ false
+not_true true h = absurd (h refl)
+not_true false h = refl
+
+-- where it wants no memory the operator keeps no list
+pub no_list : (s : Standing) → (WantsMemory s → ⊥) → keeps_list_at s.bytes ≡ false
+no_list s h = not_true (keeps_list_at s.bytes) (λ t. h (inl t))

@@ -6,4 +6,4 @@ pub mod laws;
 mod operators_reader;
 
 pub use expression::read_expression;
-pub use operators_reader::OperatorsReader;
+pub use operators_reader::{OperatorsReader, OperatorsReaderAllocations};

@@ -4,7 +4,7 @@ ghost use Rattle.std.specs.Prelude.{◌≡◌, ◌↔◌, ◌==◌, ◌+◌, ◌
 ghost use Rattle.wasm_types_error.specs.declared.error.ErrorKind.TheVariants.{Other};
 ghost use Rattle.wasm_types_reader.specs.Reading.{NeedsNoMemory};
 ghost use Rattle.wasm_operators_tree.specs.Op.{op_of};
-ghost use Rattle.wasm_operators_reader.specs.Standing.{at_start, IsFinished, Reads, Refuses};
+ghost use Rattle.wasm_operators_reader.specs.Standing.{at_start, IsFinished, Reads, Refuses, WantsMemory};
 
 use std::alloc::Global;
 use std::marker::Model;
@@ -14,6 +14,19 @@ use wasm_operators_immediates::{FrameKind, FrameStack};
 use wasm_operators_tree::Operator;
 use wasm_types_error::{Error, Result};
 use wasm_types_reader::BinaryReader;
+
+/// The memory of a reader's frames.
+#[derive(Drop)]
+pub struct OperatorsReaderAllocations(ControlStack);
+
+impl OperatorsReaderAllocations {
+    /// None.
+    pub fn new(alloc: Global) -> OperatorsReaderAllocations
+        ensures { result.0 ≡ [] }
+    {
+        OperatorsReaderAllocations(ControlStack::new(alloc))
+    }
+}
 
 /// Reads operators one after the other, and knows which frames are open.
 #[derive(Drop)]
@@ -43,6 +56,36 @@ impl<'a> OperatorsReader<'a> {
             control,
             alloc,
         }
+    }
+
+    /// The same, in memory that another reader had.
+    pub fn new_with_allocs(
+        alloc: Global,
+        reader: BinaryReader<'a>,
+        allocs: OperatorsReaderAllocations,
+    ) -> OperatorsReader<'a>
+        ensures { result ≡ at_start reader.entry }
+    {
+        let OperatorsReaderAllocations(mut control) = allocs;
+        control.clear();
+        let _ = control.push(FrameKind::Block);
+        OperatorsReader {
+            reader,
+            control,
+            alloc,
+        }
+    }
+
+    /// The memory of its frames, for a reader to come.
+    pub fn into_allocations(self) -> OperatorsReaderAllocations
+        ensures { result.0 ≡ self.entry.frames }
+    {
+        let OperatorsReader {
+            reader: _,
+            control,
+            alloc: _,
+        } = self;
+        OperatorsReaderAllocations(control)
     }
 
     /// A reader of bytes at the same place, over the same bytes.
@@ -85,6 +128,7 @@ impl<'a> OperatorsReader<'a> {
     pub fn read(&mut self) -> Result<Operator<'a>>
         ensures read { IfOk result (λ op. Reads self.old (op_of op) self.new) }
         ensures refused { IfErr result (λ e. Refuses self.old e × (self.new ≡ self.old)) }
+        ensures no_memory { (WantsMemory self.old → ⊥) → NeedsNoMemory result }
     {
         if self.control.is_empty() {
             return Err(Error::new(
@@ -118,6 +162,7 @@ impl<'a> OperatorsReader<'a> {
     pub fn read_with_offset(&mut self) -> Result<(Operator<'a>, u64)>
         ensures read { IfOk result (λ found. Reads self.old (op_of found.0) self.new × (found.1 ≡ self.old.bytes.place)) }
         ensures refused { IfErr result (λ e. Refuses self.old e × (self.new ≡ self.old)) }
+        ensures no_memory { (WantsMemory self.old → ⊥) → NeedsNoMemory result }
     {
         let place = self.original_position();
         let op = self.read()?;

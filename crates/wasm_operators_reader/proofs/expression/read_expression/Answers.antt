@@ -9,9 +9,9 @@ pub returns-in_err-ops-clause-refused : goal.returns-in_err-ops-clause-refused
 returns-in_err-ops-clause-refused c =
     let p = err_from_is_err_and c.from_residual.result c.from_residual.ensures.1 in
     rw (p.1, p.2) (λ n code spelled.
-        let found = c.in_err-ops.ensures.refused n in
-        let run : Runs _ found.0.0 c.read_all.new.operators = subst (λ (s : Standing). Runs s found.0.0 c.read_all.new.operators) c.new-operators.ensures found.0.1 in
-        refused_run c.args.reader found.0.0 c.read_all.new.operators run (λ f. found.2 f.bytes) code spelled _ found.1 n)
+    let found = c.in_err-ops.ensures.refused n in
+    let run : Runs _ found.0.0 c.read_all.new.operators = subst (λ (s : Standing). Runs s found.0.0 c.read_all.new.operators) c.new-operators.ensures found.0.1 in
+    refused_run c.args.reader found.0.0 c.read_all.new.operators run (λ f. found.2 f.bytes) code spelled _ found.1 n)
 
 pub returns-in_err-finish-clause-refused : goal.returns-in_err-finish-clause-refused
 returns-in_err-finish-clause-refused c =

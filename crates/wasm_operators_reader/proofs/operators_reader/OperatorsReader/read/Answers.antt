@@ -1,7 +1,8 @@
-use Rattle.std.proofs.Common.{sym, ◌∙◌, ap, subst}
+use Rattle.std.proofs.Common.{inr, sym, ◌∙◌, ap, subst}
+use Rattle.wasm_operators_tree.specs.Op.{op_of}
 use Rattle.wasm_types_decoding.specs.Decoder.{State}
-use Rattle.wasm_operators_reader.specs.Standing.{Standing, Refuses}
-use Rattle.wasm_operators_reader.specs.StandingLaws.{some_left, refuses_fault}
+use Rattle.wasm_operators_reader.specs.Standing.{Standing, Refuses, IsOpening, WantsMemory}
+use Rattle.wasm_operators_reader.specs.StandingLaws.{some_left, refuses_fault, no_list}
 use Rattle.wasm_operators_reader.proofs.operators_reader.OperatorsReader.read.Goals as goal
 
 pub misplaced-error-requires : goal.misplaced-error-requires
@@ -11,3 +12,18 @@ pub returns-in-Err-clause-refused : goal.returns-in-Err-clause-refused
 returns-in-Err-clause-refused c =
     let refused : Refuses (record { bytes = c.self.inside.reader; frames = c.self.inside.control }) c.in-Err.error = refuses_fault _ _ (sym c.is_empty.ensures ∙ c.if-is_empty.false) c.in-Err.ensures.answer.0 in
     (subst (λ (s : Standing). Refuses s c.in-Err.error) c.self.view_is refused, ap (λ (b : State). record { bytes = b; frames = c.self.inside.control }) c.in-Err.ensures.answer.1 ∙ c.self.view_is)
+
+pub returns-in-Err-clause-no_memory : goal.returns-in-Err-clause-no_memory
+returns-in-Err-clause-no_memory c = λ h. c.in-Err.ensures.no_memory (no_list _ (subst (λ (s : Standing). WantsMemory s → ⊥) (sym c.self.view_is) h))
+
+pub returns-in_default-clause-no_memory : goal.returns-in_default-clause-no_memory
+returns-in_default-clause-no_memory c =
+    let opening : IsOpening (record { bytes = c.self.inside.reader; frames = c.self.inside.control }) = record {
+      op = op_of c.in-Ok.op;
+      behind = c.read_operator.new.reader;
+      frame = c.in_default.ensures.memory.0;
+      canonical = c.in-Ok.ensures.canonical;
+      read = c.in-Ok.ensures.answer;
+      opens = c.in_default.ensures.memory.1;
+    } in
+    λ h. absurd (h (subst WantsMemory c.self.view_is (inr opening)))
