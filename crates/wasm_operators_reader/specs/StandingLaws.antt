@@ -1,5 +1,5 @@
 -- A step of a reader is one alone, and a refusal is none.
-use Rattle.std.proofs.Common.{nat_eq, Bool, true, false, IsTrue, ◌≡◌, inl, inr, ℕ, ◌<◌, List, [], ◌∷◌, length, Option, Some, None, refl, sym, ◌∙◌, ap, subst, length-append, arith}
+use Rattle.std.proofs.Common.{nat_eq, Bool, true, false, IsTrue, ◌≡◌, inl, inr, ℕ, ◌+◌, ◌<◌, List, [], ◌∷◌, length, Option, Some, None, refl, sym, ◌∙◌, ap, subst, length-append, arith}
 use Rattle.wasm_types_decoding.specs.Decoder.{State, Outcome, Done}
 use Rattle.wasm_types_error.specs.declared.error.ErrorKind.{ErrorKind}
 use Rattle.wasm_types_error.specs.declared.error.ErrorKind.TheVariants.{EndOfData, MissingFeature, OutOfMemory, Failed, Other}
@@ -14,7 +14,7 @@ use Rattle.wasm_operators_decode_encoding.specs.Operators.{coded_of}
 use Rattle.wasm_operators_decode_encoding.specs.OperatorLaws.{coded_apart}
 use Rattle.wasm_operators_decode.specs.Memory.{keeps_list_at}
 use Rattle.wasm_operators_expression.specs.Frames.{after}
-use Rattle.wasm_operators_reader.specs.Standing.{Standing, Reads, RefusesIn, Refuses, WantsMemory}
+use Rattle.wasm_operators_reader.specs.Standing.{Standing, Reads, IsUnfit, RefusesIn, Refuses, WantsMemory}
 
 -- ---- an operator has bytes
 
@@ -53,6 +53,9 @@ none_some found js e f = absurd cc
 
 same_standing : (t u : Standing) → t.bytes ≡ u.bytes → t.frames ≡ u.frames → t ≡ u
 same_standing t u e f = λ i. record { bytes = e i; frames = f i }
+
+pub same_parts : (b d : State) (is js : List FrameKind) → b ≡ d → is ≡ js → ◌≡◌ {A = Standing} (record { bytes = b; frames = is }) (record { bytes = d; frames = js })
+same_parts b d is js e f = λ i. record { bytes = e i; frames = f i }
 
 -- two steps from one place are the same
 pub one_step : (s : Standing) (o p : Op) (t u : Standing) → Reads s o t → Reads s p u → (o ≡ p) × (t ≡ u)
@@ -93,6 +96,14 @@ refuses_in s e (k ∷ ks) o f = inl f
 -- with a frame open it refuses what no operator begins
 pub refuses_fault : (s : Standing) (e : ErrorValue) → nat_eq (length s.frames) 0 ≡ false → Fails e (operator s.bytes.features s.bytes) → Refuses s e
 refuses_fault s e o f = refuses_in s e s.frames o f
+
+unfit_in : (s : Standing) (e : ErrorValue) (ks : List FrameKind) → nat_eq (length ks) 0 ≡ false → IsUnfit s → e.kind ≡ Other → e.offset ≡ s.bytes.place + 1 → RefusesIn ks s e
+unfit_in s e [] o u kind place = absurd cc
+unfit_in s e (k ∷ ks) o u kind place = inr (u, kind, place)
+
+-- and what may not come next
+pub refuses_unfit : (s : Standing) (e : ErrorValue) → nat_eq (length s.frames) 0 ≡ false → IsUnfit s → e.kind ≡ Other → e.offset ≡ s.bytes.place + 1 → Refuses s e
+refuses_unfit s e o u kind place = unfit_in s e s.frames o u kind place
 
 -- where it refuses it reads nothing, unless memory ran out
 pub refused_no_step : (s : Standing) (e : ErrorValue) → Refuses s e → IsNotMemory e.kind → (o : Op) (t : Standing) → Reads s o t → ⊥

@@ -1,8 +1,8 @@
-use Rattle.std.proofs.Common.{inr, sym, ◌∙◌, ap, subst}
+use Rattle.std.proofs.Common.{inr, sym, ◌∙◌, ◌+◌, ap, subst}
 use Rattle.wasm_operators_tree.specs.Op.{op_of}
 use Rattle.wasm_types_decoding.specs.Decoder.{State}
-use Rattle.wasm_operators_reader.specs.Standing.{Standing, Refuses, IsOpening, WantsMemory}
-use Rattle.wasm_operators_reader.specs.StandingLaws.{some_left, refuses_fault, no_list}
+use Rattle.wasm_operators_reader.specs.Standing.{Standing, Refuses, IsUnfit, IsOpening, WantsMemory}
+use Rattle.wasm_operators_reader.specs.StandingLaws.{some_left, refuses_fault, refuses_unfit, same_parts, no_list}
 use Rattle.wasm_operators_reader.proofs.operators_reader.OperatorsReader.read.Goals as goal
 
 pub misplaced-error-requires : goal.misplaced-error-requires
@@ -10,7 +10,7 @@ misplaced-error-requires c = rw c.clone-start.ensures (some_left _ _ _ _ c.in-Ok
 
 pub returns-in-Err-clause-refused : goal.returns-in-Err-clause-refused
 returns-in-Err-clause-refused c =
-    let refused : Refuses (record { bytes = c.self.inside.reader; frames = c.self.inside.control }) c.in-Err.error = refuses_fault _ _ (sym c.is_empty.ensures ∙ c.if-is_empty.false) c.in-Err.ensures.answer.0 in
+    let refused : Refuses (record { bytes = c.self.inside.reader; frames = c.self.inside.control }) c.in-Err.error = refuses_fault _ _ (cc) c.in-Err.ensures.answer.0 in
     (subst (λ (s : Standing). Refuses s c.in-Err.error) c.self.view_is refused, ap (λ (b : State). record { bytes = b; frames = c.self.inside.control }) c.in-Err.ensures.answer.1 ∙ c.self.view_is)
 
 pub returns-in-Err-clause-no_memory : goal.returns-in-Err-clause-no_memory
@@ -27,3 +27,18 @@ returns-in_default-clause-no_memory c =
       opens = c.in_default.ensures.memory.1;
     } in
     λ h. absurd (h (subst WantsMemory c.self.view_is (inr opening)))
+
+pub returns-then-not-fits-clause-refused : goal.returns-then-not-fits-clause-refused
+returns-then-not-fits-clause-refused c =
+    let unfit : IsUnfit (record { bytes = c.self.inside.reader; frames = c.self.inside.control }) = record {
+      op = op_of c.in-Ok.op;
+      behind = c.read_operator.new.reader;
+      canonical = c.in-Ok.ensures.canonical;
+      read = c.in-Ok.ensures.answer;
+      unfit = rw c.if-not-fits.true at c.in-Ok-advance.ensures.fits;
+    } in
+    let place = c.misplaced-error.ensures.offset ∙ ap (λ (b : State). b.place + 1) c.clone-start.ensures in
+    let refused : Refuses (record { bytes = c.self.inside.reader; frames = c.self.inside.control }) c.misplaced-error.result = refuses_unfit _ _ (cc) unfit c.misplaced-error.ensures.kind place in (
+      subst (λ (s : Standing). Refuses s c.misplaced-error.result) c.self.view_is refused,
+      same_parts c.clone-start.result c.self.inside.reader _ c.self.inside.control c.clone-start.ensures (c.in-Ok-advance.ensures.stays c.if-not-fits.true) ∙ c.self.view_is,
+    )
