@@ -1,0 +1,42 @@
+//! Expressions as lists of operators.
+
+ghost use Rattle.std.specs.Prelude.{◌≡◌, List, [], map, IfOk, IfErr};
+ghost use Rattle.wasm_types_reader.specs.Reading.{IsNotMemory};
+ghost use Rattle.wasm_operators_tree.specs.Op.{Op, op_of};
+ghost use Rattle.wasm_operators_expression.specs.Code.{Code, walk};
+ghost use Rattle.wasm_operators_expression.specs.Spelling.{SpelledExpression};
+ghost use Rattle.wasm_operators_reader.specs.Standing.{Refuses, Runs};
+
+use crate::OperatorsReader;
+use std::alloc::Global;
+use wasm_operators_tree::Operator;
+use wasm_types_error::Result;
+use wasm_types_reader::BinaryReader;
+
+/// Reads an expression, which all bytes of the reader spell.
+///
+/// # Errors
+///
+/// The bytes spell no expression, or there is no memory.
+pub fn read_expression<'a>(alloc: Global, reader: BinaryReader<'a>) -> Result<Vec<Operator<'a>>>
+    ensures spelled { IfOk result (λ ops. (c : Code) × (walk c ≡ map op_of ops.items) × SpelledExpression reader.entry.features c reader.entry.rest) }
+    ensures refused { IfErr result (λ e. IsNotMemory e.kind → (c : Code) → SpelledExpression reader.entry.features c reader.entry.rest → ⊥) }
+{
+    let mut operators = OperatorsReader::new(alloc, reader);
+    let ops = read_all(alloc, &mut operators)?;
+    operators.finish()?;
+    Ok(ops)
+}
+
+// Reads operators until no byte is left.
+fn read_all<'a>(alloc: Global, operators: &mut OperatorsReader<'a>) -> Result<Vec<Operator<'a>>>
+    ensures read { IfOk result (λ ops. Runs operators.old (map op_of ops.items) operators.new × (operators.new.bytes.rest ≡ [])) }
+    ensures refused { IfErr result (λ e. IsNotMemory e.kind → ((os : List Op) × Runs operators.old os operators.new) × Refuses operators.new e × (operators.new.bytes.rest ≡ [] → ⊥)) }
+{
+    let mut ops = Vec::new(alloc);
+    while !operators.eof() {
+        let op = operators.read()?;
+        ops.push(op)?;
+    }
+    Ok(ops)
+}

@@ -1,0 +1,31 @@
+//! Laws of readers of operators, each the contract of a function that does nothing.
+
+ghost use Rattle.std.specs.Prelude.{◌≡◌, List, []};
+ghost use Rattle.wasm_types_decoding.specs.Decoder.{State};
+ghost use Rattle.wasm_types_error.specs.ErrorValue.{ErrorValue};
+ghost use Rattle.wasm_types_reader.specs.Reading.{IsNotMemory};
+ghost use Rattle.wasm_operators_tree.specs.Op.{Op};
+ghost use Rattle.wasm_operators_expression.specs.Code.{Code, walk};
+ghost use Rattle.wasm_operators_expression.specs.Spelling.{SpelledExpression};
+ghost use Rattle.wasm_operators_reader.specs.Standing.{Standing, at_start, IsFinished, Reads, Refuses, Runs};
+
+/// What is read at a place is one operator, with one place behind it; and where a reader refuses, nothing is read there, unless
+/// memory ran out.
+pub const fn readings_are_steps()
+    ensures one { (s : Standing) (o p : Op) (t u : Standing) → Reads s o t → Reads s p u → (o ≡ p) × (t ≡ u) }
+    ensures none { (s : Standing) (e : ErrorValue) → Refuses s e → IsNotMemory e.kind → (o : Op) (t : Standing) → Reads s o t → ⊥ }
+{}
+
+/// What is read from the start to the end is an expression in the order of its walk, which all of the bytes spell; and each
+/// expression that they spell is read so.
+pub const fn runs_are_expressions()
+    ensures sound { (s : State) (os : List Op) (t : Standing) → Runs (at_start s) os t → IsFinished t → (c : Code) × (walk c ≡ os) × SpelledExpression s.features c s.rest }
+    ensures complete { (s : State) (c : Code) → SpelledExpression s.features c s.rest → (t : Standing) × Runs (at_start s) (walk c) t × IsFinished t }
+{}
+
+/// A reader that refuses on the way, but for want of memory, and one whose bytes end while a frame is open, tell that all of the
+/// bytes spell no expression.
+pub const fn refusals_deny_expressions()
+    ensures refused { (s : State) (os : List Op) (t : Standing) → Runs (at_start s) os t → (IsFinished t → ⊥) → (e : ErrorValue) → Refuses t e → IsNotMemory e.kind → (c : Code) → SpelledExpression s.features c s.rest → ⊥ }
+    ensures ended { (s : State) (os : List Op) (t : Standing) → Runs (at_start s) os t → t.bytes.rest ≡ [] → (t.frames ≡ [] → ⊥) → (c : Code) → SpelledExpression s.features c s.rest → ⊥ }
+{}

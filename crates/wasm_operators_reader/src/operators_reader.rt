@@ -1,0 +1,223 @@
+//! The reader of operators in frames.
+
+ghost use Rattle.std.specs.Prelude.{◌≡◌, ◌↔◌, ◌==◌, ◌+◌, ◌<◌, [], ◌∷◌, IsTrue, IfOk, IfErr, length};
+ghost use Rattle.wasm_types_error.specs.declared.error.ErrorKind.TheVariants.{Other};
+ghost use Rattle.wasm_types_reader.specs.Reading.{NeedsNoMemory};
+ghost use Rattle.wasm_operators_tree.specs.Op.{op_of};
+ghost use Rattle.wasm_operators_reader.specs.Standing.{at_start, IsFinished, Reads, Refuses, WantsMemory};
+
+use std::alloc::Global;
+use std::marker::Model;
+use wasm_operators_decode::read_operator;
+use wasm_operators_expression::{ControlStack, Role};
+use wasm_operators_immediates::{FrameKind, FrameStack};
+use wasm_operators_tree::Operator;
+use wasm_types_error::{Error, Result};
+use wasm_types_reader::BinaryReader;
+
+/// The memory of a reader's frames.
+#[derive(Drop)]
+pub struct OperatorsReaderAllocations(ControlStack);
+
+impl OperatorsReaderAllocations {
+    /// None.
+    pub fn new(alloc: Global) -> OperatorsReaderAllocations
+        ensures { result.0 ≡ [] }
+    {
+        OperatorsReaderAllocations(ControlStack::new(alloc))
+    }
+}
+
+/// Reads operators one after the other, and knows which frames are open.
+#[derive(Drop)]
+pub struct OperatorsReader<'a> {
+    reader: BinaryReader<'a>,
+    control: ControlStack,
+    alloc: Global,
+}
+
+impl<'a> Model for OperatorsReader<'a> {
+    ghost use Rattle.wasm_operators_reader.specs.Standing.{Standing};
+
+    ghost Value = { Standing };
+
+    ghost view = { λ r. record { bytes = r.reader; frames = r.control } };
+}
+
+impl<'a> OperatorsReader<'a> {
+    /// A reader of an expression, or of a function's body behind its locals, whose own frame is open. It takes no memory.
+    pub fn new(alloc: Global, reader: BinaryReader<'a>) -> OperatorsReader<'a>
+        ensures { result ≡ at_start reader.entry }
+    {
+        let mut control = ControlStack::new(alloc);
+        let _ = control.push(FrameKind::Block);
+        OperatorsReader {
+            reader,
+            control,
+            alloc,
+        }
+    }
+
+    /// The same, in memory that another reader had.
+    pub fn new_with_allocs(
+        alloc: Global,
+        reader: BinaryReader<'a>,
+        allocs: OperatorsReaderAllocations,
+    ) -> OperatorsReader<'a>
+        ensures { result ≡ at_start reader.entry }
+    {
+        let OperatorsReaderAllocations(mut control) = allocs;
+        control.clear();
+        let _ = control.push(FrameKind::Block);
+        OperatorsReader {
+            reader,
+            control,
+            alloc,
+        }
+    }
+
+    /// The memory of its frames, for a reader to come.
+    pub fn into_allocations(self) -> OperatorsReaderAllocations
+        ensures { result.0 ≡ self.entry.frames }
+    {
+        let OperatorsReader {
+            reader: _,
+            control,
+            alloc: _,
+        } = self;
+        OperatorsReaderAllocations(control)
+    }
+
+    /// A reader of bytes at the same place, over the same bytes.
+    pub fn get_binary_reader(&self) -> BinaryReader<'a>
+        ensures { result ≡ self.now.bytes }
+    {
+        self.reader.clone()
+    }
+
+    /// Whether no byte is left.
+    #[inline]
+    pub fn eof(&self) -> bool
+        ensures { result ≡ (length self.now.bytes.rest == 0) }
+    {
+        self.reader.eof()
+    }
+
+    /// Where the next byte stands in the input.
+    #[inline]
+    pub fn original_position(&self) -> u64
+        ensures { result ≡ self.now.bytes.place }
+    {
+        self.reader.original_position()
+    }
+
+    /// Whether `end`, the byte `0b`, is all that is left.
+    #[inline]
+    pub fn is_end_then_eof(&self) -> bool
+        ensures { IsTrue result ↔ (self.now.bytes.rest ≡ 0x0b ∷ []) }
+    {
+        self.reader.is_end_then_eof()
+    }
+
+    /// The next operator, whose frame it opens, closes or turns.
+    ///
+    /// # Errors
+    ///
+    /// No frame is open; the bytes spell no operator that the features of the reader allow; the operator may not come next in
+    /// the innermost frame; or there is no memory for a list that it keeps, or for a frame. The reader stays as it was.
+    pub fn read(&mut self) -> Result<Operator<'a>>
+        ensures read { IfOk result (λ op. Reads self.old (op_of op) self.new) }
+        ensures refused { IfErr result (λ e. Refuses self.old e × (self.new ≡ self.old)) }
+        ensures no_memory { (WantsMemory self.old → ⊥) → NeedsNoMemory result }
+    {
+        if self.control.is_empty() {
+            return Err(Error::new(
+                "operators remaining after end of function body or expression",
+                self.original_position(),
+            ));
+        }
+        let start = self.reader.clone();
+        let op = match read_operator(self.alloc, &mut self.reader) {
+            Ok(op) => op,
+            Err(error) => return Err(error),
+        };
+        let Ok(fits) = self.control.advance(&op) else {
+            let place = start.original_position();
+            self.reader = start;
+            return Err(Error::out_of_memory(place));
+        };
+        if !fits {
+            let error = misplaced(&op, &start);
+            self.reader = start;
+            return Err(error);
+        }
+        Ok(op)
+    }
+
+    /// The next operator, as `read` gives it, and its place in the input.
+    ///
+    /// # Errors
+    ///
+    /// As `read`.
+    pub fn read_with_offset(&mut self) -> Result<(Operator<'a>, u64)>
+        ensures read { IfOk result (λ found. Reads self.old (op_of found.0) self.new × (found.1 ≡ self.old.bytes.place)) }
+        ensures refused { IfErr result (λ e. Refuses self.old e × (self.new ≡ self.old)) }
+        ensures no_memory { (WantsMemory self.old → ⊥) → NeedsNoMemory result }
+    {
+        let place = self.original_position();
+        let op = self.read()?;
+        Ok((op, place))
+    }
+
+    /// That all frames are closed, and all bytes read.
+    ///
+    /// # Errors
+    ///
+    /// A frame is open, or bytes are left.
+    pub fn finish(&self) -> Result<()>
+        ensures finished { IfOk result (λ _. IsFinished self.now) }
+        ensures refused { IfErr result (λ e. (IsFinished self.now → ⊥) × (e.kind ≡ Other) × (e.offset ≡ self.now.bytes.place)) }
+        ensures no_memory { NeedsNoMemory result }
+    {
+        if !self.control.is_empty() {
+            return Err(Error::new(
+                "control frames remain at end of function body or expression",
+                self.original_position(),
+            ));
+        }
+        if !self.eof() {
+            return Err(Error::new(
+                "unexpected data at the end of operators",
+                self.original_position(),
+            ));
+        }
+        Ok(())
+    }
+}
+
+impl<'a> FrameStack for OperatorsReader<'a> {
+    ghost use Rattle.wasm_operators_expression.specs.Stack.{innermost};
+
+    ghost frame = { λ s. innermost s.frames };
+
+    fn current_frame(&self) -> Option<FrameKind> {
+        self.control.last()
+    }
+}
+
+// That an operator, which begins where the reader stands, may not come next there: it is refused behind its first byte.
+#[cold]
+fn misplaced(op: &Operator, reader: &BinaryReader) -> Error
+    requires { 0 < length reader.now.rest }
+    ensures kind { result.kind ≡ Other }
+    ensures offset { result.offset ≡ reader.now.place + 1 }
+{
+    let message = match Role::of(op) {
+        Role::Else => "`else` found outside `if` block",
+        Role::Catch => "`catch` found outside `try` block",
+        Role::CatchAll => "`catch_all` found outside `try` block",
+        _ => "`delegate` found outside `try` block",
+    };
+    let left = reader.remaining_range();
+    Error::new(message, left.start + 1)
+}
