@@ -4,6 +4,8 @@
 #[cfg(test)]
 mod each;
 #[cfg(test)]
+mod expressions;
+#[cfg(test)]
 mod listed;
 #[cfg(test)]
 mod refused;
