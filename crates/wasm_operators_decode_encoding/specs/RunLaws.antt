@@ -1,7 +1,7 @@
 -- What the rows of a group tell of a code: the kinds of an operator that has it, and nothing where no row has it.
-use Rattle.std.proofs.Common.{◌≡◌, ◌∙◌, ℕ, ◌<◌, leb, Bool, true, false, ◌&&◌, ◌||◌, List, [], ◌∷◌, map, Option, Some, None, refl, ap, subst}
+use Rattle.std.proofs.Common.{◌≡◌, ◌∙◌, ℕ, ◌<◌, leb, Bool, true, false, ◌&&◌, List, [], ◌∷◌, map, Option, Some, None, refl, ap, subst}
 use Rattle.std.specs.Prelude.{◌==◌, if◌then◌else◌}
-use Rattle.std.proofs.lemmas.Bool.{eqb-true, and_parts, both_ways, or_from, lt-leb}
+use Rattle.std.proofs.lemmas.Bool.{eqb-true, and_parts, both_ways, lt-leb}
 use Rattle.wasm_operators_info.specs.Info.{Info}
 use Rattle.wasm_operators_info.proofs.Codes.{Told}
 use Rattle.wasm_operators_immediates.specs.Immediates.{Immediate, kind_of}
@@ -36,13 +36,9 @@ module _ (within : ℕ → Bool) where
         let parts = and_parts (within r.0) (each_within rs) all in
         behind_row r rs (code == r.0) refl parts.0 (none_out rs parts.1)
 
--- below all rows, above all rows, and between two neighbours
+-- below all rows, and above all rows
 pub none_below : (low : ℕ) (rs : List Row) → each_within (leb low) rs ≡ true → (code : ℕ) → code < low → kinds_by rs code ≡ None
 none_below low rs all code h = none_out (leb low) code (lt-leb low code h) rs all
 
 pub none_above : (high : ℕ) (rs : List Row) → each_within (λ n. leb n high) rs ≡ true → (code : ℕ) → high < code → kinds_by rs code ≡ None
 none_above high rs all code h = none_out (λ n. leb n high) code (lt-leb code high h) rs all
-
-pub none_between : (low high : ℕ) (rs : List Row) → each_within (λ n. leb n low || leb high n) rs ≡ true → (code : ℕ) → low < code → code < high → kinds_by rs code ≡ None
-none_between low high rs all code h k =
-    none_out (λ n. leb n low || leb high n) code (or_from (leb code low) (leb high code) (lt-leb code low h) (lt-leb high code k)) rs all
