@@ -32,7 +32,7 @@ pub struct FunctionBody<'a> {
 }
 
 impl<'a> FromReader<'a> for FunctionBody<'a> {
-    ghost use Rattle.std.specs.Prelude.{ℕ, List};
+    ghost use Rattle.std.specs.Prelude.{ℕ, List, false};
     ghost use Rattle.wasm_module_validator.specs.Frames.{body};
     ghost use Rattle.wasm_module_validator.specs.FrameLaws.{lawful-body, decides-body};
 
@@ -43,6 +43,8 @@ impl<'a> FromReader<'a> for FunctionBody<'a> {
     ghost decoder = { body };
 
     ghost grammar = { IsCounted 7654321 };
+
+    ghost takes_memory = { false };
 
     ghost lawful = { lawful-body };
 

@@ -40,6 +40,7 @@ impl Model for TypeEntry {
 }
 
 impl<'a> FromReader<'a> for TypeEntry {
+    ghost use Rattle.std.specs.Prelude.{true};
     ghost use Rattle.wasm_module_validator_operands.specs.Syntax.{FunctionType};
     ghost use Rattle.wasm_module_validator.specs.Binary.{SpellsFunctionType};
     ghost use Rattle.wasm_module_validator.specs.Types.{function_type};
@@ -52,6 +53,8 @@ impl<'a> FromReader<'a> for TypeEntry {
     ghost decoder = { function_type };
 
     ghost grammar = { SpellsFunctionType };
+
+    ghost takes_memory = { true };
 
     ghost lawful = { lawful-function_type };
 

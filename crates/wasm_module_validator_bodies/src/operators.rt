@@ -24,6 +24,7 @@ pub enum Operator {
 }
 
 impl<'a> FromReader<'a> for Operator {
+    ghost use Rattle.std.specs.Prelude.{false};
     ghost use Rattle.wasm_module_validator_bodies.specs.declared.operators.Operator.{Operator as TheOperator};
     ghost use Rattle.wasm_module_validator_bodies.specs.Operators.{operator, SpellsOperator};
     ghost use Rattle.wasm_module_validator_bodies.specs.OperatorLaws.{lawful-operator, decides-operator};
@@ -35,6 +36,8 @@ impl<'a> FromReader<'a> for Operator {
     ghost decoder = { operator };
 
     ghost grammar = { SpellsOperator };
+
+    ghost takes_memory = { false };
 
     ghost lawful = { lawful-operator };
 
@@ -85,6 +88,7 @@ pub struct LocalGroup {
 }
 
 impl<'a> FromReader<'a> for LocalGroup {
+    ghost use Rattle.std.specs.Prelude.{false};
     ghost use Rattle.wasm_module_validator_operands.specs.Syntax.{LocalGroup as TheLocalGroup};
     ghost use Rattle.wasm_module_validator_bodies.specs.Binary.{SpellsLocalGroup};
     ghost use Rattle.wasm_module_validator_bodies.specs.Operators.{local_group};
@@ -97,6 +101,8 @@ impl<'a> FromReader<'a> for LocalGroup {
     ghost decoder = { local_group };
 
     ghost grammar = { SpellsLocalGroup };
+
+    ghost takes_memory = { false };
 
     ghost lawful = { lawful-local_group };
 

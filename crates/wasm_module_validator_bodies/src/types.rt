@@ -3,7 +3,7 @@
 ghost use Rattle.std.specs.Prelude.{◌≡◌};
 ghost use Rattle.wasm_types_decoding.specs.Decoder.{Reaches};
 ghost use Rattle.wasm_types_error.specs.declared.error.ErrorKind.TheVariants.{Other};
-ghost use Rattle.wasm_types_reader.specs.Reading.{Gives};
+ghost use Rattle.wasm_types_reader.specs.Reading.{Gives, NeedsNoMemory};
 ghost use Rattle.wasm_module_validator_bodies.specs.Types.{val_type};
 
 use wasm_types_reader::{BinaryReader, Error, Result};
@@ -13,6 +13,7 @@ use wasm_types_values::ValType;
 #[tactic(auto, using(wasm_types_decoding::specs::Laws::reaches_self, wasm_types_decoding::specs::Laws::reaches_then), unfolding(crate::specs::Types::val_type))]
 pub(crate) fn read_number_type(reader: &mut BinaryReader<'_>) -> Result<ValType>
     ensures answer { Gives (λ t. t) result reader.new (val_type reader.old) }
+    ensures no_memory { NeedsNoMemory result }
     ensures forward { Reaches reader.old reader.new }
 {
     let start = reader.original_position();

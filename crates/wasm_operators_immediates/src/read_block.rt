@@ -81,6 +81,7 @@ fn read_empty<'a>(reader: &mut BinaryReader<'a>) -> Result<BlockType>
 }
 
 impl<'a> FromReader<'a> for BlockType {
+    ghost use Rattle.std.specs.Prelude.{false};
     ghost use Rattle.wasm_operators_immediates.specs.declared.block.BlockType.{BlockType as TheType};
     ghost use Rattle.wasm_operators_immediates.specs.Blocks.{SpelledBlock};
     ghost use Rattle.wasm_operators_immediates.specs.BlockLaws.{lawful-block_type, decides-block_type};
@@ -92,6 +93,8 @@ impl<'a> FromReader<'a> for BlockType {
     ghost decoder = { block_type };
 
     ghost grammar = { SpelledBlock };
+
+    ghost takes_memory = { false };
 
     ghost lawful = { lawful-block_type };
 

@@ -27,6 +27,7 @@ fn pass_numbers<'a>(count: u32, reader: &mut BinaryReader<'a>) -> Result<()>
 }
 
 impl<'a> FromReader<'a> for BrTable<'a> {
+    ghost use Rattle.std.specs.Prelude.{false};
     ghost use Rattle.wasm_operators_immediates.specs.Tables.{Labels as TheLabels};
     ghost use Rattle.wasm_operators_immediates.specs.Labels.{SpelledLabels, lawful-labels, decides-labels};
 
@@ -37,6 +38,8 @@ impl<'a> FromReader<'a> for BrTable<'a> {
     ghost decoder = { labels };
 
     ghost grammar = { SpelledLabels };
+
+    ghost takes_memory = { false };
 
     ghost lawful = { lawful-labels };
 

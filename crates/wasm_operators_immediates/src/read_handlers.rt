@@ -29,6 +29,7 @@ fn leading_byte_error(byte: u8, desc: &str, offset: u64) -> Error
 }
 
 impl<'a> FromReader<'a> for Catch {
+    ghost use Rattle.std.specs.Prelude.{false};
     ghost use Rattle.wasm_operators_immediates.specs.declared.handlers.Catch.{Catch as TheClause};
     ghost use Rattle.wasm_operators_immediates.specs.Handlers.{SpelledCatch};
     ghost use Rattle.wasm_operators_immediates.specs.HandlerLaws.{lawful-clause, decides-clause};
@@ -40,6 +41,8 @@ impl<'a> FromReader<'a> for Catch {
     ghost decoder = { clause };
 
     ghost grammar = { SpelledCatch };
+
+    ghost takes_memory = { false };
 
     ghost lawful = { lawful-clause };
 
@@ -78,6 +81,7 @@ impl<'a> FromReader<'a> for Catch {
 }
 
 impl<'a> FromReader<'a> for TryTable {
+    ghost use Rattle.std.specs.Prelude.{true};
     ghost use Rattle.wasm_operators_immediates.specs.Tables.{CatchTable, catch_table_of};
     ghost use Rattle.wasm_operators_immediates.specs.Handlers.{SpelledTryTable};
     ghost use Rattle.wasm_operators_immediates.specs.HandlerLaws.{lawful-try_table, decides-try_table};
@@ -89,6 +93,8 @@ impl<'a> FromReader<'a> for TryTable {
     ghost decoder = { try_table };
 
     ghost grammar = { SpelledTryTable };
+
+    ghost takes_memory = { true };
 
     ghost lawful = { lawful-try_table };
 
@@ -103,6 +109,7 @@ impl<'a> FromReader<'a> for TryTable {
 }
 
 impl<'a> FromReader<'a> for Handle {
+    ghost use Rattle.std.specs.Prelude.{false};
     ghost use Rattle.wasm_operators_immediates.specs.declared.handlers.Handle.{Handle as TheHandler};
     ghost use Rattle.wasm_operators_immediates.specs.Handlers.{SpelledHandle};
     ghost use Rattle.wasm_operators_immediates.specs.HandlerLaws.{lawful-handle, decides-handle};
@@ -114,6 +121,8 @@ impl<'a> FromReader<'a> for Handle {
     ghost decoder = { handle };
 
     ghost grammar = { SpelledHandle };
+
+    ghost takes_memory = { false };
 
     ghost lawful = { lawful-handle };
 
@@ -143,7 +152,7 @@ impl<'a> FromReader<'a> for Handle {
 }
 
 impl<'a> FromReader<'a> for ResumeTable {
-    ghost use Rattle.std.specs.Prelude.{List};
+    ghost use Rattle.std.specs.Prelude.{List, true};
     ghost use Rattle.wasm_operators_immediates.specs.declared.handlers.Handle.{Handle as TheHandler};
     ghost use Rattle.wasm_operators_immediates.specs.Handlers.{SpelledHandlers};
     ghost use Rattle.wasm_operators_immediates.specs.HandlerLaws.{lawful-handlers, decides-handlers};
@@ -155,6 +164,8 @@ impl<'a> FromReader<'a> for ResumeTable {
     ghost decoder = { handlers };
 
     ghost grammar = { SpelledHandlers };
+
+    ghost takes_memory = { true };
 
     ghost lawful = { lawful-handlers };
 

@@ -165,6 +165,21 @@ fn values_in_a_row(rt: HostRuntime) -> std::result::Result<(), Fail> {
     }
     same(&rt, reader.read_u8()?, 0x2a);
 
+    let mut reader = BinaryReader::new(&[0x03, 0x01, 0x02, 0x03], 0);
+    {
+        let mut values = reader.read_iter::<u32>(alloc, 3, "type count")?;
+        same(&rt, values.next().expect(&rt, "a first")?, 1);
+    }
+    assert!(rt; reader.eof());
+
+    // or as many of them as come before a bad one
+    let mut reader = BinaryReader::new(&[0x03, 0x05, 0x06, 0x80], 0);
+    {
+        let mut values = reader.read_iter::<u32>(alloc, 3, "type count")?;
+        same(&rt, values.next().expect(&rt, "a first")?, 5);
+    }
+    same(&rt, reader.current_position(), 3);
+
     // and stands before one that is refused
     let mut reader = BinaryReader::new(&[0x02, 0x05, 0x80], 0);
     {

@@ -1,13 +1,17 @@
--- what contracts cite
+-- what contracts cite: states, outcomes, decoders and grammars
 pub mod Decoder
 pub mod Leb
 pub mod Lists
 pub mod Text
--- what is proved of it
+-- what a refusal's place is
+pub mod Places
+-- worked bytes
+pub mod Rows
+-- what is proved of them: laws, exactness, rows
 pub mod Laws
 pub mod Exact
 pub mod LebLaws
 pub mod SignedLaws
 pub mod ListLaws
 pub mod TextLaws
-pub mod Places
+pub mod RowLaws

@@ -1,14 +1,14 @@
 -- Numbers and lists with a limit are lawful, and read what their grammars say.
-use Rattle.std.proofs.Common.{◌≡◌, ℕ, zero, suc, ◌<◌, ◌≤◌, List, [], ◌∷◌, ◌++◌, length, refl, sym, ap, ◌∙◌, subst, arith, ltb, Bool, true, false}
-use Rattle.std.specs.Prelude.{nat_lt, if◌then◌else◌}
+use Rattle.std.proofs.Common.{◌≡◌, ℕ, zero, suc, ◌<◌, ◌≤◌, List, [], ◌∷◌, ◌++◌, length, refl, sym, ap, ◌∙◌, subst, arith, ltb}
+use Rattle.std.specs.Prelude.{nat_lt}
 use Rattle.std.proofs.lemmas.Bool.{ltb-true, ltb-false}
 use Rattle.std.proofs.lemmas.List.{append-nil}
 use Rattle.wasm_types_decoding.specs.declared.Refusal.{Refusal}
 use Rattle.wasm_types_decoding.specs.declared.Refusal.TheVariants.{Other}
-use Rattle.wasm_types_decoding.specs.Decoder.{State, Takes, Decoder, ◌>>=◌, pure, IsLawful, Decides, Grammar, Then, repeated, Many}
+use Rattle.wasm_types_decoding.specs.Decoder.{Decoder, ◌>>=◌, pure, IsLawful, Decides, Grammar, Then, repeated, Many}
 use Rattle.wasm_types_decoding.specs.Laws.{lawful->>=, lawful-pure, lawful-if, lawful-repeated}
 use Rattle.wasm_types_decoding.specs.Exact.{decides->>=, decides-same, decides-pure, decides-if, decides-repeated}
-use Rattle.wasm_types_decoding.specs.Leb.{IsUnsigned, u32, IsListed}
+use Rattle.wasm_types_decoding.specs.Leb.{IsUnsigned, u32}
 use Rattle.wasm_types_decoding.specs.LebLaws.{lawful-unsigned, decides-u32}
 use Rattle.wasm_types_decoding.specs.Lists.{refuse_at, at_most_or, size_within, listed_within, IsSizeWithin, IsListedWithin}
 

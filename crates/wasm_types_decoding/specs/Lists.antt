@@ -1,8 +1,8 @@
 -- Numbers and counts with a limit, and lists that are counted so.
-use Rattle.std.specs.Prelude.{◌≡◌, ℕ, ◌≤◌, List, ◌++◌, length, nat_lt, if◌then◌else◌}
+use Rattle.std.specs.Prelude.{ℕ, ◌≤◌, List, length, nat_lt, if◌then◌else◌}
 use Rattle.wasm_types_decoding.specs.declared.Refusal.{Refusal}
 use Rattle.wasm_types_decoding.specs.declared.Refusal.TheVariants.{Other}
-use Rattle.wasm_types_decoding.specs.Decoder.{Decoder, Outcome, Fault, Grammar, ◌>>=◌, pure, repeated}
+use Rattle.wasm_types_decoding.specs.Decoder.{Decoder, Fault, Grammar, ◌>>=◌, pure, repeated}
 use Rattle.wasm_types_decoding.specs.Leb.{u32, IsUnsigned, IsListed}
 
 -- a fault at a place

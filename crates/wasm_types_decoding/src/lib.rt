@@ -3,6 +3,8 @@
 //! state their contracts by these definitions; `docs/decoding.md` explains them in plain words.
 #![tactic(auto)]
 
+ghost use Rattle.wasm_types_decoding.specs.Rows.{UnsignedRows, SignedRows, ByteRows, WordRows, ListRows, NameRows, PartRows};
+
 /// What is wrong with bytes, where no further byte mends it.
 #[derive(Clone, Copy, Debug, PartialEq, Eq)]
 pub enum Refusal {
@@ -11,3 +13,15 @@ pub enum Refusal {
     /// The bytes spell nothing.
     Other,
 }
+
+/// What the decoders answer for bytes that were worked by hand: values, refusals, and bytes that end too early.
+#[tactic(auto, using(crate::specs::RowLaws::unsigned_rows, crate::specs::RowLaws::signed_rows, crate::specs::RowLaws::byte_rows, crate::specs::RowLaws::word_rows, crate::specs::RowLaws::list_rows, crate::specs::RowLaws::name_rows, crate::specs::RowLaws::part_rows))]
+pub fn worked_bytes()
+    ensures unsigned { UnsignedRows }
+    ensures signed { SignedRows }
+    ensures bytes { ByteRows }
+    ensures words { WordRows }
+    ensures lists { ListRows }
+    ensures names { NameRows }
+    ensures parts { PartRows }
+{}

@@ -2,6 +2,7 @@
 
 ghost use Rattle.std.specs.Prelude.{◌≡◌};
 ghost use Rattle.wasm_types_features.specs.Laws.{AllowedByBits, LargerAllowsMore, OwnInUnion, OwnInIntersection, OwnInDifference, PackedOnce, InflatedAgain, PackedAgain};
+ghost use Rattle.wasm_types_features.specs.Rows.{MaskRows, SetRows, AllowedRows, CanonicalRows};
 ghost use Rattle.wasm_types_features.specs.Sets.{bits_of, mvp, wasm1, wasm2, wasm3, lime1, default_features, Within};
 
 use crate::features::WasmFeatures;
@@ -39,4 +40,13 @@ pub const fn inflated_forms()
     ensures packed_once { PackedOnce }
     ensures inflated_again { InflatedAgain }
     ensures packed_again { PackedAgain }
+{}
+
+/// Sets that were worked by hand: the bits of each feature's name and of each named set, and what some sets allow.
+#[tactic(auto, using(crate::specs::RowLaws::mask_rows, crate::specs::RowLaws::set_rows, crate::specs::RowLaws::allowed_rows, crate::specs::RowLaws::canonical_rows))]
+pub const fn worked_sets()
+    ensures masks { MaskRows }
+    ensures sets { SetRows }
+    ensures allowed { AllowedRows }
+    ensures canonical { CanonicalRows }
 {}

@@ -30,6 +30,7 @@ fn read_mutability<'a>(reader: &mut BinaryReader<'a>) -> Result<bool>
 }
 
 impl<'a> FromReader<'a> for FieldType {
+    ghost use Rattle.std.specs.Prelude.{false};
     ghost use Rattle.wasm_types_fields.specs.declared.field.FieldType.{FieldType as TheType};
     ghost use Rattle.wasm_types_fields.specs.Spells.{SpelledField};
     ghost use Rattle.wasm_types_fields.specs.DecodeLaws.{lawful-field_type, decides-field_type};
@@ -41,6 +42,8 @@ impl<'a> FromReader<'a> for FieldType {
     ghost decoder = { field_type };
 
     ghost grammar = { SpelledField };
+
+    ghost takes_memory = { false };
 
     ghost lawful = { lawful-field_type };
 
@@ -62,6 +65,7 @@ impl<'a> FromReader<'a> for FieldType {
 }
 
 impl<'a> FromReader<'a> for ArrayType {
+    ghost use Rattle.std.specs.Prelude.{false};
     ghost use Rattle.wasm_types_fields.specs.declared.field.FieldType.{FieldType as TheType};
     ghost use Rattle.wasm_types_fields.specs.Spells.{SpelledField};
     ghost use Rattle.wasm_types_fields.specs.DecodeLaws.{lawful-field_type, decides-field_type};
@@ -73,6 +77,8 @@ impl<'a> FromReader<'a> for ArrayType {
     ghost decoder = { field_type };
 
     ghost grammar = { SpelledField };
+
+    ghost takes_memory = { false };
 
     ghost lawful = { lawful-field_type };
 
@@ -89,7 +95,7 @@ impl<'a> FromReader<'a> for ArrayType {
 }
 
 impl<'a> FromReader<'a> for StructType {
-    ghost use Rattle.std.specs.Prelude.{List};
+    ghost use Rattle.std.specs.Prelude.{List, true};
     ghost use Rattle.wasm_types_fields.specs.declared.field.FieldType.{FieldType as TheField};
     ghost use Rattle.wasm_types_fields.specs.Decode.{fields};
     ghost use Rattle.wasm_types_fields.specs.Spells.{SpelledFields};
@@ -103,6 +109,8 @@ impl<'a> FromReader<'a> for StructType {
 
     ghost grammar = { SpelledFields };
 
+    ghost takes_memory = { true };
+
     ghost lawful = { lawful-fields };
 
     ghost exact = { decides-fields };
@@ -115,6 +123,7 @@ impl<'a> FromReader<'a> for StructType {
 }
 
 impl<'a> FromReader<'a> for FuncType {
+    ghost use Rattle.std.specs.Prelude.{true};
     ghost use Rattle.wasm_types_fields.specs.Decode.{signature};
     ghost use Rattle.wasm_types_fields.specs.Spells.{Signature, SpelledSignature};
     ghost use Rattle.wasm_types_fields.specs.DecodeLaws.{lawful-signature, decides-signature};
@@ -126,6 +135,8 @@ impl<'a> FromReader<'a> for FuncType {
     ghost decoder = { signature };
 
     ghost grammar = { SpelledSignature };
+
+    ghost takes_memory = { true };
 
     ghost lawful = { lawful-signature };
 
@@ -165,6 +176,7 @@ pub fn read_index<'a>(reader: &mut BinaryReader<'a>) -> Result<PackedIndex>
 }
 
 impl<'a> FromReader<'a> for ContType {
+    ghost use Rattle.std.specs.Prelude.{false};
     ghost use Rattle.wasm_types_indices.specs.declared.index.UnpackedIndex.{UnpackedIndex};
     ghost use Rattle.wasm_types_fields.specs.Spells.{SpelledIndex};
     ghost use Rattle.wasm_types_fields.specs.DecodeLaws.{lawful-module_index, decides-module_index};
@@ -176,6 +188,8 @@ impl<'a> FromReader<'a> for ContType {
     ghost decoder = { module_index };
 
     ghost grammar = { SpelledIndex };
+
+    ghost takes_memory = { false };
 
     ghost lawful = { lawful-module_index };
 

@@ -49,6 +49,7 @@ fn read_explicit<'a>(alloc: Global, reader: &mut BinaryReader<'a>) -> Result<Rec
 }
 
 impl<'a> FromReader<'a> for RecGroup {
+    ghost use Rattle.std.specs.Prelude.{true};
     ghost use Rattle.wasm_types_groups.specs.SpellsTypes.{GroupValue, SpelledGroup};
     ghost use Rattle.wasm_types_groups.specs.DecodeTypes.{rec_group};
     ghost use Rattle.wasm_types_groups.specs.Places.{group_places};
@@ -61,6 +62,8 @@ impl<'a> FromReader<'a> for RecGroup {
     ghost decoder = { rec_group };
 
     ghost grammar = { SpelledGroup };
+
+    ghost takes_memory = { true };
 
     ghost lawful = { lawful-rec_group };
 

@@ -145,6 +145,7 @@ fn composite_after_byte<'a>(
 }
 
 impl<'a> FromReader<'a> for CompositeType {
+    ghost use Rattle.std.specs.Prelude.{true};
     ghost use Rattle.wasm_types_groups.specs.SpellsTypes.{CompositeValue, SpelledComposite};
     ghost use Rattle.wasm_types_groups.specs.DecodeTypes.{composite};
     ghost use Rattle.wasm_types_groups.specs.TypeLaws.{lawful-composite, decides-composite};
@@ -156,6 +157,8 @@ impl<'a> FromReader<'a> for CompositeType {
     ghost decoder = { composite };
 
     ghost grammar = { SpelledComposite };
+
+    ghost takes_memory = { true };
 
     ghost lawful = { lawful-composite };
 
@@ -238,6 +241,7 @@ pub(crate) fn sub_after_byte<'a>(
 }
 
 impl<'a> FromReader<'a> for SubType {
+    ghost use Rattle.std.specs.Prelude.{true};
     ghost use Rattle.wasm_types_groups.specs.SpellsTypes.{SubValue, SpelledSub};
     ghost use Rattle.wasm_types_groups.specs.DecodeTypes.{sub_type};
     ghost use Rattle.wasm_types_groups.specs.TypeLaws.{lawful-sub_type, decides-sub_type};
@@ -249,6 +253,8 @@ impl<'a> FromReader<'a> for SubType {
     ghost decoder = { sub_type };
 
     ghost grammar = { SpelledSub };
+
+    ghost takes_memory = { true };
 
     ghost lawful = { lawful-sub_type };
 

@@ -1,5 +1,5 @@
 -- What a read answers, by its decoder.
-use Rattle.std.specs.Prelude.{◌≡◌, ℕ, ◌+◌, ◌<◌, Result, Ok, Err, Option, Some, None}
+use Rattle.std.specs.Prelude.{◌≡◌, ℕ, ◌+◌, ◌<◌, Bool, true, false, Result, Ok, Err, Option, Some, None}
 use Rattle.wasm_types_decoding.specs.declared.Refusal.TheVariants as refusals
 use Rattle.wasm_types_decoding.specs.Decoder.{State, Outcome, Done, Short, Fault, Decoder}
 use Rattle.wasm_types_error.specs.declared.error.ErrorKind.{ErrorKind}
@@ -50,3 +50,8 @@ IsNotMemory Other = Unit {0}
 abbrev pub NeedsNoMemory : {X : Type 0} → Result X ErrorValue → Type 0
 NeedsNoMemory (Err e) = IsNotMemory e.kind
 NeedsNoMemory (Ok x) = Unit {0}
+
+-- It is refused for memory only where this takes memory.
+abbrev pub MemoryOnlyIf : {X : Type 0} → Bool → Result X ErrorValue → Type 0
+MemoryOnlyIf true result = Unit {0}
+MemoryOnlyIf false result = NeedsNoMemory result

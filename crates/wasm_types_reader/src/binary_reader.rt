@@ -7,7 +7,7 @@ ghost use Rattle.wasm_types_decoding.specs.Leb.{u32 as u32_decoder};
 ghost use Rattle.wasm_types_decoding.specs.Lists.{size_within};
 ghost use Rattle.wasm_types_error.specs.declared.error.ErrorKind.TheVariants.{EndOfData, Other};
 ghost use Rattle.wasm_types_features.specs.Sets.{bits_of, default_features};
-ghost use Rattle.wasm_types_reader.specs.Reading.{Answers, Gives, NeedsNoMemory};
+ghost use Rattle.wasm_types_reader.specs.Reading.{Answers, Gives, NeedsNoMemory, MemoryOnlyIf};
 ghost use Rattle.wasm_types_reader.specs.Parts.{part_at, counted_part, IsPassed};
 ghost use Rattle.wasm_types_reader.specs.Numbers.{behind};
 
@@ -340,6 +340,7 @@ impl<'a> BinaryReader<'a> {
     #[inline]
     pub fn read<T: FromReader<'a>>(&mut self, alloc: Global) -> Result<T>
         ensures answer { Answers T.view result self.old self.new (T.decoder self.old) }
+        ensures memory { MemoryOnlyIf T.takes_memory result }
         ensures forward { Reaches self.old self.new }
     {
         let start = self.clone();

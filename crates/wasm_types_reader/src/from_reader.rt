@@ -1,10 +1,10 @@
 //! The trait of all that is read from bytes.
 
-ghost use Rattle.std.specs.Prelude.{ℕ};
+ghost use Rattle.std.specs.Prelude.{ℕ, Bool, false};
 ghost use Rattle.wasm_types_decoding.specs.Decoder.{Decoder, Grammar, IsLawful, Decides, Reaches};
 ghost use Rattle.wasm_types_decoding.specs.Leb.{u32 as u32_decoder, IsUnsigned};
 ghost use Rattle.wasm_types_decoding.specs.LebLaws.{lawful-unsigned, decides-u32};
-ghost use Rattle.wasm_types_reader.specs.Reading.{Gives};
+ghost use Rattle.wasm_types_reader.specs.Reading.{Gives, MemoryOnlyIf};
 
 use crate::{BinaryReader, Result};
 use std::alloc::Global;
@@ -23,9 +23,13 @@ pub trait FromReader<'a>: Drop {
     /// What the bytes of a value are.
     ghost grammar: { Grammar Value };
 
+    /// Whether reading a value may take memory. Where it takes none, it is never refused for memory.
+    ghost takes_memory: { Bool };
+
     /// Reads a value. Where it is refused the reader may have gone on: [`BinaryReader::read`] puts it back.
     fn from_reader(alloc: Global, reader: &mut BinaryReader<'a>) -> Result<Self>
         ensures answer { Gives view result reader.new (decoder reader.old) }
+        ensures memory { MemoryOnlyIf takes_memory result }
         ensures forward { Reaches reader.old reader.new };
 
     /// It takes bytes from the front; a value and a fault stay whatever bytes follow; a want of bytes is exact.
@@ -44,6 +48,8 @@ impl<'a> FromReader<'a> for u32 {
     ghost decoder = { u32_decoder };
 
     ghost grammar = { IsUnsigned 32 };
+
+    ghost takes_memory = { false };
 
     ghost lawful = { lawful-unsigned 4 4 };
 

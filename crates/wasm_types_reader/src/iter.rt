@@ -1,10 +1,10 @@
 //! Values that follow one another, one by one.
 
-ghost use Rattle.std.specs.Prelude.{◌≡◌, IfOk, IfErr, MatchResult};
+ghost use Rattle.std.specs.Prelude.{◌≡◌, IfOk, IfErr, IfSome, MatchResult};
 ghost use Rattle.std.specs.Iterator.{at_most};
 ghost use Rattle.wasm_types_decoding.specs.Lists.{size_within};
 ghost use Rattle.wasm_types_decoding.specs.Decoder.{Done};
-ghost use Rattle.wasm_types_reader.specs.Reading.{NextItem, Fails, IsNotMemory};
+ghost use Rattle.wasm_types_reader.specs.Reading.{NextItem, Fails, IsNotMemory, MemoryOnlyIf};
 ghost use Rattle.wasm_types_reader.specs.Draining.{Drains};
 
 use crate::{BinaryReader, FromReader, Result};
@@ -60,7 +60,7 @@ impl<'a> BinaryReader<'a> {
 impl<'a, 'me, T: FromReader<'a>> Iterator for BinaryReaderIter<'a, 'me, T> {
     type Item = Result<T>;
 
-    ghost next_gives = { λ s r t. NextItem T.view T.decoder s.remaining s.reader.now r t.remaining t.reader.now × (t.reader.ghost_name ≡ s.reader.ghost_name) };
+    ghost next_gives = { λ s r t. NextItem T.view T.decoder s.remaining s.reader.now r t.remaining t.reader.now × (t.reader.ghost_name ≡ s.reader.ghost_name) × IfSome r (λ item. MemoryOnlyIf T.takes_memory item) };
 
     ghost remaining = { λ s. at_most s.remaining };
 
@@ -80,7 +80,7 @@ impl<'a, 'me, T: FromReader<'a>> Iterator for BinaryReaderIter<'a, 'me, T> {
 
 impl<'a, 'me, T: FromReader<'a>> Drop for BinaryReaderIter<'a, 'me, T> {
     fn drop(self)
-        ensures { Drains T.decoder self.entry.remaining self.entry.reader.now self.exit.0.now }
+        ensures { Drains T.decoder T.takes_memory self.entry.remaining self.entry.reader.now self.exit.0.now }
     {
         let BinaryReaderIter {
             reader,
@@ -94,7 +94,7 @@ impl<'a, 'me, T: FromReader<'a>> Drop for BinaryReaderIter<'a, 'me, T> {
 
 /// Reads `count` values, or as many as come before a first error.
 fn read_rest<'a, T: FromReader<'a>>(alloc: Global, count: usize, reader: &mut BinaryReader<'a>)
-    ensures { Drains T.decoder count reader.old reader.new }
+    ensures { Drains T.decoder T.takes_memory count reader.old reader.new }
 {
     for _ in 0..count {
         let Ok(_) = reader.read::<T>(alloc) else {

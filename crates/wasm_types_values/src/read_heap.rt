@@ -38,6 +38,7 @@ pub(crate) fn abstract_type_of(byte: u8) -> Option<AbstractHeapType>
 }
 
 impl<'a> FromReader<'a> for AbstractHeapType {
+    ghost use Rattle.std.specs.Prelude.{false};
     ghost use Rattle.wasm_types_values.specs.declared.heap.AbstractHeapType.{AbstractHeapType as TheType};
     ghost use Rattle.wasm_types_values.specs.Decode.{abstract_heap_type};
     ghost use Rattle.wasm_types_values.specs.DecodeLaws.{lawful-abstract_heap_type};
@@ -50,6 +51,8 @@ impl<'a> FromReader<'a> for AbstractHeapType {
     ghost decoder = { abstract_heap_type };
 
     ghost grammar = { SpellsAbstract };
+
+    ghost takes_memory = { false };
 
     ghost lawful = { lawful-abstract_heap_type };
 
@@ -112,6 +115,7 @@ fn read_exact<'a>(reader: &mut BinaryReader<'a>) -> Result<HeapType>
 }
 
 impl<'a> FromReader<'a> for HeapType {
+    ghost use Rattle.std.specs.Prelude.{false};
     ghost use Rattle.wasm_types_values.specs.declared.heap.HeapType.{HeapType as TheType};
     ghost use Rattle.wasm_types_values.specs.Decode.{heap_type};
     ghost use Rattle.wasm_types_values.specs.DecodeLaws.{lawful-heap_type};
@@ -124,6 +128,8 @@ impl<'a> FromReader<'a> for HeapType {
     ghost decoder = { heap_type };
 
     ghost grammar = { Spelled };
+
+    ghost takes_memory = { false };
 
     ghost lawful = { lawful-heap_type };
 

@@ -55,6 +55,7 @@ fn read_long<'a>(nullable: bool, alloc: Global, reader: &mut BinaryReader<'a>) -
 }
 
 impl<'a> FromReader<'a> for RefType {
+    ghost use Rattle.std.specs.Prelude.{false};
     ghost use Rattle.wasm_types_values.specs.Reference.{Reference};
     ghost use Rattle.wasm_types_values.specs.Decode.{reference_type};
     ghost use Rattle.wasm_types_values.specs.DecodeLaws.{lawful-reference_type};
@@ -67,6 +68,8 @@ impl<'a> FromReader<'a> for RefType {
     ghost decoder = { reference_type };
 
     ghost grammar = { SpelledReference };
+
+    ghost takes_memory = { false };
 
     ghost lawful = { lawful-reference_type };
 
@@ -105,6 +108,7 @@ fn value_after_byte<'a>(byte: u8, alloc: Global, reader: &mut BinaryReader<'a>) 
 }
 
 impl<'a> FromReader<'a> for ValType {
+    ghost use Rattle.std.specs.Prelude.{false};
     ghost use Rattle.wasm_types_values.specs.declared.value.ValType.{ValType as TheType};
     ghost use Rattle.wasm_types_values.specs.DecodeValues.{value_type};
     ghost use Rattle.wasm_types_values.specs.DecodeLaws.{lawful-value_type};
@@ -117,6 +121,8 @@ impl<'a> FromReader<'a> for ValType {
     ghost decoder = { value_type };
 
     ghost grammar = { SpelledValue };
+
+    ghost takes_memory = { false };
 
     ghost lawful = { lawful-value_type };
 
@@ -134,6 +140,7 @@ impl<'a> FromReader<'a> for ValType {
 }
 
 impl<'a> FromReader<'a> for StorageType {
+    ghost use Rattle.std.specs.Prelude.{false};
     ghost use Rattle.wasm_types_values.specs.declared.value.StorageType.{StorageType as TheType};
     ghost use Rattle.wasm_types_values.specs.DecodeValues.{storage_type};
     ghost use Rattle.wasm_types_values.specs.DecodeLaws.{lawful-storage_type};
@@ -146,6 +153,8 @@ impl<'a> FromReader<'a> for StorageType {
     ghost decoder = { storage_type };
 
     ghost grammar = { SpelledStorage };
+
+    ghost takes_memory = { false };
 
     ghost lawful = { lawful-storage_type };
 

@@ -5,4 +5,4 @@ use Rattle.wasm_types_reader.proofs.iter.read_rest.Given as goal
 
 -- what reads the rest from here reads all of it
 abbrev pub invariant-loop : goal.invariant-loop
-invariant-loop g l = (t : State) → Drains g.T.FromReader.decoder (l.count - l.counter) l.reader t → Drains g.T.FromReader.decoder l.count l.fn.reader t
+invariant-loop g l = (t : State) → Drains g.T.FromReader.decoder g.T.FromReader.takes_memory (l.count - l.counter) l.reader t → Drains g.T.FromReader.decoder g.T.FromReader.takes_memory l.count l.fn.reader t
