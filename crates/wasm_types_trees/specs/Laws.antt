@@ -7,7 +7,7 @@ use Rattle.wasm_types_trees.specs.Unfold.{Row, unfolded, type_count, type_tree, 
 use Rattle.wasm_types_trees.specs.AbstractOrder.{AbstractBelow, top_of}
 use Rattle.wasm_types_trees.specs.Below.{expanded, is_shared, supertype, abstract_of, bottom_of, heap_is_shared, DeclaredBelow, HeapBelow, Below}
 use Rattle.wasm_types_trees.specs.Matches.{Matches}
-use Rattle.wasm_types_trees.specs.ValidGroup.{Written, canonical_at, written_tree, AreValidGroups}
+use Rattle.wasm_types_trees.specs.ValidGroup.{Written, written_rows, canonical_at, written_tree, AreValidGroups}
 
 -- ---- trees
 
@@ -110,7 +110,7 @@ MatchesIsTransitive = (x y z : RowOf TypeTree) → EachInner IsSound x.inner →
 -- the canonical form of a written group unfolds to what the group does
 abbrev pub CanonicalFormsUnfold : Type 0
 CanonicalFormsUnfold = (tree : ℕ → TypeTree) (ids : List ℕ) (g : Written)
-    → unfolded tree (map (row_map (canonical_at ids)) g.types) ≡ written_tree (map tree ids) g
+    → unfolded tree (map (row_map (canonical_at ids)) (written_rows g)) ≡ written_tree (map tree ids) g
 
 -- ---- valid groups
 
