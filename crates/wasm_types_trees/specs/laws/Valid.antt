@@ -1,20 +1,22 @@
 -- What holds of the types of valid groups: they refer to one another alone, and their declared links match and end.
-use Rattle.std.proofs.Common.{◌≡◌, ◌∙◌, ℕ, zero, suc, ◌+◌, ◌-◌, ◌<◌, ◌≤◌, List, [], ◌∷◌, ◌++◌, length, map, get_or, refl, ap, sym, subst, Some, ⊎_elim, arith}
+use Rattle.std.proofs.Common.{◌≡◌, ◌↔◌, ◌∙◌, ℕ, zero, suc, ◌+◌, ◌-◌, ◌<◌, ◌≤◌, List, [], ◌∷◌, ◌++◌, length, map, get_or, refl, ap, sym, subst, Some, ⊎_elim, arith}
 use Rattle.std.specs.Prelude.{All, Contains}
 use Rattle.std.proofs.lemmas.Bool.{lt-ltb, le-ltb, cases_lt}
 use Rattle.std.proofs.lemmas.List.{length-map, get_or-map}
 use Rattle.std.proofs.lemmas.List.Elements.{All-nil, All-cons, All-from_get_or, All-append, All-weaker, All-contains, All-contains_itself, Contains-get_or, Contains-append_left, Contains-append_right}
-use Rattle.wasm_types_trees.specs.Rows.{RowOf, row_of_subtype, row_map}
-use Rattle.wasm_types_trees.specs.Each.{EachOption, EachRow}
+use Rattle.wasm_types_trees.specs.Rows.{ValueOf, RowOf, row_of_subtype, row_map}
+use Rattle.wasm_types_trees.specs.Each.{EachOption, EachValue, EachRow}
 use Rattle.wasm_types_trees.specs.Trees.{GroupTree, local, type_of, group_tree, TypeTree, type_meant, past_the_end, opened}
 use Rattle.wasm_types_trees.specs.Unfold.{Reference, Local, Earlier, Row, reference_tree, unfolded}
-use Rattle.wasm_types_trees.specs.Below.{supertype, DeclaredBelow, itself, declared}
+use Rattle.wasm_types_trees.specs.Below.{supertype, DeclaredBelow, itself, declared, Below}
 use Rattle.wasm_types_trees.specs.Matches.{Matches}
 use Rattle.wasm_types_trees.specs.ValidGroup.{Written, written_rows, canonical_at, reference_at, type_at, written_tree, types_from, types_of, AreWellReferenced, IsWithinDepth, max_depth, IsValidSupertype, IsValidType, AreValidTypes, IsValidGroup, AreValidGroups, done, next}
-use Rattle.wasm_types_trees.specs.Laws.{IsSound, LinksMatch, HasNoCycle, AreClosed, AreSound}
-use Rattle.wasm_types_trees.proofs.RowLaws.{row_twice, rows_twice, each_row, row_of_each}
-use Rattle.wasm_types_trees.proofs.UnfoldLaws.{open_place}
-use Rattle.wasm_types_trees.proofs.MatchesLaws.{links_are_sound}
+use Rattle.wasm_types_trees.specs.Chains.{IsSound, LinksMatch, HasNoCycle, AreClosed, AreSound}
+use Rattle.wasm_types_trees.specs.laws.Rows.{row_twice, rows_twice, each_row, row_of_each}
+use Rattle.wasm_types_trees.specs.laws.Unfold.{open_place}
+use Rattle.wasm_types_trees.specs.Standard.{ValueMatches}
+use Rattle.wasm_types_trees.specs.laws.Matches.{links_are_sound}
+use Rattle.wasm_types_trees.specs.laws.Standard.{below_is}
 
 -- ---- canonical forms
 
@@ -186,6 +188,7 @@ module _ (bits : ℕ) (space : List TypeTree) (a : AreValid bits space) where
 
   sound_space : AreSound space
   sound_space = record {
+    links = All-weaker (Contains space) LinksMatch links_match space (All-contains_itself space);
     sound = All-weaker (Contains space) IsSound (λ t c. links_are_sound t (links_match t c)) space (All-contains_itself space);
     acyclic = All-weaker (IsValidType bits) HasNoCycle (λ t v. depth_ends max_depth t v.depth) space a.valid;
     closed = a.closed;
@@ -194,3 +197,12 @@ module _ (bits : ℕ) (space : List TypeTree) (a : AreValid bits space) where
 pub valid_groups_are_sound : (bits : ℕ) (gs : List Written) (space : List TypeTree) → AreValidGroups bits [] gs space → AreSound space
 valid_groups_are_sound bits gs space v =
     sound_space bits space (valid_after bits [] space gs (record { closed = All-nil (λ t. EachRow (Contains []) (opened t)); valid = All-nil (IsValidType bits) }) v)
+
+-- ---- subtyping on the types of valid groups
+
+pub below_is_in_groups : (bits : ℕ) (gs : List Written) (space : List TypeTree) (v w : ValueOf TypeTree) → AreValidGroups bits [] gs space
+    → EachValue (Contains space) v → EachValue (Contains space) w → Below v w ↔ ValueMatches (Contains space) v w
+below_is_in_groups bits gs space v w valid =
+    let sound = valid_groups_are_sound bits gs space valid in
+    below_is (Contains space) (λ t c. All-contains IsSound space t sound.sound c)
+    (λ t u c e. subst (EachOption (Contains space)) e (All-contains (λ x. EachRow (Contains space) (opened x)) space t sound.closed c).supertype) v w
