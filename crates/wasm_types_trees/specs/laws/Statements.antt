@@ -42,6 +42,9 @@ TypesOpen = (groups : List (List Row)) (id : ℕ) (d : RowOf ℕ) → AreWithin 
 
 -- ---- the order of abstract heap types
 
+abbrev pub AbstractIsReflexive : Type 0
+AbstractIsReflexive = (a : Abstract) → AbstractBelow a a
+
 abbrev pub AbstractIsTransitive : Type 0
 AbstractIsTransitive = (a b c : Abstract) → AbstractBelow a b → AbstractBelow b c → AbstractBelow a c
 
