@@ -1,4 +1,4 @@
--- Types of WebAssembly as plain trees, and their rules, in the order in which they are read.
+-- The rules of types: definitions, in the order in which they are read.
 pub mod Rows
 pub mod Each
 pub mod Trees
@@ -8,5 +8,8 @@ pub mod Below
 pub mod Matches
 pub mod Gates
 pub mod ValidGroup
-pub mod Laws
-pub mod Codes
+-- What they leave true of declared supertypes, and the standard's own rules of subtyping: definitions that only laws cite.
+pub mod Chains
+pub mod Standard
+-- Their laws, with the proofs.
+pub mod laws

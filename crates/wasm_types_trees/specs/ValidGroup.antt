@@ -1,8 +1,8 @@
 -- Which groups of types are valid (WebAssembly 3.0, validation, types, recursive types), under a set of features by its
 -- bits. A group is judged as it is written, over the indices of its module, and then as what it unfolds to.
-use Rattle.std.specs.Prelude.{◌≡◌, ℕ, zero, suc, ◌+◌, ◌-◌, ◌<◌, ◌≤◌, nat_lt, if◌then◌else◌, Bool, true, false, IsTrue, List, [], ◌∷◌, ◌++◌, length, map, get_or, Option, Some, None, ◌⊎◌}
+use Rattle.std.specs.Prelude.{◌≡◌, ℕ, zero, suc, ◌+◌, ◌-◌, ◌<◌, ◌≤◌, nat_lt, if◌then◌else◌, Bool, true, false, IsTrue, List, [], ◌∷◌, ◌++◌, length, map, get_or, All, Option, Some, None, ◌⊎◌}
 use Rattle.wasm_types_features.specs.Features.{MultiValue, SharedEverythingThreads, Gc, GcTypes, StackSwitching, CustomDescriptors}
-use Rattle.wasm_types_trees.specs.Rows.{ValueOf, StorageOf, i8, i16, value, FieldOf, InnerOf, function, array_of, struct_of, continuation, RowOf, row_map}
+use Rattle.wasm_types_trees.specs.Rows.{ValueOf, StorageOf, i8, i16, value, FieldOf, InnerOf, function, array_of, struct_of, continuation, SubtypeOf, RowOf, row_of_subtype, row_map}
 use Rattle.wasm_types_trees.specs.Each.{EachOption, EachRow}
 use Rattle.wasm_types_trees.specs.Trees.{GroupTree, TypeTree, group_tree, opened}
 use Rattle.wasm_types_trees.specs.Unfold.{Reference, Local, Earlier, unfolded}
@@ -15,7 +15,18 @@ use Rattle.wasm_types_trees.specs.Gates.{Has, ValueIsAllowed}
 -- whether it is written as a group, and its subtypes over the indices of the module
 pub record Written : Type 0 where
   pub is_explicit : Bool
-  pub types : List (RowOf ℕ)
+  pub types : List (SubtypeOf ℕ)
+
+-- the most supertypes that a subtype may declare (validation, types, recursive types)
+abbrev pub max_supertypes : ℕ
+max_supertypes = 1
+
+abbrev pub IsWithinSupertypes : SubtypeOf ℕ → Type 0
+IsWithinSupertypes x = length x.supertypes ≤ max_supertypes
+
+-- its subtypes with one supertype at most: all of them, where the group is valid
+abbrev pub written_rows : Written → List (RowOf ℕ)
+written_rows g = map row_of_subtype g.types
 
 -- what an index means in a group whose first type has the index `start`
 abbrev pub reference_at : ℕ → ℕ → Reference
@@ -27,7 +38,7 @@ type_at space i = get_or space i (record { group = group_tree []; place = i })
 
 -- the tree of a group that is written behind the types of `space`
 abbrev pub written_tree : List TypeTree → Written → GroupTree
-written_tree space g = unfolded (type_at space) (map (row_map (reference_at (length space))) g.types)
+written_tree space g = unfolded (type_at space) (map (row_map (reference_at (length space))) (written_rows g))
 
 -- what an index means where the types are known by ids, those of the index space so far in order: the canonical form
 abbrev pub canonical_at : List ℕ → ℕ → Reference
@@ -165,7 +176,8 @@ AreValidTypes bits (t ∷ ts) = IsValidType bits t × AreValidTypes bits ts
 -- a group that is written behind the types of `space` is valid
 pub record IsValidGroup (bits : ℕ) (space : List TypeTree) (g : Written) : Type 0 where
   pub explicit : IsTrue g.is_explicit → Has bits Gc
-  pub references : AreWellReferenced bits (length space) (length space + length g.types) (length space) g.types
+  pub supertypes : All IsWithinSupertypes g.types
+  pub references : AreWellReferenced bits (length space) (length space + length g.types) (length space) (written_rows g)
   pub types : AreValidTypes bits (types_of space g)
 
 -- groups are valid one after the other, each behind the types of those before it, and leave these types

@@ -2,8 +2,7 @@
 use Rattle.std.proofs.Common.{◌≡◌, refl, true}
 use Rattle.wasm_types_trees.specs.Rows.{Abstract, func, extern, any, none, noextern, nofunc, eq, struct, array, i31, exn, noexn, cont, nocont}
 use Rattle.wasm_types_trees.specs.AbstractOrder.{AbstractBelow, same, eq_any, i31_any, struct_any, array_any, none_any, i31_eq, struct_eq, array_eq, none_eq, none_i31, none_struct, none_array, nofunc_func, noextern_extern, noexn_exn, nocont_cont}
-use Rattle.wasm_types_trees.proofs.AbstractLaws.{abstract_transitive, abstract_antisymmetric}
-use Rattle.wasm_types_values.specs.Order.{is_below, IsPartialOrder}
+use Rattle.wasm_types_values.specs.Order.{is_below}
 
 pub table_sound : (a b : Abstract) → is_below a b ≡ true → AbstractBelow a b
 table_sound func func h = same
@@ -72,6 +71,3 @@ table_complete a b nofunc_func = refl
 table_complete a b noextern_extern = refl
 table_complete a b noexn_exn = refl
 table_complete a b nocont_cont = refl
-
-pub is_partial_order : IsPartialOrder
-is_partial_order = record { reflexive = λ a. same; transitive = abstract_transitive; antisymmetric = abstract_antisymmetric }

@@ -1,7 +1,7 @@
--- The order of abstract heap types (WebAssembly 3.0, validation, matching of heap types) as a table.
-use Rattle.std.specs.Prelude.{◌≡◌, Bool, true, false}
+-- The answers of `is_subtype_of` as a table: a law says that they are the order of abstract heap types, which is defined in
+-- `wasm_types_trees`.
+use Rattle.std.specs.Prelude.{Bool, true, false}
 use Rattle.wasm_types_trees.specs.Rows.{Abstract, func, extern, any, none, noextern, nofunc, eq, struct, array, i31, exn, noexn, cont, nocont}
-use Rattle.wasm_types_trees.specs.AbstractOrder.{AbstractBelow}
 
 -- whether the first is below the second
 abbrev pub is_below : Abstract → Abstract → Bool
@@ -36,9 +36,3 @@ is_below noextern extern = true
 is_below noexn exn = true
 is_below nocont cont = true
 is_below a b = false
-
--- The order is partial: two types that match each other are the same.
-pub record IsPartialOrder : Type 0 where
-  pub reflexive : (a : Abstract) → AbstractBelow a a
-  pub transitive : (a b c : Abstract) → AbstractBelow a b → AbstractBelow b c → AbstractBelow a c
-  pub antisymmetric : (a b : Abstract) → AbstractBelow a b → AbstractBelow b a → a ≡ b

@@ -2,36 +2,55 @@
 use wasm_types_indices::UnpackedIndex;
 
 /// An abstract heap type (WebAssembly 3.0, structure, heap types; `Cont` and `NoCont` by the proposal for stack
-/// switching). The order is that of the numbers by which a reference type keeps them.
+/// switching), ordered as they stand here.
 #[derive(Clone, Copy, Debug, PartialEq, Eq, PartialOrd, Ord, Hash)]
 pub enum AbstractHeapType {
     /// Any function.
-    Func = 5,
+    Func,
     /// Any value that the host owns.
-    Extern = 3,
+    Extern,
     /// Any value of the module's own: structs, arrays, `i31`.
-    Any = 15,
+    Any,
     /// No value, below `any`.
-    None = 0,
+    None,
     /// No value, below `extern`.
-    NoExtern = 2,
+    NoExtern,
     /// No value, below `func`.
-    NoFunc = 4,
+    NoFunc,
     /// Any value that `ref.eq` compares.
-    Eq = 13,
+    Eq,
     /// Any struct.
-    Struct = 9,
+    Struct,
     /// Any array.
-    Array = 12,
+    Array,
     /// A number of 31 bits in place of a pointer.
-    I31 = 8,
+    I31,
     /// Any exception.
-    Exn = 1,
+    Exn,
     /// No value, below `exn`.
-    NoExn = 14,
+    NoExn,
     /// Any continuation.
-    Cont = 11,
+    Cont,
     /// No value, below `cont`.
+    NoCont,
+}
+
+// The number by which a reference keeps each abstract type.
+#[derive(Clone, Copy)]
+pub(crate) enum AbstractCode {
+    Func = 5,
+    Extern = 3,
+    Any = 15,
+    None = 0,
+    NoExtern = 2,
+    NoFunc = 4,
+    Eq = 13,
+    Struct = 9,
+    Array = 12,
+    I31 = 8,
+    Exn = 1,
+    NoExn = 14,
+    Cont = 11,
     NoCont = 10,
 }
 
@@ -109,7 +128,22 @@ impl AbstractHeapType {
     pub(crate) const fn code(self) -> u32
         ensures { result ≡ code_of self }
     {
-        self as u32
+        match self {
+            AbstractHeapType::Func => AbstractCode::Func as u32,
+            AbstractHeapType::Extern => AbstractCode::Extern as u32,
+            AbstractHeapType::Any => AbstractCode::Any as u32,
+            AbstractHeapType::None => AbstractCode::None as u32,
+            AbstractHeapType::NoExtern => AbstractCode::NoExtern as u32,
+            AbstractHeapType::NoFunc => AbstractCode::NoFunc as u32,
+            AbstractHeapType::Eq => AbstractCode::Eq as u32,
+            AbstractHeapType::Struct => AbstractCode::Struct as u32,
+            AbstractHeapType::Array => AbstractCode::Array as u32,
+            AbstractHeapType::I31 => AbstractCode::I31 as u32,
+            AbstractHeapType::Exn => AbstractCode::Exn as u32,
+            AbstractHeapType::NoExn => AbstractCode::NoExn as u32,
+            AbstractHeapType::Cont => AbstractCode::Cont as u32,
+            AbstractHeapType::NoCont => AbstractCode::NoCont as u32,
+        }
     }
 
     // The type of a number that a type has.

@@ -1,14 +1,21 @@
 //! Laws of types, each the contract of a function that does nothing, or of one that puts a type together again.
 ghost use Rattle.std.specs.Prelude.{◌≡◌, Some, true, false};
 ghost use Rattle.wasm_types_values.specs.Constants.{references};
-ghost use Rattle.wasm_types_values.specs.Laws.{ReferenceEqualityIsIdentity, ValueEqualityIsIdentity, StorageEqualityIsIdentity, HeapEqualityIsIdentity, AbstractEqualityIsIdentity};
-ghost use Rattle.wasm_types_values.specs.Order.{IsPartialOrder};
+ghost use Rattle.wasm_types_values.specs.Laws.{AbstractTypesAreOrderedAsDeclared, ReferenceEqualityIsIdentity, ValueEqualityIsIdentity, StorageEqualityIsIdentity, HeapEqualityIsIdentity, AbstractEqualityIsIdentity};
+ghost use Rattle.wasm_types_trees.specs.laws.Statements.{AbstractIsReflexive, AbstractIsTransitive, AbstractIsAntisymmetric};
 
 use crate::reference::RefType;
 
 /// The matching of abstract heap types is a partial order.
 pub const fn abstract_order_is_partial()
-    ensures { IsPartialOrder }
+    ensures reflexive { AbstractIsReflexive }
+    ensures transitive { AbstractIsTransitive }
+    ensures antisymmetric { AbstractIsAntisymmetric }
+{}
+
+/// Abstract heap types are ordered as they are declared: `Func` first, `NoCont` last.
+pub const fn abstract_types_are_ordered_as_declared()
+    ensures { AbstractTypesAreOrderedAsDeclared }
 {}
 
 /// `==` of each type holds of a type and itself alone.

@@ -1,13 +1,15 @@
 -- Laws of the rules: what the functions of src/laws.rt promise.
-use Rattle.std.specs.Prelude.{◌≡◌, ◌⊎◌, ℕ, ◌<◌, Bool, false, List, [], ◌∷◌, map, All, Contains, Some, get_or}
+use Rattle.std.specs.Prelude.{◌≡◌, ◌↔◌, ◌⊎◌, ℕ, ◌<◌, Bool, false, List, [], ◌∷◌, map, Contains, get_or}
 use Rattle.wasm_types_trees.specs.Rows.{Abstract, HeapOf, exact, abstract, ValueOf, ref, RowOf, row_map}
-use Rattle.wasm_types_trees.specs.Each.{EachHeap, EachValue, EachInner, EachRow, EachRows}
+use Rattle.wasm_types_trees.specs.Each.{EachHeap, EachValue, EachRows}
 use Rattle.wasm_types_trees.specs.Trees.{GroupTree, RefTree, TypeTree, group_tree, rows_of, opened}
 use Rattle.wasm_types_trees.specs.Unfold.{Row, unfolded, type_count, type_tree, numbered_rows, IsKnown, AreWithin}
 use Rattle.wasm_types_trees.specs.AbstractOrder.{AbstractBelow, top_of}
-use Rattle.wasm_types_trees.specs.Below.{expanded, is_shared, supertype, abstract_of, bottom_of, heap_is_shared, DeclaredBelow, HeapBelow, Below}
+use Rattle.wasm_types_trees.specs.Below.{expanded, is_shared, bottom_of, heap_is_shared, HeapBelow, Below}
 use Rattle.wasm_types_trees.specs.Matches.{Matches}
-use Rattle.wasm_types_trees.specs.ValidGroup.{Written, canonical_at, written_tree, AreValidGroups}
+use Rattle.wasm_types_trees.specs.Chains.{IsSound, LinksMatch, HasNoCycle, AreSound}
+use Rattle.wasm_types_trees.specs.Standard.{ValueMatches}
+use Rattle.wasm_types_trees.specs.ValidGroup.{Written, written_rows, canonical_at, written_tree, AreValidGroups}
 
 -- ---- trees
 
@@ -40,34 +42,24 @@ TypesOpen = (groups : List (List Row)) (id : ℕ) (d : RowOf ℕ) → AreWithin 
 
 -- ---- the order of abstract heap types
 
+abbrev pub AbstractIsReflexive : Type 0
+AbstractIsReflexive = (a : Abstract) → AbstractBelow a a
+
 abbrev pub AbstractIsTransitive : Type 0
 AbstractIsTransitive = (a b c : Abstract) → AbstractBelow a b → AbstractBelow b c → AbstractBelow a c
 
 abbrev pub AbstractIsAntisymmetric : Type 0
 AbstractIsAntisymmetric = (a b : Abstract) → AbstractBelow a b → AbstractBelow b a → a ≡ b
 
--- every type below another is below the same top
+-- each is below the top of its hierarchy
+abbrev pub TopIsAbove : Type 0
+TopIsAbove = (a : Abstract) → AbstractBelow a (top_of a)
+
+-- and every type below another is below the same top
 abbrev pub TopsAgree : Type 0
 TopsAgree = (a b : Abstract) → AbstractBelow a b → top_of a ≡ top_of b
 
 -- ---- chains of declared supertypes
-
--- two types of one sharedness and one constructor
-pub record IsAlike (t u : TypeTree) : Type 0 where
-  pub shared : is_shared t ≡ is_shared u
-  pub constructor : abstract_of (expanded t) ≡ abstract_of (expanded u)
-
--- each type above t by declaration is alike: so it is where every declared link matches
-abbrev pub IsSound : TypeTree → Type 0
-IsSound t = (u : TypeTree) → DeclaredBelow t u → IsAlike t u
-
--- each declared link from t upwards matches, as it does in a valid group
-abbrev pub LinksMatch : TypeTree → Type 0
-LinksMatch t = (u v : TypeTree) → DeclaredBelow t u → supertype u ≡ Some v → Matches (opened u) (opened v)
-
--- no declaration leads from a type back to it
-abbrev pub HasNoCycle : TypeTree → Type 0
-HasNoCycle t = (u : TypeTree) → supertype t ≡ Some u → DeclaredBelow u t → ⊥
 
 -- where each declared link matches, sharedness and constructor stay along the chain
 abbrev pub LinksAreSound : Type 0
@@ -79,7 +71,7 @@ abbrev pub BelowIsReflexive : Type 0
 BelowIsReflexive = (v : ValueOf TypeTree) → Below v v
 
 abbrev pub BelowIsTransitive : Type 0
-BelowIsTransitive = (v w x : ValueOf TypeTree) → EachValue IsSound v → EachValue IsSound w → Below v w → Below w x → Below v x
+BelowIsTransitive = (v w x : ValueOf TypeTree) → Below v w → Below w x → Below v x
 
 abbrev pub BelowIsAntisymmetric : Type 0
 BelowIsAntisymmetric = (v w : ValueOf TypeTree) → EachValue HasNoCycle v → Below v w → Below w v → v ≡ w
@@ -96,34 +88,32 @@ BelowKeepsNonNull = (n : Bool) (h k : HeapOf TypeTree) → Below (ref n h) (ref 
 abbrev pub BelowExact : Type 0
 BelowExact = (h : HeapOf TypeTree) (t : TypeTree) → HeapBelow h (exact t) → (h ≡ exact t) ⊎ (h ≡ abstract (is_shared t) (bottom_of (expanded t)))
 
+-- on types whose chains are sound it is what the standard's rules give, where the type in the middle is sound too
+abbrev pub BelowIsTheStandards : Type 0
+BelowIsTheStandards = (v w : ValueOf TypeTree) → EachValue IsSound v → EachValue IsSound w → Below v w ↔ ValueMatches IsSound v w
+
+-- so it is on the types of valid groups, where each type in the middle is one of them
+abbrev pub BelowIsTheStandardsInGroups : Type 0
+BelowIsTheStandardsInGroups = (bits : ℕ) (gs : List Written) (space : List TypeTree) (v w : ValueOf TypeTree) → AreValidGroups bits [] gs space
+    → EachValue (Contains space) v → EachValue (Contains space) w → Below v w ↔ ValueMatches (Contains space) v w
+
 -- ---- matching
 
 abbrev pub MatchesIsReflexive : Type 0
 MatchesIsReflexive = (x : RowOf TypeTree) → Matches x x
 
 abbrev pub MatchesIsTransitive : Type 0
-MatchesIsTransitive = (x y z : RowOf TypeTree) → EachInner IsSound x.inner → EachInner IsSound y.inner → EachInner IsSound z.inner
-    → Matches x y → Matches y z → Matches x z
+MatchesIsTransitive = (x y z : RowOf TypeTree) → Matches x y → Matches y z → Matches x z
 
 -- ---- canonical forms
 
 -- the canonical form of a written group unfolds to what the group does
 abbrev pub CanonicalFormsUnfold : Type 0
 CanonicalFormsUnfold = (tree : ℕ → TypeTree) (ids : List ℕ) (g : Written)
-    → unfolded tree (map (row_map (canonical_at ids)) g.types) ≡ written_tree (map tree ids) g
+    → unfolded tree (map (row_map (canonical_at ids)) (written_rows g)) ≡ written_tree (map tree ids) g
 
 -- ---- valid groups
 
--- each type refers to types of the list alone
-abbrev pub AreClosed : List TypeTree → Type 0
-AreClosed space = All (λ t. EachRow (Contains space) (opened t)) space
-
--- what the laws above ask of types holds of each
-pub record AreSound (space : List TypeTree) : Type 0 where
-  pub sound : All IsSound space
-  pub acyclic : All HasNoCycle space
-  pub closed : AreClosed space
-
--- so it does of the types of groups that are valid one after the other
+-- the types of groups that are valid one after the other are sound, refer to one another alone, and each declared link matches
 abbrev pub ValidGroupsAreSound : Type 0
 ValidGroupsAreSound = (bits : ℕ) (gs : List Written) (space : List TypeTree) → AreValidGroups bits [] gs space → AreSound space

@@ -1,20 +1,22 @@
 -- What holds of the types of valid groups: they refer to one another alone, and their declared links match and end.
-use Rattle.std.proofs.Common.{◌≡◌, ◌∙◌, ℕ, zero, suc, ◌+◌, ◌-◌, ◌<◌, ◌≤◌, List, [], ◌∷◌, ◌++◌, length, map, get_or, refl, ap, sym, subst, Some, ⊎_elim, arith}
+use Rattle.std.proofs.Common.{◌≡◌, ◌↔◌, ◌∙◌, ℕ, zero, suc, ◌+◌, ◌-◌, ◌<◌, ◌≤◌, List, [], ◌∷◌, ◌++◌, length, map, get_or, refl, ap, sym, subst, Some, ⊎_elim, arith}
 use Rattle.std.specs.Prelude.{All, Contains}
 use Rattle.std.proofs.lemmas.Bool.{lt-ltb, le-ltb, cases_lt}
 use Rattle.std.proofs.lemmas.List.{length-map, get_or-map}
 use Rattle.std.proofs.lemmas.List.Elements.{All-nil, All-cons, All-from_get_or, All-append, All-weaker, All-contains, All-contains_itself, Contains-get_or, Contains-append_left, Contains-append_right}
-use Rattle.wasm_types_trees.specs.Rows.{RowOf, row_map}
-use Rattle.wasm_types_trees.specs.Each.{EachOption, EachRow}
+use Rattle.wasm_types_trees.specs.Rows.{ValueOf, RowOf, row_of_subtype, row_map}
+use Rattle.wasm_types_trees.specs.Each.{EachOption, EachValue, EachRow}
 use Rattle.wasm_types_trees.specs.Trees.{GroupTree, local, type_of, group_tree, TypeTree, type_meant, past_the_end, opened}
 use Rattle.wasm_types_trees.specs.Unfold.{Reference, Local, Earlier, Row, reference_tree, unfolded}
-use Rattle.wasm_types_trees.specs.Below.{supertype, DeclaredBelow, itself, declared}
+use Rattle.wasm_types_trees.specs.Below.{supertype, DeclaredBelow, itself, declared, Below}
 use Rattle.wasm_types_trees.specs.Matches.{Matches}
-use Rattle.wasm_types_trees.specs.ValidGroup.{Written, canonical_at, reference_at, type_at, written_tree, types_from, types_of, AreWellReferenced, IsWithinDepth, max_depth, IsValidSupertype, IsValidType, AreValidTypes, IsValidGroup, AreValidGroups, done, next}
-use Rattle.wasm_types_trees.specs.Laws.{IsSound, LinksMatch, HasNoCycle, AreClosed, AreSound}
-use Rattle.wasm_types_trees.proofs.RowLaws.{row_twice, rows_twice, each_row, row_of_each}
-use Rattle.wasm_types_trees.proofs.UnfoldLaws.{open_place}
-use Rattle.wasm_types_trees.proofs.MatchesLaws.{links_are_sound}
+use Rattle.wasm_types_trees.specs.ValidGroup.{Written, written_rows, canonical_at, reference_at, type_at, written_tree, types_from, types_of, AreWellReferenced, IsWithinDepth, max_depth, IsValidSupertype, IsValidType, AreValidTypes, IsValidGroup, AreValidGroups, done, next}
+use Rattle.wasm_types_trees.specs.Chains.{IsSound, LinksMatch, HasNoCycle, AreClosed, AreSound}
+use Rattle.wasm_types_trees.specs.laws.Rows.{row_twice, rows_twice, each_row, row_of_each}
+use Rattle.wasm_types_trees.specs.laws.Unfold.{open_place}
+use Rattle.wasm_types_trees.specs.Standard.{ValueMatches}
+use Rattle.wasm_types_trees.specs.laws.Matches.{links_are_sound}
+use Rattle.wasm_types_trees.specs.laws.Standard.{below_is}
 
 -- ---- canonical forms
 
@@ -35,12 +37,12 @@ module _ (tree : ℕ → TypeTree) (ids : List ℕ) where
       ap (reference_tree tree) a ∙ ap (λ (n : ℕ). local (i - n)) (sym (length-map ids tree)) ∙ ap (reference_tree (type_at space_of)) (sym b))
       (cases_lt i (length ids))
 
-  pub canonical_unfolds : (g : Written) → unfolded tree (map (row_map (canonical_at ids)) g.types) ≡ written_tree space_of g
+  pub canonical_unfolds : (g : Written) → unfolded tree (map (row_map (canonical_at ids)) (written_rows g)) ≡ written_tree space_of g
   canonical_unfolds g =
       ap group_tree
-      (rows_twice (reference_tree tree) (canonical_at ids) g.types
-      ∙ (λ k. map (row_map (λ i. same_reference i k)) g.types)
-      ∙ sym (rows_twice (reference_tree (type_at space_of)) (reference_at (length space_of)) g.types))
+      (rows_twice (reference_tree tree) (canonical_at ids) (written_rows g)
+      ∙ (λ k. map (row_map (λ i. same_reference i k)) (written_rows g))
+      ∙ sym (rows_twice (reference_tree (type_at space_of)) (reference_at (length space_of)) (written_rows g)))
 
 -- ---- a chain of at most n types has no cycle
 
@@ -75,6 +77,9 @@ get_types g place (suc n) zero d lt = ap (λ (p : ℕ). record { group = g; plac
 get_types g place (suc n) (suc k) d lt =
     get_types g (suc place) n k d (omega arith) ∙ ap (λ (p : ℕ). record { group = g; place = p }) (omega arith)
 
+length_rows : (g : Written) → length (written_rows g) ≡ length g.types
+length_rows g = length-map g.types row_of_subtype
+
 module _ (space : List TypeTree) (g : Written) where
   -- the type that an index means in the group
   abbrev meant : ℕ → TypeTree
@@ -103,12 +108,13 @@ module _ (space : List TypeTree) (g : Written) where
   meant_known i lt = ⊎_elim (λ old. meant_old i old) (λ new. meant_new i new lt) (cases_lt i (length space))
 
   -- a type of the group, opened
-  opens_written : (p : ℕ) → p < length g.types → opened (record { group = written_tree space g; place = p }) ≡ row_map meant (get_or g.types p past_the_end)
+  opens_written : (p : ℕ) → p < length g.types → opened (record { group = written_tree space g; place = p }) ≡ row_map meant (get_or (written_rows g) p past_the_end)
   opens_written p lt =
-      let x : RowOf ℕ = get_or g.types p past_the_end in
+      let x : RowOf ℕ = get_or (written_rows g) p past_the_end in
+      let rows = length_rows g in
       let f : RowOf ℕ → Row = row_map (reference_at (length space)) in
-      open_place (type_at space) (map f g.types) p (omega (arith, length-map g.types f))
-      ∙ ap (λ (r : Row). row_map (type_meant (written_tree space g)) (row_map (reference_tree (type_at space)) r)) (get_or-map f g.types p past_the_end past_the_end lt)
+      open_place (type_at space) (map f (written_rows g)) p (omega (arith, length-map (written_rows g) f))
+      ∙ ap (λ (r : Row). row_map (type_meant (written_tree space g)) (row_map (reference_tree (type_at space)) r)) (get_or-map f (written_rows g) p past_the_end past_the_end (omega arith))
       ∙ ap (row_map (type_meant (written_tree space g))) (row_twice (reference_tree (type_at space)) (reference_at (length space)) x)
       ∙ row_twice (type_meant (written_tree space g)) (λ i. reference_tree (type_at space) (reference_at (length space) i)) x
 
@@ -124,11 +130,12 @@ nowhere g = record { group = g; place = 0 }
 closed_new : (bits : ℕ) (space : List TypeTree) (g : Written) → IsValidGroup bits space g → (p : ℕ) → p < length g.types
     → EachRow (Contains (space ++ types_of space g)) (opened (record { group = written_tree space g; place = p }))
 closed_new bits space g v p lt =
-    let x : RowOf ℕ = get_or g.types p past_the_end in
+    let x : RowOf ℕ = get_or (written_rows g) p past_the_end in
+    let rows = length_rows g in
     subst (EachRow (Contains (space ++ types_of space g))) (sym (opens_written space g p lt))
     (row_of_each (meant space g) (Contains (space ++ types_of space g)) x
     (each_row (λ i. i < length space + length g.types) (λ i. Contains (space ++ types_of space g) (meant space g i)) (meant_known space g) x
-    (known_at bits (length space) (length space + length g.types) (length space) g.types p past_the_end v.references lt)))
+    (known_at bits (length space) (length space + length g.types) (length space) (written_rows g) p past_the_end v.references (omega arith))))
 
 closed_group : (bits : ℕ) (space : List TypeTree) (g : Written) → IsValidGroup bits space g → All (λ t. EachRow (Contains (space ++ types_of space g)) (opened t)) (types_of space g)
 closed_group bits space g v =
@@ -181,6 +188,7 @@ module _ (bits : ℕ) (space : List TypeTree) (a : AreValid bits space) where
 
   sound_space : AreSound space
   sound_space = record {
+    links = All-weaker (Contains space) LinksMatch links_match space (All-contains_itself space);
     sound = All-weaker (Contains space) IsSound (λ t c. links_are_sound t (links_match t c)) space (All-contains_itself space);
     acyclic = All-weaker (IsValidType bits) HasNoCycle (λ t v. depth_ends max_depth t v.depth) space a.valid;
     closed = a.closed;
@@ -189,3 +197,12 @@ module _ (bits : ℕ) (space : List TypeTree) (a : AreValid bits space) where
 pub valid_groups_are_sound : (bits : ℕ) (gs : List Written) (space : List TypeTree) → AreValidGroups bits [] gs space → AreSound space
 valid_groups_are_sound bits gs space v =
     sound_space bits space (valid_after bits [] space gs (record { closed = All-nil (λ t. EachRow (Contains []) (opened t)); valid = All-nil (IsValidType bits) }) v)
+
+-- ---- subtyping on the types of valid groups
+
+pub below_is_in_groups : (bits : ℕ) (gs : List Written) (space : List TypeTree) (v w : ValueOf TypeTree) → AreValidGroups bits [] gs space
+    → EachValue (Contains space) v → EachValue (Contains space) w → Below v w ↔ ValueMatches (Contains space) v w
+below_is_in_groups bits gs space v w valid =
+    let sound = valid_groups_are_sound bits gs space valid in
+    below_is (Contains space) (λ t c. All-contains IsSound space t sound.sound c)
+    (λ t u c e. subst (EachOption (Contains space)) e (All-contains (λ x. EachRow (Contains space) (opened x)) space t sound.closed c).supertype) v w
