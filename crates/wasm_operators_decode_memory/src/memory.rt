@@ -12,9 +12,9 @@ ghost use Rattle.wasm_operators_decode_encoding.specs.Sequences.{immediates};
 ghost use Rattle.wasm_operators_decode_memory.specs.declared.memory.MemoryShape.TheVariants as MemoryShape;
 ghost use Rattle.wasm_operators_decode_memory.specs.Memory.{memory_shape_kinds};
 
-use wasm_operators_memory::MemoryOperator;
 use wasm_operators_decode_immediates::{Access, read_memarg, read_memory_or_zero};
 use wasm_operators_immediates::MemArg;
+use wasm_operators_memory::MemoryOperator;
 use wasm_types_reader::{BinaryReader, Result};
 
 /// What stands behind an opcode of the group.

@@ -38,21 +38,39 @@ fn opcodes(rt: HostRuntime) {
 #[test]
 fn immediates(rt: HostRuntime) {
     let rows: [(&[u8], &str); 15] = [
-        (&[0x28, 0x42, 0x00, 0x00], "malformed memop alignment: alignment too large"),
+        (
+            &[0x28, 0x42, 0x00, 0x00],
+            "malformed memop alignment: alignment too large",
+        ),
         (&[0x3f, 0x01], "zero byte expected"),
         (&[0x11, 0x00, 0x01], "zero byte expected"),
         (&[0xfe, 0x03, 0x01], "nonzero byte after `atomic.fence`"),
-        (&[0xfe, 0x4f, 0x11, 0x00], "invalid atomic consistency ordering 17"),
+        (
+            &[0xfe, 0x4f, 0x11, 0x00],
+            "invalid atomic consistency ordering 17",
+        ),
         (&[0xfd, 0x15, 0x10], "invalid lane index"),
         (&[0x02, 0x41], "invalid function type"),
         (&[0x02, 0x63, 0x40], "invalid heap type"),
-        (&[0x1f, 0x40, 0x01, 0x04], "invalid leading byte (0x4) for catch"),
+        (
+            &[0x1f, 0x40, 0x01, 0x04],
+            "invalid leading byte (0x4) for catch",
+        ),
         (&[0x1f, 0x40, 0x91, 0x4e], "catches size is out of bounds"),
-        (&[0xe3, 0x00, 0x01, 0x02], "invalid leading byte (0x2) for on clause"),
-        (&[0xe3, 0x00, 0x91, 0x4e], "resume table size is out of bounds"),
+        (
+            &[0xe3, 0x00, 0x01, 0x02],
+            "invalid leading byte (0x2) for on clause",
+        ),
+        (
+            &[0xe3, 0x00, 0x91, 0x4e],
+            "resume table size is out of bounds",
+        ),
         (&[0x1c, 0x0b], "select types size is out of bounds"),
         (&[0xfb, 0x18, 0x04], "invalid cast flags: 00000100"),
-        (&[0xd0, 0x80, 0x80, 0xc0, 0x00], "type index greater than implementation limits"),
+        (
+            &[0xd0, 0x80, 0x80, 0xc0, 0x00],
+            "type index greater than implementation limits",
+        ),
     ];
     for (bytes, message) in rows {
         assert_refused(&rt, rt.alloc(), bytes, 5, message);

@@ -13,8 +13,8 @@ ghost use Rattle.wasm_operators_decode_threads.specs.declared.atomic.AtomicShape
 ghost use Rattle.wasm_operators_decode_threads.specs.Atomic.{atomic_run, atomic_shape_kinds};
 
 use wasm_operators_decode_immediates::{Access, read_memarg, read_zero_byte};
-use wasm_operators_threads::AtomicOperator;
 use wasm_operators_immediates::MemArg;
+use wasm_operators_threads::AtomicOperator;
 use wasm_types_reader::{BinaryReader, Result};
 
 /// What stands behind an opcode of the group.

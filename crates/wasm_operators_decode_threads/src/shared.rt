@@ -13,8 +13,8 @@ ghost use Rattle.wasm_operators_decode_threads.specs.declared.shared.SharedShape
 ghost use Rattle.wasm_operators_decode_threads.specs.Shared.{shared_shape_kinds};
 
 use wasm_operators_decode_immediates::read_ordering;
-use wasm_operators_threads::SharedOperator;
 use wasm_operators_immediates::Ordering;
+use wasm_operators_threads::SharedOperator;
 use wasm_types_reader::{BinaryReader, Result};
 
 /// What stands behind an opcode of the group.

@@ -9,3 +9,7 @@ pub mod ThreadsRows
 pub mod VectorsRows
 pub mod VectorNumbersRows
 pub mod Every
+-- what else is worked of them
+pub mod FrameRows
+pub mod EqualityRows
+pub mod FeatureRows

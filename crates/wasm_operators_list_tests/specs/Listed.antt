@@ -1,11 +1,11 @@
 -- What a row of the list has of an operator, and what it is compared with.
-use Rattle.std.specs.Prelude.{◌≡◌, ℕ, ℤ, List, ◌++◌, Option, map}
+use Rattle.std.specs.Prelude.{◌≡◌, ℕ, ℤ, List, Option, map}
 use Rattle.wasm_types_reader.specs.declared.words.Ieee32.{Ieee32}
 use Rattle.wasm_types_reader.specs.declared.words.Ieee64.{Ieee64}
 use Rattle.wasm_types_values.specs.declared.heap.HeapType.{HeapType}
 use Rattle.wasm_types_values.specs.declared.value.ValType.{ValType}
 use Rattle.wasm_types_values.specs.Reference.{Reference}
-use Rattle.wasm_operators_info.specs.Info.{Info, row}
+use Rattle.wasm_operators_info.specs.Info.{Info}
 use Rattle.wasm_operators_info.specs.declared.proposal.Proposal.{Proposal}
 use Rattle.wasm_operators_immediates.specs.declared.block.BlockType.{BlockType}
 use Rattle.wasm_operators_immediates.specs.declared.handlers.Handle.{Handle}
@@ -44,7 +44,7 @@ pub record Listed : Type 0 where
   pub kinds : List Kind
 
 abbrev pub listed : Op → Proposal → List ℕ → Option ℕ → ℕ → List Kind → Listed
-listed op proposal name prefix code kinds = record { op = op; info = row proposal name prefix code; kinds = kinds }
+listed op proposal name prefix code kinds = record { op = op; info = record { proposal = proposal; name = name; prefix = prefix; code = code }; kinds = kinds }
 
 -- the same operator, with what the tables have of it
 abbrev pub in_tables : Listed → Listed

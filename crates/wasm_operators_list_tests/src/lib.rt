@@ -12,6 +12,9 @@ ghost use Rattle.wasm_operators_list_tests.specs.ThreadsRows.{atomic_rows, share
 ghost use Rattle.wasm_operators_list_tests.specs.VectorsRows.{simd_rows};
 ghost use Rattle.wasm_operators_list_tests.specs.VectorNumbersRows.{simd_numeric_rows};
 ghost use Rattle.wasm_operators_list_tests.specs.Every.{every_row};
+ghost use Rattle.wasm_operators_list_tests.specs.FrameRows.{FrameRows};
+ghost use Rattle.wasm_operators_list_tests.specs.EqualityRows.{EqualityRows};
+ghost use Rattle.wasm_operators_list_tests.specs.FeatureRows.{FeatureRows};
 
 /// Each operator of the list, whatever it carries, has the proposal, the name, the prefix and the code of its row, and behind
 /// its opcode immediates of the row's kinds.
@@ -35,4 +38,11 @@ pub const fn operators_are_as_listed()
 /// The list has 627 rows.
 pub const fn list_is_whole()
     ensures { (c : Carried) → length (every_row c) ≡ 627 }
+{}
+
+/// Which operators fit which frame, which are equal, and which features a proposal asks for, in worked rows.
+pub const fn rules_are_worked()
+    ensures frames { FrameRows }
+    ensures equality { EqualityRows }
+    ensures features { FeatureRows }
 {}

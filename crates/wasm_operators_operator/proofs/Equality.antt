@@ -24,7 +24,7 @@ use Rattle.wasm_operators_operator.specs.declared.operator.Operator.TheVariants 
 use Rattle.wasm_operators_operator.specs.contracts.operator.OperatorPartialEq.TheImpl as operator_eq
 use Rattle.wasm_operators_operator.specs.Op as op
 use Rattle.wasm_operators_operator.specs.Op.{op_of}
-use Rattle.wasm_operators_operator.specs.Equality.{EqualOperatorsHaveEqualTrees}
+use Rattle.wasm_operators_operator.specs.EqualityLaws.{EqualOperatorsHaveEqualTrees}
 
 module _ (same_heap : HeapEqualityIsIdentity) (same_reference : ReferenceEqualityIsIdentity) (same_value : ValueEqualityIsIdentity) where
   operator_sound : (x y : Operator) → operator_eq.ghosts.eq x y ≡ true → op_of x ≡ op_of y

@@ -1,7 +1,7 @@
 //! Laws of operators, each the contract of a function that does nothing.
 
 ghost use Rattle.wasm_operators_operator.specs.Laws.{ClonesHaveTheTree, RowsFollowFromCodes, KindsFollowFromCodes, CodesTellOperatorsApart};
-ghost use Rattle.wasm_operators_operator.specs.Equality.{EqualOperatorsHaveEqualTrees, ControlEqualityIsIdentity, ParametricEqualityIsOfTrees, ExceptionEqualityIsOfTrees, MemoryEqualityIsIdentity, ConstEqualityIsIdentity, NumericEqualityIsIdentity, BulkEqualityIsIdentity, GcEqualityIsIdentity, DescriptorEqualityIsIdentity, SimdEqualityIsIdentity, SimdNumericEqualityIsIdentity, AtomicEqualityIsIdentity, SharedEqualityIsIdentity, ContinuationEqualityIsOfTrees};
+ghost use Rattle.wasm_operators_operator.specs.EqualityLaws.{EqualOperatorsHaveEqualTrees, ControlEqualityIsIdentity, ParametricEqualityIsOfTrees, ExceptionEqualityIsOfTrees, MemoryEqualityIsIdentity, ConstEqualityIsIdentity, NumericEqualityIsIdentity, BulkEqualityIsIdentity, GcEqualityIsIdentity, DescriptorEqualityIsIdentity, SimdEqualityIsIdentity, SimdNumericEqualityIsIdentity, AtomicEqualityIsIdentity, SharedEqualityIsIdentity, ContinuationEqualityIsOfTrees};
 
 use wasm_types_values::laws::equality_is_identity;
 

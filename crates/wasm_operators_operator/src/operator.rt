@@ -3,15 +3,15 @@
 ghost use Rattle.std.specs.Prelude.{◌≡◌};
 ghost use Rattle.wasm_operators_info.specs.Info.{told};
 
-use wasm_operators_control::{ControlOperator, ExceptionOperator, ParametricOperator};
-use wasm_operators_memory::{ConstOperator, MemoryOperator};
-use wasm_operators_numbers::NumericOperator;
-use wasm_operators_control::ContinuationOperator;
+use wasm_operators_control::{
+    ContinuationOperator, ControlOperator, ExceptionOperator, ParametricOperator,
+};
 use wasm_operators_gc::{DescriptorOperator, GcOperator};
-use wasm_operators_memory::BulkOperator;
-use wasm_operators_threads::{AtomicOperator, SharedOperator};
 use wasm_operators_immediates::FrameKind;
 use wasm_operators_info::OperatorInfo;
+use wasm_operators_memory::{BulkOperator, ConstOperator, MemoryOperator};
+use wasm_operators_numbers::NumericOperator;
+use wasm_operators_threads::{AtomicOperator, SharedOperator};
 use wasm_operators_vectors::{SimdNumericOperator, SimdOperator};
 
 /// An operator, by its group (WebAssembly 3.0, structure, instructions). A body is a list of them, in which `end` closes

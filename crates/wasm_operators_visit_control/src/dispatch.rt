@@ -3,8 +3,9 @@
 ghost use Rattle.wasm_operators_operator.specs.Op.{Op, parametric_of, exception_of, continuation_of};
 
 use crate::VisitControl;
-use wasm_operators_control::{ControlOperator, ExceptionOperator, ParametricOperator};
-use wasm_operators_control::ContinuationOperator;
+use wasm_operators_control::{
+    ContinuationOperator, ControlOperator, ExceptionOperator, ParametricOperator,
+};
 
 /// Tells a visitor of this block, branch or call, by the visit that belongs to it.
 #[inline]

@@ -3,8 +3,7 @@
 ghost use Rattle.wasm_operators_operator.specs.Op.{Op};
 
 use crate::VisitMemory;
-use wasm_operators_memory::{ConstOperator, MemoryOperator};
-use wasm_operators_memory::BulkOperator;
+use wasm_operators_memory::{BulkOperator, ConstOperator, MemoryOperator};
 
 /// Tells a visitor of this operator on variables or memories, by the visit that belongs to it.
 #[inline]

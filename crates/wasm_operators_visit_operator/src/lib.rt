@@ -7,17 +7,17 @@ ghost use Rattle.wasm_operators_operator.specs.Op.{op_of};
 
 use std::alloc::AllocError;
 use wasm_operators_operator::Operator;
-use wasm_operators_visit_threads_atomic::VisitAtomic;
 use wasm_operators_visit_control::{
     VisitControl, visit_continuation, visit_control, visit_exception, visit_parametric,
 };
-use wasm_operators_visit_numbers_floats::VisitFloats;
 use wasm_operators_visit_gc::{VisitGc, visit_descriptor, visit_gc};
-use wasm_operators_visit_numbers_integers::VisitIntegers;
 use wasm_operators_visit_memory::{VisitMemory, visit_bulk, visit_const, visit_memory};
 use wasm_operators_visit_numbers::visit_numeric;
-use wasm_operators_visit_threads_shared::VisitShared;
+use wasm_operators_visit_numbers_floats::VisitFloats;
+use wasm_operators_visit_numbers_integers::VisitIntegers;
 use wasm_operators_visit_threads::{visit_atomic, visit_shared};
+use wasm_operators_visit_threads_atomic::VisitAtomic;
+use wasm_operators_visit_threads_shared::VisitShared;
 
 /// Whether an operator is one on vectors (WebAssembly 3.0, structure, vector instructions).
 #[inline]

@@ -77,11 +77,7 @@ impl<'a> VisitGc<'a> for Counter {
         self.count(0x10)
     }
 
-    fn visit_array_copy(
-        &mut self,
-        _array_type_index_dst: u32,
-        _array_type_index_src: u32,
-    ) -> u32 {
+    fn visit_array_copy(&mut self, _array_type_index_dst: u32, _array_type_index_src: u32) -> u32 {
         self.count(0x11)
     }
 

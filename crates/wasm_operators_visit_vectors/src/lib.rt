@@ -4,8 +4,8 @@
 ghost use Rattle.wasm_operators_operator.specs.Op.{Op};
 
 use wasm_operators_vectors::{SimdNumericOperator, SimdOperator};
-use wasm_operators_visit_vectors_immediates::VisitSimd;
 use wasm_operators_visit_vectors_floats::VisitSimdFloats;
+use wasm_operators_visit_vectors_immediates::VisitSimd;
 use wasm_operators_visit_vectors_narrow::VisitSimdNarrow;
 use wasm_operators_visit_vectors_wide::VisitSimdWide;
 

@@ -16,6 +16,7 @@ tables = record {
   labels = refl;
   default_alone = refl;
   too_many_labels = refl;
+  most_labels = refl;
   no_default = refl;
   all = refl;
   each_clause = refl;
@@ -24,6 +25,7 @@ tables = record {
   most_clauses = refl;
   handlers = refl;
   no_handler = refl;
+  most_handlers = refl;
   too_many_handlers = refl;
   short_handler = refl;
 }

@@ -37,6 +37,7 @@ types = record {
   select_of_none = refl;
   select_of_too_many = refl;
   select_of_no_type = refl;
+  select_of_most = refl;
   short_select = refl;
   cast = refl;
   cast_flags = refl;

@@ -1,5 +1,5 @@
 -- Operators whose opcode is one byte (WebAssembly 3.0, binary format, instructions).
-use Rattle.std.specs.Prelude.{[], ◌∷◌, None, negsuc}
+use Rattle.std.specs.Prelude.{false, [], ◌∷◌, None, negsuc}
 use Rattle.wasm_types_features.specs.Features.{mask, MultiMemory, CallIndirectOverlong, TailCall}
 use Rattle.wasm_types_values.specs.declared.heap.HeapType.TheVariants.{Abstract}
 use Rattle.wasm_types_values.specs.declared.heap.AbstractHeapType.TheVariants.{Func}

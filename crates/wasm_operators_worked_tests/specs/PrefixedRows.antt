@@ -1,6 +1,6 @@
 -- Operators whose code follows a prefix (WebAssembly 3.0, binary format, instructions; continuations, descriptors and what is shared
 -- by their proposals).
-use Rattle.std.specs.Prelude.{[], ◌∷◌, Some, None}
+use Rattle.std.specs.Prelude.{true, false, [], ◌∷◌, Some, None}
 use Rattle.wasm_types_features.specs.Features.{mask, SharedEverythingThreads}
 use Rattle.wasm_types_values.specs.declared.heap.HeapType.TheVariants.{Abstract}
 use Rattle.wasm_types_values.specs.declared.heap.AbstractHeapType.TheVariants.{Func, Any}

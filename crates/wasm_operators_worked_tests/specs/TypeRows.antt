@@ -1,5 +1,5 @@
 -- Types: of blocks, of heaps, of a select, of a branch on a cast (WebAssembly 3.0, binary format, types and instructions).
-use Rattle.std.specs.Prelude.{[], ◌∷◌}
+use Rattle.std.specs.Prelude.{true, false, [], ◌∷◌}
 use Rattle.wasm_types_values.specs.declared.heap.HeapType.TheVariants.{Abstract, Concrete}
 use Rattle.wasm_types_values.specs.declared.heap.AbstractHeapType.TheVariants.{Func, Any}
 use Rattle.wasm_types_values.specs.declared.value.ValType.TheVariants.{I32, V128, Ref}
@@ -34,6 +34,7 @@ pub record TypeRows : Type 0 where
   pub select_of_none : reads none kind.ValueTypes (0x00 ∷ []) (value.ValueTypes [])
   pub select_of_too_many : refuses none kind.ValueTypes (0x0b ∷ []) 0
   pub select_of_no_type : refuses none kind.ValueTypes (0x01 ∷ 0x40 ∷ []) 1
+  pub select_of_most : ends none kind.ValueTypes (0x0a ∷ []) 1 1
   pub short_select : ends none kind.ValueTypes (0x01 ∷ []) 1 1
   pub cast : reads none kind.CastBranch (0x02 ∷ 0x05 ∷ 0x6e ∷ 0x70 ∷ []) (value.CastBranch 5 (reference false (Abstract false Any)) (reference true (Abstract false Func)))
   pub cast_flags : refuses none kind.CastBranch (0x04 ∷ 0x00 ∷ 0x6e ∷ 0x6d ∷ []) 0
