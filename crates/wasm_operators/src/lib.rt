@@ -6,31 +6,30 @@
 //! all of them.
 #![tactic(auto)]
 
-pub use wasm_operators_basic::{
-    ConstOperator, ControlOperator, ExceptionOperator, MemoryOperator, NumericOperator,
-    ParametricOperator,
+pub use wasm_operators_control::{
+    ContinuationOperator, ControlOperator, ExceptionOperator, ParametricOperator,
 };
-pub use wasm_operators_extended::{
-    AtomicOperator, BulkOperator, ContinuationOperator, DescriptorOperator, GcOperator,
-    SharedOperator,
-};
+pub use wasm_operators_gc::{DescriptorOperator, GcOperator};
 pub use wasm_operators_immediates::{
     BlockType, BrTable, BrTableTargets, Catch, FrameKind, FrameStack, Handle, MemArg,
     MemArgOrdering, MemArgTarget, Ordering, ResumeTable, TryTable, V128,
 };
-pub use wasm_operators_simd::{SimdNumericOperator, SimdOperator};
-pub use wasm_operators_tree::Operator;
+pub use wasm_operators_memory::{BulkOperator, ConstOperator, MemoryOperator};
+pub use wasm_operators_numbers::NumericOperator;
+pub use wasm_operators_operator::Operator;
+pub use wasm_operators_threads::{AtomicOperator, SharedOperator};
+pub use wasm_operators_vectors::{SimdNumericOperator, SimdOperator};
 pub use wasm_operators_visit::Visitor;
-pub use wasm_operators_visit_atomic::VisitAtomic;
 pub use wasm_operators_visit_control::VisitControl;
-pub use wasm_operators_visit_floats::VisitFloats;
 pub use wasm_operators_visit_gc::VisitGc;
-pub use wasm_operators_visit_integers::VisitIntegers;
 pub use wasm_operators_visit_memory::VisitMemory;
+pub use wasm_operators_visit_numbers_floats::VisitFloats;
+pub use wasm_operators_visit_numbers_integers::VisitIntegers;
 pub use wasm_operators_visit_operator::{VisitOperator, is_simd};
-pub use wasm_operators_visit_shared::VisitShared;
-pub use wasm_operators_visit_simd::VisitSimd;
-pub use wasm_operators_visit_simd_floats::VisitSimdFloats;
-pub use wasm_operators_visit_simd_narrow::VisitSimdNarrow;
 pub use wasm_operators_visit_simd_operator::VisitSimdOperator;
-pub use wasm_operators_visit_simd_wide::VisitSimdWide;
+pub use wasm_operators_visit_threads_atomic::VisitAtomic;
+pub use wasm_operators_visit_threads_shared::VisitShared;
+pub use wasm_operators_visit_vectors_floats::VisitSimdFloats;
+pub use wasm_operators_visit_vectors_immediates::VisitSimd;
+pub use wasm_operators_visit_vectors_narrow::VisitSimdNarrow;
+pub use wasm_operators_visit_vectors_wide::VisitSimdWide;

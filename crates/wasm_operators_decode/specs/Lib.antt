@@ -1,2 +1,3 @@
+-- what contracts cite
 pub mod Memory
 pub mod Plain

@@ -5,16 +5,16 @@ ghost use Rattle.wasm_types_reader.specs.Reading.{Gives, NeedsNoMemory};
 ghost use Rattle.wasm_operators_info.specs.Info.{Info};
 ghost use Rattle.wasm_operators_immediates.specs.Kinds.{Tags, Types};
 ghost use Rattle.wasm_operators_immediates.specs.Immediates.{Handlers, Index};
-ghost use Rattle.wasm_operators_extended.specs.Immediates.{continuation_immediates};
-ghost use Rattle.wasm_operators_extended.specs.Table.{continuation_info};
-ghost use Rattle.wasm_operators_extended.specs.Trees.{continuation_of};
+ghost use Rattle.wasm_operators_control.specs.Immediates.{continuation_immediates};
+ghost use Rattle.wasm_operators_control.specs.Table.{continuation_info};
+ghost use Rattle.wasm_operators_control.specs.Trees.{continuation_of};
 ghost use Rattle.wasm_operators_decode_encoding.specs.Groups.{continuation_kinds};
 ghost use Rattle.wasm_operators_decode_encoding.specs.Sequences.{immediates};
 ghost use Rattle.wasm_operators_decode_control.specs.declared.continuation.ContinuationShape.TheVariants as ContinuationShape;
 ghost use Rattle.wasm_operators_decode_control.specs.Continuation.{continuation_shape_kinds};
 
 use std::alloc::Global;
-use wasm_operators_extended::ContinuationOperator;
+use wasm_operators_control::ContinuationOperator;
 use wasm_operators_immediates::ResumeTable;
 use wasm_types_reader::{BinaryReader, FromReader, Result};
 

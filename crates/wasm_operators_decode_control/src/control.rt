@@ -5,15 +5,15 @@ ghost use Rattle.wasm_types_reader.specs.Reading.{Gives, NeedsNoMemory};
 ghost use Rattle.wasm_operators_info.specs.Info.{Info};
 ghost use Rattle.wasm_operators_immediates.specs.Kinds.{Functions, Tables, Types};
 ghost use Rattle.wasm_operators_immediates.specs.Immediates.{Block, BranchTable, Index, IndexOrZero, Label};
-ghost use Rattle.wasm_operators_basic.specs.Immediates.{control_immediates};
-ghost use Rattle.wasm_operators_basic.specs.Table.{control_info};
+ghost use Rattle.wasm_operators_control.specs.Immediates.{control_immediates};
+ghost use Rattle.wasm_operators_control.specs.Table.{control_info};
 ghost use Rattle.wasm_operators_decode_encoding.specs.Groups.{control_kinds};
 ghost use Rattle.wasm_operators_decode_encoding.specs.Sequences.{immediates};
 ghost use Rattle.wasm_operators_decode_control.specs.declared.control.ControlShape.TheVariants as ControlShape;
 ghost use Rattle.wasm_operators_decode_control.specs.Control.{control_shape_kinds};
 
 use std::alloc::Global;
-use wasm_operators_basic::ControlOperator;
+use wasm_operators_control::ControlOperator;
 use wasm_operators_decode_immediates::read_table_or_zero;
 use wasm_operators_immediates::{BlockType, BrTable};
 use wasm_types_reader::{BinaryReader, FromReader, Result};
@@ -33,6 +33,8 @@ pub enum ControlShape {
     Function,
     /// The index of a type and the index of a table.
     TypeTable,
+    /// The index of a type and the index of a table, which is the single byte zero where it may not be another.
+    TypeTableOrZero,
     /// The index of a type.
     Type,
 }
@@ -47,7 +49,8 @@ pub fn control_shape(code: u32) -> Option<ControlShape>
         0x0c | 0x0d | 0xd5 | 0xd6 => ControlShape::Label,
         0x0e => ControlShape::Labels,
         0x10 | 0x12 => ControlShape::Function,
-        0x11 | 0x13 => ControlShape::TypeTable,
+        0x11 => ControlShape::TypeTableOrZero,
+        0x13 => ControlShape::TypeTable,
         0x14 | 0x15 => ControlShape::Type,
         _ => return None,
     })
@@ -132,16 +135,28 @@ fn of_function<'a>(code: u32, function_index: u32) -> ControlOperator<'a>
 // The operator with this code, which carries this.
 fn of_type_table<'a>(code: u32, type_index: u32, table_index: u32) -> ControlOperator<'a>
     requires { control_kinds code ≡ Some (control_shape_kinds ControlShape.TypeTable) }
+    ensures immediates { control_immediates result ≡ Index Types type_index ∷ Index Tables table_index ∷ [] }
+    ensures code { (control_info result).code ≡ code }
+    ensures prefix { (control_info result).prefix ≡ None }
+{
+    match code {
+        0x13 => ControlOperator::ReturnCallIndirect {
+            type_index,
+            table_index,
+        },
+        _ => unreachable!(),
+    }
+}
+
+// The operator with this code, which carries this.
+fn of_type_table_or_zero<'a>(code: u32, type_index: u32, table_index: u32) -> ControlOperator<'a>
+    requires { control_kinds code ≡ Some (control_shape_kinds ControlShape.TypeTableOrZero) }
     ensures immediates { control_immediates result ≡ Index Types type_index ∷ IndexOrZero Tables table_index ∷ [] }
     ensures code { (control_info result).code ≡ code }
     ensures prefix { (control_info result).prefix ≡ None }
 {
     match code {
         0x11 => ControlOperator::CallIndirect {
-            type_index,
-            table_index,
-        },
-        0x13 => ControlOperator::ReturnCallIndirect {
             type_index,
             table_index,
         },
@@ -201,8 +216,13 @@ pub fn read_control<'a>(
         }
         ControlShape::TypeTable => {
             let type_index = reader.read_var_u32()?;
-            let table_index = read_table_or_zero(reader)?;
+            let table_index = reader.read_var_u32()?;
             Ok(of_type_table(code, type_index, table_index))
+        }
+        ControlShape::TypeTableOrZero => {
+            let type_index = reader.read_var_u32()?;
+            let table_index = read_table_or_zero(reader)?;
+            Ok(of_type_table_or_zero(code, type_index, table_index))
         }
         ControlShape::Type => {
             let type_index = reader.read_var_u32()?;

@@ -7,16 +7,16 @@ ghost use Rattle.wasm_operators_immediates.specs.Kinds.{Tags};
 ghost use Rattle.wasm_operators_immediates.specs.Immediates as carried;
 ghost use Rattle.wasm_operators_immediates.specs.Immediates.{Block, Index, Label};
 ghost use Rattle.wasm_operators_immediates.specs.Tables.{catch_table_of};
-ghost use Rattle.wasm_operators_basic.specs.Immediates.{exception_immediates};
-ghost use Rattle.wasm_operators_basic.specs.Table.{exception_info};
-ghost use Rattle.wasm_operators_basic.specs.Trees.{exception_of};
+ghost use Rattle.wasm_operators_control.specs.Immediates.{exception_immediates};
+ghost use Rattle.wasm_operators_control.specs.Table.{exception_info};
+ghost use Rattle.wasm_operators_control.specs.Trees.{exception_of};
 ghost use Rattle.wasm_operators_decode_encoding.specs.Groups.{exception_kinds};
 ghost use Rattle.wasm_operators_decode_encoding.specs.Sequences.{immediates};
 ghost use Rattle.wasm_operators_decode_control.specs.declared.exception.ExceptionShape.TheVariants as ExceptionShape;
 ghost use Rattle.wasm_operators_decode_control.specs.Exception.{exception_shape_kinds};
 
 use std::alloc::Global;
-use wasm_operators_basic::ExceptionOperator;
+use wasm_operators_control::ExceptionOperator;
 use wasm_operators_immediates::{BlockType, TryTable};
 use wasm_types_reader::{BinaryReader, FromReader, Result};
 

@@ -4,16 +4,16 @@ ghost use Rattle.std.specs.Prelude.{◌≡◌, ◌≢◌, IfOk, IsTrue, option_m
 ghost use Rattle.wasm_types_reader.specs.Reading.{Gives, NeedsNoMemory};
 ghost use Rattle.wasm_operators_info.specs.Info.{Info};
 ghost use Rattle.wasm_operators_immediates.specs.Immediates.{ValueTypes};
-ghost use Rattle.wasm_operators_basic.specs.Immediates.{parametric_immediates, is_canonical};
-ghost use Rattle.wasm_operators_basic.specs.Table.{parametric_info};
-ghost use Rattle.wasm_operators_basic.specs.Trees.{parametric_of};
+ghost use Rattle.wasm_operators_control.specs.Immediates.{parametric_immediates, is_canonical};
+ghost use Rattle.wasm_operators_control.specs.Table.{parametric_info};
+ghost use Rattle.wasm_operators_control.specs.Trees.{parametric_of};
 ghost use Rattle.wasm_operators_decode_encoding.specs.Groups.{parametric_kinds};
 ghost use Rattle.wasm_operators_decode_encoding.specs.Sequences.{immediates};
 ghost use Rattle.wasm_operators_decode_control.specs.declared.parametric.ParametricShape.TheVariants as ParametricShape;
 ghost use Rattle.wasm_operators_decode_control.specs.Parametric.{parametric_shape_kinds};
 
 use std::alloc::Global;
-use wasm_operators_basic::ParametricOperator;
+use wasm_operators_control::ParametricOperator;
 use wasm_operators_decode_immediates::read_select_types;
 use wasm_types_reader::{BinaryReader, Result};
 use wasm_types_values::ValType;

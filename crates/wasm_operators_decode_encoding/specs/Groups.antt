@@ -2,15 +2,30 @@
 -- instructions).
 use Rattle.std.specs.Prelude.{ℕ, List, Option, Some, None}
 use Rattle.wasm_operators_immediates.specs.Kinds.{Kind}
-use Rattle.wasm_operators_basic.specs.Table.{control_info, parametric_info, exception_info, memory_info, const_info, numeric_info}
-use Rattle.wasm_operators_basic.specs.Immediates.{control_immediates, parametric_immediates, exception_immediates, memory_immediates, const_immediates, numeric_immediates}
-use Rattle.wasm_operators_basic.proofs.Codes.{control_list, parametric_list, exception_list, memory_list, const_list, numeric_list}
-use Rattle.wasm_operators_extended.specs.Table.{bulk_info, gc_info, descriptor_info, atomic_info, shared_info, continuation_info}
-use Rattle.wasm_operators_extended.specs.Immediates.{bulk_immediates, gc_immediates, descriptor_immediates, atomic_immediates, shared_immediates, continuation_immediates}
-use Rattle.wasm_operators_extended.proofs.Codes.{bulk_list, gc_list, descriptor_list, atomic_list, shared_list, continuation_list}
-use Rattle.wasm_operators_simd.specs.Table.{simd_info, simd_numeric_info}
-use Rattle.wasm_operators_simd.specs.Immediates.{simd_immediates, simd_numeric_immediates}
-use Rattle.wasm_operators_simd.proofs.Codes.{simd_list, simd_numeric_list}
+use Rattle.wasm_operators_control.specs.Table.{control_info, parametric_info, exception_info}
+use Rattle.wasm_operators_memory.specs.Table.{memory_info, const_info}
+use Rattle.wasm_operators_numbers.specs.Table.{numeric_info}
+use Rattle.wasm_operators_control.specs.Immediates.{control_immediates, parametric_immediates, exception_immediates}
+use Rattle.wasm_operators_memory.specs.Immediates.{memory_immediates, const_immediates}
+use Rattle.wasm_operators_numbers.specs.Immediates.{numeric_immediates}
+use Rattle.wasm_operators_control.proofs.Codes.{control_list, parametric_list, exception_list}
+use Rattle.wasm_operators_memory.proofs.Codes.{memory_list, const_list}
+use Rattle.wasm_operators_numbers.proofs.Codes.{numeric_list}
+use Rattle.wasm_operators_memory.specs.Table.{bulk_info}
+use Rattle.wasm_operators_gc.specs.Table.{gc_info, descriptor_info}
+use Rattle.wasm_operators_threads.specs.Table.{atomic_info, shared_info}
+use Rattle.wasm_operators_control.specs.Table.{continuation_info}
+use Rattle.wasm_operators_memory.specs.Immediates.{bulk_immediates}
+use Rattle.wasm_operators_gc.specs.Immediates.{gc_immediates, descriptor_immediates}
+use Rattle.wasm_operators_threads.specs.Immediates.{atomic_immediates, shared_immediates}
+use Rattle.wasm_operators_control.specs.Immediates.{continuation_immediates}
+use Rattle.wasm_operators_memory.proofs.Codes.{bulk_list}
+use Rattle.wasm_operators_gc.proofs.Codes.{gc_list, descriptor_list}
+use Rattle.wasm_operators_threads.proofs.Codes.{atomic_list, shared_list}
+use Rattle.wasm_operators_control.proofs.Codes.{continuation_list}
+use Rattle.wasm_operators_vectors.specs.Table.{simd_info, simd_numeric_info}
+use Rattle.wasm_operators_vectors.specs.Immediates.{simd_immediates, simd_numeric_immediates}
+use Rattle.wasm_operators_vectors.proofs.Codes.{simd_list, simd_numeric_list}
 use Rattle.wasm_operators_decode_encoding.specs.Rows.{kinds_by, rows}
 
 -- ---- codes that are bytes

@@ -1,8 +1,8 @@
 -- An operator is spelled as its opcode and immediates are, which tell it from every other.
 use Rattle.std.proofs.Common.{◌≡◌, IsTrue, ℕ, List, ap}
-use Rattle.wasm_operators_tree.specs.Op.{Op}
-use Rattle.wasm_operators_tree.specs.Immediates.{is_canonical}
-use Rattle.wasm_operators_tree.proofs.Codes.{apart}
+use Rattle.wasm_operators_operator.specs.Op.{Op}
+use Rattle.wasm_operators_operator.specs.Immediates.{is_canonical}
+use Rattle.wasm_operators_operator.proofs.Codes.{apart}
 use Rattle.wasm_operators_decode_encoding.specs.Coded.{Coded, SpelledCoded}
 use Rattle.wasm_operators_decode_encoding.specs.Operators.{coded_of, SpelledOperator}
 pub use Rattle.wasm_operators_decode_encoding.specs.TableLaws.{own_kinds_at}

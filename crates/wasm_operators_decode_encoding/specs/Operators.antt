@@ -1,8 +1,8 @@
 -- Operators and the bytes that spell them (WebAssembly 3.0, binary format, instructions).
 use Rattle.std.specs.Prelude.{◌≡◌, IsTrue, ℕ, List, ◌++◌}
-use Rattle.wasm_operators_tree.specs.Op.{Op}
-use Rattle.wasm_operators_tree.specs.Table.{info_of}
-use Rattle.wasm_operators_tree.specs.Immediates.{immediates_of, is_canonical}
+use Rattle.wasm_operators_operator.specs.Op.{Op}
+use Rattle.wasm_operators_operator.specs.Table.{info_of}
+use Rattle.wasm_operators_operator.specs.Immediates.{immediates_of, is_canonical}
 use Rattle.wasm_operators_decode_encoding.specs.Opcodes.{Opcode, SpelledOpcode}
 use Rattle.wasm_operators_decode_encoding.specs.Sequences.{SpelledImmediates}
 use Rattle.wasm_operators_decode_encoding.specs.Coded.{Coded}

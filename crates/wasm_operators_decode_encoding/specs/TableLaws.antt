@@ -1,17 +1,32 @@
 -- The kinds that the table of opcodes has behind an operator's opcode are the operator's own.
 use Rattle.std.proofs.Common.{◌≡◌, List, [], ◌∷◌, Some, None, refl}
-use Rattle.wasm_operators_basic.specs.Table.{control_info, parametric_info, exception_info, memory_info, const_info, numeric_info}
-use Rattle.wasm_operators_basic.specs.Immediates.{control_immediates, parametric_immediates, exception_immediates, memory_immediates, const_immediates, numeric_immediates}
-use Rattle.wasm_operators_basic.proofs.Codes.{control_list, control_told, parametric_list, parametric_told, exception_list, exception_told, memory_list, memory_told, const_list, const_told, numeric_list, numeric_told}
-use Rattle.wasm_operators_extended.specs.Table.{bulk_info, gc_info, descriptor_info, atomic_info, shared_info, continuation_info}
-use Rattle.wasm_operators_extended.specs.Immediates.{bulk_immediates, gc_immediates, descriptor_immediates, atomic_immediates, shared_immediates, continuation_immediates}
-use Rattle.wasm_operators_extended.proofs.Codes.{bulk_list, bulk_told, gc_list, gc_told, descriptor_list, descriptor_told, atomic_list, atomic_told, shared_list, shared_told, continuation_list, continuation_told}
-use Rattle.wasm_operators_simd.specs.Table.{simd_info, simd_numeric_info}
-use Rattle.wasm_operators_simd.specs.Immediates.{simd_immediates, simd_numeric_immediates}
-use Rattle.wasm_operators_simd.proofs.Codes.{simd_list, simd_told, simd_numeric_list, simd_numeric_told}
-use Rattle.wasm_operators_tree.specs.Op as op
-use Rattle.wasm_operators_tree.specs.Op.{Op}
-use Rattle.wasm_operators_tree.specs.Immediates.{kinds_of}
+use Rattle.wasm_operators_control.specs.Table.{control_info, parametric_info, exception_info}
+use Rattle.wasm_operators_memory.specs.Table.{memory_info, const_info}
+use Rattle.wasm_operators_numbers.specs.Table.{numeric_info}
+use Rattle.wasm_operators_control.specs.Immediates.{control_immediates, parametric_immediates, exception_immediates}
+use Rattle.wasm_operators_memory.specs.Immediates.{memory_immediates, const_immediates}
+use Rattle.wasm_operators_numbers.specs.Immediates.{numeric_immediates}
+use Rattle.wasm_operators_control.proofs.Codes.{control_list, control_told, parametric_list, parametric_told, exception_list, exception_told}
+use Rattle.wasm_operators_memory.proofs.Codes.{memory_list, memory_told, const_list, const_told}
+use Rattle.wasm_operators_numbers.proofs.Codes.{numeric_list, numeric_told}
+use Rattle.wasm_operators_memory.specs.Table.{bulk_info}
+use Rattle.wasm_operators_gc.specs.Table.{gc_info, descriptor_info}
+use Rattle.wasm_operators_threads.specs.Table.{atomic_info, shared_info}
+use Rattle.wasm_operators_control.specs.Table.{continuation_info}
+use Rattle.wasm_operators_memory.specs.Immediates.{bulk_immediates}
+use Rattle.wasm_operators_gc.specs.Immediates.{gc_immediates, descriptor_immediates}
+use Rattle.wasm_operators_threads.specs.Immediates.{atomic_immediates, shared_immediates}
+use Rattle.wasm_operators_control.specs.Immediates.{continuation_immediates}
+use Rattle.wasm_operators_memory.proofs.Codes.{bulk_list, bulk_told}
+use Rattle.wasm_operators_gc.proofs.Codes.{gc_list, gc_told, descriptor_list, descriptor_told}
+use Rattle.wasm_operators_threads.proofs.Codes.{atomic_list, atomic_told, shared_list, shared_told}
+use Rattle.wasm_operators_control.proofs.Codes.{continuation_list, continuation_told}
+use Rattle.wasm_operators_vectors.specs.Table.{simd_info, simd_numeric_info}
+use Rattle.wasm_operators_vectors.specs.Immediates.{simd_immediates, simd_numeric_immediates}
+use Rattle.wasm_operators_vectors.proofs.Codes.{simd_list, simd_told, simd_numeric_list, simd_numeric_told}
+use Rattle.wasm_operators_operator.specs.Op as op
+use Rattle.wasm_operators_operator.specs.Op.{Op}
+use Rattle.wasm_operators_operator.specs.Immediates.{kinds_of}
 use Rattle.wasm_operators_decode_encoding.specs.Rows.{Row, rows}
 use Rattle.wasm_operators_decode_encoding.specs.Groups.{numeric_kinds, simd_numeric_kinds}
 use Rattle.wasm_operators_decode_encoding.specs.Coded.{kinds_behind, kinds_at}

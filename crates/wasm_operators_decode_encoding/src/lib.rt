@@ -5,8 +5,8 @@
 ghost use Rattle.std.specs.Prelude.{◌≡◌, IsTrue, ℕ, List, Some};
 ghost use Rattle.wasm_types_decoding.specs.Decoder.{IsLawful, Decides};
 ghost use Rattle.wasm_operators_immediates.specs.Kinds.{Kind};
-ghost use Rattle.wasm_operators_tree.specs.Op.{Op};
-ghost use Rattle.wasm_operators_tree.specs.Immediates.{is_canonical, kinds_of};
+ghost use Rattle.wasm_operators_operator.specs.Op.{Op};
+ghost use Rattle.wasm_operators_operator.specs.Immediates.{is_canonical, kinds_of};
 ghost use Rattle.wasm_operators_decode_encoding.specs.Sequences.{immediates, OfKinds};
 ghost use Rattle.wasm_operators_decode_encoding.specs.Opcodes.{opcode, SpelledOpcode};
 ghost use Rattle.wasm_operators_decode_encoding.specs.Coded.{operator, kinds_at, SpelledCoded};

@@ -5,8 +5,8 @@ ghost use Rattle.wasm_types_reader.specs.Reading.{Gives, NeedsNoMemory};
 ghost use Rattle.wasm_operators_info.specs.Info.{Info};
 ghost use Rattle.wasm_operators_immediates.specs.Kinds.{Types};
 ghost use Rattle.wasm_operators_immediates.specs.Immediates.{Heap, Index};
-ghost use Rattle.wasm_operators_extended.specs.Immediates.{descriptor_immediates};
-ghost use Rattle.wasm_operators_extended.specs.Table.{descriptor_info};
+ghost use Rattle.wasm_operators_gc.specs.Immediates.{descriptor_immediates};
+ghost use Rattle.wasm_operators_gc.specs.Table.{descriptor_info};
 ghost use Rattle.wasm_operators_decode_immediates.specs.Immediates.{of_branch};
 ghost use Rattle.wasm_operators_decode_encoding.specs.Groups.{descriptor_kinds};
 ghost use Rattle.wasm_operators_decode_encoding.specs.Sequences.{immediates};
@@ -15,7 +15,7 @@ ghost use Rattle.wasm_operators_decode_gc.specs.Descriptor.{descriptor_shape_kin
 
 use std::alloc::Global;
 use wasm_operators_decode_immediates::{CastBranch, read_cast_branch};
-use wasm_operators_extended::DescriptorOperator;
+use wasm_operators_gc::DescriptorOperator;
 use wasm_types_reader::{BinaryReader, FromReader, Result};
 use wasm_types_values::HeapType;
 

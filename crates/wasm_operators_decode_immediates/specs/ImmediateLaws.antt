@@ -13,7 +13,8 @@ use Rattle.wasm_types_values.specs.DecodeLaws.{lawful-heap_type}
 use Rattle.wasm_types_values.specs.HeapExact.{Spelled, decides-heap_type}
 use Rattle.wasm_operators_immediates.specs.Kinds as kind
 use Rattle.wasm_operators_immediates.specs.Kinds.{Kind, IndexSpace}
-use Rattle.wasm_operators_immediates.specs.Labels.{labels, SpelledLabels, lawful-labels, decides-labels}
+use Rattle.wasm_operators_immediates.specs.Labels.{labels, SpelledLabels}
+use Rattle.wasm_operators_immediates.specs.LabelLaws.{lawful-labels, decides-labels}
 use Rattle.wasm_operators_immediates.specs.Blocks.{block_type, SpelledBlock}
 use Rattle.wasm_operators_immediates.specs.BlockLaws.{lawful-block_type, decides-block_type}
 use Rattle.wasm_operators_immediates.specs.Handlers.{try_table, handlers, SpelledTryTable, SpelledHandlers}

@@ -5,15 +5,15 @@ ghost use Rattle.wasm_types_reader.specs.Reading.{Gives, NeedsNoMemory};
 ghost use Rattle.wasm_operators_info.specs.Info.{Info};
 ghost use Rattle.wasm_operators_immediates.specs.Kinds.{Functions, Tables};
 ghost use Rattle.wasm_operators_immediates.specs.Immediates.{Heap, Index};
-ghost use Rattle.wasm_operators_extended.specs.Immediates.{bulk_immediates};
-ghost use Rattle.wasm_operators_extended.specs.Table.{bulk_info};
+ghost use Rattle.wasm_operators_memory.specs.Immediates.{bulk_immediates};
+ghost use Rattle.wasm_operators_memory.specs.Table.{bulk_info};
 ghost use Rattle.wasm_operators_decode_encoding.specs.Groups.{bulk_plain_kinds};
 ghost use Rattle.wasm_operators_decode_encoding.specs.Sequences.{immediates};
 ghost use Rattle.wasm_operators_decode_memory.specs.declared.bulk_plain.BulkPlainShape.TheVariants as BulkPlainShape;
 ghost use Rattle.wasm_operators_decode_memory.specs.BulkPlain.{bulk_plain_shape_kinds};
 
 use std::alloc::Global;
-use wasm_operators_extended::BulkOperator;
+use wasm_operators_memory::BulkOperator;
 use wasm_types_reader::{BinaryReader, FromReader, Result};
 use wasm_types_values::HeapType;
 

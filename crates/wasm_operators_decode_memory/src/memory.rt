@@ -5,16 +5,16 @@ ghost use Rattle.wasm_types_reader.specs.Reading.{Gives, NeedsNoMemory};
 ghost use Rattle.wasm_operators_info.specs.Info.{Info};
 ghost use Rattle.wasm_operators_immediates.specs.Kinds.{Globals, Locals, Memories, Plain};
 ghost use Rattle.wasm_operators_immediates.specs.Immediates.{Index, IndexOrZero, MemoryArgument};
-ghost use Rattle.wasm_operators_basic.specs.Immediates.{memory_immediates};
-ghost use Rattle.wasm_operators_basic.specs.Table.{memory_info};
+ghost use Rattle.wasm_operators_memory.specs.Immediates.{memory_immediates};
+ghost use Rattle.wasm_operators_memory.specs.Table.{memory_info};
 ghost use Rattle.wasm_operators_decode_encoding.specs.Groups.{memory_kinds};
 ghost use Rattle.wasm_operators_decode_encoding.specs.Sequences.{immediates};
 ghost use Rattle.wasm_operators_decode_memory.specs.declared.memory.MemoryShape.TheVariants as MemoryShape;
 ghost use Rattle.wasm_operators_decode_memory.specs.Memory.{memory_shape_kinds};
 
-use wasm_operators_basic::MemoryOperator;
 use wasm_operators_decode_immediates::{Access, read_memarg, read_memory_or_zero};
 use wasm_operators_immediates::MemArg;
+use wasm_operators_memory::MemoryOperator;
 use wasm_types_reader::{BinaryReader, Result};
 
 /// What stands behind an opcode of the group.

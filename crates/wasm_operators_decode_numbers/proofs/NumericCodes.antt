@@ -1,9 +1,9 @@
 -- Which codes of one byte are of numbers.
 use Rattle.std.proofs.Common.{◌≡◌, ◌<◌, ℕ, List, [], Some, None, refl}
-use Rattle.wasm_operators_basic.specs.declared.numeric.NumericOperator.{NumericOperator}
-use Rattle.wasm_operators_basic.specs.Table.{numeric_info}
-use Rattle.wasm_operators_basic.specs.Immediates.{numeric_immediates}
-use Rattle.wasm_operators_basic.proofs.Codes.{numeric_list, numeric_told}
+use Rattle.wasm_operators_numbers.specs.declared.numeric.NumericOperator.{NumericOperator}
+use Rattle.wasm_operators_numbers.specs.Table.{numeric_info}
+use Rattle.wasm_operators_numbers.specs.Immediates.{numeric_immediates}
+use Rattle.wasm_operators_numbers.proofs.Codes.{numeric_list, numeric_told}
 use Rattle.wasm_operators_decode_encoding.specs.Rows.{Row, rows}
 use Rattle.wasm_operators_decode_encoding.specs.Groups.{numeric_kinds}
 use Rattle.wasm_operators_decode_encoding.specs.RunLaws.{own_kinds_behind, none_below, none_above}

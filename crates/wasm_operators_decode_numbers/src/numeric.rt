@@ -2,10 +2,10 @@
 
 ghost use Rattle.std.specs.Prelude.{◌≡◌, ◌≤◌, IfSome, option_map, None, []};
 ghost use Rattle.wasm_operators_info.specs.Info.{Info};
-ghost use Rattle.wasm_operators_basic.specs.Table.{numeric_info};
+ghost use Rattle.wasm_operators_numbers.specs.Table.{numeric_info};
 ghost use Rattle.wasm_operators_decode_encoding.specs.Groups.{numeric_kinds};
 
-use wasm_operators_basic::NumericOperator;
+use wasm_operators_numbers::NumericOperator;
 
 // The test or comparison of integers with this code.
 fn integer_comparison(code: u32) -> NumericOperator

@@ -2,10 +2,10 @@
 
 ghost use Rattle.std.specs.Prelude.{◌≡◌, IfSome, option_map, Some, []};
 ghost use Rattle.wasm_operators_info.specs.Info.{Info};
-ghost use Rattle.wasm_operators_basic.specs.Table.{numeric_info};
+ghost use Rattle.wasm_operators_numbers.specs.Table.{numeric_info};
 ghost use Rattle.wasm_operators_decode_encoding.specs.Groups.{numeric_prefixed_kinds};
 
-use wasm_operators_basic::NumericOperator;
+use wasm_operators_numbers::NumericOperator;
 
 /// The operator with this code, if there is one in the group. It carries nothing.
 pub fn numeric_prefixed_of(code: u32) -> Option<NumericOperator>

@@ -5,16 +5,16 @@ ghost use Rattle.wasm_types_reader.specs.Reading.{Gives, NeedsNoMemory};
 ghost use Rattle.wasm_operators_info.specs.Info.{Info};
 ghost use Rattle.wasm_operators_immediates.specs.Kinds.{Atomic, ReadModifyWrite};
 ghost use Rattle.wasm_operators_immediates.specs.Immediates.{MemoryArgument, ZeroByte};
-ghost use Rattle.wasm_operators_extended.specs.Immediates.{atomic_immediates};
-ghost use Rattle.wasm_operators_extended.specs.Table.{atomic_info};
+ghost use Rattle.wasm_operators_threads.specs.Immediates.{atomic_immediates};
+ghost use Rattle.wasm_operators_threads.specs.Table.{atomic_info};
 ghost use Rattle.wasm_operators_decode_encoding.specs.Groups.{atomic_kinds};
 ghost use Rattle.wasm_operators_decode_encoding.specs.Sequences.{immediates};
 ghost use Rattle.wasm_operators_decode_threads.specs.declared.atomic.AtomicShape.TheVariants as AtomicShape;
 ghost use Rattle.wasm_operators_decode_threads.specs.Atomic.{atomic_run, atomic_shape_kinds};
 
 use wasm_operators_decode_immediates::{Access, read_memarg, read_zero_byte};
-use wasm_operators_extended::AtomicOperator;
 use wasm_operators_immediates::MemArg;
+use wasm_operators_threads::AtomicOperator;
 use wasm_types_reader::{BinaryReader, Result};
 
 /// What stands behind an opcode of the group.

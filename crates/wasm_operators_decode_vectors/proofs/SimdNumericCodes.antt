@@ -1,9 +1,9 @@
 -- The rows of a run have the kinds that all rows have at a code of the run, and no row has a code above all runs.
 use Rattle.std.proofs.Common.{◌≡◌, ◌≤◌, ◌<◌, ℕ, leb, Some, None, sym}
 use Rattle.std.proofs.lemmas.Bool.{le-leb}
-use Rattle.wasm_operators_simd.specs.Table.{simd_numeric_info}
-use Rattle.wasm_operators_simd.specs.Immediates.{simd_numeric_immediates}
-use Rattle.wasm_operators_simd.proofs.Codes.{simd_numeric_list}
+use Rattle.wasm_operators_vectors.specs.Table.{simd_numeric_info}
+use Rattle.wasm_operators_vectors.specs.Immediates.{simd_numeric_immediates}
+use Rattle.wasm_operators_vectors.proofs.Codes.{simd_numeric_list}
 use Rattle.wasm_operators_decode_encoding.specs.Rows.{rows}
 use Rattle.wasm_operators_decode_encoding.specs.Groups.{simd_numeric_kinds}
 use Rattle.wasm_operators_decode_encoding.specs.KeptRows.{between, kinds_kept, is_between}

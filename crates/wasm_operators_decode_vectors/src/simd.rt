@@ -5,8 +5,8 @@ ghost use Rattle.wasm_types_reader.specs.Reading.{Gives, NeedsNoMemory};
 ghost use Rattle.wasm_operators_info.specs.Info.{Info};
 ghost use Rattle.wasm_operators_immediates.specs.Kinds.{Plain};
 ghost use Rattle.wasm_operators_immediates.specs.Immediates.{Lane, Lanes, MemoryArgument, V128Constant};
-ghost use Rattle.wasm_operators_simd.specs.Immediates.{simd_immediates};
-ghost use Rattle.wasm_operators_simd.specs.Table.{simd_info};
+ghost use Rattle.wasm_operators_vectors.specs.Immediates.{simd_immediates};
+ghost use Rattle.wasm_operators_vectors.specs.Table.{simd_info};
 ghost use Rattle.wasm_operators_decode_encoding.specs.Groups.{simd_kinds};
 ghost use Rattle.wasm_operators_decode_encoding.specs.Sequences.{immediates};
 ghost use Rattle.wasm_operators_decode_vectors.specs.declared.simd.SimdShape.TheVariants as SimdShape;
@@ -14,7 +14,7 @@ ghost use Rattle.wasm_operators_decode_vectors.specs.Simd.{simd_shape_kinds};
 
 use wasm_operators_decode_immediates::{Access, read_lane, read_memarg, read_shuffle, read_vector};
 use wasm_operators_immediates::{MemArg, V128};
-use wasm_operators_simd::SimdOperator;
+use wasm_operators_vectors::SimdOperator;
 use wasm_types_reader::{BinaryReader, Result};
 
 /// What stands behind an opcode of the group.

@@ -2,11 +2,11 @@
 
 ghost use Rattle.std.specs.Prelude.{◌≡◌, IfSome, option_map, Some, None, []};
 ghost use Rattle.wasm_operators_info.specs.Info.{Info};
-ghost use Rattle.wasm_operators_simd.specs.Table.{simd_numeric_info};
+ghost use Rattle.wasm_operators_vectors.specs.Table.{simd_numeric_info};
 ghost use Rattle.wasm_operators_decode_encoding.specs.Groups.{simd_numeric_kinds};
 ghost use Rattle.wasm_operators_decode_vectors.specs.SimdNumeric.{simd_numeric_run};
 
-use wasm_operators_simd::SimdNumericOperator;
+use wasm_operators_vectors::SimdNumericOperator;
 
 // The operator with this code, if there is one from 0x00 to 0x22: swizzles and splats.
 #[tactic(auto, unfolding(crate::specs::SimdNumeric::simd_numeric_run))]

@@ -2,7 +2,7 @@
 use Rattle.std.specs.Prelude.{◌≡◌, true, List, [], ◌∷◌, ◌++◌, Some}
 use Rattle.wasm_operators_immediates.specs.declared.frames.FrameKind.{FrameKind}
 use Rattle.wasm_operators_immediates.specs.declared.frames.FrameKind.TheVariants.{Block}
-use Rattle.wasm_operators_tree.specs.Op.{Op}
+use Rattle.wasm_operators_operator.specs.Op.{Op}
 use Rattle.wasm_operators_expression.specs.Roles.{Plain, Opens, role_of, turned, closes}
 
 -- The instructions of a frame up to its end: what ends it; a plain operator and more; a block, that is its opener and the

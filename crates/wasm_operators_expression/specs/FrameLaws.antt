@@ -2,11 +2,11 @@
 use Rattle.std.proofs.Common.{◌≡◌, ◌↔◌, ◌⊎◌, inl, inr, ◌+◌, ◌<◌, ◌≤◌, List, [], ◌∷◌, ◌++◌, length, Option, Some, None, Bool, true, false, IsTrue, is_some, refl, sym, ◌∙◌, ap, subst, append_assoc, arith}
 use Rattle.wasm_operators_immediates.specs.declared.frames.FrameKind.{FrameKind}
 use Rattle.wasm_operators_immediates.specs.declared.frames.FrameKind.TheVariants as frames
-use Rattle.wasm_operators_basic.specs.declared.control.ControlOperator.{ControlOperator}
-use Rattle.wasm_operators_basic.specs.declared.control.ControlOperator.TheVariants as control
-use Rattle.wasm_operators_tree.specs.Op as op
-use Rattle.wasm_operators_tree.specs.Op.{Op, ExceptionTree}
-use Rattle.wasm_operators_tree.specs.Frames.{fits_in, control_fits, exception_fits}
+use Rattle.wasm_operators_control.specs.declared.control.ControlOperator.{ControlOperator}
+use Rattle.wasm_operators_control.specs.declared.control.ControlOperator.TheVariants as control
+use Rattle.wasm_operators_operator.specs.Op as op
+use Rattle.wasm_operators_operator.specs.Op.{Op, ExceptionTree}
+use Rattle.wasm_operators_operator.specs.Frames.{fits_in, control_fits, exception_fits}
 use Rattle.wasm_operators_expression.specs.Roles.{Role, Plain, Opens, Else, Catch, CatchAll, Delegate, End, role_of, control_role, exception_role, turned, closes}
 use Rattle.wasm_operators_expression.specs.Code.{Code, close, plain, nested, turn, walk, IsIn}
 use Rattle.wasm_operators_expression.specs.Frames.{Closes, frames_behind, after}

@@ -2,7 +2,7 @@
 use Rattle.std.specs.Prelude.{◌≡◌, ℕ, List, [], ◌∷◌, ◌++◌, Option, Some, None}
 use Rattle.wasm_operators_immediates.specs.declared.frames.FrameKind.{FrameKind}
 use Rattle.wasm_operators_immediates.specs.declared.frames.FrameKind.TheVariants as frames
-use Rattle.wasm_operators_tree.specs.Op.{Op}
+use Rattle.wasm_operators_operator.specs.Op.{Op}
 use Rattle.wasm_operators_expression.specs.Roles.{Role, Plain, Opens, Else, Catch, CatchAll, Delegate, End, role_of}
 use Rattle.wasm_operators_expression.specs.Code.{Code, walk, IsIn}
 use Rattle.wasm_operators_expression.specs.Spelling.{SpelledOperators}

@@ -3,10 +3,10 @@
 use Rattle.std.specs.Prelude.{Bool, true, false, Option, Some, None}
 use Rattle.wasm_operators_immediates.specs.declared.frames.FrameKind.{FrameKind}
 use Rattle.wasm_operators_immediates.specs.declared.frames.FrameKind.TheVariants as frames
-use Rattle.wasm_operators_basic.specs.declared.control.ControlOperator.{ControlOperator}
-use Rattle.wasm_operators_basic.specs.declared.control.ControlOperator.TheVariants as control
-use Rattle.wasm_operators_tree.specs.Op as op
-use Rattle.wasm_operators_tree.specs.Op.{Op, ExceptionTree}
+use Rattle.wasm_operators_control.specs.declared.control.ControlOperator.{ControlOperator}
+use Rattle.wasm_operators_control.specs.declared.control.ControlOperator.TheVariants as control
+use Rattle.wasm_operators_operator.specs.Op as op
+use Rattle.wasm_operators_operator.specs.Op.{Op, ExceptionTree}
 pub use Rattle.wasm_operators_expression.specs.declared.roles.Role.{Role}
 pub use Rattle.wasm_operators_expression.specs.declared.roles.Role.TheVariants.{Plain, Opens, Else, Catch, CatchAll, Delegate, End}
 

@@ -3,8 +3,8 @@ use Rattle.std.proofs.Common.{◌≡◌, ◌↔◌, ℕ, ◌+◌, List, [], ◌�
 use Rattle.wasm_types_decoding.specs.Decoder.{State, Done, Takes}
 use Rattle.wasm_operators_immediates.specs.declared.frames.FrameKind.{FrameKind}
 use Rattle.wasm_operators_immediates.specs.declared.frames.FrameKind.TheVariants.{Block}
-use Rattle.wasm_operators_tree.specs.Op.{Op}
-use Rattle.wasm_operators_tree.specs.Immediates.{is_canonical}
+use Rattle.wasm_operators_operator.specs.Op.{Op}
+use Rattle.wasm_operators_operator.specs.Immediates.{is_canonical}
 use Rattle.wasm_operators_decode_encoding.specs.Coded.{Coded, operator}
 use Rattle.wasm_operators_decode_encoding.specs.CodedLaws.{decides-operator}
 use Rattle.wasm_operators_decode_encoding.specs.Operators.{coded_of, SpelledOperator}

@@ -2,7 +2,7 @@
 
 ghost use Rattle.std.specs.Prelude.{◌≡◌, ◌∷◌, [], List, length, is_ok, if◌then◌else◌, IsOk, OnErr, IfOk, IsFalse, Some, None, ◌==◌};
 ghost use Rattle.wasm_operators_immediates.specs.declared.frames.FrameKind.{FrameKind as Kind};
-ghost use Rattle.wasm_operators_tree.specs.Op.{op_of};
+ghost use Rattle.wasm_operators_operator.specs.Op.{op_of};
 ghost use Rattle.wasm_operators_expression.specs.Frames.{behind, after};
 ghost use Rattle.wasm_operators_expression.specs.Stack.{innermost, around};
 
@@ -10,7 +10,7 @@ use crate::roles::Role;
 use std::alloc::{AllocError, Global};
 use std::marker::Model;
 use wasm_operators_immediates::{FrameKind, FrameStack};
-use wasm_operators_tree::Operator;
+use wasm_operators_operator::Operator;
 
 /// The frames that are open, the innermost first. One frame takes no memory.
 #[derive(Drop)]

@@ -4,9 +4,9 @@ ghost use Rattle.std.specs.Prelude.{◌≡◌, ◌↔◌, ◌+◌, ◌≤◌, �
 ghost use Rattle.wasm_operators_immediates.specs.declared.frames.FrameKind.{FrameKind as Kind};
 ghost use Rattle.wasm_operators_immediates.specs.declared.frames.FrameKind.TheVariants.{Block};
 ghost use Rattle.wasm_types_decoding.specs.Decoder.{State, Done};
-ghost use Rattle.wasm_operators_tree.specs.Op.{Op};
-ghost use Rattle.wasm_operators_tree.specs.Frames.{fits_in};
-ghost use Rattle.wasm_operators_tree.specs.Immediates.{is_canonical};
+ghost use Rattle.wasm_operators_operator.specs.Op.{Op};
+ghost use Rattle.wasm_operators_operator.specs.Frames.{fits_in};
+ghost use Rattle.wasm_operators_operator.specs.Immediates.{is_canonical};
 ghost use Rattle.wasm_operators_decode_encoding.specs.Coded.{Coded, operator};
 ghost use Rattle.wasm_operators_decode_encoding.specs.Operators.{coded_of};
 ghost use Rattle.wasm_operators_expression.specs.Roles.{Opens, role_of};

@@ -1,13 +1,13 @@
 //! What operators are for the nesting of instructions.
 
 ghost use Rattle.std.specs.Prelude.{◌≡◌};
-ghost use Rattle.wasm_operators_basic.specs.Trees.{exception_of};
-ghost use Rattle.wasm_operators_tree.specs.Op.{op_of};
+ghost use Rattle.wasm_operators_control.specs.Trees.{exception_of};
+ghost use Rattle.wasm_operators_operator.specs.Op.{op_of};
 ghost use Rattle.wasm_operators_expression.specs.Roles.{role_of, control_role, exception_role, closes, turned};
 
-use wasm_operators_basic::{ControlOperator, ExceptionOperator};
+use wasm_operators_control::{ControlOperator, ExceptionOperator};
 use wasm_operators_immediates::FrameKind;
-use wasm_operators_tree::Operator;
+use wasm_operators_operator::Operator;
 
 /// What an operator is for the nesting of instructions.
 #[derive(Clone, Copy)]

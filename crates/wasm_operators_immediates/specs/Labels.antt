@@ -1,12 +1,8 @@
 -- The labels of br_table as bytes (WebAssembly 3.0, binary format, control instructions), and how they are read.
-use Rattle.std.proofs.Common.{◌≡◌, ℕ, List, ◌++◌, refl, sym, ap, subst}
-use Rattle.wasm_types_decoding.specs.Decoder.{Decoder, Grammar, ◌>>=◌, pure, IsLawful, Decides, Then}
-use Rattle.wasm_types_decoding.specs.Laws.{lawful->>=, lawful-pure}
-use Rattle.wasm_types_decoding.specs.Exact.{decides->>=, decides-same, decides-map, Mapped}
+use Rattle.std.specs.Prelude.{◌≡◌, ℕ, List, ◌++◌}
+use Rattle.wasm_types_decoding.specs.Decoder.{Decoder, ◌>>=◌, pure}
 use Rattle.wasm_types_decoding.specs.Leb.{u32, IsUnsigned}
-use Rattle.wasm_types_decoding.specs.LebLaws.{lawful-unsigned, decides-u32}
 use Rattle.wasm_types_decoding.specs.Lists.{listed_within, IsListedWithin}
-use Rattle.wasm_types_decoding.specs.ListLaws.{lawful-listed_within, decides-listed_within}
 use Rattle.wasm_operators_immediates.specs.Tables.{Labels}
 
 -- the most targets that are read
@@ -14,7 +10,7 @@ abbrev pub most_targets : ℕ
 most_targets = 7654321
 
 -- targets, and a default behind them
-abbrev with_default : List ℕ → ℕ → Labels
+abbrev pub with_default : List ℕ → ℕ → Labels
 with_default targets default = record { targets = targets; default = default }
 
 unfoldable pub labels : Decoder Labels
@@ -27,31 +23,3 @@ pub record SpelledLabels (l : Labels) (text : List ℕ) : Type 0 where
   pub targets : IsListedWithin most_targets (IsUnsigned 32) l.targets front
   pub default : IsUnsigned 32 l.default back
   pub whole : text ≡ front ++ back
-
-pub lawful-labels : IsLawful labels
-unfolding labels
-lawful-labels = lawful->>= (listed_within most_targets u32) _ (lawful-listed_within most_targets u32 (lawful-unsigned 4 4)) (λ targets. lawful->>= u32 _ (lawful-unsigned 4 4) (λ default. lawful-pure (with_default targets default)))
-
--- a default behind these targets
-abbrev behind : List ℕ → Grammar Labels
-behind targets = Mapped (with_default targets) (IsUnsigned 32)
-
-labels_to : (l : Labels) (text : List ℕ) → Then (IsListedWithin most_targets (IsUnsigned 32)) behind l text → SpelledLabels l text
-labels_to l text h = record {
-  front = h.front;
-  back = h.back;
-  targets = subst (λ (xs : List ℕ). IsListedWithin most_targets (IsUnsigned 32) xs h.front) (sym (ap (λ (k : Labels). k.targets) h.second.2)) h.first;
-  default = subst (λ (n : ℕ). IsUnsigned 32 n h.back) (sym (ap (λ (k : Labels). k.default) h.second.2)) h.second.1;
-  whole = h.whole;
-}
-
-labels_from : (l : Labels) (text : List ℕ) → SpelledLabels l text → Then (IsListedWithin most_targets (IsUnsigned 32)) behind l text
-labels_from l text h = record { value = l.targets; front = h.front; back = h.back; first = h.targets; second = (l.default, h.default, refl); whole = h.whole }
-
-pub decides-labels : Decides labels SpelledLabels
-unfolding labels
-decides-labels = decides-same labels (Then (IsListedWithin most_targets (IsUnsigned 32)) behind) SpelledLabels
-    (decides->>= (listed_within most_targets u32) (λ targets. u32 >>= λ default. pure (with_default targets default)) (IsListedWithin most_targets (IsUnsigned 32)) behind
-    (decides-listed_within most_targets u32 (IsUnsigned 32) decides-u32)
-    (λ targets. decides-map u32 (with_default targets) (IsUnsigned 32) decides-u32))
-    labels_to labels_from

@@ -1,10 +1,15 @@
-pub mod Tables
-pub mod Numbers
-pub mod Labels
-pub mod Blocks
-pub mod BlockLaws
-pub mod Handlers
-pub mod HandlerLaws
+-- what operators carry, and by what kinds bytes are read
 pub mod Kinds
 pub mod Immediates
+pub mod Tables
+pub mod Numbers
+-- how immediates are read, and which bytes spell them
+pub mod Labels
+pub mod Blocks
+pub mod Handlers
+-- what is proved of it
+pub mod TableLaws
+pub mod LabelLaws
+pub mod BlockLaws
+pub mod HandlerLaws
 pub mod Laws

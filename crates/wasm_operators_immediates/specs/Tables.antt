@@ -2,9 +2,6 @@
 use Rattle.std.specs.Prelude.{ℕ, List, Bool, ◌==◌}
 use Rattle.std.specs.Cmp.Lexicographic.{pointwise}
 use Rattle.std.specs.Ordering.{eq_of_both, on}
-use Rattle.std.specs.Cmp.{IsPartialEquivalence, IsEquivalence}
-use Rattle.std.specs.Cmp.Rules.{comparing}
-use Rattle.std.proofs.Common.{rules}
 use Rattle.wasm_operators_immediates.specs.declared.block.BlockType.{BlockType}
 use Rattle.wasm_operators_immediates.specs.declared.handlers.Catch.{Catch}
 use Rattle.wasm_operators_immediates.specs.declared.handlers.TryTable.{TryTable}
@@ -22,9 +19,6 @@ pub record CatchTable : Type 0 where
 -- the same default, and the same targets in order
 abbrev pub same_labels : Labels → Labels → Bool
 same_labels = eq_of_both (on (λ t. t.default) ◌==◌) (on (λ t. t.targets) (pointwise ◌==◌))
-
-pub same_labels_equal : IsPartialEquivalence same_labels × IsEquivalence same_labels
-same_labels_equal = (search (comparing, rules), search (comparing, rules))
 
 abbrev pub catch_table_of : TryTable → CatchTable
 catch_table_of t = record { ty = t.ty; catches = t.catches.items }

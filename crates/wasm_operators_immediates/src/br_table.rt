@@ -5,7 +5,8 @@ ghost use Rattle.std.proofs.Common.{rules};
 ghost use Rattle.std.specs.Cmp.Rules.{comparing};
 ghost use Rattle.std.specs.Cmp.Lexicographic.{pointwise};
 ghost use Rattle.std.specs.Iterator.{YieldsFirst, item_count};
-ghost use Rattle.wasm_operators_immediates.specs.Tables.{same_labels, same_labels_equal};
+ghost use Rattle.wasm_operators_immediates.specs.Tables.{same_labels};
+ghost use Rattle.wasm_operators_immediates.specs.TableLaws.{same_labels_equal};
 
 use std::alloc::AllocError;
 use std::marker::Model;

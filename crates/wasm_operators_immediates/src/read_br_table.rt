@@ -29,7 +29,8 @@ fn pass_numbers<'a>(count: u32, reader: &mut BinaryReader<'a>) -> Result<()>
 impl<'a> FromReader<'a> for BrTable<'a> {
     ghost use Rattle.std.specs.Prelude.{false};
     ghost use Rattle.wasm_operators_immediates.specs.Tables.{Labels as TheLabels};
-    ghost use Rattle.wasm_operators_immediates.specs.Labels.{SpelledLabels, lawful-labels, decides-labels};
+    ghost use Rattle.wasm_operators_immediates.specs.Labels.{SpelledLabels};
+    ghost use Rattle.wasm_operators_immediates.specs.LabelLaws.{lawful-labels, decides-labels};
 
     ghost Value = { TheLabels };
 

@@ -6,7 +6,7 @@ use Rattle.wasm_types_error.specs.ErrorValue.{ErrorValue}
 use Rattle.wasm_types_reader.specs.Reading.{IsNotMemory}
 use Rattle.wasm_operators_immediates.specs.declared.frames.FrameKind.{FrameKind}
 use Rattle.wasm_operators_immediates.specs.declared.frames.FrameKind.TheVariants.{Block}
-use Rattle.wasm_operators_tree.specs.Op.{Op}
+use Rattle.wasm_operators_operator.specs.Op.{Op}
 use Rattle.wasm_operators_decode_encoding.specs.Coded.{Coded, operator}
 use Rattle.wasm_operators_expression.specs.Code.{Code, walk}
 use Rattle.wasm_operators_expression.specs.Spelling.{SpelledOperators, SpelledExpression}

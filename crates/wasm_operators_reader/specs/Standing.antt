@@ -6,8 +6,8 @@ use Rattle.wasm_types_error.specs.ErrorValue.{ErrorValue}
 use Rattle.wasm_types_reader.specs.Reading.{Fails}
 use Rattle.wasm_operators_immediates.specs.declared.frames.FrameKind.{FrameKind}
 use Rattle.wasm_operators_immediates.specs.declared.frames.FrameKind.TheVariants.{Block}
-use Rattle.wasm_operators_tree.specs.Op.{Op}
-use Rattle.wasm_operators_tree.specs.Immediates.{is_canonical}
+use Rattle.wasm_operators_operator.specs.Op.{Op}
+use Rattle.wasm_operators_operator.specs.Immediates.{is_canonical}
 use Rattle.wasm_operators_decode_encoding.specs.Coded.{operator}
 use Rattle.wasm_operators_decode_encoding.specs.Operators.{coded_of}
 use Rattle.wasm_operators_decode.specs.Memory.{keeps_list_at}

@@ -6,7 +6,7 @@ use Rattle.wasm_types_error.specs.declared.error.ErrorKind.TheVariants.{EndOfDat
 use Rattle.wasm_types_error.specs.ErrorValue.{ErrorValue}
 use Rattle.wasm_types_reader.specs.Reading.{FailsAt, Fails, IsNotMemory}
 use Rattle.wasm_operators_immediates.specs.declared.frames.FrameKind.{FrameKind}
-use Rattle.wasm_operators_tree.specs.Op.{Op}
+use Rattle.wasm_operators_operator.specs.Op.{Op}
 use Rattle.wasm_operators_decode_encoding.specs.Opcodes.{Spells}
 use Rattle.wasm_operators_decode_encoding.specs.Coded.{Coded, operator}
 use Rattle.wasm_operators_decode_encoding.specs.CodedLaws.{decides-operator}

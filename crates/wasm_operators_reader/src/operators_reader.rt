@@ -3,7 +3,7 @@
 ghost use Rattle.std.specs.Prelude.{◌≡◌, ◌↔◌, ◌==◌, ◌+◌, ◌<◌, [], ◌∷◌, IsTrue, IfOk, IfErr, length};
 ghost use Rattle.wasm_types_error.specs.declared.error.ErrorKind.TheVariants.{Other};
 ghost use Rattle.wasm_types_reader.specs.Reading.{NeedsNoMemory};
-ghost use Rattle.wasm_operators_tree.specs.Op.{op_of};
+ghost use Rattle.wasm_operators_operator.specs.Op.{op_of};
 ghost use Rattle.wasm_operators_reader.specs.Standing.{at_start, IsFinished, Reads, Refuses, WantsMemory};
 
 use std::alloc::Global;
@@ -11,7 +11,7 @@ use std::marker::Model;
 use wasm_operators_decode::read_operator;
 use wasm_operators_expression::{ControlStack, Role};
 use wasm_operators_immediates::{FrameKind, FrameStack};
-use wasm_operators_tree::Operator;
+use wasm_operators_operator::Operator;
 use wasm_types_error::{Error, Result};
 use wasm_types_reader::BinaryReader;
 

@@ -4,7 +4,7 @@
 //! visits promise one relation: which answer and which state after belong to an operator that came in a state.
 #![tactic(auto)]
 
-ghost use Rattle.wasm_operators_tree.specs.Op.{Op};
+ghost use Rattle.wasm_operators_operator.specs.Op.{Op};
 
 /// What a visitor answers, and what its visits promise.
 pub trait Visitor<'a> {

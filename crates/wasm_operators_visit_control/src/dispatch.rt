@@ -1,10 +1,11 @@
 //! The visit that belongs to an operator.
 
-ghost use Rattle.wasm_operators_tree.specs.Op.{Op, parametric_of, exception_of, continuation_of};
+ghost use Rattle.wasm_operators_operator.specs.Op.{Op, parametric_of, exception_of, continuation_of};
 
 use crate::VisitControl;
-use wasm_operators_basic::{ControlOperator, ExceptionOperator, ParametricOperator};
-use wasm_operators_extended::ContinuationOperator;
+use wasm_operators_control::{
+    ContinuationOperator, ControlOperator, ExceptionOperator, ParametricOperator,
+};
 
 /// Tells a visitor of this block, branch or call, by the visit that belongs to it.
 #[inline]

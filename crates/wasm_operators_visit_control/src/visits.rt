@@ -1,8 +1,8 @@
 //! One visit for each operator.
 
-ghost use Rattle.wasm_operators_tree.specs.Op.{Op, ParametricTree, ExceptionTree, ContinuationTree};
+ghost use Rattle.wasm_operators_operator.specs.Op.{Op, ParametricTree, ExceptionTree, ContinuationTree};
 ghost use Rattle.wasm_operators_immediates.specs.Tables.{catch_table_of};
-ghost use Rattle.wasm_operators_basic.specs.declared.control.ControlOperator.{ControlOperator};
+ghost use Rattle.wasm_operators_control.specs.declared.control.ControlOperator.{ControlOperator};
 
 use wasm_operators_immediates::{BlockType, BrTable, ResumeTable, TryTable};
 use wasm_operators_visit::Visitor;

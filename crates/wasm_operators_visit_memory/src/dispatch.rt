@@ -1,10 +1,9 @@
 //! The visit that belongs to an operator.
 
-ghost use Rattle.wasm_operators_tree.specs.Op.{Op};
+ghost use Rattle.wasm_operators_operator.specs.Op.{Op};
 
 use crate::VisitMemory;
-use wasm_operators_basic::{ConstOperator, MemoryOperator};
-use wasm_operators_extended::BulkOperator;
+use wasm_operators_memory::{BulkOperator, ConstOperator, MemoryOperator};
 
 /// Tells a visitor of this operator on variables or memories, by the visit that belongs to it.
 #[inline]

@@ -1,9 +1,9 @@
 //! One visit for each operator.
 
-ghost use Rattle.wasm_operators_tree.specs.Op.{Op};
-ghost use Rattle.wasm_operators_basic.specs.declared.memory.MemoryOperator.{MemoryOperator};
-ghost use Rattle.wasm_operators_extended.specs.declared.bulk.BulkOperator.{BulkOperator};
-ghost use Rattle.wasm_operators_basic.specs.declared.numeric.ConstOperator.{ConstOperator};
+ghost use Rattle.wasm_operators_operator.specs.Op.{Op};
+ghost use Rattle.wasm_operators_memory.specs.declared.memory.MemoryOperator.{MemoryOperator};
+ghost use Rattle.wasm_operators_memory.specs.declared.bulk.BulkOperator.{BulkOperator};
+ghost use Rattle.wasm_operators_memory.specs.declared.constant.ConstOperator.{ConstOperator};
 
 use wasm_operators_immediates::MemArg;
 use wasm_operators_visit::Visitor;

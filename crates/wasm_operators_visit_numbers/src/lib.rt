@@ -1,11 +1,11 @@
 //! The visit that belongs to an operator on numbers.
 #![tactic(auto)]
 
-ghost use Rattle.wasm_operators_tree.specs.Op.{Op};
+ghost use Rattle.wasm_operators_operator.specs.Op.{Op};
 
-use wasm_operators_basic::NumericOperator;
-use wasm_operators_visit_floats::VisitFloats;
-use wasm_operators_visit_integers::VisitIntegers;
+use wasm_operators_numbers::NumericOperator;
+use wasm_operators_visit_numbers_floats::VisitFloats;
+use wasm_operators_visit_numbers_integers::VisitIntegers;
 
 /// Tells a visitor of this operator on numbers, by the visit that belongs to it.
 #[inline]

@@ -1,6 +1,6 @@
 -- Which operators are those on vectors (WebAssembly 3.0, structure, vector instructions).
 use Rattle.std.specs.Prelude.{Bool, true, false}
-use Rattle.wasm_operators_tree.specs.Op.{Op, Control, Parametric, Exception, Memory, Const, Numeric, Bulk, Gc, Descriptor, Simd, SimdNumeric, Atomic, Shared, Continuation}
+use Rattle.wasm_operators_operator.specs.Op.{Op, Control, Parametric, Exception, Memory, Const, Numeric, Bulk, Gc, Descriptor, Simd, SimdNumeric, Atomic, Shared, Continuation}
 
 abbrev pub is_simd : Op → Bool
 is_simd (Control o) = false

@@ -3,21 +3,21 @@
 
 ghost use Rattle.std.specs.Prelude.{◌≡◌, false, IfOk, IfErr};
 ghost use Rattle.wasm_operators_visit_operator.specs.Vectors.{is_simd};
-ghost use Rattle.wasm_operators_tree.specs.Op.{op_of};
+ghost use Rattle.wasm_operators_operator.specs.Op.{op_of};
 
 use std::alloc::AllocError;
-use wasm_operators_tree::Operator;
-use wasm_operators_visit_atomic::VisitAtomic;
+use wasm_operators_operator::Operator;
 use wasm_operators_visit_control::{
     VisitControl, visit_continuation, visit_control, visit_exception, visit_parametric,
 };
-use wasm_operators_visit_floats::VisitFloats;
 use wasm_operators_visit_gc::{VisitGc, visit_descriptor, visit_gc};
-use wasm_operators_visit_integers::VisitIntegers;
 use wasm_operators_visit_memory::{VisitMemory, visit_bulk, visit_const, visit_memory};
 use wasm_operators_visit_numbers::visit_numeric;
-use wasm_operators_visit_shared::VisitShared;
+use wasm_operators_visit_numbers_floats::VisitFloats;
+use wasm_operators_visit_numbers_integers::VisitIntegers;
 use wasm_operators_visit_threads::{visit_atomic, visit_shared};
+use wasm_operators_visit_threads_atomic::VisitAtomic;
+use wasm_operators_visit_threads_shared::VisitShared;
 
 /// Whether an operator is one on vectors (WebAssembly 3.0, structure, vector instructions).
 #[inline]

@@ -2,10 +2,10 @@
 #![tactic(auto)]
 
 ghost use Rattle.std.specs.Prelude.{◌≡◌, IfOk, IfErr};
-ghost use Rattle.wasm_operators_tree.specs.Op.{op_of};
+ghost use Rattle.wasm_operators_operator.specs.Op.{op_of};
 
 use std::alloc::AllocError;
-use wasm_operators_tree::Operator;
+use wasm_operators_operator::Operator;
 use wasm_operators_visit_control::{
     visit_continuation, visit_control, visit_exception, visit_parametric,
 };
@@ -13,12 +13,12 @@ use wasm_operators_visit_gc::{visit_descriptor, visit_gc};
 use wasm_operators_visit_memory::{visit_bulk, visit_const, visit_memory};
 use wasm_operators_visit_numbers::visit_numeric;
 use wasm_operators_visit_operator::{VisitOperator, copy};
-use wasm_operators_visit_simd::VisitSimd;
-use wasm_operators_visit_simd_floats::VisitSimdFloats;
-use wasm_operators_visit_simd_narrow::VisitSimdNarrow;
-use wasm_operators_visit_simd_wide::VisitSimdWide;
 use wasm_operators_visit_threads::{visit_atomic, visit_shared};
 use wasm_operators_visit_vectors::{visit_simd, visit_simd_numeric};
+use wasm_operators_visit_vectors_floats::VisitSimdFloats;
+use wasm_operators_visit_vectors_immediates::VisitSimd;
+use wasm_operators_visit_vectors_narrow::VisitSimdNarrow;
+use wasm_operators_visit_vectors_wide::VisitSimdWide;
 
 /// A visitor of all operators, those on vectors too.
 pub trait VisitSimdOperator<'a>: VisitOperator<'a>

@@ -1,9 +1,9 @@
 //! The visit that belongs to an operator.
 
-ghost use Rattle.wasm_operators_tree.specs.Op.{Op};
+ghost use Rattle.wasm_operators_operator.specs.Op.{Op};
 
-use wasm_operators_extended::SharedOperator;
-use wasm_operators_visit_shared::VisitShared;
+use wasm_operators_threads::SharedOperator;
+use wasm_operators_visit_threads_shared::VisitShared;
 
 /// Tells a visitor of this atomic access to a global, a table, a struct or an array, by the visit that belongs to it.
 #[inline]

@@ -1,13 +1,13 @@
 //! The visit that belongs to an operator on vectors.
 #![tactic(auto)]
 
-ghost use Rattle.wasm_operators_tree.specs.Op.{Op};
+ghost use Rattle.wasm_operators_operator.specs.Op.{Op};
 
-use wasm_operators_simd::{SimdNumericOperator, SimdOperator};
-use wasm_operators_visit_simd::VisitSimd;
-use wasm_operators_visit_simd_floats::VisitSimdFloats;
-use wasm_operators_visit_simd_narrow::VisitSimdNarrow;
-use wasm_operators_visit_simd_wide::VisitSimdWide;
+use wasm_operators_vectors::{SimdNumericOperator, SimdOperator};
+use wasm_operators_visit_vectors_floats::VisitSimdFloats;
+use wasm_operators_visit_vectors_immediates::VisitSimd;
+use wasm_operators_visit_vectors_narrow::VisitSimdNarrow;
+use wasm_operators_visit_vectors_wide::VisitSimdWide;
 
 /// Tells a visitor of this operator on vectors that carries something, by the visit that belongs to it.
 #[inline]

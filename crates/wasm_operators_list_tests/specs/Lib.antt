@@ -1,0 +1,15 @@
+-- what is compared
+pub mod Listed
+-- the list, by groups
+pub mod ControlRows
+pub mod MemoryRows
+pub mod NumbersRows
+pub mod GcRows
+pub mod ThreadsRows
+pub mod VectorsRows
+pub mod VectorNumbersRows
+pub mod Every
+-- what else is worked of them
+pub mod FrameRows
+pub mod EqualityRows
+pub mod FeatureRows

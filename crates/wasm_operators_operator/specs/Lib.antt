@@ -1,0 +1,8 @@
+-- operators as trees, the tables of opcodes and of immediates, and the order in frames
+pub mod Op
+pub mod Table
+pub mod Immediates
+pub mod Frames
+-- what is proved of them
+pub mod Laws
+pub mod EqualityLaws

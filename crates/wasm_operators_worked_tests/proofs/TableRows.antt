@@ -1,0 +1,31 @@
+-- These rows compute.
+use Rattle.std.proofs.Common.{refl}
+use Rattle.wasm_types_decoding.specs.Leb.{unsigned}
+use Rattle.wasm_types_decoding.specs.Decoder.{repeated}
+use Rattle.wasm_types_decoding.specs.Lists.{size_within, listed_within}
+use Rattle.wasm_types_values.specs.DecodeValues.{value_type, value_type_after}
+use Rattle.wasm_operators_immediates.specs.Blocks.{block_type, value_block, empty_block}
+use Rattle.wasm_operators_immediates.specs.Labels.{labels}
+use Rattle.wasm_operators_immediates.specs.Handlers.{clause, clause_after, try_table, handle, handle_after, handlers}
+use Rattle.wasm_operators_decode_immediates.specs.Immediates.{immediate}
+use Rattle.wasm_operators_worked_tests.specs.TableRows.{TableRows}
+
+pub tables : TableRows
+unfolding unsigned repeated size_within listed_within value_type value_type_after block_type value_block empty_block labels clause clause_after try_table handle handle_after handlers immediate
+tables = record {
+  labels = refl;
+  default_alone = refl;
+  too_many_labels = refl;
+  most_labels = refl;
+  no_default = refl;
+  all = refl;
+  each_clause = refl;
+  no_clause = refl;
+  too_many_clauses = refl;
+  most_clauses = refl;
+  handlers = refl;
+  no_handler = refl;
+  most_handlers = refl;
+  too_many_handlers = refl;
+  short_handler = refl;
+}

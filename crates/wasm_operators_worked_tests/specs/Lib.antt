@@ -1,0 +1,11 @@
+-- what is said of worked bytes
+pub mod Worked
+-- immediates
+pub mod ArgumentRows
+pub mod NumberRows
+pub mod ByteRows
+pub mod TypeRows
+pub mod TableRows
+-- operators
+pub mod PlainRows
+pub mod PrefixedRows
