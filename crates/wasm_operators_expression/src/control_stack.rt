@@ -6,11 +6,10 @@ ghost use Rattle.wasm_operators_tree.specs.Op.{op_of};
 ghost use Rattle.wasm_operators_expression.specs.Frames.{behind, after};
 ghost use Rattle.wasm_operators_expression.specs.Stack.{innermost, around};
 
-use crate::roles::Role;
 use std::alloc::{AllocError, Global};
 use std::marker::Model;
 use wasm_operators_immediates::{FrameKind, FrameStack};
-use wasm_operators_tree::Operator;
+use wasm_operators_tree::{Effect, Operator, Role};
 
 /// The frames that are open, the innermost first, and room for more, which no frame that closes gives back.
 #[derive(Drop)]
@@ -160,21 +159,17 @@ impl ControlStack {
         let Some(frame) = self.innermost else {
             return Ok(false);
         };
-        if let Role::Opens(opened) = role {
-            self.push(opened)?;
-            return Ok(true);
-        }
-        if role.closes(frame) {
-            self.pop();
-            return Ok(true);
-        }
-        if let Role::Plain = role {
-            return Ok(true);
-        }
-        let Some(next) = role.turned(frame) else {
+        let Some(effect) = role.effect(frame) else {
             return Ok(false);
         };
-        self.innermost = Some(next);
+        match effect {
+            Effect::Stays => {}
+            Effect::Nests(opened) => self.push(opened)?,
+            Effect::Closes => {
+                self.pop();
+            }
+            Effect::Turns(next) => self.innermost = Some(next),
+        }
         Ok(true)
     }
 }
