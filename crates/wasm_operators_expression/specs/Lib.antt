@@ -1,5 +1,4 @@
--- The rules, in reading order.
-pub mod Roles
+-- The rules, in reading order. What an operator does to a frame is said in `Roles` of the crate of operators' trees.
 pub mod Code
 pub mod Spelling
 -- What contracts say beside them.

@@ -1,6 +1,11 @@
 -- Frames as a stack holds them.
-use Rattle.std.specs.Prelude.{◌≡◌, List, [], ◌∷◌, reverse, Option, Some, None}
+use Rattle.std.specs.Prelude.{◌≡◌, ℕ, List, [], ◌∷◌, reverse, Option, Some, None}
 use Rattle.wasm_operators_immediates.specs.declared.frames.FrameKind.{FrameKind}
+
+-- the frames that are open, the innermost first, and how many may be open before more memory is asked for
+pub record OpenFrames : Type 0 where
+  pub frames : List FrameKind
+  pub capacity : ℕ
 
 -- the innermost frame, and those around it, of which the last is the nearest
 abbrev pub frames_in : Option FrameKind → List FrameKind → List FrameKind

@@ -1,18 +1,17 @@
 //! The frames that are open.
 
-ghost use Rattle.std.specs.Prelude.{◌≡◌, ◌∷◌, [], List, length, is_ok, if◌then◌else◌, IsOk, OnErr, IfOk, IsFalse, Some, None, ◌==◌};
+ghost use Rattle.std.specs.Prelude.{◌≡◌, ◌+◌, ◌<◌, ◌≤◌, ◌∷◌, [], List, length, is_ok, if◌then◌else◌, IsOk, OnOk, OnErr, IfOk, IsFalse, Some, None, ◌==◌};
 ghost use Rattle.wasm_operators_immediates.specs.declared.frames.FrameKind.{FrameKind as Kind};
 ghost use Rattle.wasm_operators_operator.specs.Op.{op_of};
 ghost use Rattle.wasm_operators_expression.specs.Frames.{behind, after};
 ghost use Rattle.wasm_operators_expression.specs.Stack.{innermost, around};
 
-use crate::roles::Role;
 use std::alloc::{AllocError, Global};
 use std::marker::Model;
 use wasm_operators_immediates::{FrameKind, FrameStack};
-use wasm_operators_operator::Operator;
+use wasm_operators_operator::{Effect, Operator, Role};
 
-/// The frames that are open, the innermost first. One frame takes no memory.
+/// The frames that are open, the innermost first, and room for more, which no frame that closes gives back.
 #[derive(Drop)]
 pub struct ControlStack {
     innermost: Option<FrameKind>,
@@ -20,21 +19,22 @@ pub struct ControlStack {
 }
 
 impl Model for ControlStack {
-    ghost use Rattle.std.specs.Prelude.{List};
-    ghost use Rattle.wasm_operators_immediates.specs.declared.frames.FrameKind.{FrameKind as Kind};
-    ghost use Rattle.wasm_operators_expression.specs.Stack.{frames_in, IsStack};
+    ghost use Rattle.std.specs.Prelude.{◌+◌};
+    ghost use Rattle.std.specs.Vec.{vec_capacity};
+    ghost use Rattle.wasm_operators_expression.specs.Stack.{OpenFrames, frames_in, IsStack};
 
-    ghost Value = { List Kind };
+    ghost Value = { OpenFrames };
 
-    ghost view = { λ s. frames_in s.innermost s.around.items };
+    ghost view = { λ s. record { frames = frames_in s.innermost s.around.items; capacity = vec_capacity s.around + 1 } };
 
     ghost invariant = { λ s. IsStack s.innermost s.around.items };
 }
 
 impl ControlStack {
-    /// No frame. It takes no memory.
+    /// No frame, and room for one. It takes no memory.
     pub fn new(alloc: Global) -> ControlStack
-        ensures { result ≡ [] }
+        ensures frames { result.frames ≡ [] }
+        ensures room { 0 < result.capacity }
     {
         ControlStack {
             innermost: None,
@@ -42,9 +42,10 @@ impl ControlStack {
         }
     }
 
-    /// No frame from now on.
+    /// No frame from now on. The room stays.
     pub fn clear(&mut self)
-        ensures { self.new ≡ [] }
+        ensures frames { self.new.frames ≡ [] }
+        ensures capacity { self.new.capacity ≡ self.old.capacity }
     {
         self.innermost = None;
         self.around.clear();
@@ -53,7 +54,7 @@ impl ControlStack {
     /// Whether no frame is open.
     #[inline]
     pub fn is_empty(&self) -> bool
-        ensures { result ≡ (length self.now == 0) }
+        ensures { result ≡ (length self.now.frames == 0) }
     {
         self.innermost.is_none()
     }
@@ -61,7 +62,7 @@ impl ControlStack {
     /// The innermost frame, if any is open.
     #[inline]
     pub fn last(&self) -> Option<FrameKind>
-        ensures { result ≡ innermost self.now }
+        ensures { result ≡ innermost self.now.frames }
     {
         self.innermost
     }
@@ -69,11 +70,13 @@ impl ControlStack {
     /// Opens a frame inside all others.
     ///
     /// # Errors
-    /// There is no memory. The frames stay as they were. The first frame is never refused.
+    /// There is no room, and no memory to make any. The frames stay as they were. The first frame is never refused.
     #[inline]
     pub fn push(&mut self, frame: FrameKind) -> Result<(), AllocError>
-        ensures frames { self.new ≡ (if is_ok result then frame ∷ self.old else self.old) }
-        ensures first { self.old ≡ [] → IsOk result }
+        ensures frames { self.new.frames ≡ (if is_ok result then frame ∷ self.old.frames else self.old.frames) }
+        ensures capacity { self.old.capacity ≤ self.new.capacity }
+        ensures first { self.old.frames ≡ [] → IsOk result }
+        ensures succeeds { length self.old.frames < self.old.capacity → IsOk result }
     {
         if let Some(outer) = self.innermost {
             self.around.push(outer)?;
@@ -82,25 +85,35 @@ impl ControlStack {
         Ok(())
     }
 
-    /// Closes the innermost frame, if any is open.
+    /// Closes the innermost frame, if any is open. The room stays.
     #[inline]
     pub fn pop(&mut self) -> Option<FrameKind>
-        ensures value { result ≡ innermost self.old }
-        ensures frames { self.new ≡ around self.old }
+        ensures value { result ≡ innermost self.old.frames }
+        ensures frames { self.new.frames ≡ around self.old.frames }
+        ensures capacity { self.new.capacity ≡ self.old.capacity }
     {
         let closed = self.innermost?;
         self.innermost = self.around.pop();
         Some(closed)
     }
 
-    /// Makes room for so many frames more.
+    /// Makes room for so many frames more than are open.
     ///
     /// # Errors
-    /// There is no memory.
+    /// That room is missing, and there is no memory for it. The room stays as it was.
     pub fn reserve(&mut self, additional: usize) -> Result<(), AllocError>
-        ensures { self.new ≡ self.old }
+        ensures frames { self.new.frames ≡ self.old.frames }
+        ensures room { OnOk result (length self.new.frames + additional ≤ self.new.capacity) }
+        ensures capacity { self.old.capacity ≤ self.new.capacity }
+        ensures succeeds { length self.old.frames + additional ≤ self.old.capacity → IsOk result }
+        ensures refused { OnErr result (self.new ≡ self.old) }
     {
-        self.around.reserve(additional)
+        // the innermost frame has room of its own
+        let around = match self.innermost {
+            Some(_) => additional,
+            None => additional.saturating_sub(1),
+        };
+        self.around.reserve(around)
     }
 
     /// The same frames once more.
@@ -108,7 +121,7 @@ impl ControlStack {
     /// # Errors
     /// There is no memory.
     pub fn clone(&self) -> Result<ControlStack, AllocError>
-        ensures { IfOk result (λ copy. copy ≡ self.now) }
+        ensures { IfOk result (λ copy. copy.frames ≡ self.now.frames) }
     {
         let around = self.around.clone()?;
         Ok(ControlStack {
@@ -118,45 +131,45 @@ impl ControlStack {
     }
 
     /// What an operator makes of the frames, if it may come next: it may leave them, open a frame, close the innermost, or
-    /// turn it, as `else` does. Where it may not it answers false, and the frames stay as they were.
+    /// turn it, as `else` does. Where it may not it answers false, and the frames stay as they were. The room never shrinks.
     ///
     /// # Errors
-    /// The operator opens a frame, and there is no memory. The frames stay as they were.
+    /// The operator opens a frame, there is no room for it, and no memory to make any. The frames stay as they were.
     #[inline]
     pub fn advance(&mut self, op: &Operator) -> Result<bool, AllocError>
-        ensures fits { IfOk result (λ fits. after (op_of op.now) self.old ≡ (if fits then Some self.new else None)) }
+        ensures fits { IfOk result (λ fits. after (op_of op.now) self.old.frames ≡ (if fits then Some self.new.frames else None)) }
         ensures stays { IfOk result (λ fits. IsFalse fits → self.new ≡ self.old) }
-        ensures refused { OnErr result (self.new ≡ self.old) }
-        ensures memory { OnErr result ((frame : Kind) × (after (op_of op.now) self.old ≡ Some (frame ∷ self.old))) }
+        ensures refused { OnErr result (self.new.frames ≡ self.old.frames) }
+        ensures memory { OnErr result ((frame : Kind) × (after (op_of op.now) self.old.frames ≡ Some (frame ∷ self.old.frames))) }
+        ensures capacity { self.old.capacity ≤ self.new.capacity }
+        ensures succeeds { length self.old.frames < self.old.capacity → IsOk result }
     {
         self.follow(Role::of(op))
     }
 
     /// What an operator of this role makes of the frames, if it may come next.
     fn follow(&mut self, role: Role) -> Result<bool, AllocError>
-        ensures fits { IfOk result (λ fits. behind role self.old ≡ (if fits then Some self.new else None)) }
+        ensures fits { IfOk result (λ fits. behind role self.old.frames ≡ (if fits then Some self.new.frames else None)) }
         ensures stays { IfOk result (λ fits. IsFalse fits → self.new ≡ self.old) }
-        ensures refused { OnErr result (self.new ≡ self.old) }
-        ensures memory { OnErr result ((frame : Kind) × (behind role self.old ≡ Some (frame ∷ self.old))) }
+        ensures refused { OnErr result (self.new.frames ≡ self.old.frames) }
+        ensures memory { OnErr result ((frame : Kind) × (behind role self.old.frames ≡ Some (frame ∷ self.old.frames))) }
+        ensures capacity { self.old.capacity ≤ self.new.capacity }
+        ensures succeeds { length self.old.frames < self.old.capacity → IsOk result }
     {
         let Some(frame) = self.innermost else {
             return Ok(false);
         };
-        if let Role::Opens(opened) = role {
-            self.push(opened)?;
-            return Ok(true);
-        }
-        if role.closes(frame) {
-            self.pop();
-            return Ok(true);
-        }
-        if let Role::Plain = role {
-            return Ok(true);
-        }
-        let Some(next) = role.turned(frame) else {
+        let Some(effect) = role.effect(frame) else {
             return Ok(false);
         };
-        self.innermost = Some(next);
+        match effect {
+            Effect::Stays => {}
+            Effect::Nests(opened) => self.push(opened)?,
+            Effect::Closes => {
+                self.pop();
+            }
+            Effect::Turns(next) => self.innermost = Some(next),
+        }
         Ok(true)
     }
 }
@@ -164,7 +177,7 @@ impl ControlStack {
 impl FrameStack for ControlStack {
     ghost use Rattle.wasm_operators_expression.specs.Stack.{innermost};
 
-    ghost frame = { innermost };
+    ghost frame = { λ s. innermost s.frames };
 
     fn current_frame(&self) -> Option<FrameKind> {
         self.last()

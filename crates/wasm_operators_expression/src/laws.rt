@@ -5,11 +5,11 @@ ghost use Rattle.wasm_operators_immediates.specs.declared.frames.FrameKind.{Fram
 ghost use Rattle.wasm_operators_immediates.specs.declared.frames.FrameKind.TheVariants.{Block};
 ghost use Rattle.wasm_types_decoding.specs.Decoder.{State, Done};
 ghost use Rattle.wasm_operators_operator.specs.Op.{Op};
-ghost use Rattle.wasm_operators_operator.specs.Frames.{fits_in};
 ghost use Rattle.wasm_operators_operator.specs.Immediates.{is_canonical};
 ghost use Rattle.wasm_operators_decode_encoding.specs.Coded.{Coded, operator};
 ghost use Rattle.wasm_operators_decode_encoding.specs.Operators.{coded_of};
-ghost use Rattle.wasm_operators_expression.specs.Roles.{Opens, role_of};
+ghost use Rattle.wasm_operators_operator.specs.declared.role.Role.TheVariants.{Opens};
+ghost use Rattle.wasm_operators_operator.specs.Roles.{role_of, fits};
 ghost use Rattle.wasm_operators_expression.specs.Code.{Code};
 ghost use Rattle.wasm_operators_expression.specs.Spelling.{SpelledExpression};
 ghost use Rattle.wasm_operators_expression.specs.Frames.{Closes, after, BytesClose};
@@ -22,7 +22,7 @@ pub const fn expressions_have_one_tree()
 /// The frames that are open tell which operator fits: the structural order allows one exactly where there are frames behind
 /// it. An operator makes one frame more at most, and that only where it opens one.
 pub const fn frames_tell_what_fits()
-    ensures fits { (o : Op) (k : Kind) (ks : List Kind) → IsTrue (fits_in o k) ↔ ((js : List Kind) × (after o (k ∷ ks) ≡ Some js)) }
+    ensures fits { (o : Op) (k : Kind) (ks : List Kind) → IsTrue (fits o (Some k)) ↔ ((js : List Kind) × (after o (k ∷ ks) ≡ Some js)) }
     ensures bounded { (o : Op) (ks js : List Kind) → after o ks ≡ Some js → length js ≤ length ks + 1 }
     ensures opened { (o : Op) (ks js : List Kind) → after o ks ≡ Some js → length ks < length js → (j : Kind) × (role_of o ≡ Opens j) × (js ≡ j ∷ ks) }
 {}

@@ -3,7 +3,5 @@
 
 mod control_stack;
 pub mod laws;
-mod roles;
 
 pub use control_stack::ControlStack;
-pub use roles::Role;

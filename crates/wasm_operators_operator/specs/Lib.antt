@@ -2,7 +2,9 @@
 pub mod Op
 pub mod Table
 pub mod Immediates
-pub mod Frames
+pub mod Roles
+-- worked rows of them
+pub mod RoleRows
 -- what is proved of them
 pub mod Laws
 pub mod EqualityLaws

@@ -1,6 +1,7 @@
 //! Laws of operators, each the contract of a function that does nothing.
 
 ghost use Rattle.wasm_operators_operator.specs.Laws.{ClonesHaveTheTree, RowsFollowFromCodes, KindsFollowFromCodes, CodesTellOperatorsApart};
+ghost use Rattle.wasm_operators_operator.specs.RoleRows.{FitsAsWorked, EffectsAsWorked};
 ghost use Rattle.wasm_operators_operator.specs.EqualityLaws.{EqualOperatorsHaveEqualTrees, ControlEqualityIsIdentity, ParametricEqualityIsOfTrees, ExceptionEqualityIsOfTrees, MemoryEqualityIsIdentity, ConstEqualityIsIdentity, NumericEqualityIsIdentity, BulkEqualityIsIdentity, GcEqualityIsIdentity, DescriptorEqualityIsIdentity, SimdEqualityIsIdentity, SimdNumericEqualityIsIdentity, AtomicEqualityIsIdentity, SharedEqualityIsIdentity, ContinuationEqualityIsOfTrees};
 
 use wasm_types_values::laws::equality_is_identity;
@@ -45,3 +46,9 @@ pub const fn equal_operators_have_equal_trees()
 {
     equality_is_identity();
 }
+
+/// Which operators may stand in which frame, and what they make of it, worked.
+pub const fn roles_as_worked()
+    ensures fits { FitsAsWorked }
+    ensures effects { EffectsAsWorked }
+{}

@@ -6,5 +6,7 @@
 
 pub mod laws;
 mod operator;
+mod role;
 
 pub use operator::Operator;
+pub use role::{Effect, Role};

@@ -3,6 +3,7 @@
 ghost use Rattle.std.specs.Prelude.{◌≡◌};
 ghost use Rattle.wasm_operators_info.specs.Info.{told};
 
+use crate::role::Role;
 use wasm_operators_control::{
     ContinuationOperator, ControlOperator, ExceptionOperator, ParametricOperator,
 };
@@ -51,7 +52,7 @@ pub enum Operator<'a> {
 impl<'a> Operator<'a> {
     ghost use Rattle.wasm_operators_operator.specs.Op.{op_of};
     ghost use Rattle.wasm_operators_operator.specs.Table.{info_of};
-    ghost use Rattle.wasm_operators_operator.specs.Frames.{fits};
+    ghost use Rattle.wasm_operators_operator.specs.Roles.{fits};
 
     /// What is told of it apart from what it carries: its proposal, name, prefix and code.
     pub fn info(&self) -> OperatorInfo
@@ -85,15 +86,6 @@ impl<'a> Operator<'a> {
         let Some(frame) = frame else {
             return false;
         };
-        match self {
-            Operator::Control(ControlOperator::Else) => matches!(frame, FrameKind::If),
-            Operator::Exception(ExceptionOperator::Catch { .. } | ExceptionOperator::CatchAll) => {
-                matches!(frame, FrameKind::LegacyTry | FrameKind::LegacyCatch)
-            }
-            Operator::Exception(ExceptionOperator::Delegate { .. }) => {
-                matches!(frame, FrameKind::LegacyTry)
-            }
-            _ => true,
-        }
+        Role::of(self).effect(frame).is_some()
     }
 }

@@ -1,13 +1,13 @@
-//! What operators are for the nesting of instructions.
+//! What operators do to the frames in which they stand.
 
 ghost use Rattle.std.specs.Prelude.{◌≡◌};
 ghost use Rattle.wasm_operators_control.specs.Trees.{exception_of};
 ghost use Rattle.wasm_operators_operator.specs.Op.{op_of};
-ghost use Rattle.wasm_operators_expression.specs.Roles.{role_of, control_role, exception_role, closes, turned};
+ghost use Rattle.wasm_operators_operator.specs.Roles.{role_of, control_role, exception_role, effect, clause};
 
+use crate::operator::Operator;
 use wasm_operators_control::{ControlOperator, ExceptionOperator};
 use wasm_operators_immediates::FrameKind;
-use wasm_operators_operator::Operator;
 
 /// What an operator is for the nesting of instructions.
 #[derive(Clone, Copy)]
@@ -26,6 +26,19 @@ pub enum Role {
     Delegate,
     /// `end`.
     End,
+}
+
+/// What an operator does to the innermost frame.
+#[derive(Clone, Copy)]
+pub enum Effect {
+    /// Nothing.
+    Stays,
+    /// It opens a frame of this kind inside it.
+    Nests(FrameKind),
+    /// It closes it.
+    Closes,
+    /// It turns it into one of this kind, as `else` does.
+    Turns(FrameKind),
 }
 
 impl Role {
@@ -52,38 +65,37 @@ impl Role {
         }
     }
 
-    /// Whether an operator of this role closes such a frame.
+    /// What an operator of this role does to such a frame, if it may stand in it.
     #[inline]
-    pub fn closes(self, frame: FrameKind) -> bool
-        ensures { result ≡ closes self frame }
+    pub fn effect(self, frame: FrameKind) -> Option<Effect>
+        ensures { result ≡ effect self frame }
     {
         match self {
-            Role::End => true,
-            Role::Delegate => matches!(frame, FrameKind::LegacyTry),
-            _ => false,
+            Role::Plain => Some(Effect::Stays),
+            Role::Opens(opened) => Some(Effect::Nests(opened)),
+            Role::End => Some(Effect::Closes),
+            Role::Else => match frame {
+                FrameKind::If => Some(Effect::Turns(FrameKind::Else)),
+                _ => None,
+            },
+            Role::Catch => clause(FrameKind::LegacyCatch, frame),
+            Role::CatchAll => clause(FrameKind::LegacyCatchAll, frame),
+            Role::Delegate => match frame {
+                FrameKind::LegacyTry => Some(Effect::Closes),
+                _ => None,
+            },
         }
     }
+}
 
-    /// The kind that an operator of this role makes of such a frame, if it turns it.
-    #[inline]
-    pub fn turned(self, frame: FrameKind) -> Option<FrameKind>
-        ensures { result ≡ turned self frame }
-    {
-        let clause = match self {
-            Role::Else => {
-                return match frame {
-                    FrameKind::If => Some(FrameKind::Else),
-                    _ => None,
-                };
-            }
-            Role::Catch => FrameKind::LegacyCatch,
-            Role::CatchAll => FrameKind::LegacyCatchAll,
-            _ => return None,
-        };
-        match frame {
-            FrameKind::LegacyTry | FrameKind::LegacyCatch => Some(clause),
-            _ => None,
-        }
+// The clause of an older `try` that such a frame becomes, if it is a `try` or the clause of a tag.
+#[inline]
+fn clause(kind: FrameKind, frame: FrameKind) -> Option<Effect>
+    ensures { result ≡ clause kind frame }
+{
+    match frame {
+        FrameKind::LegacyTry | FrameKind::LegacyCatch => Some(Effect::Turns(kind)),
+        _ => None,
     }
 }
 
