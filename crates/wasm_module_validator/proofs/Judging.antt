@@ -1,19 +1,22 @@
 -- What a refusal of a part says of the whole.
-use Rattle.std.proofs.Common.{◌≡◌, ℕ, ◌<◌, List, length, get_or, Option, Some, Result, Ok, Err, refl, sym, ◌∙◌, subst}
-use Rattle.std.specs.Prelude.{slice_get}
+use Rattle.std.proofs.Common.{◌≡◌, ℕ, ◌<◌, ◌≤◌, List, length, get_or, Option, Some, Result, Ok, Err, refl, sym, ◌∙◌, subst}
+use Rattle.std.specs.Prelude.{slice_get, IfOk}
 use Rattle.std.proofs.lemmas.Option.{slice_get_read}
 use Rattle.wasm_types_decoding.specs.Decoder.{State, Outcome, Done}
 use Rattle.wasm_types_decoding.specs.Exact.{value_is}
 use Rattle.wasm_types_error.specs.declared.error.ErrorKind.{ErrorKind}
 use Rattle.wasm_types_error.specs.declared.error.ErrorKind.TheVariants as kinds
 use Rattle.wasm_types_error.specs.ErrorValue.{ErrorValue}
-use Rattle.wasm_types_reader.specs.Reading.{FailsAt}
-use Rattle.wasm_module_validator.specs.Accepts.{Accepts}
+use Rattle.wasm_types_reader.specs.Reading.{FailsAt, Fails, Gives, Collects}
+use Rattle.wasm_module_validator.specs.Answers.{Counts, Shows}
+use Rattle.wasm_module_validator.specs.Refusals.{at_begin}
+use Rattle.wasm_module_validator.specs.Syntax.{Module}
+use Rattle.wasm_module_validator.specs.Accepts.{Accepts, Judges}
 use Rattle.wasm_module_validator_operands.specs.Syntax.{FunctionType}
 use Rattle.wasm_module_validator_bodies.specs.Bodies.{AcceptsBody}
 use Rattle.wasm_module_validator_operands.specs.Answers.{Denies, denies_from, Tells}
-use Rattle.wasm_module_validator.specs.Frames.{Frames, module_frames}
-use Rattle.wasm_module_validator.specs.Judged.{AreAccepted, AcceptsAt, IsAcceptedAt, at_accepted}
+use Rattle.wasm_module_validator.specs.laws.Frames.{Frames, module_frames}
+use Rattle.wasm_module_validator.specs.laws.Judged.{AreAccepted, AcceptsAt, IsAcceptedAt, at_accepted, few_frames, shown_at}
 
 -- what is refused gives no frames
 no_frames : (k : ErrorKind) (p : ℕ) (o : Outcome Frames) → FailsAt k p o → Denies k ((f : Frames) × (t : State) × (o ≡ Done f t) × AreAccepted f.types f.functions f.entries)
@@ -35,6 +38,34 @@ accepted_functions s t f e a =
 
 pub not_judged : (k : ErrorKind) (s t : State) (f : Frames) → module_frames s ≡ Done f t → Denies k (AreAccepted f.types f.functions f.entries) → Denies k (Accepts s.rest)
 not_judged k s t f e d = denies_from k (AreAccepted f.types f.functions f.entries) (Accepts s.rest) (accepted_functions s t f e) d
+
+-- ---- all of the bytes, from the first
+
+-- what a reader of them answered, wherever it was left
+pub collected : {X Y : Type 0} (view : X → Y) (r : Result X ErrorValue) (after : State) (o p : Outcome Y) → o ≡ p → Gives view r after o → Collects view r p
+collected view (Ok x) after o p e g = (after, sym e ∙ g)
+collected {Y = Y} view (Err k) after o p e g = subst (λ (q : Outcome Y). Fails k q) e g
+
+pub begin_not_read : (e : ErrorValue) (bytes : List ℕ) → Fails e (module_frames (at_begin bytes)) → Denies e.kind (Accepts bytes)
+unfolding at_begin
+begin_not_read e bytes h = not_read e.kind e.offset (at_begin bytes) h
+
+module _ (bytes : List ℕ) (f : Frames) (t : State) (read : module_frames (at_begin bytes) ≡ Done f t) where
+  pub begin_few : (length f.types ≤ 1000000) × (length f.functions ≤ 1000000)
+  begin_few = few_frames (at_begin bytes) t f read
+
+  pub begin_judged : {X : Type 0} (r : Result X ErrorValue) → Tells r (AreAccepted f.types f.functions f.entries) → Tells r (Accepts bytes)
+  unfolding at_begin
+  begin_judged (Ok x) a = let m = shown_at (at_begin bytes) f t read a in (m.0, m.1)
+  begin_judged (Err k) d = not_judged k.kind (at_begin bytes) t f read d
+
+  pub begin_shown : (r : Result Counts ErrorValue) → Tells r (AreAccepted f.types f.functions f.entries) → IfOk r (λ c. c.types ≡ length f.types) → IfOk r (λ c. c.functions ≡ length f.functions)
+      → IfOk r (λ c. (m : Module) × Judges bytes m × Shows c m)
+  unfolding at_begin
+  begin_shown (Ok c) a types functions =
+      let m = shown_at (at_begin bytes) f t read a in
+      (m.0, m.1, record { types = types ∙ sym m.2; functions = functions ∙ sym m.3 })
+  begin_shown (Err k) d types functions = tt
 
 -- ---- a function at its place
 

@@ -3,16 +3,8 @@ pub mod Syntax
 pub mod Binary
 pub mod Validation
 pub mod Accepts
--- What contracts say beside them.
+-- What contracts promise beside them.
 pub mod Answers
--- How bytes are read, and why that is exact.
-pub mod Types
-pub mod TypeLaws
-pub mod Frames
 pub mod Refusals
-pub mod Entries
-pub mod Rows
-pub mod FrameLaws
-pub mod SectionLaws
-pub mod ModuleLaws
-pub mod Judged
+-- How bytes are read, as decoders, and why that is exact.
+pub mod laws

@@ -3,9 +3,9 @@
 ghost use Rattle.std.specs.Prelude.{◌≡◌, ◌∷◌, map, length};
 ghost use Rattle.wasm_types_decoding.specs.Decoder.{Reaches, repeated};
 ghost use Rattle.wasm_types_reader.specs.Reading.{Gives};
-ghost use Rattle.wasm_module_validator.specs.Frames.{IsCounted, begins, entered, ended, items, type_index, entries, type_section, function_section, code_section, preamble, module_frames};
-ghost use Rattle.wasm_module_validator.specs.Types.{function_type};
-ghost use Rattle.wasm_module_validator.specs.Entries.{bodies, frames_of};
+ghost use Rattle.wasm_module_validator.specs.laws.Frames.{IsCounted, begins, entered, ended, items, type_index, entries, type_section, function_section, code_section, preamble, module_frames};
+ghost use Rattle.wasm_module_validator.specs.laws.Types.{function_type};
+ghost use Rattle.wasm_module_validator.specs.laws.Entries.{bodies, frames_of};
 ghost use Rattle.wasm_types_error.specs.declared.error.ErrorKind.TheVariants.{Other};
 
 use crate::types::TypeEntry;
@@ -25,6 +25,9 @@ const FUNCTION_SECTION: u8 = 3;
 
 const CODE_SECTION: u8 = 10;
 
+/// The largest id of a section: that of the section of tags.
+const LAST_SECTION: u8 = 13;
+
 /// An entry of the code section: the bytes of a function.
 #[derive(Drop)]
 pub struct FunctionBody<'a> {
@@ -33,8 +36,8 @@ pub struct FunctionBody<'a> {
 
 impl<'a> FromReader<'a> for FunctionBody<'a> {
     ghost use Rattle.std.specs.Prelude.{ℕ, List, false};
-    ghost use Rattle.wasm_module_validator.specs.Frames.{body};
-    ghost use Rattle.wasm_module_validator.specs.FrameLaws.{lawful-body, decides-body};
+    ghost use Rattle.wasm_module_validator.specs.laws.Frames.{body};
+    ghost use Rattle.wasm_module_validator.specs.laws.FrameLaws.{lawful-body, decides-body};
 
     ghost Value = { List ℕ };
 
@@ -50,7 +53,7 @@ impl<'a> FromReader<'a> for FunctionBody<'a> {
 
     ghost exact = { decides-body };
 
-    #[tactic(auto, using(wasm_types_decoding::specs::Laws::reaches_self, wasm_types_decoding::specs::Laws::reaches_then), unfolding(crate::specs::Frames::body))]
+    #[tactic(auto, using(wasm_types_decoding::specs::Laws::reaches_self, wasm_types_decoding::specs::Laws::reaches_then), unfolding(crate::specs::laws::Frames::body))]
     fn from_reader(_alloc: Global, reader: &mut BinaryReader<'a>) -> Result<FunctionBody<'a>> {
         let reader = reader.read_reader()?;
         if reader.bytes_remaining() > MAX_WASM_FUNCTION_SIZE {
@@ -81,7 +84,7 @@ pub struct ModuleFrames<'a> {
 
 /// The header and the sections of a module, to the last byte; the bytes of its functions stay as they are. Where it is
 /// refused the reader may have gone on.
-#[tactic(auto, using(wasm_types_decoding::specs::Laws::reaches_self, wasm_types_decoding::specs::Laws::reaches_then), unfolding(crate::specs::Frames::module_frames, crate::specs::Frames::frames))]
+#[tactic(auto, using(wasm_types_decoding::specs::Laws::reaches_self, wasm_types_decoding::specs::Laws::reaches_then), unfolding(crate::specs::laws::Frames::module_frames, crate::specs::laws::Frames::frames))]
 pub fn read_module<'a>(alloc: Global, reader: &mut BinaryReader<'a>) -> Result<ModuleFrames<'a>>
     ensures { Gives frames_of result reader.new (module_frames reader.old) }
 {
@@ -99,7 +102,7 @@ pub fn read_module<'a>(alloc: Global, reader: &mut BinaryReader<'a>) -> Result<M
     })
 }
 
-/// That the section which stands next is unknown, or not in its place.
+/// That the section which stands next is unknown, not supported yet, or not in its place.
 #[cold]
 fn section_error(reader: &BinaryReader<'_>) -> Error
     ensures kind { result.kind ≡ Other }
@@ -110,13 +113,16 @@ fn section_error(reader: &BinaryReader<'_>) -> Error
         Ok(TYPE_SECTION | FUNCTION_SECTION | CODE_SECTION) => {
             Error::new("section out of order", place)
         }
+        Ok(id) if id <= LAST_SECTION => {
+            Error::fmt(format_args!("section {id} is not supported yet"), place)
+        }
         Ok(id) => Error::fmt(format_args!("malformed section id: {id}"), place),
         Err(_) => Error::new("section out of order", place),
     }
 }
 
 /// The magic number and the version.
-#[tactic(auto, using(wasm_types_decoding::specs::Laws::reaches_self, wasm_types_decoding::specs::Laws::reaches_then), unfolding(crate::specs::Frames::preamble))]
+#[tactic(auto, using(wasm_types_decoding::specs::Laws::reaches_self, wasm_types_decoding::specs::Laws::reaches_then), unfolding(crate::specs::laws::Frames::preamble))]
 fn read_header(reader: &mut BinaryReader<'_>) -> Result<()>
     ensures { Gives (λ u. u) result reader.new (preamble reader.old) }
 {
@@ -192,7 +198,7 @@ fn count_error(desc: &str, limit: usize, place: u64) -> Error
 }
 
 /// The function types of a module; none where there is no type section. Where it is refused the reader may have gone on.
-#[tactic(auto, using(wasm_types_decoding::specs::Laws::reaches_self, wasm_types_decoding::specs::Laws::reaches_then), unfolding(crate::specs::Frames::section, crate::specs::Frames::contents, crate::specs::Frames::type_section))]
+#[tactic(auto, using(wasm_types_decoding::specs::Laws::reaches_self, wasm_types_decoding::specs::Laws::reaches_then), unfolding(crate::specs::laws::Frames::section, crate::specs::laws::Frames::contents, crate::specs::laws::Frames::type_section))]
 pub fn read_type_section<'a>(alloc: Global, reader: &mut BinaryReader<'a>) -> Result<Vec<TypeEntry>>
     ensures answer { Gives (λ v. v.items) result reader.new (type_section reader.old) }
     ensures forward { Reaches reader.old reader.new }
@@ -206,7 +212,7 @@ pub fn read_type_section<'a>(alloc: Global, reader: &mut BinaryReader<'a>) -> Re
     Ok(types)
 }
 
-#[tactic(auto, using(wasm_types_decoding::specs::Laws::reaches_self, wasm_types_decoding::specs::Laws::reaches_then), unfolding(crate::specs::Frames::items))]
+#[tactic(auto, using(wasm_types_decoding::specs::Laws::reaches_self, wasm_types_decoding::specs::Laws::reaches_then), unfolding(crate::specs::laws::Frames::items))]
 fn read_types<'a>(alloc: Global, contents: &mut BinaryReader<'a>) -> Result<Vec<TypeEntry>>
     ensures { Gives (λ v. v.items) result contents.new (items 1000000 function_type contents.old) }
 {
@@ -220,7 +226,7 @@ fn read_types<'a>(alloc: Global, contents: &mut BinaryReader<'a>) -> Result<Vec<
 
 /// The place of each function's type, where there are so many types; none where there is no function section. Where it is
 /// refused the reader may have gone on.
-#[tactic(auto, using(wasm_types_decoding::specs::Laws::reaches_self, wasm_types_decoding::specs::Laws::reaches_then), unfolding(crate::specs::Frames::section, crate::specs::Frames::contents, crate::specs::Frames::function_section))]
+#[tactic(auto, using(wasm_types_decoding::specs::Laws::reaches_self, wasm_types_decoding::specs::Laws::reaches_then), unfolding(crate::specs::laws::Frames::section, crate::specs::laws::Frames::contents, crate::specs::laws::Frames::function_section))]
 pub fn read_function_section<'a>(
     alloc: Global,
     types: usize,
@@ -238,7 +244,7 @@ pub fn read_function_section<'a>(
     Ok(functions)
 }
 
-#[tactic(auto, using(wasm_types_decoding::specs::Laws::reaches_self, wasm_types_decoding::specs::Laws::reaches_then), unfolding(crate::specs::Frames::items))]
+#[tactic(auto, using(wasm_types_decoding::specs::Laws::reaches_self, wasm_types_decoding::specs::Laws::reaches_then), unfolding(crate::specs::laws::Frames::items))]
 fn read_functions<'a>(
     alloc: Global,
     types: usize,
@@ -270,7 +276,7 @@ fn read_type_indices<'a>(
     Ok(functions)
 }
 
-#[tactic(auto, using(wasm_types_decoding::specs::Laws::reaches_self, wasm_types_decoding::specs::Laws::reaches_then), unfolding(crate::specs::Frames::type_index))]
+#[tactic(auto, using(wasm_types_decoding::specs::Laws::reaches_self, wasm_types_decoding::specs::Laws::reaches_then), unfolding(crate::specs::laws::Frames::type_index))]
 fn read_type_index<'a>(types: usize, contents: &mut BinaryReader<'a>) -> Result<u32>
     ensures { Gives (λ x. x) result contents.new (type_index types contents.old) }
 {
@@ -295,7 +301,7 @@ fn index_error(index: u32, place: u64) -> Error
 
 /// The entries of the code section, which has as many as there are functions; none where there is neither. Where it is
 /// refused the reader may have gone on.
-#[tactic(auto, using(wasm_types_decoding::specs::Laws::reaches_self, wasm_types_decoding::specs::Laws::reaches_then), unfolding(crate::specs::Frames::section, crate::specs::Frames::contents, crate::specs::Frames::code_section))]
+#[tactic(auto, using(wasm_types_decoding::specs::Laws::reaches_self, wasm_types_decoding::specs::Laws::reaches_then), unfolding(crate::specs::laws::Frames::section, crate::specs::laws::Frames::contents, crate::specs::laws::Frames::code_section))]
 pub fn read_code_section<'a>(
     alloc: Global,
     functions: usize,
@@ -316,7 +322,7 @@ pub fn read_code_section<'a>(
     Ok(entries)
 }
 
-#[tactic(auto, using(wasm_types_decoding::specs::Laws::reaches_self, wasm_types_decoding::specs::Laws::reaches_then), unfolding(crate::specs::Frames::entries))]
+#[tactic(auto, using(wasm_types_decoding::specs::Laws::reaches_self, wasm_types_decoding::specs::Laws::reaches_then), unfolding(crate::specs::laws::Frames::entries))]
 fn read_entries<'a>(
     alloc: Global,
     functions: usize,

@@ -1,8 +1,8 @@
 //! Types of functions, as the type section of a module gives them.
 
 ghost use Rattle.std.specs.Prelude.{◌≡◌};
-ghost use Rattle.wasm_module_validator_bodies.specs.Types.{is_number};
-ghost use Rattle.wasm_module_validator.specs.Types.{are_numbers};
+ghost use Rattle.wasm_module_validator_bodies.specs.laws.Types.{is_number};
+ghost use Rattle.wasm_module_validator.specs.laws.Types.{are_numbers};
 
 use std::alloc::Global;
 use std::marker::Model;
@@ -43,8 +43,8 @@ impl<'a> FromReader<'a> for TypeEntry {
     ghost use Rattle.std.specs.Prelude.{true};
     ghost use Rattle.wasm_module_validator_operands.specs.Syntax.{FunctionType};
     ghost use Rattle.wasm_module_validator.specs.Binary.{SpellsFunctionType};
-    ghost use Rattle.wasm_module_validator.specs.Types.{function_type};
-    ghost use Rattle.wasm_module_validator.specs.TypeLaws.{lawful-function_type, decides-function_type};
+    ghost use Rattle.wasm_module_validator.specs.laws.Types.{function_type};
+    ghost use Rattle.wasm_module_validator.specs.laws.TypeLaws.{lawful-function_type, decides-function_type};
 
     ghost Value = { FunctionType };
 
@@ -60,7 +60,7 @@ impl<'a> FromReader<'a> for TypeEntry {
 
     ghost exact = { decides-function_type };
 
-    #[tactic(auto, using(wasm_types_decoding::specs::Laws::reaches_self, wasm_types_decoding::specs::Laws::reaches_then), unfolding(crate::specs::Types::function_type))]
+    #[tactic(auto, using(wasm_types_decoding::specs::Laws::reaches_self, wasm_types_decoding::specs::Laws::reaches_then), unfolding(crate::specs::laws::Types::function_type))]
     fn from_reader(alloc: Global, reader: &mut BinaryReader<'a>) -> Result<TypeEntry> {
         let start = reader.original_position();
         if reader.read_u8()? != 0x60 {

@@ -1,20 +1,22 @@
 //! The validator of whole modules.
 
-ghost use Rattle.std.specs.Prelude.{◌≡◌, ◌↔◌, IsTrue, IfOk, OnOk, OnErr};
+ghost use Rattle.std.specs.Prelude.{◌≡◌, ◌↔◌, ◌≤◌, length, IsTrue, IfOk};
 ghost use Rattle.wasm_module_validator.specs.declared.validator.State.TheVariants as states;
 ghost use Rattle.wasm_module_validator.specs.Accepts.{Accepts, Judges};
 ghost use Rattle.wasm_module_validator_operands.specs.Answers.{Tells};
 ghost use Rattle.wasm_module_validator.specs.Answers.{Counts, Shows};
-ghost use Rattle.wasm_module_validator.specs.Refusals.{RefusedAsRead};
+ghost use Rattle.wasm_module_validator.specs.Refusals.{at_begin, RefusedAsRead, RefusesFunction, progress_after, progress_of};
+ghost use Rattle.wasm_types_reader.specs.Reading.{Collects};
 ghost use Rattle.wasm_module_validator.specs.Syntax.{Module};
-ghost use Rattle.wasm_module_validator.specs.Entries.{bodies};
-ghost use Rattle.wasm_module_validator.specs.Judged.{AreAccepted, AcceptsAt};
+ghost use Rattle.wasm_module_validator.specs.laws.Frames.{module_frames};
+ghost use Rattle.wasm_module_validator.specs.laws.Entries.{bodies, frames_of};
+ghost use Rattle.wasm_module_validator.specs.laws.Judged.{AreAccepted, AcceptsAt};
 
 use crate::sections::{ModuleFrames, read_module};
 use std::alloc::Global;
 use std::marker::Model;
 use wasm_module_validator_bodies::FuncValidator;
-use wasm_types::{BinaryReader, Error};
+use wasm_types::{BinaryReader, Error, ErrorKind};
 
 /// Tells a validator from others; the caller makes each number once.
 #[derive(Clone, Copy, Debug, PartialEq, Eq, PartialOrd, Ord, Hash)]
@@ -34,9 +36,9 @@ impl ValidatorId {
 pub enum State {
     /// Nothing was read yet.
     Unparsed,
-    /// A module was accepted.
+    /// A module was accepted, or nothing but a function of it was refused.
     Ended,
-    /// Something was refused.
+    /// The header or a section was refused, or memory ran out.
     Failed,
 }
 
@@ -76,25 +78,40 @@ impl Validator {
     }
 
     /// Validates a module that is all of these bytes.
+    ///
+    /// Refused for a function alone it has ended; refused for the header or a section, or for memory, it has failed.
     pub fn validate_all(&mut self, bytes: &[u8]) -> Result<Types, Error>
         requires { self.old ≡ states.Unparsed }
         ensures verdict { Tells result (Accepts bytes.now) }
         ensures shown { IfOk result (λ types. (m : Module) × Judges bytes.now m × Shows types m) }
         ensures refused { RefusedAsRead result bytes.now }
-        ensures ended { OnOk result (self.new ≡ states.Ended) }
-        ensures failed { OnErr result (self.new ≡ states.Failed) }
+        ensures progress { self.new ≡ progress_after result bytes.now }
     {
-        let judged = judge(self.alloc, bytes);
-        self.state = if judged.is_ok() {
-            State::Ended
-        } else {
-            State::Failed
-        };
+        self.state = State::Failed;
+        let module = read_all(self.alloc, bytes)?;
+        let judged = judge(self.alloc, &module);
+        self.state = state_after(&judged);
         judged
     }
 }
 
+/// How far a validator is that read all sections and judged the functions.
+fn state_after(judged: &Result<Types, Error>) -> State
+    ensures { result ≡ progress_of judged.now }
+{
+    match judged {
+        Ok(_) => State::Ended,
+        Err(error) => match error.kind() {
+            ErrorKind::OutOfMemory => State::Failed,
+            _ => State::Ended,
+        },
+    }
+}
+
 /// Validates a module that is all of these bytes.
+///
+/// A header or a section is refused with the kind and at the offset that its reader gives; a function with kind 5, or with kind 1
+/// where its bytes end too early.
 pub fn validate(alloc: Global, id: ValidatorId, bytes: &[u8]) -> Result<Types, Error>
     ensures verdict { Tells result (Accepts bytes.now) }
     ensures shown { IfOk result (λ types. (m : Module) × Judges bytes.now m × Shows types m) }
@@ -159,15 +176,24 @@ impl<'a> TypesRef<'a> {
     }
 }
 
-/// Reads all of the bytes as a module, and then judges its functions.
-fn judge(alloc: Global, bytes: &[u8]) -> Result<Types, Error>
-    ensures verdict { Tells result (Accepts bytes.now) }
-    ensures shown { IfOk result (λ types. (m : Module) × Judges bytes.now m × Shows types m) }
-    ensures refused { RefusedAsRead result bytes.now }
+/// Reads all of the bytes as a module, whose functions stay as they are.
+fn read_all(alloc: Global, bytes: &[u8]) -> Result<ModuleFrames<'_>, Error>
+    ensures { Collects frames_of result (module_frames (at_begin bytes.now)) }
 {
     let mut reader = BinaryReader::new(bytes, 0);
-    let module = read_module(alloc, &mut reader)?;
-    validate_bodies(alloc, &module)?;
+    read_module(alloc, &mut reader)
+}
+
+/// Judges the functions of a module, and counts what it has.
+fn judge(alloc: Global, module: &ModuleFrames<'_>) -> Result<Types, Error>
+    requires types { length «module».now.types.items ≤ 1000000 }
+    requires functions { length «module».now.functions.items ≤ 1000000 }
+    ensures verdict { Tells result (AreAccepted «module».now.types.items «module».now.functions.items (bodies «module».now.bodies.items)) }
+    ensures types { IfOk result (λ t. t.types ≡ length «module».now.types.items) }
+    ensures functions { IfOk result (λ t. t.functions ≡ length «module».now.functions.items) }
+    ensures kind { RefusesFunction result }
+{
+    validate_bodies(alloc, module)?;
     let types = module.types.as_slice();
     let functions = module.functions.as_slice();
     Ok(Types {
@@ -178,7 +204,8 @@ fn judge(alloc: Global, bytes: &[u8]) -> Result<Types, Error>
 
 /// Judges each function by its type.
 fn validate_bodies(alloc: Global, module: &ModuleFrames<'_>) -> Result<(), Error>
-    ensures { Tells result (AreAccepted «module».now.types.items «module».now.functions.items (bodies «module».now.bodies.items)) }
+    ensures verdict { Tells result (AreAccepted «module».now.types.items «module».now.functions.items (bodies «module».now.bodies.items)) }
+    ensures kind { RefusesFunction result }
 {
     let functions = module.functions.as_slice();
     let bodies = module.bodies.as_slice();
@@ -198,7 +225,8 @@ fn validate_body(
     module: &ModuleFrames<'_>,
     place: usize,
 ) -> Result<(), Error>
-    ensures { Tells result (AcceptsAt «module».now.types.items «module».now.functions.items (bodies «module».now.bodies.items) place) }
+    ensures verdict { Tells result (AcceptsAt «module».now.types.items «module».now.functions.items (bodies «module».now.bodies.items) place) }
+    ensures kind { RefusesFunction result }
 {
     let Some(index) = module.functions.get(place) else {
         return Err(Error::new("unknown function: function index out of bounds", 0));

@@ -12,8 +12,8 @@ use Rattle.wasm_module_validator_bodies.specs.Binary.{SpellsLocalGroup, SpellsEx
 use Rattle.wasm_module_validator_operands.specs.Validation.{OperandType, Typed, stack, expanded}
 use Rattle.wasm_module_validator_bodies.specs.Bodies.{AcceptsBody}
 use Rattle.wasm_module_validator_operands.specs.Answers.{Denies}
-use Rattle.wasm_module_validator_bodies.specs.Operators.{local_group}
-use Rattle.wasm_module_validator_bodies.specs.OperatorLaws.{decides-local_group}
+use Rattle.wasm_module_validator_bodies.specs.laws.Operators.{local_group}
+use Rattle.wasm_module_validator_bodies.specs.laws.OperatorLaws.{decides-local_group}
 use Rattle.wasm_module_validator_operands.specs.Operands.{Known, Covers, fresh}
 use Rattle.wasm_module_validator_bodies.specs.Remaining.{function_type, GroupsLeft, BodyLeft}
 use Rattle.wasm_module_validator_operands.proofs.Covering.{denies_also}

@@ -14,8 +14,8 @@ use Rattle.wasm_module_validator_operands.specs.Syntax.{Instruction, unreachable
 use Rattle.wasm_module_validator_bodies.specs.Binary.{SpellsInstruction, SpellsExpression}
 use Rattle.wasm_module_validator_operands.specs.Validation.{OperandType, stack, Steps, Typed}
 use Rattle.wasm_module_validator_operands.specs.Answers.{Denies}
-use Rattle.wasm_module_validator_bodies.specs.Operators.{SpellsOperator, operator}
-use Rattle.wasm_module_validator_bodies.specs.OperatorLaws.{decides-operator}
+use Rattle.wasm_module_validator_bodies.specs.laws.Operators.{SpellsOperator, operator}
+use Rattle.wasm_module_validator_bodies.specs.laws.OperatorLaws.{decides-operator}
 use Rattle.wasm_module_validator_operands.specs.Operands.{Does, Known, Stacks, Stepped, MayStep, Visits, Ended, MayEnd}
 use Rattle.wasm_module_validator_bodies.specs.Remaining.{Continues, Closes, BodyLeft, Taken, MayTake}
 use Rattle.wasm_module_validator_operands.proofs.Covering.{all_match_refl, covers_above, does_also, denies_also}

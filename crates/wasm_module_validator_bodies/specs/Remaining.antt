@@ -6,7 +6,7 @@ use Rattle.wasm_module_validator_operands.specs.Syntax.{FunctionType, Code, Loca
 use Rattle.wasm_module_validator_operands.specs.Validation.{OperandType, stack, Typed}
 use Rattle.wasm_module_validator_operands.specs.Operands.{Known, fresh, Stacks}
 use Rattle.wasm_module_validator_bodies.specs.Binary.{SpellsExpression, SpellsLocalGroup}
-use Rattle.wasm_module_validator_bodies.specs.Operators.{SpellsOperator}
+use Rattle.wasm_module_validator_bodies.specs.laws.Operators.{SpellsOperator}
 
 -- what is left of an open body: an expression that is typed from one of the stacks
 pub record Continues (results : List ValType) (k : Known) (bytes : List ℕ) : Type 0 where

@@ -26,8 +26,8 @@ pub enum Operator {
 impl<'a> FromReader<'a> for Operator {
     ghost use Rattle.std.specs.Prelude.{false};
     ghost use Rattle.wasm_module_validator_bodies.specs.declared.operators.Operator.{Operator as TheOperator};
-    ghost use Rattle.wasm_module_validator_bodies.specs.Operators.{operator, SpellsOperator};
-    ghost use Rattle.wasm_module_validator_bodies.specs.OperatorLaws.{lawful-operator, decides-operator};
+    ghost use Rattle.wasm_module_validator_bodies.specs.laws.Operators.{operator, SpellsOperator};
+    ghost use Rattle.wasm_module_validator_bodies.specs.laws.OperatorLaws.{lawful-operator, decides-operator};
 
     ghost Value = { TheOperator };
 
@@ -44,7 +44,7 @@ impl<'a> FromReader<'a> for Operator {
     ghost exact = { decides-operator };
 
     #[inline]
-    #[tactic(auto, using(wasm_types_decoding::specs::Laws::reaches_self, wasm_types_decoding::specs::Laws::reaches_then), unfolding(crate::specs::Operators::operator))]
+    #[tactic(auto, using(wasm_types_decoding::specs::Laws::reaches_self, wasm_types_decoding::specs::Laws::reaches_then), unfolding(crate::specs::laws::Operators::operator))]
     fn from_reader(_alloc: Global, reader: &mut BinaryReader<'a>) -> Result<Operator> {
         let code = reader.read_u8()?;
         match code {
@@ -71,13 +71,27 @@ impl<'a> FromReader<'a> for Operator {
     }
 }
 
-/// That no operator has this opcode.
+/// That no operator has this opcode, or one that is not supported yet.
 #[cold]
 fn illegal_opcode(code: u8, offset: u64) -> Error
     ensures kind { result.kind ≡ Other }
     ensures offset { result.offset ≡ offset }
 {
+    if begins_operator(code) {
+        return Error::fmt(
+            format_args!("operator 0x{code:02x} is not supported yet"),
+            offset,
+        );
+    }
     Error::fmt(format_args!("illegal opcode: 0x{code:x}"), offset)
+}
+
+/// Whether some operator begins with this byte (WebAssembly 3.0 and its proposals, binary format, instructions).
+fn begins_operator(code: u8) -> bool {
+    matches!(
+        code,
+        0x02..=0x15 | 0x18..=0x1c | 0x1f..=0x26 | 0x28..=0xc4 | 0xd0..=0xd6 | 0xe0..=0xe6 | 0xfb..=0xfe
+    )
 }
 
 /// So many locals of one type (WebAssembly 3.0, binary format, code section).
@@ -91,8 +105,8 @@ impl<'a> FromReader<'a> for LocalGroup {
     ghost use Rattle.std.specs.Prelude.{false};
     ghost use Rattle.wasm_module_validator_operands.specs.Syntax.{LocalGroup as TheLocalGroup};
     ghost use Rattle.wasm_module_validator_bodies.specs.Binary.{SpellsLocalGroup};
-    ghost use Rattle.wasm_module_validator_bodies.specs.Operators.{local_group};
-    ghost use Rattle.wasm_module_validator_bodies.specs.OperatorLaws.{lawful-local_group, decides-local_group};
+    ghost use Rattle.wasm_module_validator_bodies.specs.laws.Operators.{local_group};
+    ghost use Rattle.wasm_module_validator_bodies.specs.laws.OperatorLaws.{lawful-local_group, decides-local_group};
 
     ghost Value = { TheLocalGroup };
 
@@ -108,7 +122,7 @@ impl<'a> FromReader<'a> for LocalGroup {
 
     ghost exact = { decides-local_group };
 
-    #[tactic(auto, using(wasm_types_decoding::specs::Laws::reaches_self, wasm_types_decoding::specs::Laws::reaches_then), unfolding(crate::specs::Operators::local_group))]
+    #[tactic(auto, using(wasm_types_decoding::specs::Laws::reaches_self, wasm_types_decoding::specs::Laws::reaches_then), unfolding(crate::specs::laws::Operators::local_group))]
     fn from_reader(_alloc: Global, reader: &mut BinaryReader<'a>) -> Result<LocalGroup> {
         let count = reader.read_var_u32()?;
         let ty = read_number_type(reader)?;

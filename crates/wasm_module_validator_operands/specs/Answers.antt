@@ -43,12 +43,29 @@ UnlessMemory kinds.OutOfMemory P = Unit {0}
 UnlessMemory kinds.Failed P = P
 UnlessMemory kinds.Other P = P
 
--- what is refused is refused at this place
+-- The fact holds of a refusal of content, which is of kind 5. Where memory ran out nothing is said; no other kind comes.
+abbrev pub OfContent : ErrorKind → Type 0 → Type 0
+OfContent (kinds.EndOfData h) P = ⊥
+OfContent (kinds.MissingFeature f) P = ⊥
+OfContent kinds.OutOfMemory P = Unit {0}
+OfContent kinds.Failed P = ⊥
+OfContent kinds.Other P = P
+
+-- what is refused is refused at this offset, with kind 5
 abbrev pub RefusedAt : {X : Type 0} → ℕ → Result X ErrorValue → Type 0
 RefusedAt place (Ok x) = Unit {0}
-RefusedAt place (Err e) = UnlessMemory e.kind (e.offset ≡ place)
+RefusedAt place (Err e) = OfContent e.kind (e.offset ≡ place)
 
--- what is refused is refused at a place of the bytes that were left, or at their end
+-- Of the bytes that were left at s: where they end too early, kind 1 at their end, and one byte more is wanted; other content,
+-- kind 5 at an offset among them or at their end. Where memory ran out nothing is said; no other kind comes.
+abbrev pub IsRefusalOf : State → ErrorKind → ℕ → Type 0
+IsRefusalOf s (kinds.EndOfData h) p = (p ≡ end_of s) × (h ≡ 1)
+IsRefusalOf s (kinds.MissingFeature f) p = ⊥
+IsRefusalOf s kinds.OutOfMemory p = Unit {0}
+IsRefusalOf s kinds.Failed p = ⊥
+IsRefusalOf s kinds.Other p = (s.place ≤ p) × (p ≤ end_of s)
+
+-- what is refused is a refusal of the bytes that were left at s
 abbrev pub RefusedWithin : {X : Type 0} → State → Result X ErrorValue → Type 0
 RefusedWithin s (Ok x) = Unit {0}
-RefusedWithin s (Err e) = UnlessMemory e.kind ((s.place ≤ e.offset) × (e.offset ≤ end_of s))
+RefusedWithin s (Err e) = IsRefusalOf s e.kind e.offset

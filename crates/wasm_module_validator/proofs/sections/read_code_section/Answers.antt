@@ -1,5 +1,5 @@
 use Rattle.std.proofs.Common.{◌≡◌, refl, sym, ◌∙◌, arith}
-use Rattle.wasm_module_validator.specs.Frames.{section, code_section}
+use Rattle.wasm_module_validator.specs.laws.Frames.{section, code_section}
 use Rattle.wasm_module_validator.proofs.sections.read_code_section.Goals as goal
 
 pub returns-then-not-next_is-clause-answer : goal.returns-then-not-next_is-clause-answer

@@ -1,7 +1,7 @@
 use Rattle.std.proofs.Common.{◌≡◌, true, arith}
 use Rattle.std.specs.Prelude.{◌==◌}
 use Rattle.std.proofs.lemmas.Bool.{eq-eqb}
-use Rattle.wasm_module_validator.specs.Frames.{entries}
+use Rattle.wasm_module_validator.specs.laws.Frames.{entries}
 use Rattle.wasm_module_validator.proofs.sections.read_entries.Goals as goal
 
 pub returns : goal.returns

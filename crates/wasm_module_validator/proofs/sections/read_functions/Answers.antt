@@ -1,7 +1,7 @@
 use Rattle.std.proofs.Common.{◌≡◌, false, true, refl, arith}
 use Rattle.std.specs.Prelude.{nat_lt}
 use Rattle.std.proofs.lemmas.Bool.{le-ltb, lt-ltb}
-use Rattle.wasm_module_validator.specs.Frames.{items}
+use Rattle.wasm_module_validator.specs.laws.Frames.{items}
 use Rattle.wasm_module_validator.proofs.sections.read_functions.Goals as goal
 
 pub returns-then-count-gt-MAX_WASM_FUNCTIONS : goal.returns-then-count-gt-MAX_WASM_FUNCTIONS

@@ -1,7 +1,7 @@
 use Rattle.std.proofs.Common.{◌≡◌, true, refl, arith}
 use Rattle.std.specs.Prelude.{nat_lt}
 use Rattle.std.proofs.lemmas.Bool.{lt-ltb}
-use Rattle.wasm_module_validator.specs.Frames.{type_index}
+use Rattle.wasm_module_validator.specs.laws.Frames.{type_index}
 use Rattle.wasm_module_validator.proofs.sections.read_type_index.Goals as goal
 
 pub returns : goal.returns

@@ -5,7 +5,7 @@ use Rattle.std.proofs.lemmas.List.{map-id}
 use Rattle.wasm_types_decoding.specs.Decoder.{State, Outcome, Done}
 use Rattle.wasm_types_error.specs.ErrorValue.{ErrorValue}
 use Rattle.wasm_types_reader.specs.Reading.{Gives}
-use Rattle.wasm_module_validator.specs.Frames.{items}
+use Rattle.wasm_module_validator.specs.laws.Frames.{items}
 use Rattle.wasm_module_validator.proofs.sections.read_types.Goals as goal
 
 seen_alike : {X Y : Type 0} (f g : X → Y) (r : Result X ErrorValue) (t : State) (o : Outcome Y) → ((x : X) → f x ≡ g x) → Gives f r t o → Gives g r t o

@@ -1,6 +1,6 @@
 use Rattle.std.proofs.Common.{ℕ, ◌<◌}
-use Rattle.wasm_module_validator.specs.Entries.{bodies}
-use Rattle.wasm_module_validator.specs.Judged.{AcceptsAt}
+use Rattle.wasm_module_validator.specs.laws.Entries.{bodies}
+use Rattle.wasm_module_validator.specs.laws.Judged.{AcceptsAt}
 use Rattle.wasm_module_validator.proofs.validator.validate_bodies.Given as goal
 
 -- the functions so far are accepted

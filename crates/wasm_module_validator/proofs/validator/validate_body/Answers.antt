@@ -7,12 +7,13 @@ use Rattle.wasm_module_validator_operands.specs.Syntax.{FunctionType}
 use Rattle.wasm_module_validator_bodies.specs.Bodies.{AcceptsBody}
 use Rattle.wasm_module_validator_operands.specs.Answers.{Tells}
 use Rattle.wasm_module_validator.specs.declared.sections.FunctionBody.{FunctionBody}
-use Rattle.wasm_module_validator.specs.Entries.{bodies}
+use Rattle.wasm_module_validator.specs.laws.Entries.{bodies}
+use Rattle.wasm_module_validator.specs.laws.RefusalLaws.{refuses_function}
 use Rattle.wasm_module_validator.proofs.Judging.{found_at, tells_at}
 use Rattle.wasm_module_validator.proofs.validator.validate_body.Goals as goal
 
-pub returns : goal.returns
-returns c =
+pub returns-clause-verdict : goal.returns-clause-verdict
+returns-clause-verdict c =
     let module' = c.args.«module».now in
     let place = c.args.place in
     let index = found_at c.deref.result.now module'.functions.items place c.in-Some.index.now c.deref.ensures.value c.in-Some.ensures.lookup.3 in
@@ -23,3 +24,6 @@ returns c =
     let told = subst (λ (t : FunctionType). Tells c.validate.result (AcceptsBody t c.clone.result.rest)) c.ty.view_is c.validate.ensures.verdict in
     tells_at c.validate.result module'.types.items module'.functions.items (bodies module'.bodies.items) place c.in-Some.index.now c.in-Some-get.ty.now (bytes_of c.in-Some-get-2.body.now) index type body
     (subst (λ (s : State). Tells c.validate.result (AcceptsBody c.in-Some-get.ty.now s.rest)) c.clone.ensures told)
+
+pub returns-clause-kind : goal.returns-clause-kind
+returns-clause-kind c = refuses_function c.clone.result c.validate.result c.validate.ensures.within

@@ -1,5 +1,5 @@
 use Rattle.std.proofs.Common.{refl}
-use Rattle.wasm_module_validator_bodies.specs.Types.{val_type}
+use Rattle.wasm_module_validator_bodies.specs.laws.Types.{val_type}
 use Rattle.wasm_module_validator_bodies.proofs.types.read_number_type.Goals as goal
 
 pub returns-in-126-clause-answer : goal.returns-in-126-clause-answer

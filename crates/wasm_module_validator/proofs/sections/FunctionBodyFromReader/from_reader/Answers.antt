@@ -1,7 +1,7 @@
 use Rattle.std.proofs.Common.{◌≡◌, false, length, refl, arith}
 use Rattle.std.specs.Prelude.{nat_lt}
 use Rattle.std.proofs.lemmas.Bool.{le-ltb}
-use Rattle.wasm_module_validator.specs.Frames.{body}
+use Rattle.wasm_module_validator.specs.laws.Frames.{body}
 use Rattle.wasm_module_validator.proofs.sections.FunctionBodyFromReader.from_reader.Goals as goal
 
 pub returns-clause-answer : goal.returns-clause-answer

@@ -1,5 +1,5 @@
 use Rattle.std.proofs.Common.{◌≡◌, true, refl, sym, ap, ◌∙◌}
-use Rattle.wasm_module_validator.specs.Types.{are_numbers, function_type}
+use Rattle.wasm_module_validator.specs.laws.Types.{are_numbers, function_type}
 use Rattle.wasm_module_validator.proofs.types.TypeEntryFromReader.from_reader.Goals as goal
 
 pub returns-clause-answer : goal.returns-clause-answer

@@ -1,28 +1,21 @@
--- The state behind a module that was accepted.
-use Rattle.std.proofs.Common.{◌≡◌, false, Result, Ok, Err, sym, ◌∙◌}
-use Rattle.std.specs.Result.{OnOk, is_ok}
-use Rattle.wasm_module_validator.proofs.validator.Validator.validate_all.Goals.{then-is_ok, else-is_ok}
+-- What was read decides with what the functions are.
+use Rattle.std.proofs.lemmas.Result.{err_from_is_err_and}
+use Rattle.wasm_module_validator.proofs.Judging.{begin_not_read, begin_few, begin_judged, begin_shown}
 use Rattle.wasm_module_validator.proofs.validator.Validator.validate_all.Goals as goal
 
-known_on_ok : {T E P : Type 0} (r : Result T E) → P → OnOk r P
-known_on_ok (Ok x) p = p
-known_on_ok (Err e) p = tt
+pub returns-in_err-module-clause-verdict : goal.returns-in_err-module-clause-verdict
+returns-in_err-module-clause-verdict c =
+    let p = err_from_is_err_and c.from_residual.result c.from_residual.ensures.1 in
+    rw (p.1, p.2) (begin_not_read c.in_err-module.field-0.0 _ c.in_err-module.ensures)
 
-never_ok : {T E : Type 0} (P : Type 0) (r : Result T E) → is_ok r ≡ false → OnOk r P
-never_ok P (Ok x) n = absurd cc
-never_ok P (Err e) n = tt
+pub judge-judged-requires-clause-types : goal.judge-judged-requires-clause-types
+judge-judged-requires-clause-types c = (begin_few _ _ _ c.in_ok-module.ensures.1).0
 
-pub returns-clause-ended : goal.returns-clause-ended
-returns-clause-ended c = elim c.if-is_ok.branch [
-  | then-is_ok w ↦ known_on_ok c.judge-judged.result w.self-is
-  | else-is_ok w ↦ never_ok _ c.judge-judged.result (sym c.is_ok.ensures.value ∙ w.if-is_ok.false)
-]
+pub judge-judged-requires-clause-functions : goal.judge-judged-requires-clause-functions
+judge-judged-requires-clause-functions c = (begin_few _ _ _ c.in_ok-module.ensures.1).1
 
 pub returns-clause-verdict : goal.returns-clause-verdict
-returns-clause-verdict c = c.judge-judged.ensures.verdict
+returns-clause-verdict c = begin_judged _ _ _ c.in_ok-module.ensures.1 c.judge-judged.result c.judge-judged.ensures.verdict
 
 pub returns-clause-shown : goal.returns-clause-shown
-returns-clause-shown c = c.judge-judged.ensures.shown
-
-pub returns-clause-refused : goal.returns-clause-refused
-returns-clause-refused c = c.judge-judged.ensures.refused
+returns-clause-shown c = begin_shown _ _ _ c.in_ok-module.ensures.1 c.judge-judged.result c.judge-judged.ensures.verdict c.judge-judged.ensures.types c.judge-judged.ensures.functions

@@ -1,8 +1,8 @@
 use Rattle.std.proofs.Common.{◌≡◌, ◌+◌, ◌-◌, suc, arith}
 use Rattle.std.proofs.lemmas.Result.{err_from_is_err_and}
 use Rattle.wasm_types_decoding.specs.Laws.{reaches_self, reaches_then}
-use Rattle.wasm_module_validator_bodies.specs.Operators.{local_group}
-use Rattle.wasm_module_validator_bodies.specs.OperatorLaws.{within-local_group}
+use Rattle.wasm_module_validator_bodies.specs.laws.Operators.{local_group}
+use Rattle.wasm_module_validator_bodies.specs.laws.OperatorLaws.{within-local_group, bytewise-local_group}
 use Rattle.wasm_module_validator_bodies.proofs.Places.{read_refused, refused_there}
 use Rattle.wasm_module_validator_operands.proofs.Covering.{denies_also}
 use Rattle.wasm_module_validator_bodies.proofs.Groups.{group_refused, too_many, known_more, next_left}
@@ -43,7 +43,7 @@ loop-preserved c =
 pub returns-in_err-group-clause-within : goal.returns-in_err-group-clause-within
 returns-in_err-group-clause-within c =
     let p = err_from_is_err_and c.from_residual.result c.from_residual.ensures.1 in
-    rw (p.1, p.2) (read_refused local_group _ _ c.args.reader.now c.loop.reader within-local_group c.loop.invariant.forward c.in_err-group.ensures.answer.0)
+    rw (p.1, p.2) (read_refused local_group _ _ c.args.reader.now c.loop.reader within-local_group bytewise-local_group c.loop.invariant.forward c.in_err-group.ensures.answer.0)
 
 pub returns-in_err-define_locals-clause-within : goal.returns-in_err-define_locals-clause-within
 returns-in_err-define_locals-clause-within c =

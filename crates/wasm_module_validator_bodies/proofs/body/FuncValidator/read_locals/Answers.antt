@@ -2,6 +2,7 @@ use Rattle.std.proofs.lemmas.Result.{err_from_is_err_and}
 use Rattle.wasm_types_decoding.specs.Laws.{reaches_self}
 use Rattle.wasm_types_decoding.specs.Leb.{u32}
 use Rattle.wasm_types_decoding.specs.Places.{within-unsigned}
+use Rattle.wasm_module_validator_bodies.specs.laws.OperatorLaws.{bytewise-u32}
 use Rattle.wasm_module_validator_bodies.proofs.Places.{read_refused, refused_there, within_further}
 use Rattle.wasm_module_validator_operands.proofs.Covering.{does_also}
 use Rattle.wasm_module_validator_bodies.proofs.Groups.{count_refused, entry_read, entry_may}
@@ -27,7 +28,7 @@ returns-in_err-begin-clause-within c =
 pub returns-in_err-count-clause-within : goal.returns-in_err-count-clause-within
 returns-in_err-count-clause-within c =
     let p = err_from_is_err_and c.from_residual-in_err-count.result c.from_residual-in_err-count.ensures.1 in
-    rw (p.1, p.2) (read_refused u32 _ _ c.args.reader.now c.args.reader.now (within-unsigned 4 4) (reaches_self c.args.reader.now) c.in_err-count.ensures.answer.0)
+    rw (p.1, p.2) (read_refused u32 _ _ c.args.reader.now c.args.reader.now (within-unsigned 4 4) bytewise-u32 (reaches_self c.args.reader.now) c.in_err-count.ensures.answer.0)
 
 pub returns-clause-within : goal.returns-clause-within
 returns-clause-within c = within_further c.args.reader.now c.read_var_u32.new.self c.read_groups.result c.in_ok-count.ensures.forward c.read_groups.ensures.within

@@ -1,9 +1,9 @@
 use Rattle.std.proofs.Common.{sym, ◌∙◌}
 use Rattle.std.proofs.lemmas.Result.{err_from_is_err_and}
 use Rattle.wasm_types_decoding.specs.Laws.{reaches_then}
-use Rattle.wasm_module_validator_bodies.specs.Operators.{operator}
-use Rattle.wasm_module_validator_bodies.specs.OperatorLaws.{within-operator}
-use Rattle.wasm_module_validator_bodies.proofs.Places.{read_refused, refused_there, whatever}
+use Rattle.wasm_module_validator_bodies.specs.laws.Operators.{operator}
+use Rattle.wasm_module_validator_bodies.specs.laws.OperatorLaws.{within-operator, bytewise-operator}
+use Rattle.wasm_module_validator_bodies.proofs.Places.{read_refused, refused_there, of_content}
 use Rattle.wasm_module_validator_operands.proofs.Covering.{denies_also}
 use Rattle.wasm_module_validator_bodies.proofs.Steps.{operator_refused, step, step_refused, fewer, not_closed, denied, length_is}
 use Rattle.wasm_module_validator_bodies.proofs.body.FuncValidator.read_operators.Goals as goal
@@ -36,12 +36,12 @@ returns-then-not-has_ended-clause-verdict c =
 
 pub returns-then-has_ended-clause-within : goal.returns-then-has_ended-clause-within
 returns-then-has_ended-clause-within c =
-    refused_there _ c.args.reader.now c.loop-reader.reader _ _ c.loop-reader.invariant.forward c.original_position-offset.ensures (whatever _ _ c.operators_remain.ensures.offset)
+    refused_there _ c.args.reader.now c.loop-reader.reader _ _ c.loop-reader.invariant.forward c.original_position-offset.ensures (of_content _ _ c.operators_remain.ensures.kind c.operators_remain.ensures.offset)
 
 pub returns-in_err-operator-clause-within : goal.returns-in_err-operator-clause-within
 returns-in_err-operator-clause-within c =
     let p = err_from_is_err_and c.from_residual.result c.from_residual.ensures.1 in
-    rw (p.1, p.2) (read_refused operator _ _ c.args.reader.now c.loop-reader.reader within-operator c.loop-reader.invariant.forward c.in_err-operator.ensures.answer.0)
+    rw (p.1, p.2) (read_refused operator _ _ c.args.reader.now c.loop-reader.reader within-operator bytewise-operator c.loop-reader.invariant.forward c.in_err-operator.ensures.answer.0)
 
 pub returns-in_err-op-clause-within : goal.returns-in_err-op-clause-within
 returns-in_err-op-clause-within c =
@@ -50,4 +50,4 @@ returns-in_err-op-clause-within c =
 
 pub returns-then-not-has_ended-clause-within : goal.returns-then-not-has_ended-clause-within
 returns-then-not-has_ended-clause-within c =
-    refused_there _ c.args.reader.now c.loop-reader.reader _ _ c.loop-reader.invariant.forward c.original_position.ensures (whatever _ _ c.frames_remain.ensures.offset)
+    refused_there _ c.args.reader.now c.loop-reader.reader _ _ c.loop-reader.invariant.forward c.original_position.ensures (of_content _ _ c.frames_remain.ensures.kind c.frames_remain.ensures.offset)

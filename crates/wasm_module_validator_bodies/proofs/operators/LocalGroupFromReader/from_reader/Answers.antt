@@ -1,5 +1,5 @@
 use Rattle.std.proofs.Common.{refl}
-use Rattle.wasm_module_validator_bodies.specs.Operators.{local_group}
+use Rattle.wasm_module_validator_bodies.specs.laws.Operators.{local_group}
 use Rattle.wasm_module_validator_bodies.proofs.operators.LocalGroupFromReader.from_reader.Goals as goal
 
 pub returns-clause-answer : goal.returns-clause-answer

@@ -2,7 +2,7 @@ use Rattle.std.proofs.Common.{◌≡◌, List, ℕ, [], ◌∷◌, Bool, true, f
 use Rattle.std.specs.Prelude.{◌==◌}
 use Rattle.wasm_types_decoding.specs.Decoder.{Decoder, choice}
 use Rattle.wasm_types_decoding.specs.Exact.{has_tag}
-use Rattle.wasm_module_validator_bodies.specs.Operators.{opcodes, operator}
+use Rattle.wasm_module_validator_bodies.specs.laws.Operators.{opcodes, operator}
 use Rattle.wasm_module_validator_bodies.proofs.operators.OperatorFromReader.from_reader.Goals as goal
 
 pub returns-in-11-clause-answer : goal.returns-in-11-clause-answer
