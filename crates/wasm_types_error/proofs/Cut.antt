@@ -1,5 +1,5 @@
 -- A text that is cut to fit.
-use Rattle.std.proofs.Common.{◌≡◌, ℕ, zero, suc, ◌+◌, ◌-◌, ◌<◌, ◌≤◌, List, length, take, get_or, refl, sym, ap, ◌∙◌, subst, arith, Bool, true, false, cond, ◌⊎◌, inl, inr}
+use Rattle.std.proofs.Common.{◌≡◌, ℕ, zero, suc, ◌<◌, ◌≤◌, List, length, take, get_or, refl, sym, ap, ◌∙◌, subst, arith, Bool, true, false, cond, inl, inr}
 use Rattle.std.proofs.lemmas.Bool.{lt-ltb, le-ltb, le-leb, lt-leb, cases_lt}
 use Rattle.std.specs.Fmt.{is_char_start}
 use Rattle.std.specs.Str.{IsCharBoundary}
@@ -10,7 +10,7 @@ use Rattle.wasm_types_error.specs.ErrorText.{cut_to}
 abbrev pub IsLastBoundary : List ℕ → ℕ → ℕ → Type 0
 IsLastBoundary bs i kept = (kept ≤ i) × IsCharBoundary bs kept × ((j : ℕ) → kept < j → j ≤ i → ¬ (IsCharBoundary bs j))
 
-starts : (b : ℕ) → (128 ≤ b → 192 ≤ b) → is_char_start b ≡ true
+pub starts : (b : ℕ) → (128 ≤ b → 192 ≤ b) → is_char_start b ≡ true
 starts b h = elim (cases_lt b 128) [ inl low ↦ rw (lt-ltb b 128 low) refl | inr high ↦ rw (le-ltb b 128 high, le-leb 192 b (h high)) refl ]
 
 continues : (b : ℕ) → ¬ (128 ≤ b → 192 ≤ b) → is_char_start b ≡ false

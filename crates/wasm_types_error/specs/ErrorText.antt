@@ -1,7 +1,7 @@
 -- What an error tells: its message in a fixed room, its number, and what only some kinds have.
-use Rattle.std.specs.Prelude.{◌≡◌, ℕ, List, ◌++◌, length, take, nat_le, false, if◌then◌else◌, codes, Option, Some, None}
+use Rattle.std.specs.Prelude.{◌≡◌, ◌⊎◌, ℕ, List, [], ◌++◌, length, take, nat_le, nat_lt, Bool, false, if◌then◌else◌, codes, Option, Some, None}
 use Rattle.std.specs.Fmt.{digits}
-use Rattle.std.specs.Fmt.Cut.{floor_char_boundary, IsTextOrCut}
+use Rattle.std.specs.Fmt.Cut.{floor_char_boundary}
 use Rattle.wasm_types_features.specs.declared.WasmFeatures.{WasmFeatures}
 use Rattle.wasm_types_error.specs.declared.error.ErrorKind.{ErrorKind}
 use Rattle.wasm_types_error.specs.declared.error.ErrorKind.TheVariants.{EndOfData, MissingFeature, OutOfMemory, Failed, Other}
@@ -14,12 +14,14 @@ cut_to room text = if nat_le (length text) room then text else take (floor_char_
 abbrev pub message_of : List ℕ → List ℕ
 message_of text = cut_to 256 text
 
--- The message that is kept of what a value writes: of its text, or of a front of it that ends in dots where the text is
--- much too long for a message, or where the value itself gave up.
-pub record IsWrittenMessage (text message : List ℕ) : Type 0 where
-  pub kept : List ℕ
-  pub written : IsTextOrCut 264 text kept
-  pub cut : message ≡ message_of kept
+-- The message of what a value writes: of its text, or empty where the value itself gave up.
+abbrev pub IsWrittenMessage : List ℕ → List ℕ → Type 0
+IsWrittenMessage text message = (message ≡ message_of text) ⊎ (message ≡ [])
+
+-- what was kept of a text, and whether it had more than there is room for
+pub record Keeps (text kept : List ℕ) (is_full : Bool) : Type 0 where
+  pub message : kept ≡ message_of text
+  pub full : is_full ≡ nat_lt 256 (length text)
 
 -- the kinds by their numbers
 abbrev pub kind_number : ErrorKind → ℕ

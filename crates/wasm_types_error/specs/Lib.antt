@@ -1,2 +1,9 @@
-pub mod ErrorText
+-- what contracts cite: an error's value, its text, what an answer tells of a fact
 pub mod ErrorValue
+pub mod ErrorText
+pub mod Denials
+-- errors worked by hand
+pub mod Rows
+-- what is proved of them
+pub mod DenialLaws
+pub mod RowLaws

@@ -4,18 +4,13 @@ ghost use Rattle.std.specs.Prelude.{◌≡◌, ◌≤◌, codes, length, Some, I
 ghost use Rattle.wasm_types_error.specs.declared.error.ErrorKind.TheVariants as kinds;
 ghost use Rattle.wasm_types_error.specs.ErrorText.{cut_to, message_of, IsWrittenMessage, kind_number, hint_of, feature_of, shown};
 
+use crate::message::{Message, ROOM, front};
 use arrayvec::ArrayString;
 use std::alloc::{AllocError, AllocFailed};
 use std::fmt;
-use std::fmt::{Display, InlineText};
+use std::fmt::{Display, Write};
 use std::marker::Model;
 use wasm_types_features::WasmFeatures;
-
-/// How many bytes a message has at most.
-const ROOM: usize = 256;
-
-/// A text of so many bytes, cut there and ended by dots, has the same first `ROOM` bytes and one.
-const WRITTEN: usize = 264;
 
 /// What kind of fault an error is.
 #[derive(Clone, Copy, Debug, PartialEq, Eq)]
@@ -79,15 +74,23 @@ impl Error {
         Error::of_kind(ErrorKind::Other, message, offset)
     }
 
-    /// A fault of content or state, kind 5, whose message is what a value writes.
+    /// A fault of content or state, kind 5, whose message is what a value writes. Where the value itself gives up the
+    /// message is empty.
     #[cold]
     pub fn fmt<M: Display + Drop>(message: M, offset: u64) -> Error
         ensures kind { result.kind ≡ kinds.Other }
         ensures offset { result.offset ≡ offset }
         ensures message { IfSome (M.output message) (λ text. IsWrittenMessage text result.message) }
     {
-        let text = InlineText::<{ WRITTEN }>::of(message);
-        Error::of_kind(ErrorKind::Other, text.as_str(), offset)
+        let mut text = Message::new();
+        if text.write(message).is_err() {
+            return Error::new("", offset);
+        }
+        Error {
+            kind: ErrorKind::Other,
+            offset,
+            message: text.kept,
+        }
     }
 
     /// The data end at `offset`, kind 1, and `needed_hint` bytes more would keep them from ending there.
@@ -130,7 +133,7 @@ impl Error {
         ensures { result ≡ record { kind = kind; offset = offset; message = message_of message.now } }
     {
         let mut room = ArrayString::new();
-        room.push_str(front(message));
+        room.push_str(front(message, ROOM));
         Error {
             kind,
             offset,
@@ -179,17 +182,6 @@ impl Error {
             _ => None,
         }
     }
-}
-
-/// The longest front of a text that has room and ends where a character does.
-fn front(message: &str) -> &str
-    ensures value { result.now ≡ message_of message.now }
-    ensures fits { length result.now ≤ 256 }
-{
-    if message.len() <= ROOM {
-        return message;
-    }
-    &message[..message.floor_char_boundary(ROOM)]
 }
 
 impl Display for Error {

@@ -1,5 +1,3 @@
-use Rattle.std.proofs.Common.{codes, ◌∙◌, ap, refl, arith}
-use Rattle.wasm_types_error.specs.ErrorValue.{ErrorValue}
 use Rattle.wasm_types_error.specs.ErrorText.{cut_to}
 use Rattle.wasm_types_error.proofs.error.Error.out_of_memory.Goals as goal
 

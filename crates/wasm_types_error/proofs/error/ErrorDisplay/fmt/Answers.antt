@@ -1,6 +1,4 @@
 -- The pieces of the text, one after the other.
-use Rattle.std.proofs.Common.{◌∙◌, sym, ap}
-use Rattle.wasm_types_error.specs.ErrorValue.{ErrorValue}
 use Rattle.wasm_types_error.proofs.error.ErrorDisplay.fmt.Goals as goal
 
 pub returns-clause-writes : goal.returns-clause-writes
