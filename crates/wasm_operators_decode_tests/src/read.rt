@@ -1,7 +1,9 @@
-//! One operator for each function that reads, in one text.
+//! One operator for each function that reads, in one text, with a clone of each.
 use bitflags::Flags;
+use std::mem::size_of;
 use std::test::Fail;
 use wasm_operators_decode::read_operator;
+use wasm_operators_operator::Operator;
 use wasm_types_features::WasmFeatures;
 use wasm_types_reader::BinaryReader;
 
@@ -30,9 +32,15 @@ fn each_function_reads(rt: HostRuntime) -> Result<(), Fail> {
     let mut reader = BinaryReader::new_features(&OPERATORS, 0, WasmFeatures::all());
     let mut operators = 0;
     while !reader.eof() {
-        read_operator(rt.alloc(), &mut reader)?;
+        let op = read_operator(rt.alloc(), &mut reader)?;
+        assert!(rt; op.clone()? == op);
         operators += 1;
     }
     assert!(rt; operators == 72);
     Ok(())
+}
+
+#[test]
+fn size(rt: HostRuntime) {
+    assert!(rt; size_of::<Operator>() == 56);
 }

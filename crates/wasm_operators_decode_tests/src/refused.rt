@@ -37,7 +37,11 @@ fn opcodes(rt: HostRuntime) {
 
 #[test]
 fn immediates(rt: HostRuntime) {
-    let rows: [(&[u8], &str); 15] = [
+    let rows: [(&[u8], &str); 16] = [
+        (
+            &[0x0e, 0xb2, 0x97, 0xd3, 0x03],
+            "br_table size is out of bounds",
+        ),
         (
             &[0x28, 0x42, 0x00, 0x00],
             "malformed memop alignment: alignment too large",

@@ -11,7 +11,7 @@ pub record EqualityRows : Type 0 where
   pub other_constant : equality.ghosts.eq (operator.Const (const.I32Const (pos 1))) (operator.Const (const.I32Const (negsuc 0))) ≡ false
   pub other_type : equality.ghosts.eq (operator.Const (const.I32Const (pos 1))) (operator.Const (const.I64Const (pos 1))) ≡ false
   pub other_group : equality.ghosts.eq (operator.Const (const.I32Const (pos 1))) (operator.Control control.Nop) ≡ false
-  pub same_labels : same_labels (record { targets = 0 ∷ 1 ∷ []; default = 2 }) (record { targets = 0 ∷ 1 ∷ []; default = 2 }) ≡ true
+  pub same_table : same_labels (record { targets = 0 ∷ 1 ∷ []; default = 2 }) (record { targets = 0 ∷ 1 ∷ []; default = 2 }) ≡ true
   pub other_default : same_labels (record { targets = 0 ∷ 1 ∷ []; default = 2 }) (record { targets = 0 ∷ 1 ∷ []; default = 3 }) ≡ false
   pub other_target : same_labels (record { targets = 0 ∷ 1 ∷ []; default = 2 }) (record { targets = 0 ∷ 2 ∷ []; default = 2 }) ≡ false
   pub longer_table : same_labels (record { targets = 0 ∷ []; default = 2 }) (record { targets = 0 ∷ 1 ∷ []; default = 2 }) ≡ false
