@@ -1,4 +1,5 @@
 pub mod Fields
+pub mod Remap
 pub mod Text
 pub mod Spells
 pub mod Decode

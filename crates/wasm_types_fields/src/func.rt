@@ -4,7 +4,7 @@ ghost use Rattle.std.specs.Prelude.{◌≡◌, Some};
 ghost use Rattle.std.specs.Fmt.{DisplaysOnOk};
 ghost use Rattle.wasm_types_fields.specs.Text.{types_text};
 
-use crate::remap::remap_values;
+use crate::remap::remap_lists;
 use std::alloc::{AllocError, Global};
 use std::fmt::{self, Display};
 use std::iter::{FromIterator, IntoIterator};
@@ -19,11 +19,10 @@ pub struct FuncType {
 }
 
 impl FuncType {
-    ghost use Rattle.std.specs.Prelude.{Err, IfOk, IfErr, OnOk, map};
-    ghost use Rattle.wasm_types_indices.specs.declared.index.UnpackedIndex.{UnpackedIndex as TheIndex};
-    ghost use Rattle.wasm_types_trees.specs.Rows.{value_map};
-    ghost use Rattle.wasm_types_values.specs.Remap.{Follows};
-    ghost use Rattle.wasm_types_values.specs.Values.{value_of};
+    ghost use Rattle.std.specs.Prelude.{IfOk};
+    ghost use Rattle.wasm_types_values.specs.Remap.{Remapped};
+    ghost use Rattle.wasm_types_fields.specs.Fields.{function_tree};
+    ghost use Rattle.wasm_types_fields.specs.Remap.{inner_shape, inner_indices};
     ghost use Rattle.std.specs.Iterator.{Drains, IsFinite};
 
     /// The function type of these parameters and results, each list up to its end.
@@ -63,18 +62,16 @@ impl FuncType {
         self.results.as_slice()
     }
 
-    /// Replaces each index by what `f` makes of it, and stops where `f` refuses.
+    /// Replaces each index by what `f` makes of it, in order. Where `f` refuses one, so does the call: the indices before it
+    /// are replaced, and it and those behind it stay.
     pub fn remap_indices<F: Fn(PackedIndex) -> Reading<PackedIndex>>(
         &mut self,
         f: &F,
     ) -> Reading<()>
         requires { F.IsAlwaysCallable f.now }
-        ensures params { OnOk result ((m : TheIndex → TheIndex) → Follows (F.post f.now) m → map value_of self.new.params.items ≡ map (value_map m) (map value_of self.old.params.items)) }
-        ensures results { OnOk result ((m : TheIndex → TheIndex) → Follows (F.post f.now) m → map value_of self.new.results.items ≡ map (value_map m) (map value_of self.old.results.items)) }
-        ensures refused { IfErr result (λ e. (i : TheIndex) × F.post f.now i (Err e)) }
+        ensures remapped { Remapped inner_shape inner_indices (F.post f.now) result (function_tree self.old) (function_tree self.new) }
     {
-        remap_values(self.params.as_mut_slice(), f)?;
-        remap_values(self.results.as_mut_slice(), f)
+        remap_lists(self.params.as_mut_slice(), self.results.as_mut_slice(), f)
     }
 }
 

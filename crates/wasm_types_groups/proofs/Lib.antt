@@ -3,3 +3,4 @@ pub mod Copies
 pub mod Counts
 pub mod Values
 pub mod Places
+pub mod Remapping

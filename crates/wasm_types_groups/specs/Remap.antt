@@ -1,8 +1,37 @@
--- What a type declares once its indices are replaced.
-use Rattle.std.specs.Prelude.{map}
-use Rattle.wasm_types_indices.specs.declared.index.UnpackedIndex.{UnpackedIndex}
-use Rattle.wasm_types_trees.specs.Rows.{row_map}
-use Rattle.wasm_types_groups.specs.Rows.{Declared}
+-- Rules: the indices and the shape of a subtype, in order: the supertypes, those of the type itself, its descriptor, and the
+-- type that it describes.
+use Rattle.std.specs.Prelude.{◌≡◌, List, [], ◌∷◌, ◌++◌, map, Option, Some, None, Result, Ok, Err, MatchResult}
+use Rattle.wasm_types_trees.specs.Rows.{RowOf, row_map}
+use Rattle.wasm_types_fields.specs.Remap.{inner_indices}
+use Rattle.wasm_types_groups.specs.Rows.{DeclaredOf}
 
-abbrev pub declared_map : (UnpackedIndex → UnpackedIndex) → Declared → Declared
-declared_map m d = record { supertypes = map m d.supertypes; row = row_map m d.row }
+-- how many indices there are
+abbrev pub list_shape : {R : Type 0} → List R → List (Unit {0})
+list_shape is = map (λ i. tt) is
+
+abbrev pub option_indices : {R : Type 0} → Option R → List R
+option_indices None = []
+option_indices (Some i) = i ∷ []
+
+-- of a row without its supertype
+abbrev pub row_indices : {R : Type 0} → RowOf R → List R
+row_indices x = inner_indices x.inner ++ (option_indices x.descriptor ++ option_indices x.describes)
+
+abbrev pub row_shape : {R : Type 0} → RowOf R → RowOf (Unit {0})
+row_shape = row_map (λ i. tt)
+
+abbrev pub declared_indices : {R : Type 0} → DeclaredOf R → List R
+declared_indices d = d.supertypes ++ row_indices d.row
+
+abbrev pub declared_shape : {R : Type 0} → DeclaredOf R → DeclaredOf (Unit {0})
+declared_shape d = record { supertypes = list_shape d.supertypes; row = row_shape d.row }
+
+-- an index that may be absent: the answer to it, or its refusal
+abbrev pub IsOptionAnswered : {R E : Type 0} → (R → Result R E → Type 0) → Option R → Option R → Type 0
+IsOptionAnswered answers None None = Unit {0}
+IsOptionAnswered answers None (Some j) = ⊥
+IsOptionAnswered answers (Some i) None = ⊥
+IsOptionAnswered answers (Some i) (Some j) = answers i (Ok j)
+
+abbrev pub OptionRemapped : {R E : Type 0} → (R → Result R E → Type 0) → Result (Option R) E → Option R → Type 0
+OptionRemapped {R = R} answers result index = MatchResult result (IsOptionAnswered answers index) (λ e. (i : R) × (index ≡ Some i) × answers i (Err e))

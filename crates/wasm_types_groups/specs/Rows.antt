@@ -1,20 +1,30 @@
 -- Types as plain trees over the indices that they hold, without where they lie in memory.
-use Rattle.std.specs.Prelude.{List, [], ◌∷◌, map, Option, Some, None}
+use Rattle.std.specs.Prelude.{List, [], ◌∷◌, map, Option, Some, None, Bool, true}
 use Rattle.wasm_types_indices.specs.declared.index.UnpackedIndex.{UnpackedIndex}
-use Rattle.wasm_types_trees.specs.Rows as tree
 use Rattle.wasm_types_trees.specs.Rows.{InnerOf, RowOf}
-use Rattle.wasm_types_values.specs.Values.{value_of}
-use Rattle.wasm_types_fields.specs.Fields.{field_of}
+use Rattle.wasm_types_fields.specs.Fields.{function_tree, array_tree, struct_tree, continuation_tree}
 use Rattle.wasm_types_groups.specs.declared.composite.CompositeInnerType.{CompositeInnerType}
 use Rattle.wasm_types_groups.specs.declared.composite.CompositeInnerType.TheVariants.{Func, Array, Struct, Cont}
+use Rattle.wasm_types_groups.specs.declared.composite.CompositeType.{CompositeType}
 use Rattle.wasm_types_groups.specs.declared.sub_type.SubType.{SubType}
 use Rattle.wasm_types_groups.specs.declared.rec_group.RecGroup.{RecGroup}
 
 abbrev pub inner_of : CompositeInnerType → InnerOf UnpackedIndex
-inner_of (Func f) = tree.function (map value_of f.params.items) (map value_of f.results.items)
-inner_of (Array a) = tree.array_of (field_of a.0)
-inner_of (Struct s) = tree.struct_of (map field_of s.fields.items)
-inner_of (Cont c) = tree.continuation c.0
+inner_of (Func f) = function_tree f
+inner_of (Array a) = array_tree a
+inner_of (Struct s) = struct_tree s
+inner_of (Cont c) = continuation_tree c
+
+-- a composite type alone: final, and without a supertype
+abbrev pub composite_of : CompositeType → RowOf UnpackedIndex
+composite_of t = record {
+  is_final = true;
+  supertype = None;
+  shared = t.shared;
+  descriptor = t.descriptor_idx;
+  describes = t.describes_idx;
+  inner = inner_of t.inner;
+}
 
 -- the first of the declared supertypes, of which a valid type has at most one
 abbrev pub first_of : {A : Type 0} → List A → Option A
@@ -32,9 +42,19 @@ row_of t = record {
 }
 
 -- all that a type declares: its row, and every supertype
-pub record Declared : Type 0 where
-  pub supertypes : List UnpackedIndex
-  pub row : RowOf UnpackedIndex
+pub record DeclaredOf (R : Type 0) : Type 0 where
+  pub supertypes : List R
+  pub row : RowOf R
+
+abbrev pub Declared : Type 0
+Declared = DeclaredOf UnpackedIndex
+
+-- what a composite type declares with these supertypes, final or not
+abbrev pub declared_with : {R : Type 0} → Bool → List R → RowOf R → DeclaredOf R
+declared_with f is c = record {
+  supertypes = is;
+  row = record { is_final = f; supertype = first_of is; shared = c.shared; descriptor = c.descriptor; describes = c.describes; inner = c.inner };
+}
 
 abbrev pub declared_of : SubType → Declared
 declared_of t = record { supertypes = t.supertype_idxs.items; row = row_of t }

@@ -45,10 +45,10 @@ impl Clone for RecGroup {
 }
 
 impl RecGroup {
-    ghost use Rattle.std.specs.Prelude.{[], ◌∷◌, true, false, Err, IfOk, IfErr, OnOk, map};
-    ghost use Rattle.wasm_types_indices.specs.declared.index.UnpackedIndex.{UnpackedIndex as TheIndex};
-    ghost use Rattle.wasm_types_values.specs.Remap.{Follows};
-    ghost use Rattle.wasm_types_groups.specs.Remap.{declared_map};
+    ghost use Rattle.std.specs.Prelude.{[], ◌∷◌, true, false, IfOk, map};
+    ghost use Rattle.std.specs.List.{flat_map};
+    ghost use Rattle.wasm_types_values.specs.Remap.{Remapped};
+    ghost use Rattle.wasm_types_groups.specs.Remap.{declared_shape, declared_indices};
     ghost use Rattle.std.specs.Iterator.Adapters.{zip_first, zip_second};
     ghost use Rattle.wasm_types_groups.specs.Rows.{subtypes, declared_types};
     ghost use Rattle.std.specs.Vec.Iter.{into_iter_items, into_iter_len};
@@ -115,16 +115,16 @@ impl RecGroup {
         self.offsets.into_iter().zip(self.types)
     }
 
-    /// Replaces each index of its types by what `f` makes of it, and stops where `f` refuses.
+    /// Replaces each index of its types by what `f` makes of it, in order. Where `f` refuses one, so does the call: the indices
+    /// before it are replaced, and it and those behind it stay.
     pub fn remap_indices<F: Fn(PackedIndex) -> Reading<PackedIndex>>(
         &mut self,
         f: &F,
     ) -> Reading<()>
         requires { F.IsAlwaysCallable f.now }
-        ensures mapped { OnOk result ((m : TheIndex → TheIndex) → Follows (F.post f.now) m → declared_types self.new ≡ map (declared_map m) (declared_types self.old)) }
+        ensures remapped { Remapped (map declared_shape) (flat_map declared_indices) (F.post f.now) result (declared_types self.old) (declared_types self.new) }
         ensures offsets { self.new.offsets.items ≡ self.old.offsets.items }
         ensures explicit { self.new.is_explicit ≡ self.old.is_explicit }
-        ensures refused { IfErr result (λ e. (i : TheIndex) × F.post f.now i (Err e)) }
     {
         remap_types(self.types.as_mut_slice(), f)
     }

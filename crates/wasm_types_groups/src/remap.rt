@@ -1,12 +1,11 @@
 //! Types with their indices replaced.
 
-ghost use Rattle.std.specs.Prelude.{◌≡◌, Err, IfErr, IfOk, OnOk, map};
-ghost use Rattle.std.specs.Option.{option_map};
-ghost use Rattle.wasm_types_indices.specs.declared.index.UnpackedIndex.{UnpackedIndex as TheIndex};
-ghost use Rattle.wasm_types_trees.specs.Rows.{inner_map};
-ghost use Rattle.wasm_types_values.specs.Remap.{Follows};
-ghost use Rattle.wasm_types_groups.specs.Rows.{inner_of, declared_of};
-ghost use Rattle.wasm_types_groups.specs.Remap.{declared_map};
+ghost use Rattle.std.specs.Prelude.{◌≡◌, ◌++◌, map};
+ghost use Rattle.std.specs.List.{flat_map};
+ghost use Rattle.wasm_types_values.specs.Remap.{Remapped, IsWalked};
+ghost use Rattle.wasm_types_fields.specs.Remap.{inner_shape, inner_indices};
+ghost use Rattle.wasm_types_groups.specs.Rows.{inner_of, composite_of, declared_of};
+ghost use Rattle.wasm_types_groups.specs.Remap.{list_shape, row_shape, row_indices, declared_shape, declared_indices, OptionRemapped};
 
 use crate::{CompositeInnerType, CompositeType, SubType};
 use wasm_types_reader::Result;
@@ -18,8 +17,7 @@ fn remap_option<F: Fn(PackedIndex) -> Result<PackedIndex>>(
     f: &F,
 ) -> Result<Option<PackedIndex>>
     requires { F.IsAlwaysCallable f.now }
-    ensures mapped { IfOk result (λ o. (m : TheIndex → TheIndex) → Follows (F.post f.now) m → o ≡ option_map m index) }
-    ensures refused { IfErr result (λ e. (i : TheIndex) × F.post f.now i (Err e)) }
+    ensures remapped { OptionRemapped (F.post f.now) result index }
 {
     match index {
         Some(index) => {
@@ -36,8 +34,7 @@ fn remap_list<F: Fn(PackedIndex) -> Result<PackedIndex>>(
     f: &F,
 ) -> Result<()>
     requires { F.IsAlwaysCallable f.now }
-    ensures mapped { OnOk result ((m : TheIndex → TheIndex) → Follows (F.post f.now) m → indices.new ≡ map m indices.old) }
-    ensures refused { IfErr result (λ e. (i : TheIndex) × F.post f.now i (Err e)) }
+    ensures remapped { Remapped list_shape (λ is. is) (F.post f.now) result indices.old indices.new }
 {
     for place in 0..indices.len() {
         indices[place] = f(indices[place])?;
@@ -45,12 +42,27 @@ fn remap_list<F: Fn(PackedIndex) -> Result<PackedIndex>>(
     Ok(())
 }
 
+// The supertypes and the composite type of a subtype, with each index replaced.
+fn remap_declared<F: Fn(PackedIndex) -> Result<PackedIndex>>(
+    supertypes: &mut [PackedIndex],
+    composite: &mut CompositeType,
+    f: &F,
+) -> Result<()>
+    requires { F.IsAlwaysCallable f.now }
+    ensures supertypes { list_shape supertypes.new ≡ list_shape supertypes.old }
+    ensures composite { row_shape (composite_of composite.new) ≡ row_shape (composite_of composite.old) }
+    ensures walked { IsWalked (F.post f.now) result (supertypes.old ++ row_indices (composite_of composite.old)) (supertypes.new ++ row_indices (composite_of composite.new)) }
+{
+    remap_list(supertypes, f)?;
+    composite.remap_indices(f)
+}
+
 impl CompositeInnerType {
-    /// Replaces each index by what `f` makes of it, and stops where `f` refuses.
+    /// Replaces each index by what `f` makes of it, in order. Where `f` refuses one, so does the call: the indices before it
+    /// are replaced, and it and those behind it stay.
     pub fn remap_indices<F: Fn(PackedIndex) -> Result<PackedIndex>>(&mut self, f: &F) -> Result<()>
         requires { F.IsAlwaysCallable f.now }
-        ensures mapped { OnOk result ((m : TheIndex → TheIndex) → Follows (F.post f.now) m → inner_of self.new ≡ inner_map m (inner_of self.old)) }
-        ensures refused { IfErr result (λ e. (i : TheIndex) × F.post f.now i (Err e)) }
+        ensures remapped { Remapped inner_shape inner_indices (F.post f.now) result (inner_of self.old) (inner_of self.new) }
     {
         match self {
             CompositeInnerType::Func(ty) => ty.remap_indices(f),
@@ -62,14 +74,11 @@ impl CompositeInnerType {
 }
 
 impl CompositeType {
-    /// Replaces each index by what `f` makes of it, and stops where `f` refuses.
+    /// Replaces each index by what `f` makes of it, in order. Where `f` refuses one, so does the call: the indices before it
+    /// are replaced, and it and those behind it stay.
     pub fn remap_indices<F: Fn(PackedIndex) -> Result<PackedIndex>>(&mut self, f: &F) -> Result<()>
         requires { F.IsAlwaysCallable f.now }
-        ensures inner { OnOk result ((m : TheIndex → TheIndex) → Follows (F.post f.now) m → inner_of self.new.inner ≡ inner_map m (inner_of self.old.inner)) }
-        ensures descriptor { OnOk result ((m : TheIndex → TheIndex) → Follows (F.post f.now) m → self.new.descriptor_idx ≡ option_map m self.old.descriptor_idx) }
-        ensures describes { OnOk result ((m : TheIndex → TheIndex) → Follows (F.post f.now) m → self.new.describes_idx ≡ option_map m self.old.describes_idx) }
-        ensures shared { self.new.shared ≡ self.old.shared }
-        ensures refused { IfErr result (λ e. (i : TheIndex) × F.post f.now i (Err e)) }
+        ensures remapped { Remapped row_shape row_indices (F.post f.now) result (composite_of self.old) (composite_of self.new) }
     {
         self.inner.remap_indices(f)?;
         self.descriptor_idx = remap_option(self.descriptor_idx, f)?;
@@ -79,14 +88,14 @@ impl CompositeType {
 }
 
 impl SubType {
-    /// Replaces each index by what `f` makes of it, and stops where `f` refuses.
+    /// Replaces each index by what `f` makes of it, in order. Where `f` refuses one, so does the call: the indices before it
+    /// are replaced, and it and those behind it stay.
+    #[tactic(auto, using(crate::proofs::Remapping::same_declared))]
     pub fn remap_indices<F: Fn(PackedIndex) -> Result<PackedIndex>>(&mut self, f: &F) -> Result<()>
         requires { F.IsAlwaysCallable f.now }
-        ensures mapped { OnOk result ((m : TheIndex → TheIndex) → Follows (F.post f.now) m → declared_of self.new ≡ declared_map m (declared_of self.old)) }
-        ensures refused { IfErr result (λ e. (i : TheIndex) × F.post f.now i (Err e)) }
+        ensures remapped { Remapped declared_shape declared_indices (F.post f.now) result (declared_of self.old) (declared_of self.new) }
     {
-        remap_list(self.supertype_idxs.as_mut_slice(), f)?;
-        self.composite_type.remap_indices(f)
+        remap_declared(self.supertype_idxs.as_mut_slice(), &mut self.composite_type, f)
     }
 }
 
@@ -96,8 +105,7 @@ pub(crate) fn remap_types<F: Fn(PackedIndex) -> Result<PackedIndex>>(
     f: &F,
 ) -> Result<()>
     requires { F.IsAlwaysCallable f.now }
-    ensures mapped { OnOk result ((m : TheIndex → TheIndex) → Follows (F.post f.now) m → map declared_of types.new ≡ map (declared_map m) (map declared_of types.old)) }
-    ensures refused { IfErr result (λ e. (i : TheIndex) × F.post f.now i (Err e)) }
+    ensures remapped { Remapped (map declared_shape) (flat_map declared_indices) (F.post f.now) result (map declared_of types.old) (map declared_of types.new) }
 {
     for place in 0..types.len() {
         types[place].remap_indices(f)?;

@@ -1,3 +1,4 @@
 pub mod Order
 pub mod Bits
 pub mod Places
+pub mod Remapping

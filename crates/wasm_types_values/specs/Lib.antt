@@ -9,6 +9,7 @@ pub mod ValueKinds
 pub mod ValueText
 pub mod Values
 pub mod Remap
+pub mod RemapLaws
 pub mod Constants
 pub mod Laws
 pub mod Spells

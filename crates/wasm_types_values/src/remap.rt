@@ -1,9 +1,7 @@
 //! Types with their indices replaced.
 
-ghost use Rattle.std.specs.Prelude.{◌≡◌, Err, IfErr, OnOk, OnErr};
-ghost use Rattle.wasm_types_indices.specs.declared.index.UnpackedIndex.{UnpackedIndex as TheIndex};
-ghost use Rattle.wasm_types_trees.specs.Rows.{value_map, storage_map};
-ghost use Rattle.wasm_types_values.specs.Remap.{Follows};
+ghost use Rattle.std.specs.Prelude.{◌≡◌, OnErr};
+ghost use Rattle.wasm_types_values.specs.Remap.{Remapped, value_shape, value_indices, storage_shape, storage_indices};
 ghost use Rattle.wasm_types_values.specs.Values.{value_of, storage_of};
 
 use crate::{RefType, StorageType, ValType};
@@ -12,10 +10,10 @@ use wasm_types_reader::Result;
 
 impl ValType {
     /// Replaces its index, if it has one, by what `f` makes of it. Where `f` refuses, so does the call, and the type stays.
+    #[tactic(auto, using(crate::proofs::Remapping::refused_value, crate::proofs::Remapping::replaced_exact, crate::proofs::Remapping::replaced_concrete))]
     pub fn remap_indices<F: Fn(PackedIndex) -> Result<PackedIndex>>(&mut self, f: &F) -> Result<()>
         requires { F.IsAlwaysCallable f.now }
-        ensures mapped { OnOk result ((m : TheIndex → TheIndex) → Follows (F.post f.now) m → value_of self.new ≡ value_map m (value_of self.old)) }
-        ensures refused { IfErr result (λ e. (i : TheIndex) × F.post f.now i (Err e)) }
+        ensures remapped { Remapped value_shape value_indices (F.post f.now) result (value_of self.old) (value_of self.new) }
         ensures stays { OnErr result (self.new ≡ self.old) }
     {
         let Some(ty) = self.as_reference_type() else {
@@ -38,8 +36,7 @@ impl StorageType {
     /// Replaces its index, if it has one, by what `f` makes of it. Where `f` refuses, so does the call, and the type stays.
     pub fn remap_indices<F: Fn(PackedIndex) -> Result<PackedIndex>>(&mut self, f: &F) -> Result<()>
         requires { F.IsAlwaysCallable f.now }
-        ensures mapped { OnOk result ((m : TheIndex → TheIndex) → Follows (F.post f.now) m → storage_of self.new ≡ storage_map m (storage_of self.old)) }
-        ensures refused { IfErr result (λ e. (i : TheIndex) × F.post f.now i (Err e)) }
+        ensures remapped { Remapped storage_shape storage_indices (F.post f.now) result (storage_of self.old) (storage_of self.new) }
         ensures stays { OnErr result (self.new ≡ self.old) }
     {
         match self {
