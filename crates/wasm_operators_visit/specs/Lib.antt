@@ -1,0 +1,2 @@
+-- The rules, in reading order.
+pub mod Memory

@@ -1,1 +1,2 @@
+-- The rules.
 pub mod Vectors

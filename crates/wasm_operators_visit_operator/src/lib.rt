@@ -1,7 +1,8 @@
 //! Visits of all operators but those on vectors.
 #![tactic(auto)]
 
-ghost use Rattle.std.specs.Prelude.{◌≡◌, false, IfOk, IfErr};
+ghost use Rattle.std.specs.Prelude.{◌≡◌, false, IsTrue, IfOk, IfErr, OnErr};
+ghost use Rattle.wasm_operators_visit.specs.Memory.{keeps_list};
 ghost use Rattle.wasm_operators_visit_operator.specs.Vectors.{is_simd};
 ghost use Rattle.wasm_operators_operator.specs.Op.{op_of};
 
@@ -44,11 +45,12 @@ pub trait VisitOperator<'a>: VisitControl<'a>
     ///
     /// # Errors
     ///
-    /// Where there is no memory for the copy. The visitor is then told nothing.
+    /// Where the operator keeps a list, and there is no memory for the copy. The visitor is then told nothing.
     fn visit_operator(&mut self, op: &Operator<'a>) -> Result<Self::Output, AllocError>
         requires { is_simd (op_of op.now) ≡ false }
         ensures visited { IfOk result (λ answer. Self.visits self.old (op_of op.now) answer self.new) }
-        ensures kept { IfErr result (λ _. self.new ≡ self.old) };
+        ensures kept { IfErr result (λ _. self.new ≡ self.old) }
+        ensures memory { OnErr result (IsTrue (keeps_list (op_of op.now))) };
 }
 
 impl<'a, V> VisitOperator<'a> for V
@@ -90,9 +92,10 @@ where
 ///
 /// # Errors
 ///
-/// Where there is no memory for the tables.
+/// Where the operator keeps a list, and there is no memory for it.
 pub fn copy<'a>(op: &Operator<'a>) -> Result<Operator<'a>, AllocError>
-    ensures { IfOk result (λ copy. op_of copy ≡ op_of op.now) }
+    ensures copied { IfOk result (λ copy. op_of copy ≡ op_of op.now) }
+    ensures memory { OnErr result (IsTrue (keeps_list (op_of op.now))) }
 {
     op.clone()
 }

@@ -1,7 +1,8 @@
 //! Visits of all operators.
 #![tactic(auto)]
 
-ghost use Rattle.std.specs.Prelude.{◌≡◌, IfOk, IfErr};
+ghost use Rattle.std.specs.Prelude.{◌≡◌, IsTrue, IfOk, IfErr, OnErr};
+ghost use Rattle.wasm_operators_visit.specs.Memory.{keeps_list};
 ghost use Rattle.wasm_operators_operator.specs.Op.{op_of};
 
 use std::alloc::AllocError;
@@ -34,10 +35,11 @@ pub trait VisitSimdOperator<'a>: VisitOperator<'a>
     ///
     /// # Errors
     ///
-    /// Where there is no memory for the copy. The visitor is then told nothing.
+    /// Where the operator keeps a list, and there is no memory for the copy. The visitor is then told nothing.
     fn visit_simd_operator(&mut self, op: &Operator<'a>) -> Result<Self::Output, AllocError>
         ensures visited { IfOk result (λ answer. Self.visits self.old (op_of op.now) answer self.new) }
-        ensures kept { IfErr result (λ _. self.new ≡ self.old) };
+        ensures kept { IfErr result (λ _. self.new ≡ self.old) }
+        ensures memory { OnErr result (IsTrue (keeps_list (op_of op.now))) };
 }
 
 impl<'a, V> VisitSimdOperator<'a> for V
