@@ -1,10 +1,15 @@
 pub use Rattle.wasm_types_error.specs.ErrorText
 pub use Rattle.wasm_types_error.specs.ErrorValue
+-- what contracts cite: what a read answers, values that nobody wants, parts, bytes below 128, numbers and their flaws
 pub mod Reading
-pub mod ReadingLaws
 pub mod Draining
 pub mod Parts
-pub mod PartLaws
 pub mod Words
-pub mod WordLaws
 pub mod Numbers
+-- readings worked by hand
+pub mod Rows
+-- what is proved of them: laws, exactness, rows
+pub mod ReadingLaws
+pub mod PartLaws
+pub mod WordLaws
+pub mod RowLaws

@@ -1,11 +1,12 @@
 //! The reader of bytes.
 
-ghost use Rattle.std.specs.Prelude.{◌≡◌, ℕ, ◌+◌, ◌-◌, ◌<◌, ◌≤◌, ◌^◌, ◌==◌, ◌↔◌, [], ◌∷◌, IsTrue, length, take, Ok, Err, IfOk, IfErr, ⊤};
+ghost use Rattle.std.specs.Prelude.{◌≡◌, ℕ, ◌+◌, ◌-◌, ◌<◌, ◌≤◌, ◌^◌, ◌==◌, ◌↔◌, [], ◌∷◌, ◌++◌, codes, IsTrue, length, take, Ok, Err, IfOk, IfErr, ⊤};
 ghost use Rattle.std.specs.Fn.{FnOnceReturnsAtMut};
 ghost use Rattle.wasm_types_decoding.specs.Decoder.{State, byte, bytes, look, pure, Reaches};
 ghost use Rattle.wasm_types_decoding.specs.Leb.{u32 as u32_decoder};
 ghost use Rattle.wasm_types_decoding.specs.Lists.{size_within};
 ghost use Rattle.wasm_types_error.specs.declared.error.ErrorKind.TheVariants.{EndOfData, Other};
+ghost use Rattle.wasm_types_error.specs.ErrorText.{IsWrittenMessage};
 ghost use Rattle.wasm_types_features.specs.Sets.{bits_of, default_features};
 ghost use Rattle.wasm_types_reader.specs.Reading.{Answers, Gives, NeedsNoMemory, MemoryOnlyIf};
 ghost use Rattle.wasm_types_reader.specs.Parts.{part_at, counted_part, IsPassed};
@@ -360,6 +361,7 @@ impl<'a> BinaryReader<'a> {
 fn size_error(desc: &str, offset: u64) -> Error
     ensures kind { result.kind ≡ Other }
     ensures offset { result.offset ≡ offset }
+    ensures message { IsWrittenMessage (desc.now ++ codes " size is out of bounds") result.message }
 {
     Error::fmt(format_args!("{desc} size is out of bounds"), offset)
 }

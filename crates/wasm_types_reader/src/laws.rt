@@ -7,6 +7,7 @@ ghost use Rattle.wasm_types_decoding.specs.Lists.{size_within, listed_within, Is
 ghost use Rattle.wasm_types_decoding.specs.Text.{word, name, any_name, skipped_name, IsWord, IsName, IsAnyName};
 ghost use Rattle.wasm_types_reader.specs.Parts.{counted_part};
 ghost use Rattle.wasm_types_reader.specs.Words.{u7, IsSmallByte};
+ghost use Rattle.wasm_types_reader.specs.Rows.{PartRows, AnswerRows, ItemRows};
 
 use crate::FromReader;
 
@@ -38,4 +39,12 @@ pub fn texts_and_words_are_lawful()
     ensures unlimited_strings { IsLawful any_name × Decides any_name IsAnyName }
     ensures skipped_strings { IsLawful (skipped_name 100000) }
     ensures parts { IsLawful counted_part }
+{}
+
+/// Readings that were worked by hand: parts, what an answer tells of an outcome, and values one by one.
+#[tactic(auto, using(crate::specs::RowLaws::part_rows, crate::specs::RowLaws::answer_rows, crate::specs::RowLaws::item_rows))]
+pub fn worked_readings()
+    ensures parts { PartRows }
+    ensures answers { AnswerRows }
+    ensures items { ItemRows }
 {}

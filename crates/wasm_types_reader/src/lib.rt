@@ -18,7 +18,7 @@ mod words;
 pub use binary_reader::BinaryReader;
 pub use from_reader::FromReader;
 pub use iter::BinaryReaderIter;
-pub use laws::{lists_are_lawful, reading_is_lawful, texts_and_words_are_lawful};
+pub use laws::{lists_are_lawful, reading_is_lawful, texts_and_words_are_lawful, worked_readings};
 pub use leb::numbers_are_lawful;
 pub use lists::{read_list, read_many};
 pub use wasm_types_error::{BinaryReaderError, Error, ErrorKind, Result};

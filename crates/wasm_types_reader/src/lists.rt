@@ -3,15 +3,58 @@
 ghost use Rattle.std.specs.Prelude.{◌≡◌, map};
 ghost use Rattle.wasm_types_decoding.specs.Decoder.{repeated, Reaches};
 ghost use Rattle.wasm_types_decoding.specs.Lists.{listed_within};
-ghost use Rattle.wasm_types_reader.specs.Reading.{Gives};
+ghost use Rattle.wasm_types_reader.specs.Reading.{Answers, Gives};
 
 use crate::{BinaryReader, FromReader, Result};
 use std::alloc::Global;
 
 /// The values that follow, as many as are counted before them, which are at most `limit`; a larger count is refused at
-/// its own place, as `desc`. The list grows as it is read. Where it is refused the reader may have gone on.
-#[tactic(auto, using(wasm_types_decoding::specs::Laws::reaches_self, wasm_types_decoding::specs::Laws::reaches_then), unfolding(wasm_types_decoding::specs::Lists::listed_within))]
+/// its own place, as `desc`. The list grows as it is read.
+#[tactic(auto, using(wasm_types_decoding::specs::Laws::reaches_self))]
 pub fn read_list<'a, T: FromReader<'a>>(
+    alloc: Global,
+    limit: usize,
+    desc: &str,
+    reader: &mut BinaryReader<'a>,
+) -> Result<Vec<T>>
+    ensures answer { Answers (λ v. map T.view v.items) result reader.old reader.new (listed_within limit T.decoder reader.old) }
+    ensures forward { Reaches reader.old reader.new }
+{
+    let start = reader.clone();
+    let items = match counted_items(alloc, limit, desc, reader) {
+        Ok(items) => items,
+        Err(error) => {
+            *reader = start;
+            return Err(error);
+        }
+    };
+    Ok(items)
+}
+
+/// As many values as are asked for, one after the other. The list grows as it is read.
+#[tactic(auto, using(wasm_types_decoding::specs::Laws::reaches_self))]
+pub fn read_many<'a, T: FromReader<'a>>(
+    alloc: Global,
+    count: usize,
+    reader: &mut BinaryReader<'a>,
+) -> Result<Vec<T>>
+    ensures answer { Answers (λ v. map T.view v.items) result reader.old reader.new (repeated count T.decoder reader.old) }
+    ensures forward { Reaches reader.old reader.new }
+{
+    let start = reader.clone();
+    let items = match some_items(alloc, count, reader) {
+        Ok(items) => items,
+        Err(error) => {
+            *reader = start;
+            return Err(error);
+        }
+    };
+    Ok(items)
+}
+
+/// A count and as many values. Where it is refused the reader may have gone on.
+#[tactic(auto, using(wasm_types_decoding::specs::Laws::reaches_self, wasm_types_decoding::specs::Laws::reaches_then), unfolding(wasm_types_decoding::specs::Lists::listed_within))]
+fn counted_items<'a, T: FromReader<'a>>(
     alloc: Global,
     limit: usize,
     desc: &str,
@@ -21,13 +64,12 @@ pub fn read_list<'a, T: FromReader<'a>>(
     ensures forward { Reaches reader.old reader.new }
 {
     let count = reader.read_size(limit, desc)?;
-    read_many(alloc, count, reader)
+    some_items(alloc, count, reader)
 }
 
-/// As many values as are asked for, one after the other. The list grows as it is read. Where it is refused the reader may have
-/// gone on.
+/// As many values as are asked for. Where it is refused the reader may have gone on.
 #[tactic(auto, using(wasm_types_decoding::specs::Laws::reaches_self, wasm_types_decoding::specs::Laws::reaches_then))]
-pub fn read_many<'a, T: FromReader<'a>>(
+fn some_items<'a, T: FromReader<'a>>(
     alloc: Global,
     count: usize,
     reader: &mut BinaryReader<'a>,

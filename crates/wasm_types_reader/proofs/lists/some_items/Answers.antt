@@ -4,7 +4,7 @@ use Rattle.std.proofs.lemmas.Result.{err_from_is_err_and}
 use Rattle.std.proofs.lemmas.List.{map-append}
 use Rattle.wasm_types_decoding.specs.Laws.{reaches_then}
 use Rattle.wasm_types_reader.proofs.Rows.{goes_on, ends, is_done}
-use Rattle.wasm_types_reader.proofs.lists.read_many.Goals as goal
+use Rattle.wasm_types_reader.proofs.lists.some_items.Goals as goal
 
 pub returns-in_err-item-clause-answer : goal.returns-in_err-item-clause-answer
 returns-in_err-item-clause-answer g c =

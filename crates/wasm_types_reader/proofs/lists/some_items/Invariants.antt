@@ -1,7 +1,7 @@
 use Rattle.std.proofs.Common.{◌≡◌, ◌-◌, map}
 use Rattle.wasm_types_decoding.specs.Decoder.{repeated, Reaches}
 use Rattle.wasm_types_reader.proofs.Rows.{with_front}
-use Rattle.wasm_types_reader.proofs.lists.read_many.Given as goal
+use Rattle.wasm_types_reader.proofs.lists.some_items.Given as goal
 
 -- what was read, and what is still read, is what all of it is read as
 abbrev pub invariant-loop : goal.invariant-loop
