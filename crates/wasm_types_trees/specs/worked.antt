@@ -1,0 +1,5 @@
+pub mod Types
+pub mod Gates
+pub mod Subtypes
+pub mod Matches
+pub mod Groups
