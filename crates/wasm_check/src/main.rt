@@ -1,13 +1,9 @@
 //! `wasm-check FILE...` says of each file whether it is a valid WebAssembly module.
 #![tactic(auto)]
 
-mod command;
-mod error;
-mod judging;
-
-use command::run;
 use std::process::ExitCode;
 use std::{env, io};
+use wasm_check_program::run;
 
 /// The words of the command line.
 fn words(rt: &HostRuntime) -> io::Result<Vec<String>> {
@@ -29,6 +25,3 @@ fn main(rt: HostRuntime) -> ExitCode {
     };
     ExitCode::from(status)
 }
-
-#[cfg(test)]
-mod tests;

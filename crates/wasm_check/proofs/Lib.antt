@@ -1,4 +1,0 @@
-pub mod WordLemmas
-pub mod LineLemmas
-pub mod ReportLemmas
-pub mod FileLemmas

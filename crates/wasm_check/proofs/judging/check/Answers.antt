@@ -1,7 +1,0 @@
-use Rattle.wasm_check.specs.Reports.{sources_of}
-use Rattle.wasm_check.proofs.ReportLemmas.{IfErr-kept}
-use Rattle.wasm_check.proofs.judging.check.Goals as goal
-
-pub returns-clause-err : goal.returns-clause-err
-returns-clause-err g c = IfErr-kept c.judge_all-judged.result (sources_of g.R.Read.remaining c.args.inputs.items) (g.W.Write.contents c.args.out.now)
-    (g.W.Write.contents c.judge_all-judged.new.out) (g.W.Write.contents c.flush.new.self) c.judge_all-judged.ensures.err c.flush.ensures.bytes

@@ -1,0 +1,62 @@
+-- What is written of a list of inputs.
+use Rattle.std.specs.Prelude.{◌≡◌, ℕ, List, [], ◌∷◌, ◌++◌, take, map, All, Contains, slice_get, Option, Some}
+use Rattle.std.specs.Io.KnownBytes.{Appends}
+use Rattle.wasm_module_validator.specs.Accepts.{Accepts}
+use Rattle.wasm_check_program.specs.declared.judging.Input.{Input}
+use Rattle.wasm_check_program.specs.declared.judging.Status.{Status}
+use Rattle.wasm_check_program.specs.declared.judging.Status.TheVariants.{AllValid, SomeInvalid}
+use Rattle.wasm_check_program.specs.declared.error.CheckError.{CheckError}
+use Rattle.wasm_check_program.specs.declared.error.CheckError.TheVariants.{Read, TooLong, OutOfMemory, Write}
+use Rattle.wasm_check_program.specs.Lines.{HasBytes, IsLine}
+use Rattle.wasm_check_program.specs.Faults.{IsTooLong}
+
+-- An input as a contract sees it: its name, and the bytes that its reader says it has left, where it says them.
+pub record Source : Type 0 where
+  pub name : List ℕ
+  pub said : Option (List ℕ)
+
+-- an input, where `remaining` is what its reader says
+abbrev pub source_of : {R : Type 0} → (R → Option (List ℕ)) → Input R → Source
+source_of remaining i = record { name = i.name.now; said = remaining i.reader }
+
+abbrev pub sources_of : {R : Type 0} → (R → Option (List ℕ)) → List (Input R) → List Source
+sources_of remaining inputs = map (source_of remaining) inputs
+
+-- The text has one line for each source, in order, and the sources have these bytes.
+abbrev pub Lines : List Source → List (List ℕ) → List ℕ → Type 0
+Lines [] [] text = text ≡ []
+Lines [] (bytes ∷ contents) text = ⊥
+Lines (s ∷ sources) [] text = ⊥
+Lines (s ∷ sources) (bytes ∷ contents) text = (line : List ℕ) × (rest : List ℕ) × HasBytes s.said bytes × IsLine s.name bytes line
+    × Lines sources contents rest × (text ≡ line ++ rest)
+
+-- The lines of these sources, which have these bytes, were written.
+pub record WritesLines (sources : List Source) (contents : List (List ℕ)) (old new : Option (List ℕ)) : Type 0 where
+  pub text : List ℕ
+  pub lines : Lines sources contents text
+  pub appended : Appends old new text
+
+-- whether all of these spell valid modules
+abbrev pub Sums : List (List ℕ) → Status → Type 0
+Sums contents AllValid = All Accepts contents
+Sums contents SomeInvalid = (bytes : List ℕ) × Contains contents bytes × ¬ Accepts bytes
+
+-- All sources were judged: their lines were written, and the status says whether all are valid.
+pub record IsReported (sources : List Source) (old new : Option (List ℕ)) (status : Status) : Type 0 where
+  pub contents : List (List ℕ)
+  pub written : WritesLines sources contents old new
+  pub sums : Sums contents status
+
+-- The source at this place came to no verdict: exactly the lines before it were written.
+pub record StopsAt (sources : List Source) (index : ℕ) (old new : Option (List ℕ)) : Type 0 where
+  pub source : Source
+  pub found : slice_get sources index ≡ Some source
+  pub contents : List (List ℕ)
+  pub written : WritesLines (take index sources) contents old new
+
+-- what a fault leaves
+abbrev pub Stops : List Source → Option (List ℕ) → Option (List ℕ) → CheckError → Type 0
+Stops sources old new (Read i) = StopsAt sources i old new
+Stops sources old new (TooLong i) = (s : StopsAt sources i old new) × IsTooLong s.source.said
+Stops sources old new (OutOfMemory i) = StopsAt sources i old new
+Stops sources old new Write = Unit {0}

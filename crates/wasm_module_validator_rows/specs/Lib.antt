@@ -1,0 +1,2 @@
+-- Worked modules and their verdicts.
+pub mod Modules
