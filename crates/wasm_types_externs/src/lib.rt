@@ -2,6 +2,7 @@
 #![tactic(auto)]
 
 mod global;
+pub mod laws;
 mod memory;
 mod table;
 mod tag;
