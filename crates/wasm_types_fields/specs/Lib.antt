@@ -4,3 +4,4 @@ pub mod Text
 pub mod Spells
 pub mod Decode
 pub mod DecodeLaws
+pub mod WorkedFields

@@ -6,6 +6,7 @@
 mod cont;
 mod field;
 mod func;
+pub mod laws;
 mod read;
 mod remap;
 

@@ -1,8 +1,6 @@
 //! Fields, functions and continuations from their bytes (WebAssembly 3.0, binary format, types).
 
-ghost use Rattle.std.specs.Prelude.{◌≡◌};
 ghost use Rattle.wasm_types_decoding.specs.Decoder.{Reaches};
-ghost use Rattle.wasm_types_error.specs.declared.error.ErrorKind.TheVariants.{Other};
 ghost use Rattle.wasm_types_reader.specs.Reading.{Gives, NeedsNoMemory};
 ghost use Rattle.wasm_types_fields.specs.Decode.{field_type, mutability, module_index};
 
@@ -12,7 +10,7 @@ use wasm_types_reader::limits::{
     MAX_WASM_FUNCTION_PARAMS, MAX_WASM_FUNCTION_RETURNS, MAX_WASM_STRUCT_FIELDS,
 };
 use wasm_types_reader::{BinaryReader, Error, FromReader, Result, read_list};
-use wasm_types_values::{PackedIndex, StorageType};
+use wasm_types_values::{PackedIndex, StorageType, index_error};
 
 // Whether a field may be written.
 #[tactic(auto, using(wasm_types_decoding::specs::Laws::reaches_self, wasm_types_decoding::specs::Laws::reaches_then), unfolding(crate::specs::Decode::mutability))]
@@ -148,15 +146,6 @@ impl<'a> FromReader<'a> for FuncType {
         let results = read_list(alloc, MAX_WASM_FUNCTION_RETURNS, "function returns", reader)?;
         Ok(FuncType::of_lists(params, results))
     }
-}
-
-// The error of an index that is too large.
-#[cold]
-fn index_error(offset: u64) -> Error
-    ensures kind { result.kind ≡ Other }
-    ensures offset { result.offset ≡ offset }
-{
-    Error::new("type index greater than implementation limits", offset)
 }
 
 /// A type of the module by its index, which is below 2^20 (WebAssembly 3.0, binary format, indices). A larger one is refused

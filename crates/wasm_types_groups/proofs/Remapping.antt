@@ -37,7 +37,7 @@ module _ {R E : Type 0} (answers : R → Result R E → Type 0) where
       → Remapped {U = Unit {0}} (map (λ i. tt {0})) (flat_map (λ i. i ∷ [])) answers (Err e) (map (λ i. i) old) (map (λ i. i) now)
   cut_alone e old now k d lt so_far h =
       subst (λ (is : List R). Remapped {U = Unit {0}} (map (λ i. tt {0})) (flat_map (λ i. i ∷ [])) answers (Err e) (map (λ i. i) old) (map (λ i. i) is)) (set-get_or now k d)
-          (cut (λ i. i) (λ i. tt {0}) (λ i. i ∷ []) answers e old now k (get_or now k d) d lt so_far (record { same = refl; walked = refused_alone answers e (get_or now k d) h }))
+      (cut (λ i. i) (λ i. tt {0}) (λ i. i ∷ []) answers e old now k (get_or now k d) d lt so_far (record { same = refl; walked = refused_alone answers e (get_or now k d) h }))
 
   -- ---- indices that may be absent
 

@@ -8,3 +8,4 @@ pub mod DecodeTypes
 pub mod Places
 pub mod TypeLaws
 pub mod Laws
+pub mod WorkedGroups

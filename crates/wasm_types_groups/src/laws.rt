@@ -1,6 +1,7 @@
 //! The laws of types, each on the contract of a function that does nothing.
 
 ghost use Rattle.wasm_types_groups.specs.Laws.{SubTypesAreToldApart, GroupsAreToldApart, GroupsAreOrderedByTypes, TiesDeclareTheSame, GroupsAreHashedByTypes, SubTypesAreCloned, GroupsAreCloned, ValuesDeclareTheSame, GroupValuesDeclareTheSame};
+ghost use Rattle.wasm_types_groups.specs.WorkedGroups.{CompositeTypesAreRead, SubTypesAreRead, GroupsAreRead, KindsAreTold, TextsAreWritten};
 
 use wasm_types_values::laws::equality_is_identity;
 
@@ -31,4 +32,13 @@ pub fn clones_declare_the_same()
 pub fn read_values_declare_the_same()
     ensures subtypes { ValuesDeclareTheSame }
     ensures groups { GroupValuesDeclareTheSame }
+{}
+
+/// Worked composite types, subtypes and groups: what their bytes are read as, and how parts of them are written.
+pub fn groups_are_worked()
+    ensures composite_types { CompositeTypesAreRead }
+    ensures subtypes { SubTypesAreRead }
+    ensures groups { GroupsAreRead }
+    ensures kinds { KindsAreTold }
+    ensures texts { TextsAreWritten }
 {}

@@ -95,7 +95,8 @@ impl SubType {
         requires { F.IsAlwaysCallable f.now }
         ensures remapped { Remapped declared_shape declared_indices (F.post f.now) result (declared_of self.old) (declared_of self.new) }
     {
-        remap_declared(self.supertype_idxs.as_mut_slice(), &mut self.composite_type, f)
+        let supertypes = self.supertype_idxs.as_mut_slice();
+        remap_declared(supertypes, &mut self.composite_type, f)
     }
 }
 

@@ -56,7 +56,7 @@ module _ (answers : UnpackedIndex → Result UnpackedIndex ErrorValue → Type 0
   replaced_value (Ref s) r i j p q h =
       let same : s ≡ r = cc in
       subst (λ (t : Reference). Remapped value_shape value_indices answers (Ok (tt {0})) (value_of (Ref s)) (tree.ref t.nullable (with_index (is_exact t.heap) j))) same
-          (replaced_heap s.nullable s.heap i j (subst (λ (t : Reference). index_of t.heap ≡ Some i) (sym same) q) h)
+      (replaced_heap s.nullable s.heap i j (subst (λ (t : Reference). index_of t.heap ≡ Some i) (sym same) q) h)
 
   pub replaced_exact : (v : ValType) (r : Reference) (i j : UnpackedIndex) → reference_in v ≡ Some r → index_of r.heap ≡ Some i → is_exact r.heap ≡ true → answers i (Ok j)
       → Remapped value_shape value_indices answers (Ok (tt {0})) (value_of v) (tree.ref r.nullable (tree.exact j))

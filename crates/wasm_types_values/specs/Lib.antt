@@ -19,3 +19,4 @@ pub mod DecodeLaws
 pub mod HeapExact
 pub mod ReferenceExact
 pub mod ValueExact
+pub mod WorkedTypes

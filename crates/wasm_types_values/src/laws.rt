@@ -3,6 +3,7 @@ ghost use Rattle.std.specs.Prelude.{◌≡◌, Some, true, false};
 ghost use Rattle.wasm_types_values.specs.Constants.{references};
 ghost use Rattle.wasm_types_values.specs.Laws.{AbstractTypesAreOrderedAsDeclared, ReferenceEqualityIsIdentity, ValueEqualityIsIdentity, StorageEqualityIsIdentity, HeapEqualityIsIdentity, AbstractEqualityIsIdentity};
 ghost use Rattle.wasm_types_trees.specs.laws.Statements.{AbstractIsReflexive, AbstractIsTransitive, AbstractIsAntisymmetric};
+ghost use Rattle.wasm_types_values.specs.WorkedTypes.{AbstractBytesAreRead, IndicesAreRead, ReferencesAreRead, ValuesAreRead, KindsAreTold, TextsAreWritten};
 
 use crate::reference::RefType;
 
@@ -77,3 +78,13 @@ pub const fn non_null_constants() -> [RefType; 14]
         RefType::NOCONT,
     ]
 }
+
+/// Worked types: what their bytes are read as, what is said of them, and how they are written.
+pub const fn types_are_worked()
+    ensures abstract_types { AbstractBytesAreRead }
+    ensures indices { IndicesAreRead }
+    ensures references { ReferencesAreRead }
+    ensures values { ValuesAreRead }
+    ensures kinds { KindsAreTold }
+    ensures texts { TextsAreWritten }
+{}

@@ -13,6 +13,7 @@ mod remap;
 mod value;
 
 pub use heap::{AbstractHeapType, HeapType};
+pub use read_heap::index_error;
 pub use reference::RefType;
 pub use value::{StorageType, ValType};
 pub use wasm_types_indices::{CoreTypeId, PackedIndex, UnpackedIndex};

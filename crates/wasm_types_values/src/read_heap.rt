@@ -72,9 +72,9 @@ impl<'a> FromReader<'a> for AbstractHeapType {
     }
 }
 
-// The error of an index that is too large.
+/// The error of an index that is not below 2^20.
 #[cold]
-fn no_index(offset: u64) -> Error
+pub fn index_error(offset: u64) -> Error
     ensures kind { result.kind ≡ Other }
     ensures offset { result.offset ≡ offset }
 {
@@ -94,7 +94,7 @@ fn read_concrete<'a>(reader: &mut BinaryReader<'a>) -> Result<HeapType>
         return Err(Error::new("invalid heap type", offset));
     }
     if index >= INDEX_LIMIT as i64 {
-        return Err(no_index(offset));
+        return Err(index_error(offset));
     }
     Ok(HeapType::Concrete(UnpackedIndex::Module(index as u32)))
 }
@@ -109,7 +109,7 @@ fn read_exact<'a>(reader: &mut BinaryReader<'a>) -> Result<HeapType>
     let offset = reader.original_position();
     let index = reader.read_var_u32()?;
     if index >= INDEX_LIMIT {
-        return Err(no_index(offset));
+        return Err(index_error(offset));
     }
     Ok(HeapType::Exact(UnpackedIndex::Module(index)))
 }

@@ -1,0 +1,73 @@
+-- Laws: worked fields, functions and indices. What these bytes are read as, and how these types are written.
+use Rattle.std.proofs.Common.{◌≡◌, ℕ, ◌++◌, List, [], ◌∷◌, refl, Bool, true, false}
+use Rattle.std.specs.Prelude.{codes}
+use Rattle.std.specs.Fmt.{decimal}
+use Rattle.wasm_types_decoding.specs.declared.Refusal.TheVariants.{Other}
+use Rattle.wasm_types_decoding.specs.Decoder.{State, Outcome, Done, Short, Fault, repeated}
+use Rattle.wasm_types_decoding.specs.Leb.{unsigned}
+use Rattle.wasm_types_decoding.specs.Lists.{size_within, listed_within}
+use Rattle.wasm_types_indices.specs.declared.index.UnpackedIndex.{UnpackedIndex}
+use Rattle.wasm_types_indices.specs.declared.index.UnpackedIndex.TheVariants.{Module}
+use Rattle.wasm_types_values.specs.declared.heap.AbstractHeapType.TheVariants as heap
+use Rattle.wasm_types_values.specs.declared.heap.HeapType.TheVariants.{Abstract}
+use Rattle.wasm_types_values.specs.declared.value.ValType.{ValType}
+use Rattle.wasm_types_values.specs.declared.value.ValType.TheVariants.{I32, I64, F32, Ref}
+use Rattle.wasm_types_values.specs.declared.value.StorageType.{StorageType}
+use Rattle.wasm_types_values.specs.declared.value.StorageType.TheVariants.{I8, I16, Val}
+use Rattle.wasm_types_values.specs.Decode.{reference, reference_after}
+use Rattle.wasm_types_values.specs.DecodeValues.{value_type_after, value_type, storage_type_after, storage_type}
+use Rattle.wasm_types_values.specs.WorkedTypes.{start_of, behind}
+use Rattle.wasm_types_fields.specs.declared.field.FieldType.{FieldType}
+use Rattle.wasm_types_fields.specs.Spells.{Signature}
+use Rattle.wasm_types_fields.specs.Decode.{mutability, field_type, fields, signature, module_index}
+use Rattle.wasm_types_fields.specs.Text.{field_text, array_text, struct_text, func_text, cont_text}
+
+abbrev field : StorageType → Bool → FieldType
+field s m = record { element_type = s; mutable = m }
+
+abbrev function : List ValType → List ValType → Signature
+function params results = record { params = params; results = results }
+
+-- ---- fields
+
+abbrev pub FieldsAreRead : Type 0
+FieldsAreRead = (field_type (start_of (0x7f ∷ 0x00 ∷ [])) ≡ Done (field (Val I32) false) (behind 2)) × (field_type (start_of (0x78 ∷ 0x01 ∷ [])) ≡ Done (field I8 true) (behind 2))
+    × (field_type (start_of (0x7f ∷ 0x02 ∷ [])) ≡ Fault Other 1) × (field_type (start_of (0x76 ∷ 0x00 ∷ [])) ≡ Fault Other 0) × (field_type (start_of (0x7f ∷ [])) ≡ Short 1 1)
+    × (fields (start_of (0x00 ∷ [])) ≡ Done [] (behind 1)) × (fields (start_of (0x02 ∷ 0x7f ∷ 0x00 ∷ 0x77 ∷ 0x01 ∷ [])) ≡ Done (field (Val I32) false ∷ field I16 true ∷ []) (behind 5))
+    × (fields (start_of (0x90 ∷ 0x4e ∷ [])) ≡ Short 2 1) × (fields (start_of (0x91 ∷ 0x4e ∷ [])) ≡ Fault Other 0)
+
+pub field_bytes : FieldsAreRead
+unfolding field_type fields mutability listed_within size_within unsigned repeated storage_type storage_type_after value_type_after reference_after
+field_bytes = (refl, refl, refl, refl, refl, refl, refl, refl, refl)
+
+-- ---- functions
+
+abbrev pub FunctionsAreRead : Type 0
+FunctionsAreRead = (signature (start_of (0x00 ∷ 0x00 ∷ [])) ≡ Done (function [] []) (behind 2)) × (signature (start_of (0x01 ∷ 0x7f ∷ 0x02 ∷ 0x7e ∷ 0x7d ∷ [])) ≡ Done (function (I32 ∷ []) (I64 ∷ F32 ∷ [])) (behind 5))
+    × (signature (start_of (0xe8 ∷ 0x07 ∷ [])) ≡ Short 2 1) × (signature (start_of (0xe9 ∷ 0x07 ∷ [])) ≡ Fault Other 0)
+    × (signature (start_of (0x00 ∷ 0xe8 ∷ 0x07 ∷ [])) ≡ Short 3 1) × (signature (start_of (0x00 ∷ 0xe9 ∷ 0x07 ∷ [])) ≡ Fault Other 1) × (signature (start_of (0x01 ∷ 0x78 ∷ [])) ≡ Fault Other 1)
+
+pub function_bytes : FunctionsAreRead
+unfolding signature listed_within size_within unsigned repeated value_type value_type_after reference_after
+function_bytes = (refl, refl, refl, refl, refl, refl, refl)
+
+-- ---- indices
+
+abbrev pub IndicesAreRead : Type 0
+IndicesAreRead = (module_index (start_of (0x05 ∷ [])) ≡ Done (Module 5) (behind 1)) × (module_index (start_of (0xff ∷ 0xff ∷ 0x3f ∷ [])) ≡ Done (Module 1048575) (behind 3))
+    × (module_index (start_of (0x80 ∷ 0x80 ∷ 0xc0 ∷ 0x00 ∷ [])) ≡ Fault Other 0) × (module_index (start_of (0x80 ∷ 0x80 ∷ 0x80 ∷ 0x80 ∷ 0x10 ∷ [])) ≡ Fault Other 4) × (module_index (start_of (0x80 ∷ [])) ≡ Short 1 1)
+
+pub index_bytes : IndicesAreRead
+unfolding module_index unsigned
+index_bytes = (refl, refl, refl, refl, refl)
+
+-- ---- how they are written
+
+abbrev pub TextsAreWritten : Type 0
+TextsAreWritten = (field_text (field (Val I32) true) ≡ codes "(mut i32)") × (field_text (field I8 false) ≡ codes "i8") × (array_text (record { 0 = field I16 true }) ≡ codes "(array (mut i16))")
+    × (struct_text [] ≡ codes "(struct)") × (struct_text (field (Val I64) true ∷ field I8 false ∷ []) ≡ codes "(struct (field (mut i64)) (field i8))")
+    × (func_text [] [] ≡ codes "(func)") × (func_text [] (I32 ∷ []) ≡ codes "(func (result i32))") × (func_text (I32 ∷ Ref (reference true (Abstract false heap.Func)) ∷ []) (F32 ∷ []) ≡ codes "(func (param i32 funcref) (result f32))")
+    × (cont_text (record { 0 = Module 4 }) ≡ codes "(cont (module " ++ decimal 4 ++ codes ")" ++ codes ")")
+
+pub texts_written : TextsAreWritten
+texts_written = (refl, refl, refl, refl, refl, refl, refl, refl, refl)
