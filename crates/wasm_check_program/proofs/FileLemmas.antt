@@ -1,20 +1,15 @@
 -- What clap finds in the words, as the files that they name.
-use Rattle.std.proofs.Common.{◌≡◌, ◌==◌, true, false, inl, inr, arith, ℕ, ◌<◌, List, [], ◌∷◌, length, map, ap, sym, subst, ◌∙◌, refl}
-use Rattle.std.specs.Prelude.{◌≢◌, ◌⊎◌, codes, Option, Some, None, Result, Ok, Err, IfOk, IfErr, IsSomeAnd, option_map, unwrap_or}
-use Rattle.std.specs.Io.KnownBytes.{Keeps}
-use Rattle.clap.specs.Words.{Kinds, IsAmong, FailsBy, fault_of, is_simple_and_free}
+use Rattle.std.proofs.Common.{◌≡◌, ◌==◌, true, false, arith, ℕ, ◌<◌, List, [], ◌∷◌, length, map, ap, sym, subst, ◌∙◌}
+use Rattle.std.specs.Prelude.{codes, Option, Some, None, Result, Ok, Err, IfOk, IfErr, IsSomeAnd, option_map, unwrap_or}
+use Rattle.clap.specs.Words.{FailsBy, fault_of, is_simple_and_free}
 use Rattle.clap.specs.declared.error.Error.{Error}
-use Rattle.clap.specs.declared.error.kind.ErrorKind.{ErrorKind}
-use Rattle.clap.specs.declared.error.kind.ErrorKind.TheVariants.{DisplayHelp, OutOfMemory}
-use Rattle.wasm_check_program.specs.declared.command.Fault.TheVariants as faults
 use Rattle.std.specs.Borrow.{Bor}
-use Rattle.std.proofs.lemmas.Bool.{eqb-true}
 use Rattle.clap.specs.Simple.{App, HasMatchesOf, is_simple, matches_of}
 use Rattle.clap.specs.Walk.{all_of, rows_of}
 use Rattle.clap.specs.Matches.{found_of, matched_of, raw_values}
 use Rattle.clap.proofs.WalkLemmas.{raw_values-rows}
 use Rattle.clap.specs.declared.parser.matches.ArgMatches.{ArgMatches}
-use Rattle.wasm_check_program.specs.Words.{wasm_check, files_of, matches_on, refusals_of, NamesNoFiles}
+use Rattle.wasm_check_program.specs.Words.{wasm_check, files_of, matches_on, refusals_of}
 use Rattle.wasm_check_program.specs.declared.command.Fault.{Fault}
 use Rattle.wasm_check_program.specs.declared.judging.Status.{Status}
 use Rattle.wasm_check_program.specs.declared.judging.Status.TheVariants.{AllValid, SomeInvalid}

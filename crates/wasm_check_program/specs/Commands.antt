@@ -16,6 +16,5 @@ pub record AreRead : Type 0 where
   pub two : Names (line_of (codes "a" ∷ codes "b" ∷ [])) (codes "a" ∷ codes "b" ∷ [])
   pub behind_dashes : Names (line_of (codes "--" ∷ codes "--help" ∷ codes "b" ∷ [])) (codes "--help" ∷ codes "b" ∷ [])
   pub help : refusals_of (line_of (codes "--help" ∷ [])) ≡ DisplayHelp ∷ []
-  pub short_help : refusals_of (line_of (codes "a" ∷ codes "-h" ∷ [])) ≡ DisplayHelp ∷ []
   pub none : refusals_of (line_of []) ≡ MissingRequiredArgument ∷ []
   pub unknown : refusals_of (line_of (codes "--all" ∷ codes "a" ∷ [])) ≡ UnknownArgument ∷ []

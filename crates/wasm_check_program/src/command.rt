@@ -209,5 +209,4 @@ where
 /// What `clap` answers to worked command lines, and which files they name.
 pub fn reads_worked_words()
     ensures { AreRead }
-{
-}
+{}

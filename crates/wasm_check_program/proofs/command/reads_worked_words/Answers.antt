@@ -11,7 +11,6 @@ read = record {
   two = record { taken = refl; named = refl };
   behind_dashes = record { taken = refl; named = refl };
   help = refl;
-  short_help = refl;
   none = refl;
   unknown = refl;
 }
