@@ -5,7 +5,7 @@
 use anyhow::{Context, Result};
 use std::alloc::{AllocError, Global};
 use std::env;
-use wasm_types_reader::BinaryReader;
+use wasm_types::BinaryReader;
 
 /// Puts a number at the end of a buffer.
 fn write(buffer: &mut Vec<u8>, number: u32) -> Result<(), AllocError> {

@@ -2,12 +2,12 @@
 use Rattle.std.proofs.Common.{◌≡◌, ℕ, ◌<◌, ◌≤◌, List, length, get_or, Option, Some, Result, Ok, Err, refl, sym, ◌∙◌, subst}
 use Rattle.std.specs.Prelude.{slice_get, IfOk}
 use Rattle.std.proofs.lemmas.Option.{slice_get_read}
-use Rattle.wasm_types_decoding.specs.Decoder.{State, Outcome, Done}
-use Rattle.wasm_types_decoding.specs.Exact.{value_is}
-use Rattle.wasm_types_error.specs.declared.error.ErrorKind.{ErrorKind}
-use Rattle.wasm_types_error.specs.declared.error.ErrorKind.TheVariants as kinds
-use Rattle.wasm_types_error.specs.ErrorValue.{ErrorValue}
-use Rattle.wasm_types_reader.specs.Reading.{FailsAt, Fails, Gives, Collects}
+use Rattle.wasm_types.specs.decoding.Decoder.{State, Outcome, Done}
+use Rattle.wasm_types.specs.decoding.Exact.{value_is}
+use Rattle.wasm_types.specs.error.declared.error.ErrorKind.{ErrorKind}
+use Rattle.wasm_types.specs.error.declared.error.ErrorKind.TheVariants as kinds
+use Rattle.wasm_types.specs.error.ErrorValue.{ErrorValue}
+use Rattle.wasm_types.specs.reader.Reading.{FailsAt, Fails, Gives, Collects}
 use Rattle.wasm_module_validator.specs.Answers.{Counts, Shows}
 use Rattle.wasm_module_validator.specs.Refusals.{at_begin}
 use Rattle.wasm_module_validator.specs.Syntax.{Module}

@@ -1,9 +1,9 @@
 -- Which bytes spell a module (WebAssembly 3.0, binary format), within the limits of this implementation.
 use Rattle.std.specs.Prelude.{◌≡◌, ℕ, ◌≤◌, ◌⊎◌, List, [], ◌∷◌, ◌++◌, length}
-use Rattle.wasm_types_decoding.specs.Decoder.{Grammar}
-use Rattle.wasm_types_decoding.specs.Leb.{IsUnsigned, IsListed}
-use Rattle.wasm_types_decoding.specs.Lists.{IsListedWithin}
-use Rattle.wasm_types_decoding.specs.Text.{IsSized}
+use Rattle.wasm_types.specs.decoding.Decoder.{Grammar}
+use Rattle.wasm_types.specs.decoding.Leb.{IsUnsigned, IsListed}
+use Rattle.wasm_types.specs.decoding.Lists.{IsListedWithin}
+use Rattle.wasm_types.specs.decoding.Text.{IsSized}
 use Rattle.wasm_module_validator_operands.specs.Syntax.{FunctionType, Function}
 use Rattle.wasm_module_validator_bodies.specs.Binary.{SpellsValType, SpellsFunction}
 use Rattle.wasm_module_validator.specs.Syntax.{Module}

@@ -1,11 +1,11 @@
 -- How a module is refused: the kind and the offset of the error, and what the validator is then.
 use Rattle.std.specs.Prelude.{◌≡◌, ℕ, List, Result, Ok, Err}
-use Rattle.wasm_types_decoding.specs.Decoder.{State, Outcome, Done, Short, Fault}
-use Rattle.wasm_types_error.specs.declared.error.ErrorKind.{ErrorKind}
-use Rattle.wasm_types_error.specs.declared.error.ErrorKind.TheVariants as kinds
-use Rattle.wasm_types_error.specs.ErrorValue.{ErrorValue}
-use Rattle.wasm_types_features.specs.Sets.{bits_of, default_features}
-use Rattle.wasm_types_reader.specs.Reading.{Fails}
+use Rattle.wasm_types.specs.decoding.Decoder.{State, Outcome, Done, Short, Fault}
+use Rattle.wasm_types.specs.error.declared.error.ErrorKind.{ErrorKind}
+use Rattle.wasm_types.specs.error.declared.error.ErrorKind.TheVariants as kinds
+use Rattle.wasm_types.specs.error.ErrorValue.{ErrorValue}
+use Rattle.wasm_types.specs.features.Sets.{bits_of, default_features}
+use Rattle.wasm_types.specs.reader.Reading.{Fails}
 use Rattle.wasm_module_validator.specs.declared.validator.State.{State as Progress}
 use Rattle.wasm_module_validator.specs.declared.validator.State.TheVariants as states
 use Rattle.wasm_module_validator.specs.laws.Frames.{Frames, module_frames}

@@ -1,12 +1,12 @@
 //! The sections of a module, in their order.
 
 ghost use Rattle.std.specs.Prelude.{◌≡◌, ◌∷◌, map, length};
-ghost use Rattle.wasm_types_decoding.specs.Decoder.{Reaches, repeated};
-ghost use Rattle.wasm_types_reader.specs.Reading.{Gives};
+ghost use Rattle.wasm_types.specs.decoding.Decoder.{Reaches, repeated};
+ghost use Rattle.wasm_types.specs.reader.Reading.{Gives};
 ghost use Rattle.wasm_module_validator.specs.laws.Frames.{IsCounted, begins, entered, ended, items, type_index, entries, type_section, function_section, code_section, preamble, module_frames};
 ghost use Rattle.wasm_module_validator.specs.laws.Types.{function_type};
 ghost use Rattle.wasm_module_validator.specs.laws.Entries.{bodies, frames_of};
-ghost use Rattle.wasm_types_error.specs.declared.error.ErrorKind.TheVariants.{Other};
+ghost use Rattle.wasm_types.specs.error.declared.error.ErrorKind.TheVariants.{Other};
 
 use crate::types::TypeEntry;
 use std::alloc::Global;
@@ -53,7 +53,7 @@ impl<'a> FromReader<'a> for FunctionBody<'a> {
 
     ghost exact = { decides-body };
 
-    #[tactic(auto, using(wasm_types_decoding::specs::Laws::reaches_self, wasm_types_decoding::specs::Laws::reaches_then), unfolding(crate::specs::laws::Frames::body))]
+    #[tactic(auto, using(wasm_types::specs::Laws::reaches_self, wasm_types::specs::Laws::reaches_then), unfolding(crate::specs::laws::Frames::body))]
     fn from_reader(_alloc: Global, reader: &mut BinaryReader<'a>) -> Result<FunctionBody<'a>> {
         let reader = reader.read_reader()?;
         if reader.bytes_remaining() > MAX_WASM_FUNCTION_SIZE {
@@ -84,7 +84,7 @@ pub struct ModuleFrames<'a> {
 
 /// The header and the sections of a module, to the last byte; the bytes of its functions stay as they are. Where it is
 /// refused the reader may have gone on.
-#[tactic(auto, using(wasm_types_decoding::specs::Laws::reaches_self, wasm_types_decoding::specs::Laws::reaches_then), unfolding(crate::specs::laws::Frames::module_frames, crate::specs::laws::Frames::frames))]
+#[tactic(auto, using(wasm_types::specs::Laws::reaches_self, wasm_types::specs::Laws::reaches_then), unfolding(crate::specs::laws::Frames::module_frames, crate::specs::laws::Frames::frames))]
 pub fn read_module<'a>(alloc: Global, reader: &mut BinaryReader<'a>) -> Result<ModuleFrames<'a>>
     ensures { Gives frames_of result reader.new (module_frames reader.old) }
 {
@@ -122,7 +122,7 @@ fn section_error(reader: &BinaryReader<'_>) -> Error
 }
 
 /// The magic number and the version.
-#[tactic(auto, using(wasm_types_decoding::specs::Laws::reaches_self, wasm_types_decoding::specs::Laws::reaches_then), unfolding(crate::specs::laws::Frames::preamble))]
+#[tactic(auto, using(wasm_types::specs::Laws::reaches_self, wasm_types::specs::Laws::reaches_then), unfolding(crate::specs::laws::Frames::preamble))]
 fn read_header(reader: &mut BinaryReader<'_>) -> Result<()>
     ensures { Gives (λ u. u) result reader.new (preamble reader.old) }
 {
@@ -167,7 +167,7 @@ fn next_is(reader: &BinaryReader<'_>, id: u8) -> bool
 }
 
 /// The id of a section and its size: a reader over its contents.
-#[tactic(auto, using(wasm_types_decoding::specs::Laws::reaches_self, wasm_types_decoding::specs::Laws::reaches_then))]
+#[tactic(auto, using(wasm_types::specs::Laws::reaches_self, wasm_types::specs::Laws::reaches_then))]
 fn enter<'a>(reader: &mut BinaryReader<'a>) -> Result<BinaryReader<'a>>
     ensures answer { Gives (λ r. r) result reader.new (entered reader.old) }
     ensures forward { Reaches reader.old reader.new }
@@ -198,7 +198,7 @@ fn count_error(desc: &str, limit: usize, place: u64) -> Error
 }
 
 /// The function types of a module; none where there is no type section. Where it is refused the reader may have gone on.
-#[tactic(auto, using(wasm_types_decoding::specs::Laws::reaches_self, wasm_types_decoding::specs::Laws::reaches_then), unfolding(crate::specs::laws::Frames::section, crate::specs::laws::Frames::contents, crate::specs::laws::Frames::type_section))]
+#[tactic(auto, using(wasm_types::specs::Laws::reaches_self, wasm_types::specs::Laws::reaches_then), unfolding(crate::specs::laws::Frames::section, crate::specs::laws::Frames::contents, crate::specs::laws::Frames::type_section))]
 pub fn read_type_section<'a>(alloc: Global, reader: &mut BinaryReader<'a>) -> Result<Vec<TypeEntry>>
     ensures answer { Gives (λ v. v.items) result reader.new (type_section reader.old) }
     ensures forward { Reaches reader.old reader.new }
@@ -212,7 +212,7 @@ pub fn read_type_section<'a>(alloc: Global, reader: &mut BinaryReader<'a>) -> Re
     Ok(types)
 }
 
-#[tactic(auto, using(wasm_types_decoding::specs::Laws::reaches_self, wasm_types_decoding::specs::Laws::reaches_then), unfolding(crate::specs::laws::Frames::items))]
+#[tactic(auto, using(wasm_types::specs::Laws::reaches_self, wasm_types::specs::Laws::reaches_then), unfolding(crate::specs::laws::Frames::items))]
 fn read_types<'a>(alloc: Global, contents: &mut BinaryReader<'a>) -> Result<Vec<TypeEntry>>
     ensures { Gives (λ v. v.items) result contents.new (items 1000000 function_type contents.old) }
 {
@@ -226,7 +226,7 @@ fn read_types<'a>(alloc: Global, contents: &mut BinaryReader<'a>) -> Result<Vec<
 
 /// The place of each function's type, where there are so many types; none where there is no function section. Where it is
 /// refused the reader may have gone on.
-#[tactic(auto, using(wasm_types_decoding::specs::Laws::reaches_self, wasm_types_decoding::specs::Laws::reaches_then), unfolding(crate::specs::laws::Frames::section, crate::specs::laws::Frames::contents, crate::specs::laws::Frames::function_section))]
+#[tactic(auto, using(wasm_types::specs::Laws::reaches_self, wasm_types::specs::Laws::reaches_then), unfolding(crate::specs::laws::Frames::section, crate::specs::laws::Frames::contents, crate::specs::laws::Frames::function_section))]
 pub fn read_function_section<'a>(
     alloc: Global,
     types: usize,
@@ -244,7 +244,7 @@ pub fn read_function_section<'a>(
     Ok(functions)
 }
 
-#[tactic(auto, using(wasm_types_decoding::specs::Laws::reaches_self, wasm_types_decoding::specs::Laws::reaches_then), unfolding(crate::specs::laws::Frames::items))]
+#[tactic(auto, using(wasm_types::specs::Laws::reaches_self, wasm_types::specs::Laws::reaches_then), unfolding(crate::specs::laws::Frames::items))]
 fn read_functions<'a>(
     alloc: Global,
     types: usize,
@@ -276,7 +276,7 @@ fn read_type_indices<'a>(
     Ok(functions)
 }
 
-#[tactic(auto, using(wasm_types_decoding::specs::Laws::reaches_self, wasm_types_decoding::specs::Laws::reaches_then), unfolding(crate::specs::laws::Frames::type_index))]
+#[tactic(auto, using(wasm_types::specs::Laws::reaches_self, wasm_types::specs::Laws::reaches_then), unfolding(crate::specs::laws::Frames::type_index))]
 fn read_type_index<'a>(types: usize, contents: &mut BinaryReader<'a>) -> Result<u32>
     ensures { Gives (λ x. x) result contents.new (type_index types contents.old) }
 {
@@ -301,7 +301,7 @@ fn index_error(index: u32, place: u64) -> Error
 
 /// The entries of the code section, which has as many as there are functions; none where there is neither. Where it is
 /// refused the reader may have gone on.
-#[tactic(auto, using(wasm_types_decoding::specs::Laws::reaches_self, wasm_types_decoding::specs::Laws::reaches_then), unfolding(crate::specs::laws::Frames::section, crate::specs::laws::Frames::contents, crate::specs::laws::Frames::code_section))]
+#[tactic(auto, using(wasm_types::specs::Laws::reaches_self, wasm_types::specs::Laws::reaches_then), unfolding(crate::specs::laws::Frames::section, crate::specs::laws::Frames::contents, crate::specs::laws::Frames::code_section))]
 pub fn read_code_section<'a>(
     alloc: Global,
     functions: usize,
@@ -322,7 +322,7 @@ pub fn read_code_section<'a>(
     Ok(entries)
 }
 
-#[tactic(auto, using(wasm_types_decoding::specs::Laws::reaches_self, wasm_types_decoding::specs::Laws::reaches_then), unfolding(crate::specs::laws::Frames::entries))]
+#[tactic(auto, using(wasm_types::specs::Laws::reaches_self, wasm_types::specs::Laws::reaches_then), unfolding(crate::specs::laws::Frames::entries))]
 fn read_entries<'a>(
     alloc: Global,
     functions: usize,

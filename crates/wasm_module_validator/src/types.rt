@@ -60,7 +60,7 @@ impl<'a> FromReader<'a> for TypeEntry {
 
     ghost exact = { decides-function_type };
 
-    #[tactic(auto, using(wasm_types_decoding::specs::Laws::reaches_self, wasm_types_decoding::specs::Laws::reaches_then), unfolding(crate::specs::laws::Types::function_type))]
+    #[tactic(auto, using(wasm_types::specs::Laws::reaches_self, wasm_types::specs::Laws::reaches_then), unfolding(crate::specs::laws::Types::function_type))]
     fn from_reader(alloc: Global, reader: &mut BinaryReader<'a>) -> Result<TypeEntry> {
         let start = reader.original_position();
         if reader.read_u8()? != 0x60 {

@@ -6,7 +6,7 @@ ghost use Rattle.wasm_module_validator.specs.Accepts.{Accepts, Judges};
 ghost use Rattle.wasm_module_validator_operands.specs.Answers.{Tells};
 ghost use Rattle.wasm_module_validator.specs.Answers.{Counts, Shows};
 ghost use Rattle.wasm_module_validator.specs.Refusals.{at_begin, RefusedAsRead, RefusesFunction, progress_after, progress_of};
-ghost use Rattle.wasm_types_reader.specs.Reading.{Collects};
+ghost use Rattle.wasm_types.specs.reader.Reading.{Collects};
 ghost use Rattle.wasm_module_validator.specs.Syntax.{Module};
 ghost use Rattle.wasm_module_validator.specs.laws.Frames.{module_frames};
 ghost use Rattle.wasm_module_validator.specs.laws.Entries.{bodies, frames_of};

@@ -1,12 +1,12 @@
 -- Groups of locals, one after the other, and the expression behind them.
 use Rattle.std.proofs.Common.{◌≡◌, ◌↔◌, ◌≤◌, ◌+◌, ℕ, zero, suc, List, [], ◌∷◌, ◌++◌, false, length, replicate, refl, sym, ◌∙◌, ap, subst, append-nil, append_assoc, arith}
 use Rattle.std.proofs.lemmas.List.{length-append, length-replicate}
-use Rattle.wasm_types_decoding.specs.Decoder.{State, Done, Many}
-use Rattle.wasm_types_decoding.specs.Leb.{IsUnsigned, u32}
-use Rattle.wasm_types_decoding.specs.LebLaws.{decides-u32}
-use Rattle.wasm_types_error.specs.declared.error.ErrorKind.{ErrorKind}
-use Rattle.wasm_types_reader.specs.Reading.{FailsAt}
-use Rattle.wasm_types_values.specs.declared.value.ValType.{ValType}
+use Rattle.wasm_types.specs.decoding.Decoder.{State, Done, Many}
+use Rattle.wasm_types.specs.decoding.Leb.{IsUnsigned, u32}
+use Rattle.wasm_types.specs.decoding.LebLaws.{decides-u32}
+use Rattle.wasm_types.specs.error.declared.error.ErrorKind.{ErrorKind}
+use Rattle.wasm_types.specs.reader.Reading.{FailsAt}
+use Rattle.wasm_types.specs.values.declared.value.ValType.{ValType}
 use Rattle.wasm_module_validator_operands.specs.Syntax.{LocalGroup, Code}
 use Rattle.wasm_module_validator_bodies.specs.Binary.{SpellsLocalGroup, SpellsExpression}
 use Rattle.wasm_module_validator_operands.specs.Validation.{OperandType, Typed, stack, expanded}

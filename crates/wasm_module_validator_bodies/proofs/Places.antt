@@ -2,13 +2,13 @@
 use Rattle.std.proofs.Common.{◌≡◌, ℕ, List, length, ap, ◌∙◌, subst, arith}
 use Rattle.std.specs.Prelude.{Result, Ok, Err}
 use Rattle.std.proofs.lemmas.List.{length-append}
-use Rattle.wasm_types_decoding.specs.declared.Refusal.TheVariants as refusals
-use Rattle.wasm_types_decoding.specs.Decoder.{State, Outcome, Decoder, Reaches}
-use Rattle.wasm_types_decoding.specs.Places.{end_of, StaysIn, RefusesWithin}
-use Rattle.wasm_types_error.specs.declared.error.ErrorKind.{ErrorKind}
-use Rattle.wasm_types_error.specs.declared.error.ErrorKind.TheVariants.{EndOfData, MissingFeature, OutOfMemory, Failed, Other}
-use Rattle.wasm_types_error.specs.ErrorValue.{ErrorValue}
-use Rattle.wasm_types_reader.specs.Reading.{FailsAt}
+use Rattle.wasm_types.specs.decoding.declared.Refusal.TheVariants as refusals
+use Rattle.wasm_types.specs.decoding.Decoder.{State, Outcome, Decoder, Reaches}
+use Rattle.wasm_types.specs.decoding.Places.{end_of, StaysIn, RefusesWithin}
+use Rattle.wasm_types.specs.error.declared.error.ErrorKind.{ErrorKind}
+use Rattle.wasm_types.specs.error.declared.error.ErrorKind.TheVariants.{EndOfData, MissingFeature, OutOfMemory, Failed, Other}
+use Rattle.wasm_types.specs.error.ErrorValue.{ErrorValue}
+use Rattle.wasm_types.specs.reader.Reading.{FailsAt}
 use Rattle.wasm_module_validator_operands.specs.Answers.{OfContent, IsRefusalOf, RefusedWithin}
 use Rattle.wasm_module_validator_bodies.specs.laws.Bytewise.{IsBytewise, StopsAt}
 

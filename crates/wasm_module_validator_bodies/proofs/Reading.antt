@@ -1,10 +1,10 @@
 -- What a refused or an accepted reading tells of the bytes.
 use Rattle.std.proofs.Common.{◌≡◌, ℕ, List, ◌++◌, length, ◌+◌, refl, sym, ◌∙◌}
-use Rattle.wasm_types_decoding.specs.Decoder.{State, Done, Decoder, Grammar, Decides}
-use Rattle.wasm_types_decoding.specs.Exact.{value_is, state_is}
-use Rattle.wasm_types_error.specs.declared.error.ErrorKind.{ErrorKind}
-use Rattle.wasm_types_error.specs.declared.error.ErrorKind.TheVariants as kinds
-use Rattle.wasm_types_reader.specs.Reading.{FailsAt}
+use Rattle.wasm_types.specs.decoding.Decoder.{State, Done, Decoder, Grammar, Decides}
+use Rattle.wasm_types.specs.decoding.Exact.{value_is, state_is}
+use Rattle.wasm_types.specs.error.declared.error.ErrorKind.{ErrorKind}
+use Rattle.wasm_types.specs.error.declared.error.ErrorKind.TheVariants as kinds
+use Rattle.wasm_types.specs.reader.Reading.{FailsAt}
 use Rattle.wasm_module_validator_operands.specs.Answers.{Denies}
 
 -- bytes that begin with what spells a value

@@ -2,12 +2,12 @@
 use Rattle.std.proofs.Common.{◌≡◌, ◌↔◌, ℕ, List, [], ◌∷◌, ◌++◌, Bool, true, false, length, nat_eq, eq-eqb, refl, sym, ◌∙◌, ap, subst, append-nil, Result, ◌<◌, arith}
 use Rattle.std.proofs.lemmas.Bool.{eqb-true}
 use Rattle.std.proofs.lemmas.List.{length-append}
-use Rattle.wasm_types_decoding.specs.Decoder.{State, Done}
-use Rattle.wasm_types_error.specs.ErrorValue.{ErrorValue}
-use Rattle.wasm_types_error.specs.declared.error.ErrorKind.{ErrorKind}
-use Rattle.wasm_types_error.specs.declared.error.ErrorKind.TheVariants.{Other}
-use Rattle.wasm_types_reader.specs.Reading.{FailsAt}
-use Rattle.wasm_types_values.specs.declared.value.ValType.{ValType}
+use Rattle.wasm_types.specs.decoding.Decoder.{State, Done}
+use Rattle.wasm_types.specs.error.ErrorValue.{ErrorValue}
+use Rattle.wasm_types.specs.error.declared.error.ErrorKind.{ErrorKind}
+use Rattle.wasm_types.specs.error.declared.error.ErrorKind.TheVariants.{Other}
+use Rattle.wasm_types.specs.reader.Reading.{FailsAt}
+use Rattle.wasm_types.specs.values.declared.value.ValType.{ValType}
 use Rattle.wasm_module_validator_bodies.specs.declared.operators.Operator.{Operator}
 use Rattle.wasm_module_validator_bodies.specs.declared.operators.Operator.TheVariants.{Unreachable, Nop, End, Drop, LocalGet, I32Const, I64Const, I32Add, I64Add}
 use Rattle.wasm_module_validator_operands.specs.Syntax.{Instruction, unreachable, nop, drop, local_get, i32_const, i64_const, i32_add, i64_add, Code, done, plain}

@@ -1,9 +1,9 @@
 -- Which bytes spell a function (WebAssembly 3.0, binary format), within the limits of this implementation.
 use Rattle.std.specs.Prelude.{◌≡◌, ℕ, List, [], ◌∷◌, ◌++◌}
-use Rattle.wasm_types_decoding.specs.Decoder.{Grammar}
-use Rattle.wasm_types_decoding.specs.Leb.{IsUnsigned, IsSigned, IsListed}
-use Rattle.wasm_types_values.specs.declared.value.ValType.{ValType}
-use Rattle.wasm_types_values.specs.declared.value.ValType.TheVariants.{I32, I64, F32, F64, V128, Ref}
+use Rattle.wasm_types.specs.decoding.Decoder.{Grammar}
+use Rattle.wasm_types.specs.decoding.Leb.{IsUnsigned, IsSigned, IsListed}
+use Rattle.wasm_types.specs.values.declared.value.ValType.{ValType}
+use Rattle.wasm_types.specs.values.declared.value.ValType.TheVariants.{I32, I64, F32, F64, V128, Ref}
 use Rattle.wasm_module_validator_operands.specs.Syntax.{Instruction, unreachable, nop, drop, local_get, i32_const, i64_const, i32_add, i64_add, Code, done, plain, LocalGroup, Function}
 
 -- number types, which are the value types of this stage (binary format, types)

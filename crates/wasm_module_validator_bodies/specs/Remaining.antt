@@ -1,6 +1,6 @@
 -- What may still come of a function's entry while it is validated, and what an operator does to that.
 use Rattle.std.specs.Prelude.{◌≡◌, ◌↔◌, ◌≤◌, ℕ, zero, suc, length, replicate, List, [], ◌++◌, Bool, true, false}
-use Rattle.wasm_types_values.specs.declared.value.ValType.{ValType}
+use Rattle.wasm_types.specs.values.declared.value.ValType.{ValType}
 use Rattle.wasm_module_validator_bodies.specs.declared.operators.Operator.{Operator}
 use Rattle.wasm_module_validator_operands.specs.Syntax.{FunctionType, Code, LocalGroup}
 use Rattle.wasm_module_validator_operands.specs.Validation.{OperandType, stack, Typed}

@@ -1,10 +1,10 @@
 //! Validation of a function's entry in the code section.
 
 ghost use Rattle.std.specs.Prelude.{◌≡◌, ◌↔◌, ◌≤◌, List, [], length, false};
-ghost use Rattle.wasm_types_error.specs.declared.error.ErrorKind.TheVariants.{Other};
-ghost use Rattle.wasm_types_values.specs.declared.value.ValType.{ValType as TheValType};
+ghost use Rattle.wasm_types.specs.error.declared.error.ErrorKind.TheVariants.{Other};
+ghost use Rattle.wasm_types.specs.values.declared.value.ValType.{ValType as TheValType};
 ghost use Rattle.wasm_module_validator_operands.specs.Answers.{Tells, RefusedAt, RefusedWithin};
-ghost use Rattle.wasm_types_decoding.specs.Decoder.{Reaches};
+ghost use Rattle.wasm_types.specs.decoding.Decoder.{Reaches};
 ghost use Rattle.wasm_module_validator_bodies.specs.Bodies.{AcceptsBody};
 ghost use Rattle.wasm_module_validator_operands.specs.Operands.{Does, fresh};
 ghost use Rattle.wasm_module_validator_bodies.specs.Remaining.{function_type, GroupsLeft, BodyLeft, Taken, MayTake};
@@ -12,9 +12,7 @@ ghost use Rattle.wasm_module_validator_bodies.specs.Remaining.{function_type, Gr
 use crate::operators::{LocalGroup, Operator};
 use std::alloc::Global;
 use wasm_module_validator_operands::OperatorValidator;
-use wasm_types_fields::FuncType;
-use wasm_types_reader::{BinaryReader, Error, Result};
-use wasm_types_values::ValType;
+use wasm_types::{BinaryReader, Error, FuncType, Result, ValType};
 
 /// A validator of what functions do, one after the other, which keeps its memory from one to the next.
 #[derive(Drop)]
@@ -51,7 +49,7 @@ impl FuncValidator {
     }
 
     /// Reads the groups of locals of a function with these parameters.
-    #[tactic(auto, using(wasm_types_decoding::specs::Laws::reaches_self, wasm_types_decoding::specs::Laws::reaches_then))]
+    #[tactic(auto, using(wasm_types::specs::Laws::reaches_self, wasm_types::specs::Laws::reaches_then))]
     fn read_locals(&mut self, params: &[ValType], reader: &mut BinaryReader<'_>) -> Result<()>
         ensures does { Does result ((results : List TheValType) → AcceptsBody (function_type params.now results) reader.old.rest ↔ BodyLeft results self.new.validator reader.new.rest) ((results : List TheValType) × AcceptsBody (function_type params.now results) reader.old.rest) }
         ensures within { RefusedWithin reader.old result }
@@ -75,7 +73,7 @@ impl FuncValidator {
     }
 
     /// Reads so many groups of locals.
-    #[tactic(auto, using(wasm_types_decoding::specs::Laws::reaches_self, wasm_types_decoding::specs::Laws::reaches_then))]
+    #[tactic(auto, using(wasm_types::specs::Laws::reaches_self, wasm_types::specs::Laws::reaches_then))]
     fn read_groups(&mut self, count: u32, reader: &mut BinaryReader<'_>) -> Result<()>
         requires begun { self.old.validator ≡ fresh self.old.validator.locals }
         requires within { length self.old.validator.locals ≤ 50000 }
@@ -92,7 +90,7 @@ impl FuncValidator {
     }
 
     /// Reads operators to the end of the data, and visits each.
-    #[tactic(auto, using(wasm_types_decoding::specs::Laws::reaches_self, wasm_types_decoding::specs::Laws::reaches_then))]
+    #[tactic(auto, using(wasm_types::specs::Laws::reaches_self, wasm_types::specs::Laws::reaches_then))]
     fn read_operators(&mut self, results: &[ValType], reader: &mut BinaryReader<'_>) -> Result<()>
         ensures verdict { Tells result (BodyLeft results.now self.old.validator reader.old.rest) }
         ensures within { RefusedWithin reader.old result }

@@ -1,12 +1,11 @@
 //! Operators and groups of locals, as they stand in a function's entry of the code section.
 
 ghost use Rattle.std.specs.Prelude.{◌≡◌};
-ghost use Rattle.wasm_types_error.specs.declared.error.ErrorKind.TheVariants.{Other};
+ghost use Rattle.wasm_types.specs.error.declared.error.ErrorKind.TheVariants.{Other};
 
 use crate::types::read_number_type;
 use std::alloc::Global;
-use wasm_types_reader::{BinaryReader, Error, FromReader, Result};
-use wasm_types_values::ValType;
+use wasm_types::{BinaryReader, Error, FromReader, Result, ValType};
 
 /// An instruction without the instructions that it may hold, or the end of an expression (WebAssembly 3.0, binary format,
 /// instructions and expressions).
@@ -44,7 +43,7 @@ impl<'a> FromReader<'a> for Operator {
     ghost exact = { decides-operator };
 
     #[inline]
-    #[tactic(auto, using(wasm_types_decoding::specs::Laws::reaches_self, wasm_types_decoding::specs::Laws::reaches_then), unfolding(crate::specs::laws::Operators::operator))]
+    #[tactic(auto, using(wasm_types::specs::Laws::reaches_self, wasm_types::specs::Laws::reaches_then), unfolding(crate::specs::laws::Operators::operator))]
     fn from_reader(_alloc: Global, reader: &mut BinaryReader<'a>) -> Result<Operator> {
         let code = reader.read_u8()?;
         match code {
@@ -122,7 +121,7 @@ impl<'a> FromReader<'a> for LocalGroup {
 
     ghost exact = { decides-local_group };
 
-    #[tactic(auto, using(wasm_types_decoding::specs::Laws::reaches_self, wasm_types_decoding::specs::Laws::reaches_then), unfolding(crate::specs::laws::Operators::local_group))]
+    #[tactic(auto, using(wasm_types::specs::Laws::reaches_self, wasm_types::specs::Laws::reaches_then), unfolding(crate::specs::laws::Operators::local_group))]
     fn from_reader(_alloc: Global, reader: &mut BinaryReader<'a>) -> Result<LocalGroup> {
         let count = reader.read_var_u32()?;
         let ty = read_number_type(reader)?;

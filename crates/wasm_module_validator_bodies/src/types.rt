@@ -1,16 +1,15 @@
 //! Number types, as the locals of a function give them.
 
 ghost use Rattle.std.specs.Prelude.{◌≡◌};
-ghost use Rattle.wasm_types_decoding.specs.Decoder.{Reaches};
-ghost use Rattle.wasm_types_error.specs.declared.error.ErrorKind.TheVariants.{Other};
-ghost use Rattle.wasm_types_reader.specs.Reading.{Gives, NeedsNoMemory};
+ghost use Rattle.wasm_types.specs.decoding.Decoder.{Reaches};
+ghost use Rattle.wasm_types.specs.error.declared.error.ErrorKind.TheVariants.{Other};
+ghost use Rattle.wasm_types.specs.reader.Reading.{Gives, NeedsNoMemory};
 ghost use Rattle.wasm_module_validator_bodies.specs.laws.Types.{val_type};
 
-use wasm_types_reader::{BinaryReader, Error, Result};
-use wasm_types_values::ValType;
+use wasm_types::{BinaryReader, Error, Result, ValType};
 
 /// The next number type (WebAssembly 3.0, binary format, number types). Where it is refused the reader may have gone on.
-#[tactic(auto, using(wasm_types_decoding::specs::Laws::reaches_self, wasm_types_decoding::specs::Laws::reaches_then), unfolding(crate::specs::laws::Types::val_type))]
+#[tactic(auto, using(wasm_types::specs::Laws::reaches_self, wasm_types::specs::Laws::reaches_then), unfolding(crate::specs::laws::Types::val_type))]
 pub(crate) fn read_number_type(reader: &mut BinaryReader<'_>) -> Result<ValType>
     ensures answer { Gives (λ t. t) result reader.new (val_type reader.old) }
     ensures no_memory { NeedsNoMemory result }

@@ -1,8 +1,8 @@
 -- Stacks that match others, and stacks that operands stand for.
 use Rattle.std.proofs.Common.{List, [], ◌∷◌, Bool, true, false, refl, ◌∙◌, Result, Ok, Err}
-use Rattle.wasm_types_error.specs.ErrorValue.{ErrorValue}
-use Rattle.wasm_types_error.specs.declared.error.ErrorKind.{ErrorKind}
-use Rattle.wasm_types_values.specs.declared.value.ValType.{ValType}
+use Rattle.wasm_types.specs.error.ErrorValue.{ErrorValue}
+use Rattle.wasm_types.specs.error.declared.error.ErrorKind.{ErrorKind}
+use Rattle.wasm_types.specs.values.declared.value.ValType.{ValType}
 use Rattle.wasm_module_validator_operands.specs.Validation.{OperandType, bottom, value, Matches, AllMatch, values}
 use Rattle.wasm_module_validator_operands.specs.Answers.{Denies, denies_from, Tells}
 use Rattle.wasm_module_validator_operands.specs.Operands.{Covers, Does}

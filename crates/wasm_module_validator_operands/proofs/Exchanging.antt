@@ -3,7 +3,7 @@ use Rattle.std.proofs.Common.{◌≡◌, ◌↔◌, ℕ, List, [], ◌∷◌, �
 use Rattle.std.proofs.lemmas.List.{reverse-reverse, append-nil, reverse-append, map-append, length-reverse}
 use Rattle.std.proofs.Common.{nat_eq, eq-eqb}
 use Rattle.std.proofs.lemmas.Bool.{eqb-true}
-use Rattle.wasm_types_values.specs.declared.value.ValType.{ValType}
+use Rattle.wasm_types.specs.values.declared.value.ValType.{ValType}
 use Rattle.wasm_module_validator_operands.specs.Syntax.{Instruction, unreachable, nop, drop, local_get}
 use Rattle.wasm_module_validator_operands.specs.Validation.{OperandType, value, AllMatch, values, stack, Exchanges, Row, Steps}
 use Rattle.wasm_module_validator_operands.specs.Operands.{Known, Covers, Stacks, Same, Popped, MayPop, PoppedAny, MayPopAny, Pushed, PoppedAll, MayPopAll, Combined, MayCombine, Stepped, MayStep}

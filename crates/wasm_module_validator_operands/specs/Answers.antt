@@ -1,10 +1,10 @@
 -- What an answer tells.
 use Rattle.std.specs.Prelude.{◌≡◌, ◌≤◌, ℕ, Result, Ok, Err}
-use Rattle.wasm_types_error.specs.ErrorValue.{ErrorValue}
-use Rattle.wasm_types_error.specs.declared.error.ErrorKind.{ErrorKind}
-use Rattle.wasm_types_error.specs.declared.error.ErrorKind.TheVariants as kinds
-use Rattle.wasm_types_decoding.specs.Decoder.{State}
-use Rattle.wasm_types_decoding.specs.Places.{end_of}
+use Rattle.wasm_types.specs.error.ErrorValue.{ErrorValue}
+use Rattle.wasm_types.specs.error.declared.error.ErrorKind.{ErrorKind}
+use Rattle.wasm_types.specs.error.declared.error.ErrorKind.TheVariants as kinds
+use Rattle.wasm_types.specs.decoding.Decoder.{State}
+use Rattle.wasm_types.specs.decoding.Places.{end_of}
 
 -- the fact doesn't hold, unless memory was wanted
 abbrev pub Denies : ErrorKind → Type 0 → Type 0

@@ -1,6 +1,6 @@
 -- Locals as runs of one type.
 use Rattle.std.specs.Prelude.{ℕ, ◌-◌, ◌≤◌, List, [], ◌∷◌, ◌++◌, replicate}
-use Rattle.wasm_types_values.specs.declared.value.ValType.{ValType}
+use Rattle.wasm_types.specs.values.declared.value.ValType.{ValType}
 use Rattle.wasm_module_validator_operands.specs.declared.locals.Run.{Run}
 
 -- the locals from this index on that runs stand for, one by one

@@ -1,8 +1,8 @@
 -- What is known of a body while it is validated, and what each step does to it. It is said by sets of stacks: the operands
 -- stand for each stack that the code so far may leave (WebAssembly 3.0, validation, instructions).
 use Rattle.std.specs.Prelude.{◌≡◌, ◌↔◌, List, [], ◌∷◌, ◌++◌, Bool, true, false, Result, Ok, Err}
-use Rattle.wasm_types_error.specs.ErrorValue.{ErrorValue}
-use Rattle.wasm_types_values.specs.declared.value.ValType.{ValType}
+use Rattle.wasm_types.specs.error.ErrorValue.{ErrorValue}
+use Rattle.wasm_types.specs.values.declared.value.ValType.{ValType}
 use Rattle.wasm_module_validator_operands.specs.Syntax.{Instruction}
 use Rattle.wasm_module_validator_operands.specs.Validation.{OperandType, value, Matches, stack, Steps}
 use Rattle.wasm_module_validator_operands.specs.Answers.{Denies}

@@ -1,6 +1,6 @@
 -- Functions as plain trees (WebAssembly 3.0, structure). Locals are named by their places.
 use Rattle.std.specs.Prelude.{ℕ, ℤ, List}
-use Rattle.wasm_types_values.specs.declared.value.ValType.{ValType}
+use Rattle.wasm_types.specs.values.declared.value.ValType.{ValType}
 
 -- A function type: what is taken, and what is given, the last on top (structure, types).
 pub record FunctionType : Type 0 where

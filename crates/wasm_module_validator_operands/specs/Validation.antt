@@ -1,7 +1,7 @@
 -- Which functions are valid (WebAssembly 3.0, validation).
 use Rattle.std.specs.Prelude.{◌≡◌, ◌≤◌, List, [], ◌∷◌, ◌++◌, length, map, reverse, replicate, slice_get, Some}
-use Rattle.wasm_types_values.specs.declared.value.ValType.{ValType}
-use Rattle.wasm_types_values.specs.declared.value.ValType.TheVariants.{I32, I64}
+use Rattle.wasm_types.specs.values.declared.value.ValType.{ValType}
+use Rattle.wasm_types.specs.values.declared.value.ValType.TheVariants.{I32, I64}
 use Rattle.wasm_module_validator_operands.specs.Syntax.{FunctionType, Instruction, unreachable, nop, drop, local_get, i32_const, i64_const, i32_add, i64_add, Code, done, plain, LocalGroup, Function}
 
 -- An operand's type: a value type, or the bottom type, which fits every type and stands where code can't be reached

@@ -1,12 +1,11 @@
 //! The locals of a function.
 
 ghost use Rattle.std.specs.Prelude.{◌≡◌, ◌+◌, ◌≤◌, [], ◌++◌, length, replicate, slice_get};
-ghost use Rattle.wasm_types_error.specs.declared.error.ErrorKind.TheVariants.{Other};
+ghost use Rattle.wasm_types.specs.error.declared.error.ErrorKind.TheVariants.{Other};
 
 use std::alloc::Global;
 use std::marker::Model;
-use wasm_types_error::{Error, Result};
-use wasm_types_values::ValType;
+use wasm_types::{Error, Result, ValType};
 
 /// How many locals a function may have, with its parameters.
 const MAX_WASM_FUNCTION_LOCALS: u32 = 50_000;
@@ -26,7 +25,7 @@ pub struct Locals {
 
 impl Model for Locals {
     ghost use Rattle.std.specs.Prelude.{List};
-    ghost use Rattle.wasm_types_values.specs.declared.value.ValType.{ValType as TheValType};
+    ghost use Rattle.wasm_types.specs.values.declared.value.ValType.{ValType as TheValType};
     ghost use Rattle.wasm_module_validator_operands.specs.Locals.{locals_from, AreRunsFrom};
 
     ghost Value = { List TheValType };

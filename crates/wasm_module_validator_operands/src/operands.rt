@@ -2,15 +2,13 @@
 //! and its appendix on a validation algorithm).
 
 ghost use Rattle.std.specs.Prelude.{ℤ, ◌≡◌, ◌∷◌, ◌++◌, ◌≤◌, ◌+◌, [], length, replicate, IfErr, IsTrue, ◌↔◌};
-ghost use Rattle.wasm_types_error.specs.declared.error.ErrorKind.TheVariants.{OutOfMemory, Other};
+ghost use Rattle.wasm_types.specs.error.declared.error.ErrorKind.TheVariants.{OutOfMemory, Other};
 
 use crate::locals::Locals;
 use std::alloc::Global;
 use std::fmt::Display;
 use std::marker::Model;
-use wasm_types_error::{Error, Result};
-use wasm_types_values::ValType;
-use wasm_types_values::laws::equality_is_identity;
+use wasm_types::{Error, Result, ValType, equality_is_identity};
 
 /// What is known of a body: the locals, the operands, whether the place can't be reached, and whether the body has had its
 /// end. A visit of an instruction changes it as the instruction asks; after a refused one it may be anything.

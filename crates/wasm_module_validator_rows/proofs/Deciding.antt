@@ -3,9 +3,9 @@ use Rattle.std.proofs.Common.{◌≡◌, ℕ, zero, suc, ◌+◌, ◌<◌, ◌�
 use Rattle.std.specs.Prelude.{◌==◌, if◌then◌else◌}
 use Rattle.std.proofs.lemmas.Bool.{eqb-true}
 use Rattle.std.proofs.lemmas.List.{append-nil, length-append}
-use Rattle.wasm_types_decoding.specs.Decoder.{State, Outcome, Done, Short, Fault, Takes}
-use Rattle.wasm_types_decoding.specs.Leb.{listed}
-use Rattle.wasm_types_decoding.specs.LebLaws.{decides-listed}
+use Rattle.wasm_types.specs.decoding.Decoder.{State, Outcome, Done, Short, Fault, Takes}
+use Rattle.wasm_types.specs.decoding.Leb.{listed}
+use Rattle.wasm_types.specs.decoding.LebLaws.{decides-listed}
 use Rattle.wasm_module_validator_operands.specs.Syntax.{FunctionType, Instruction, unreachable, nop, drop, local_get, i32_const, i64_const, i32_add, i64_add, Code, done, plain, LocalGroup, Function}
 use Rattle.wasm_module_validator_operands.specs.Validation.{IsValidFunction}
 use Rattle.wasm_module_validator_bodies.specs.Binary.{SpellsInstruction, SpellsExpression, SpellsLocalGroup, SpellsFunction}

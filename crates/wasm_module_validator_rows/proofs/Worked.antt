@@ -2,14 +2,14 @@
 use Rattle.std.proofs.Common.{◌≡◌, ℕ, List, [], ◌∷◌, ◌++◌, length, refl, sym, ap, ◌∙◌, subst, Option, Some, None, arith}
 use Rattle.std.specs.Prelude.{pos, reverse, replicate}
 use Rattle.std.proofs.lemmas.List.{append-nil, length-replicate}
-use Rattle.wasm_types_decoding.specs.Decoder.{repeated}
-use Rattle.wasm_types_decoding.specs.Leb.{unsigned, signed, last_bits, listed}
-use Rattle.wasm_types_decoding.specs.Lists.{size_within, listed_within}
-use Rattle.wasm_types_reader.specs.Parts.{counted_part}
-use Rattle.wasm_types_values.specs.DecodeValues.{value_type_after, value_type}
-use Rattle.wasm_types_fields.specs.Decode.{signature}
-use Rattle.wasm_types_values.specs.declared.value.ValType.{ValType}
-use Rattle.wasm_types_values.specs.declared.value.ValType.TheVariants.{I32, I64}
+use Rattle.wasm_types.specs.decoding.Decoder.{repeated}
+use Rattle.wasm_types.specs.decoding.Leb.{unsigned, signed, last_bits, listed}
+use Rattle.wasm_types.specs.decoding.Lists.{size_within, listed_within}
+use Rattle.wasm_types.specs.reader.Parts.{counted_part}
+use Rattle.wasm_types.specs.values.DecodeValues.{value_type_after, value_type}
+use Rattle.wasm_types.specs.fields.Decode.{signature}
+use Rattle.wasm_types.specs.values.declared.value.ValType.{ValType}
+use Rattle.wasm_types.specs.values.declared.value.ValType.TheVariants.{I32, I64}
 use Rattle.wasm_module_validator_operands.specs.Syntax.{FunctionType, Code, Function, plain, done, unreachable, nop, drop, local_get, i32_const, i64_const, i32_add}
 use Rattle.wasm_module_validator_operands.specs.Validation.{OperandType, value, AllMatch, locals_of, IsValidFunction}
 use Rattle.wasm_module_validator_bodies.specs.Bodies.{AcceptsBody}

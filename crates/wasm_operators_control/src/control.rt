@@ -6,7 +6,7 @@ ghost use Rattle.wasm_operators_info.specs.declared.proposal.Proposal.TheVariant
 
 use wasm_operators_immediates::{BlockType, BrTable};
 use wasm_operators_info::{OperatorInfo, Proposal};
-use wasm_types_values::ValType;
+use wasm_types::ValType;
 
 // A row of the first release.
 fn mvp(name: &'static str, code: u32) -> OperatorInfo

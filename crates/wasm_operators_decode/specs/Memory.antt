@@ -1,6 +1,6 @@
 -- Which operators keep a list in memory, by the kinds of what stands behind their opcode. To read another takes no memory.
 use Rattle.std.specs.Prelude.{Bool, true, false, ◌||◌, List, [], ◌∷◌, Option, Some, None}
-use Rattle.wasm_types_decoding.specs.Decoder.{State, Outcome, Done, Short, Fault}
+use Rattle.wasm_types.specs.decoding.Decoder.{State, Outcome, Done, Short, Fault}
 use Rattle.wasm_operators_immediates.specs.Kinds as kind
 use Rattle.wasm_operators_immediates.specs.Kinds.{Kind}
 use Rattle.wasm_operators_decode_encoding.specs.Opcodes.{Opcode, opcode}

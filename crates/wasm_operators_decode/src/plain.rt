@@ -1,7 +1,7 @@
 //! Operators whose opcode is one byte.
 
 ghost use Rattle.std.specs.Prelude.{◌≡◌, IfOk, IsTrue, false};
-ghost use Rattle.wasm_types_reader.specs.Reading.{Gives, NeedsNoMemory};
+ghost use Rattle.wasm_types.specs.reader.Reading.{Gives, NeedsNoMemory};
 ghost use Rattle.wasm_operators_operator.specs.Op.{op_of};
 ghost use Rattle.wasm_operators_operator.specs.Immediates.{is_canonical};
 ghost use Rattle.wasm_operators_decode_encoding.specs.Opcodes.{plain};
@@ -22,7 +22,7 @@ use wasm_operators_decode_memory::{
 };
 use wasm_operators_decode_numbers::numeric_of;
 use wasm_operators_operator::Operator;
-use wasm_types_reader::{BinaryReader, Result};
+use wasm_types::{BinaryReader, Result};
 
 /// What stands behind a code of one byte.
 pub fn read_plain<'a>(

@@ -1,7 +1,7 @@
 //! Operators whose code stands behind a prefix.
 
 ghost use Rattle.std.specs.Prelude.{◌≡◌, IfOk, IsTrue, Some};
-ghost use Rattle.wasm_types_reader.specs.Reading.{Gives, NeedsNoMemory};
+ghost use Rattle.wasm_types.specs.reader.Reading.{Gives, NeedsNoMemory};
 ghost use Rattle.wasm_operators_operator.specs.Op.{op_of};
 ghost use Rattle.wasm_operators_operator.specs.Immediates.{is_canonical};
 ghost use Rattle.wasm_operators_decode_encoding.specs.Opcodes.{prefixed};
@@ -16,7 +16,7 @@ use wasm_operators_decode_numbers::numeric_prefixed_of;
 use wasm_operators_decode_threads::{atomic_shape, read_atomic, read_shared, shared_shape};
 use wasm_operators_decode_vectors::{read_simd, simd_numeric_of, simd_shape};
 use wasm_operators_operator::Operator;
-use wasm_types_reader::{BinaryReader, Result};
+use wasm_types::{BinaryReader, Result};
 
 /// What stands behind a code that follows `0xfb`.
 pub fn read_fb<'a>(

@@ -1,7 +1,7 @@
 //! Operators from their first byte on.
 
 ghost use Rattle.std.specs.Prelude.{◌≡◌, IfOk, IsTrue, false};
-ghost use Rattle.wasm_types_reader.specs.Reading.{Answers, Gives, NeedsNoMemory};
+ghost use Rattle.wasm_types.specs.reader.Reading.{Answers, Gives, NeedsNoMemory};
 ghost use Rattle.wasm_operators_operator.specs.Op.{op_of};
 ghost use Rattle.wasm_operators_operator.specs.Immediates.{is_canonical};
 ghost use Rattle.wasm_operators_decode_encoding.specs.Opcodes.{is_prefix, prefixed};
@@ -13,7 +13,7 @@ use crate::plain::read_plain;
 use crate::prefixed::{read_fb, read_fc, read_fd, read_fe};
 use std::alloc::Global;
 use wasm_operators_operator::Operator;
-use wasm_types_reader::{BinaryReader, Result};
+use wasm_types::{BinaryReader, Result};
 
 // Whether a code follows this byte.
 fn is_prefix(byte: u8) -> bool

@@ -1,9 +1,9 @@
 //! Why an opcode is refused.
 
 ghost use Rattle.std.specs.Prelude.{◌≡◌};
-ghost use Rattle.wasm_types_error.specs.declared.error.ErrorKind.TheVariants.{Other};
+ghost use Rattle.wasm_types.specs.error.declared.error.ErrorKind.TheVariants.{Other};
 
-use wasm_types_reader::Error;
+use wasm_types::Error;
 
 /// That a byte begins no operator.
 #[cold]

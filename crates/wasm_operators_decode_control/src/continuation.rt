@@ -1,7 +1,7 @@
 //! Continuations from their bytes.
 
 ghost use Rattle.std.specs.Prelude.{◌≡◌, ◌≢◌, IfOk, option_map, Some, None, [], ◌∷◌};
-ghost use Rattle.wasm_types_reader.specs.Reading.{Gives, NeedsNoMemory};
+ghost use Rattle.wasm_types.specs.reader.Reading.{Gives, NeedsNoMemory};
 ghost use Rattle.wasm_operators_info.specs.Info.{Info};
 ghost use Rattle.wasm_operators_immediates.specs.Kinds.{Tags, Types};
 ghost use Rattle.wasm_operators_immediates.specs.Immediates.{Handlers, Index};
@@ -16,7 +16,7 @@ ghost use Rattle.wasm_operators_decode_control.specs.Continuation.{continuation_
 use std::alloc::Global;
 use wasm_operators_control::ContinuationOperator;
 use wasm_operators_immediates::ResumeTable;
-use wasm_types_reader::{BinaryReader, FromReader, Result};
+use wasm_types::{BinaryReader, FromReader, Result};
 
 /// What stands behind an opcode of the group.
 #[derive(Clone, Copy, Debug, PartialEq, Eq)]

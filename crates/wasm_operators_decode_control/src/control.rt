@@ -1,7 +1,7 @@
 //! Blocks, branches and calls from their bytes.
 
 ghost use Rattle.std.specs.Prelude.{◌≡◌, IfOk, option_map, Some, None, [], ◌∷◌};
-ghost use Rattle.wasm_types_reader.specs.Reading.{Gives, NeedsNoMemory};
+ghost use Rattle.wasm_types.specs.reader.Reading.{Gives, NeedsNoMemory};
 ghost use Rattle.wasm_operators_info.specs.Info.{Info};
 ghost use Rattle.wasm_operators_immediates.specs.Kinds.{Functions, Tables, Types};
 ghost use Rattle.wasm_operators_immediates.specs.Immediates.{Block, BranchTable, Index, IndexOrZero, Label};
@@ -16,7 +16,7 @@ use std::alloc::Global;
 use wasm_operators_control::ControlOperator;
 use wasm_operators_decode_immediates::read_table_or_zero;
 use wasm_operators_immediates::{BlockType, BrTable};
-use wasm_types_reader::{BinaryReader, FromReader, Result};
+use wasm_types::{BinaryReader, FromReader, Result};
 
 /// What stands behind an opcode of the group.
 #[derive(Clone, Copy, Debug, PartialEq, Eq)]

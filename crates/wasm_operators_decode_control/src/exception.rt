@@ -1,7 +1,7 @@
 //! Exceptions from their bytes.
 
 ghost use Rattle.std.specs.Prelude.{◌≡◌, ◌≢◌, IfOk, option_map, Some, None, [], ◌∷◌};
-ghost use Rattle.wasm_types_reader.specs.Reading.{Gives, NeedsNoMemory};
+ghost use Rattle.wasm_types.specs.reader.Reading.{Gives, NeedsNoMemory};
 ghost use Rattle.wasm_operators_info.specs.Info.{Info};
 ghost use Rattle.wasm_operators_immediates.specs.Kinds.{Tags};
 ghost use Rattle.wasm_operators_immediates.specs.Immediates as carried;
@@ -18,7 +18,7 @@ ghost use Rattle.wasm_operators_decode_control.specs.Exception.{exception_shape_
 use std::alloc::Global;
 use wasm_operators_control::ExceptionOperator;
 use wasm_operators_immediates::{BlockType, TryTable};
-use wasm_types_reader::{BinaryReader, FromReader, Result};
+use wasm_types::{BinaryReader, FromReader, Result};
 
 /// What stands behind an opcode of the group.
 #[derive(Clone, Copy, Debug, PartialEq, Eq)]

@@ -1,7 +1,7 @@
 //! What takes operands of any type from its bytes.
 
 ghost use Rattle.std.specs.Prelude.{◌≡◌, ◌≢◌, IfOk, IsTrue, option_map, Some, None, [], ◌∷◌};
-ghost use Rattle.wasm_types_reader.specs.Reading.{Gives, NeedsNoMemory};
+ghost use Rattle.wasm_types.specs.reader.Reading.{Gives, NeedsNoMemory};
 ghost use Rattle.wasm_operators_info.specs.Info.{Info};
 ghost use Rattle.wasm_operators_immediates.specs.Immediates.{ValueTypes};
 ghost use Rattle.wasm_operators_control.specs.Immediates.{parametric_immediates, is_canonical};
@@ -15,8 +15,7 @@ ghost use Rattle.wasm_operators_decode_control.specs.Parametric.{parametric_shap
 use std::alloc::Global;
 use wasm_operators_control::ParametricOperator;
 use wasm_operators_decode_immediates::read_select_types;
-use wasm_types_reader::{BinaryReader, Result};
-use wasm_types_values::ValType;
+use wasm_types::{BinaryReader, Result, ValType};
 
 /// What stands behind an opcode of the group.
 #[derive(Clone, Copy, Debug, PartialEq, Eq)]

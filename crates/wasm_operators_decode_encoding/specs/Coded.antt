@@ -1,9 +1,9 @@
 -- Operators as bytes have them: an opcode, and immediates of the kinds that belong to it (WebAssembly 3.0, binary format,
 -- instructions).
 use Rattle.std.specs.Prelude.{◌≡◌, ◌==◌, if◌then◌else◌, ℕ, List, ◌++◌, map, Option, Some, None}
-use Rattle.wasm_types_decoding.specs.declared.Refusal.TheVariants.{Other}
-use Rattle.wasm_types_decoding.specs.Decoder.{Decoder, ◌>>=◌, pure}
-use Rattle.wasm_types_decoding.specs.Lists.{refuse_at}
+use Rattle.wasm_types.specs.decoding.declared.Refusal.TheVariants.{Other}
+use Rattle.wasm_types.specs.decoding.Decoder.{Decoder, ◌>>=◌, pure}
+use Rattle.wasm_types.specs.decoding.Lists.{refuse_at}
 use Rattle.wasm_operators_immediates.specs.Kinds.{Kind}
 use Rattle.wasm_operators_immediates.specs.Immediates.{Immediate, kind_of}
 use Rattle.wasm_operators_decode_encoding.specs.Opcodes.{Opcode, opcode, SpelledOpcode}

@@ -1,8 +1,8 @@
 -- Immediates one after the other are read lawfully and exactly.
 use Rattle.std.proofs.Common.{◌≡◌, ℕ, List, [], ◌∷◌, map, refl, sym, ap, subst, ◌∙◌}
-use Rattle.wasm_types_decoding.specs.Decoder.{Grammar, IsLawful, Decides, Then}
-use Rattle.wasm_types_decoding.specs.Laws.{lawful->>=, lawful-pure}
-use Rattle.wasm_types_decoding.specs.Exact.{decides->>=, decides-same, decides-map, decides-pure, Mapped}
+use Rattle.wasm_types.specs.decoding.Decoder.{Grammar, IsLawful, Decides, Then}
+use Rattle.wasm_types.specs.decoding.Laws.{lawful->>=, lawful-pure}
+use Rattle.wasm_types.specs.decoding.Exact.{decides->>=, decides-same, decides-map, decides-pure, Mapped}
 use Rattle.wasm_operators_immediates.specs.Kinds.{Kind}
 use Rattle.wasm_operators_immediates.specs.Immediates.{Immediate, kind_of}
 use Rattle.wasm_operators_decode_immediates.specs.Immediates.{immediate, OfKind}

@@ -1,6 +1,6 @@
 -- All that an operator carries behind its opcode: immediates one after the other (WebAssembly 3.0, binary format, instructions).
 use Rattle.std.specs.Prelude.{◌≡◌, ℕ, List, [], ◌∷◌, ◌++◌, map}
-use Rattle.wasm_types_decoding.specs.Decoder.{Decoder, Grammar, ◌>>=◌, pure}
+use Rattle.wasm_types.specs.decoding.Decoder.{Decoder, Grammar, ◌>>=◌, pure}
 use Rattle.wasm_operators_immediates.specs.Kinds.{Kind}
 use Rattle.wasm_operators_immediates.specs.Immediates.{Immediate, kind_of}
 use Rattle.wasm_operators_decode_immediates.specs.Immediates.{immediate, SpelledImmediate}

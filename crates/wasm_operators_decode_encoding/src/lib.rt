@@ -3,7 +3,7 @@
 #![tactic(auto)]
 
 ghost use Rattle.std.specs.Prelude.{◌≡◌, IsTrue, ℕ, List, Some};
-ghost use Rattle.wasm_types_decoding.specs.Decoder.{IsLawful, Decides};
+ghost use Rattle.wasm_types.specs.decoding.Decoder.{IsLawful, Decides};
 ghost use Rattle.wasm_operators_immediates.specs.Kinds.{Kind};
 ghost use Rattle.wasm_operators_operator.specs.Op.{Op};
 ghost use Rattle.wasm_operators_operator.specs.Immediates.{is_canonical, kinds_of};

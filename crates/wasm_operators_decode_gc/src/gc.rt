@@ -1,7 +1,7 @@
 //! Structs, arrays, casts and `i31` from their bytes.
 
 ghost use Rattle.std.specs.Prelude.{◌≡◌, IfOk, option_map, Some, None, [], ◌∷◌};
-ghost use Rattle.wasm_types_reader.specs.Reading.{Gives, NeedsNoMemory};
+ghost use Rattle.wasm_types.specs.reader.Reading.{Gives, NeedsNoMemory};
 ghost use Rattle.wasm_operators_info.specs.Info.{Info};
 ghost use Rattle.wasm_operators_immediates.specs.Kinds.{DataSegments, Elements, Fields, Types};
 ghost use Rattle.wasm_operators_immediates.specs.Immediates.{Count, Heap, Index};
@@ -16,8 +16,7 @@ ghost use Rattle.wasm_operators_decode_gc.specs.Gc.{gc_shape_kinds};
 use std::alloc::Global;
 use wasm_operators_decode_immediates::{CastBranch, read_cast_branch};
 use wasm_operators_gc::GcOperator;
-use wasm_types_reader::{BinaryReader, FromReader, Result};
-use wasm_types_values::HeapType;
+use wasm_types::{BinaryReader, FromReader, HeapType, Result};
 
 /// What stands behind an opcode of the group.
 #[derive(Clone, Copy, Debug, PartialEq, Eq)]

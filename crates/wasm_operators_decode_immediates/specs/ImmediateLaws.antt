@@ -1,16 +1,16 @@
 -- Each kind of immediate is read lawfully, and exactly where bytes spell one.
 use Rattle.std.proofs.Common.{◌≡◌, ℕ, List, refl, subst}
-use Rattle.wasm_types_decoding.specs.Decoder.{Done, Decoder, Grammar, pure, IsLawful, Decides}
-use Rattle.wasm_types_decoding.specs.Laws.{lawful->>=, lawful-pure}
-use Rattle.wasm_types_decoding.specs.Exact.{Sound, Reads, sound-map, reads-map}
-use Rattle.wasm_types_decoding.specs.Leb.{u32, s32, s64, IsUnsigned, IsSigned}
-use Rattle.wasm_types_decoding.specs.LebLaws.{lawful-unsigned, decides-u32}
-use Rattle.wasm_types_decoding.specs.SignedLaws.{lawful-signed, decides-s32, decides-s64}
-use Rattle.wasm_types_decoding.specs.Text.{word, IsWord}
-use Rattle.wasm_types_decoding.specs.TextLaws.{lawful-word, decides-word}
-use Rattle.wasm_types_values.specs.Decode.{heap_type}
-use Rattle.wasm_types_values.specs.DecodeLaws.{lawful-heap_type}
-use Rattle.wasm_types_values.specs.HeapExact.{Spelled, decides-heap_type}
+use Rattle.wasm_types.specs.decoding.Decoder.{Done, Decoder, Grammar, pure, IsLawful, Decides}
+use Rattle.wasm_types.specs.decoding.Laws.{lawful->>=, lawful-pure}
+use Rattle.wasm_types.specs.decoding.Exact.{Sound, Reads, sound-map, reads-map}
+use Rattle.wasm_types.specs.decoding.Leb.{u32, s32, s64, IsUnsigned, IsSigned}
+use Rattle.wasm_types.specs.decoding.LebLaws.{lawful-unsigned, decides-u32}
+use Rattle.wasm_types.specs.decoding.SignedLaws.{lawful-signed, decides-s32, decides-s64}
+use Rattle.wasm_types.specs.decoding.Text.{word, IsWord}
+use Rattle.wasm_types.specs.decoding.TextLaws.{lawful-word, decides-word}
+use Rattle.wasm_types.specs.values.Decode.{heap_type}
+use Rattle.wasm_types.specs.values.DecodeLaws.{lawful-heap_type}
+use Rattle.wasm_types.specs.values.HeapExact.{Spelled, decides-heap_type}
 use Rattle.wasm_operators_immediates.specs.Kinds as kind
 use Rattle.wasm_operators_immediates.specs.Kinds.{Kind, IndexSpace}
 use Rattle.wasm_operators_immediates.specs.Labels.{labels, SpelledLabels}

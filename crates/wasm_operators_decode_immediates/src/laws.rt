@@ -1,7 +1,7 @@
 //! Laws of immediates, each the contract of a function that does nothing.
 
 ghost use Rattle.std.specs.Prelude.{ℕ};
-ghost use Rattle.wasm_types_decoding.specs.Decoder.{IsLawful, Decides};
+ghost use Rattle.wasm_types.specs.decoding.Decoder.{IsLawful, Decides};
 ghost use Rattle.wasm_operators_immediates.specs.Kinds.{Kind};
 ghost use Rattle.wasm_operators_decode_immediates.specs.Immediates.{immediate, OfKind};
 

@@ -1,7 +1,7 @@
 //! Ranges of memories and tables, and tables, from their bytes.
 
 ghost use Rattle.std.specs.Prelude.{◌≡◌, IfOk, option_map, Some, [], ◌∷◌};
-ghost use Rattle.wasm_types_reader.specs.Reading.{Gives, NeedsNoMemory};
+ghost use Rattle.wasm_types.specs.reader.Reading.{Gives, NeedsNoMemory};
 ghost use Rattle.wasm_operators_info.specs.Info.{Info};
 ghost use Rattle.wasm_operators_immediates.specs.Kinds.{DataSegments, Elements, Memories, Tables};
 ghost use Rattle.wasm_operators_immediates.specs.Immediates.{Index};
@@ -13,7 +13,7 @@ ghost use Rattle.wasm_operators_decode_memory.specs.declared.bulk.BulkShape.TheV
 ghost use Rattle.wasm_operators_decode_memory.specs.Bulk.{bulk_shape_kinds};
 
 use wasm_operators_memory::BulkOperator;
-use wasm_types_reader::{BinaryReader, Result};
+use wasm_types::{BinaryReader, Result};
 
 /// What stands behind an opcode of the group.
 #[derive(Clone, Copy, Debug, PartialEq, Eq)]

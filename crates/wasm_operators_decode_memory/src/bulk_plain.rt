@@ -1,7 +1,7 @@
 //! Elements of tables, and references, from their bytes.
 
 ghost use Rattle.std.specs.Prelude.{◌≡◌, IfOk, option_map, Some, None, [], ◌∷◌};
-ghost use Rattle.wasm_types_reader.specs.Reading.{Gives, NeedsNoMemory};
+ghost use Rattle.wasm_types.specs.reader.Reading.{Gives, NeedsNoMemory};
 ghost use Rattle.wasm_operators_info.specs.Info.{Info};
 ghost use Rattle.wasm_operators_immediates.specs.Kinds.{Functions, Tables};
 ghost use Rattle.wasm_operators_immediates.specs.Immediates.{Heap, Index};
@@ -14,8 +14,7 @@ ghost use Rattle.wasm_operators_decode_memory.specs.BulkPlain.{bulk_plain_shape_
 
 use std::alloc::Global;
 use wasm_operators_memory::BulkOperator;
-use wasm_types_reader::{BinaryReader, FromReader, Result};
-use wasm_types_values::HeapType;
+use wasm_types::{BinaryReader, FromReader, HeapType, Result};
 
 /// What stands behind an opcode of the group.
 #[derive(Clone, Copy, Debug, PartialEq, Eq)]

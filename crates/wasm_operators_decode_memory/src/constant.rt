@@ -1,7 +1,7 @@
 //! Constants from their bytes.
 
 ghost use Rattle.std.specs.Prelude.{◌≡◌, IfOk, option_map, Some, None, [], ◌∷◌};
-ghost use Rattle.wasm_types_reader.specs.Reading.{Gives, NeedsNoMemory};
+ghost use Rattle.wasm_types.specs.reader.Reading.{Gives, NeedsNoMemory};
 ghost use Rattle.wasm_operators_info.specs.Info.{Info};
 ghost use Rattle.wasm_operators_immediates.specs.Immediates.{F32Constant, F64Constant, I32Constant, I64Constant};
 ghost use Rattle.wasm_operators_memory.specs.Immediates.{const_immediates};
@@ -12,7 +12,7 @@ ghost use Rattle.wasm_operators_decode_memory.specs.declared.constant.ConstShape
 ghost use Rattle.wasm_operators_decode_memory.specs.Const.{const_shape_kinds};
 
 use wasm_operators_memory::ConstOperator;
-use wasm_types_reader::{BinaryReader, Ieee32, Ieee64, Result};
+use wasm_types::{BinaryReader, Ieee32, Ieee64, Result};
 
 /// What stands behind an opcode of the group.
 #[derive(Clone, Copy, Debug, PartialEq, Eq)]

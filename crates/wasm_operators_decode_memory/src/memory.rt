@@ -1,7 +1,7 @@
 //! Variables and memories from their bytes.
 
 ghost use Rattle.std.specs.Prelude.{◌≡◌, IfOk, option_map, Some, None, [], ◌∷◌};
-ghost use Rattle.wasm_types_reader.specs.Reading.{Gives, NeedsNoMemory};
+ghost use Rattle.wasm_types.specs.reader.Reading.{Gives, NeedsNoMemory};
 ghost use Rattle.wasm_operators_info.specs.Info.{Info};
 ghost use Rattle.wasm_operators_immediates.specs.Kinds.{Globals, Locals, Memories, Plain};
 ghost use Rattle.wasm_operators_immediates.specs.Immediates.{Index, IndexOrZero, MemoryArgument};
@@ -15,7 +15,7 @@ ghost use Rattle.wasm_operators_decode_memory.specs.Memory.{memory_shape_kinds};
 use wasm_operators_decode_immediates::{Access, read_memarg, read_memory_or_zero};
 use wasm_operators_immediates::MemArg;
 use wasm_operators_memory::MemoryOperator;
-use wasm_types_reader::{BinaryReader, Result};
+use wasm_types::{BinaryReader, Result};
 
 /// What stands behind an opcode of the group.
 #[derive(Clone, Copy, Debug, PartialEq, Eq)]

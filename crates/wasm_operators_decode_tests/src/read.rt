@@ -4,8 +4,7 @@ use std::mem::size_of;
 use std::test::Fail;
 use wasm_operators_decode::read_operator;
 use wasm_operators_operator::Operator;
-use wasm_types_features::WasmFeatures;
-use wasm_types_reader::BinaryReader;
+use wasm_types::{BinaryReader, WasmFeatures};
 
 // An operator of each group and shape, by what stands behind its opcode.
 static OPERATORS: [u8; 253] = [

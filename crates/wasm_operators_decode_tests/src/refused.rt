@@ -4,8 +4,7 @@ use bitflags::Flags;
 use std::alloc::Global;
 use std::process::Abort;
 use wasm_operators_decode::read_operator;
-use wasm_types_features::WasmFeatures;
-use wasm_types_reader::BinaryReader;
+use wasm_types::{BinaryReader, WasmFeatures};
 
 // These bytes are refused with a message of this kind.
 fn assert_refused(rt: &impl Abort, alloc: Global, bytes: &[u8], number: u8, message: &str) {

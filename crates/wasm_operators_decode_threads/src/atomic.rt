@@ -1,7 +1,7 @@
 //! Atomic accesses to memory from their bytes.
 
 ghost use Rattle.std.specs.Prelude.{◌≡◌, ◌≤◌, IfOk, option_map, Some, None, [], ◌∷◌};
-ghost use Rattle.wasm_types_reader.specs.Reading.{Gives, NeedsNoMemory};
+ghost use Rattle.wasm_types.specs.reader.Reading.{Gives, NeedsNoMemory};
 ghost use Rattle.wasm_operators_info.specs.Info.{Info};
 ghost use Rattle.wasm_operators_immediates.specs.Kinds.{Atomic, ReadModifyWrite};
 ghost use Rattle.wasm_operators_immediates.specs.Immediates.{MemoryArgument, ZeroByte};
@@ -15,7 +15,7 @@ ghost use Rattle.wasm_operators_decode_threads.specs.Atomic.{atomic_run, atomic_
 use wasm_operators_decode_immediates::{Access, read_memarg, read_zero_byte};
 use wasm_operators_immediates::MemArg;
 use wasm_operators_threads::AtomicOperator;
-use wasm_types_reader::{BinaryReader, Result};
+use wasm_types::{BinaryReader, Result};
 
 /// What stands behind an opcode of the group.
 #[derive(Clone, Copy, Debug, PartialEq, Eq)]

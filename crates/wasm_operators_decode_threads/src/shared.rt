@@ -1,7 +1,7 @@
 //! Atomic accesses to what is shared from their bytes.
 
 ghost use Rattle.std.specs.Prelude.{◌≡◌, ◌≤◌, IfOk, option_map, Some, None, [], ◌∷◌};
-ghost use Rattle.wasm_types_reader.specs.Reading.{Gives, NeedsNoMemory};
+ghost use Rattle.wasm_types.specs.reader.Reading.{Gives, NeedsNoMemory};
 ghost use Rattle.wasm_operators_info.specs.Info.{Info};
 ghost use Rattle.wasm_operators_immediates.specs.Kinds.{Fields, Globals, Tables, Types};
 ghost use Rattle.wasm_operators_immediates.specs.Immediates.{Index, MemoryOrdering};
@@ -15,7 +15,7 @@ ghost use Rattle.wasm_operators_decode_threads.specs.Shared.{shared_shape_kinds}
 use wasm_operators_decode_immediates::read_ordering;
 use wasm_operators_immediates::Ordering;
 use wasm_operators_threads::SharedOperator;
-use wasm_types_reader::{BinaryReader, Result};
+use wasm_types::{BinaryReader, Result};
 
 /// What stands behind an opcode of the group.
 #[derive(Clone, Copy, Debug, PartialEq, Eq)]

@@ -1,7 +1,7 @@
 //! Vector operators that carry something, from their bytes.
 
 ghost use Rattle.std.specs.Prelude.{◌≡◌, IfOk, option_map, Some, None, [], ◌∷◌};
-ghost use Rattle.wasm_types_reader.specs.Reading.{Gives, NeedsNoMemory};
+ghost use Rattle.wasm_types.specs.reader.Reading.{Gives, NeedsNoMemory};
 ghost use Rattle.wasm_operators_info.specs.Info.{Info};
 ghost use Rattle.wasm_operators_immediates.specs.Kinds.{Plain};
 ghost use Rattle.wasm_operators_immediates.specs.Immediates.{Lane, Lanes, MemoryArgument, V128Constant};
@@ -15,7 +15,7 @@ ghost use Rattle.wasm_operators_decode_vectors.specs.Simd.{simd_shape_kinds};
 use wasm_operators_decode_immediates::{Access, read_lane, read_memarg, read_shuffle, read_vector};
 use wasm_operators_immediates::{MemArg, V128};
 use wasm_operators_vectors::SimdOperator;
-use wasm_types_reader::{BinaryReader, Result};
+use wasm_types::{BinaryReader, Result};
 
 /// What stands behind an opcode of the group.
 #[derive(Clone, Copy, Debug, PartialEq, Eq)]

@@ -1,6 +1,6 @@
 -- What an operator makes of the frames, told by bytes; and bytes have one tree.
 use Rattle.std.proofs.Common.{◌≡◌, ◌↔◌, ℕ, ◌+◌, List, [], ◌∷◌, ◌++◌, length, Some, None, IsTrue, refl, sym, ◌∙◌, ap, subst, append-nil}
-use Rattle.wasm_types_decoding.specs.Decoder.{State, Done, Takes}
+use Rattle.wasm_types.specs.decoding.Decoder.{State, Done, Takes}
 use Rattle.wasm_operators_immediates.specs.declared.frames.FrameKind.{FrameKind}
 use Rattle.wasm_operators_immediates.specs.declared.frames.FrameKind.TheVariants.{Block}
 use Rattle.wasm_operators_operator.specs.Op.{Op}

@@ -3,7 +3,7 @@
 ghost use Rattle.std.specs.Prelude.{◌≡◌, ◌↔◌, ◌+◌, ◌≤◌, ◌<◌, IsTrue, ℕ, List, [], ◌∷◌, length, Some};
 ghost use Rattle.wasm_operators_immediates.specs.declared.frames.FrameKind.{FrameKind as Kind};
 ghost use Rattle.wasm_operators_immediates.specs.declared.frames.FrameKind.TheVariants.{Block};
-ghost use Rattle.wasm_types_decoding.specs.Decoder.{State, Done};
+ghost use Rattle.wasm_types.specs.decoding.Decoder.{State, Done};
 ghost use Rattle.wasm_operators_operator.specs.Op.{Op};
 ghost use Rattle.wasm_operators_operator.specs.Immediates.{is_canonical};
 ghost use Rattle.wasm_operators_decode_encoding.specs.Coded.{Coded, operator};

@@ -3,7 +3,7 @@ use Rattle.std.proofs.Common.{◌≡◌, ◌↔◌, IsTrue, Bool, true, ◌&&◌
 use Rattle.std.specs.Option.{option_eq}
 use Rattle.std.specs.Cmp.{unsigned_Decides}
 use lib.Pointwise.{pointwise}
-use Rattle.wasm_types_values.specs.Laws.{ValueEqualityIsIdentity}
+use Rattle.wasm_types.specs.values.Laws.{ValueEqualityIsIdentity}
 use Rattle.wasm_operators_immediates.specs.Tables.{Labels, CatchTable, same_labels, catch_table_of}
 use Rattle.wasm_operators_immediates.specs.declared.handlers.TryTable.{TryTable}
 use Rattle.wasm_operators_immediates.specs.declared.handlers.ResumeTable.{ResumeTable}

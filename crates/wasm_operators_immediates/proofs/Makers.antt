@@ -1,12 +1,12 @@
 -- How an operator is made of its immediates again.
 use Rattle.std.proofs.Common.{ℕ, ℤ, List, [], ◌∷◌, false, Option, Some, None}
-use Rattle.wasm_types_reader.specs.declared.words.Ieee32.{Ieee32}
-use Rattle.wasm_types_reader.specs.declared.words.Ieee64.{Ieee64}
-use Rattle.wasm_types_values.specs.declared.heap.HeapType.{HeapType}
-use Rattle.wasm_types_values.specs.declared.heap.HeapType.TheVariants.{Abstract}
-use Rattle.wasm_types_values.specs.declared.heap.AbstractHeapType.TheVariants.{Func}
-use Rattle.wasm_types_values.specs.declared.value.ValType.{ValType}
-use Rattle.wasm_types_values.specs.Reference.{Reference}
+use Rattle.wasm_types.specs.reader.declared.words.Ieee32.{Ieee32}
+use Rattle.wasm_types.specs.reader.declared.words.Ieee64.{Ieee64}
+use Rattle.wasm_types.specs.values.declared.heap.HeapType.{HeapType}
+use Rattle.wasm_types.specs.values.declared.heap.HeapType.TheVariants.{Abstract}
+use Rattle.wasm_types.specs.values.declared.heap.AbstractHeapType.TheVariants.{Func}
+use Rattle.wasm_types.specs.values.declared.value.ValType.{ValType}
+use Rattle.wasm_types.specs.values.Reference.{Reference}
 use Rattle.wasm_operators_immediates.specs.declared.block.BlockType.{BlockType}
 use Rattle.wasm_operators_immediates.specs.declared.block.BlockType.TheVariants.{Empty}
 use Rattle.wasm_operators_immediates.specs.declared.handlers.Handle.{Handle}

@@ -1,12 +1,12 @@
 -- Bytes that were passed as numbers are those numbers.
 use Rattle.std.proofs.Common.{◌≡◌, ℕ, ◌+◌, ◌-◌, ◌<◌, ◌^◌, List, [], length, take, refl, sym, ap, ◌∙◌, arith, IsTrue}
 use Rattle.std.proofs.lemmas.List.{length-append, append-nil, take_at}
-use Rattle.wasm_types_decoding.specs.Decoder.{State, Done, Takes, repeated, bytes}
-use Rattle.wasm_types_decoding.specs.Exact.{decides-repeated, decides-bytes}
-use Rattle.wasm_types_decoding.specs.Leb.{u32, IsUnsigned}
-use Rattle.wasm_types_decoding.specs.LebLaws.{decides-u32}
-use Rattle.wasm_types_decoding.specs.Lists.{size_within}
-use Rattle.wasm_types_decoding.specs.ListLaws.{decides-size_within}
+use Rattle.wasm_types.specs.decoding.Decoder.{State, Done, Takes, repeated, bytes}
+use Rattle.wasm_types.specs.decoding.Exact.{decides-repeated, decides-bytes}
+use Rattle.wasm_types.specs.decoding.Leb.{u32, IsUnsigned}
+use Rattle.wasm_types.specs.decoding.LebLaws.{decides-u32}
+use Rattle.wasm_types.specs.decoding.Lists.{size_within}
+use Rattle.wasm_types.specs.decoding.ListLaws.{decides-size_within}
 use Rattle.wasm_operators_immediates.specs.Numbers.{numbers_at, numbers_in, values, is_whole}
 use Rattle.wasm_operators_immediates.specs.Labels.{most_targets}
 

@@ -1,15 +1,15 @@
 -- Numbers that were read whole are read again, one by one.
 use Rattle.std.proofs.Common.{◌≡◌, ℕ, zero, suc, ◌+◌, ◌-◌, ◌<◌, List, [], ◌∷◌, ◌++◌, length, refl, ap, ◌∙◌, subst, arith, IsTrue}
 use Rattle.std.proofs.lemmas.Bool.{eqb-true}
-use Rattle.wasm_types_decoding.specs.Decoder.{State, Outcome, Done, Short, Fault, Takes, Decoder, Many, repeated, pure, continue_with, ◌>>=◌}
-use Rattle.wasm_types_decoding.specs.Exact.{decides-repeated, done_then}
-use Rattle.wasm_types_decoding.specs.Leb.{u32, IsUnsigned}
-use Rattle.wasm_types_decoding.specs.LebLaws.{decides-u32}
+use Rattle.wasm_types.specs.decoding.Decoder.{State, Outcome, Done, Short, Fault, Takes, Decoder, Many, repeated, pure, continue_with, ◌>>=◌}
+use Rattle.wasm_types.specs.decoding.Exact.{decides-repeated, done_then}
+use Rattle.wasm_types.specs.decoding.Leb.{u32, IsUnsigned}
+use Rattle.wasm_types.specs.decoding.LebLaws.{decides-u32}
 use Rattle.std.specs.Prelude.{Err}
-use Rattle.wasm_types_error.specs.declared.error.ErrorKind.{ErrorKind}
-use Rattle.wasm_types_error.specs.declared.error.ErrorKind.TheVariants.{EndOfData, MissingFeature, OutOfMemory, Failed, Other}
-use Rattle.wasm_types_error.specs.ErrorValue.{ErrorValue}
-use Rattle.wasm_types_reader.specs.Reading.{Answers, FailsAt, NeedsNoMemory, IsNotMemory}
+use Rattle.wasm_types.specs.error.declared.error.ErrorKind.{ErrorKind}
+use Rattle.wasm_types.specs.error.declared.error.ErrorKind.TheVariants.{EndOfData, MissingFeature, OutOfMemory, Failed, Other}
+use Rattle.wasm_types.specs.error.ErrorValue.{ErrorValue}
+use Rattle.wasm_types.specs.reader.Reading.{Answers, FailsAt, NeedsNoMemory, IsNotMemory}
 use Rattle.wasm_operators_immediates.specs.Numbers.{numbers_at, values, is_whole}
 
 none_left : (xs : List ℕ) → length xs ≡ 0 → xs ≡ []

@@ -4,25 +4,25 @@ use Rattle.std.specs.Prelude.{◌==◌, nat_lt, ℤ, pos, negsuc, ◌*ℤ◌, �
 use Rattle.std.proofs.lemmas.Int.{ints}
 use Rattle.std.proofs.lemmas.Bool.{eqb-true, eqb-false, ltb-true, ltb-false, lt-ltb, le-ltb}
 use Rattle.std.proofs.lemmas.List.{append-nil}
-use Rattle.wasm_types_decoding.specs.declared.Refusal.{Refusal}
-use Rattle.wasm_types_decoding.specs.declared.Refusal.TheVariants.{Other}
-use Rattle.wasm_types_decoding.specs.Decoder.{State, Outcome, Done, Short, Fault, Decoder, Grammar, continue_with, ◌>>=◌, pure, byte, IsLawful, IsBeyond, GoesForward, TakesOne, Decides, Takes, Then}
-use Rattle.wasm_types_decoding.specs.Laws.{lawful-byte, lawful->>=, lawful-pure, lawful-if, lawful-look, TakesOne-byte}
-use Rattle.wasm_types_decoding.specs.Exact.{Sound, Mapped, decides->>=, decides-pure, decides-if, decides-map, decides-byte, decides-look_apart}
-use Rattle.wasm_types_decoding.specs.Leb.{s33, signed, seven_bits, IsSigned, nonnegative, negative, longer}
-use Rattle.wasm_types_decoding.specs.SignedLaws.{lawful-signed, decides-s33}
-use Rattle.wasm_types_values.specs.declared.heap.HeapType.{HeapType}
-use Rattle.wasm_types_values.specs.declared.heap.HeapType.TheVariants.{Abstract, Concrete, Exact}
-use Rattle.wasm_types_values.specs.declared.value.ValType.{ValType}
-use Rattle.wasm_types_values.specs.declared.value.ValType.TheVariants.{I32, I64, F32, F64, V128, Ref}
-use Rattle.wasm_types_values.specs.Trees.{abstract_of, heap_of}
-use Rattle.wasm_types_values.specs.Spells.{abstract_byte, SpellsReference}
-use Rattle.wasm_types_values.specs.Decode.{begins_index}
-use Rattle.wasm_types_values.specs.DecodeValues.{value_type, value_type_after}
-use Rattle.wasm_types_values.specs.DecodeLaws.{lawful-value_type, lawful-value_type_after}
-use Rattle.wasm_types_values.specs.HeapExact.{heads, tails, byte_range}
-use Rattle.wasm_types_values.specs.ReferenceExact.{reference_some}
-use Rattle.wasm_types_values.specs.ValueExact.{SpelledValue, decides-value_type}
+use Rattle.wasm_types.specs.decoding.declared.Refusal.{Refusal}
+use Rattle.wasm_types.specs.decoding.declared.Refusal.TheVariants.{Other}
+use Rattle.wasm_types.specs.decoding.Decoder.{State, Outcome, Done, Short, Fault, Decoder, Grammar, continue_with, ◌>>=◌, pure, byte, IsLawful, IsBeyond, GoesForward, TakesOne, Decides, Takes, Then}
+use Rattle.wasm_types.specs.decoding.Laws.{lawful-byte, lawful->>=, lawful-pure, lawful-if, lawful-look, TakesOne-byte}
+use Rattle.wasm_types.specs.decoding.Exact.{Sound, Mapped, decides->>=, decides-pure, decides-if, decides-map, decides-byte, decides-look_apart}
+use Rattle.wasm_types.specs.decoding.Leb.{s33, signed, seven_bits, IsSigned, nonnegative, negative, longer}
+use Rattle.wasm_types.specs.decoding.SignedLaws.{lawful-signed, decides-s33}
+use Rattle.wasm_types.specs.values.declared.heap.HeapType.{HeapType}
+use Rattle.wasm_types.specs.values.declared.heap.HeapType.TheVariants.{Abstract, Concrete, Exact}
+use Rattle.wasm_types.specs.values.declared.value.ValType.{ValType}
+use Rattle.wasm_types.specs.values.declared.value.ValType.TheVariants.{I32, I64, F32, F64, V128, Ref}
+use Rattle.wasm_types.specs.values.Trees.{abstract_of, heap_of}
+use Rattle.wasm_types.specs.values.Spells.{abstract_byte, SpellsReference}
+use Rattle.wasm_types.specs.values.Decode.{begins_index}
+use Rattle.wasm_types.specs.values.DecodeValues.{value_type, value_type_after}
+use Rattle.wasm_types.specs.values.DecodeLaws.{lawful-value_type, lawful-value_type_after}
+use Rattle.wasm_types.specs.values.HeapExact.{heads, tails, byte_range}
+use Rattle.wasm_types.specs.values.ReferenceExact.{reference_some}
+use Rattle.wasm_types.specs.values.ValueExact.{SpelledValue, decides-value_type}
 use Rattle.wasm_operators_immediates.specs.declared.block.BlockType.{BlockType}
 use Rattle.wasm_operators_immediates.specs.declared.block.BlockType.TheVariants.{Empty, Val, FuncType}
 use Rattle.wasm_operators_immediates.specs.Blocks.{refuse_here, indexed, function_block, begins_value, value_block, empty_after, empty_block, block_at, block_type, SpelledBlock}

@@ -1,12 +1,12 @@
 -- Block types as bytes (WebAssembly 3.0, binary format, control instructions), and how they are read.
 use Rattle.std.specs.Prelude.{◌≡◌, ℕ, ◌<◌, ◌^◌, ◌==◌, [], ◌∷◌, Bool, true, false, nat_lt, if◌then◌else◌, ℤ, pos, negsuc}
-use Rattle.wasm_types_decoding.specs.declared.Refusal.{Refusal}
-use Rattle.wasm_types_decoding.specs.declared.Refusal.TheVariants.{Other}
-use Rattle.wasm_types_decoding.specs.Decoder.{Decoder, Grammar, Fault, ◌>>=◌, pure, byte, look}
-use Rattle.wasm_types_decoding.specs.Leb.{s33, IsSigned}
-use Rattle.wasm_types_values.specs.Decode.{begins_index}
-use Rattle.wasm_types_values.specs.DecodeValues.{value_type}
-use Rattle.wasm_types_values.specs.ValueExact.{SpelledValue}
+use Rattle.wasm_types.specs.decoding.declared.Refusal.{Refusal}
+use Rattle.wasm_types.specs.decoding.declared.Refusal.TheVariants.{Other}
+use Rattle.wasm_types.specs.decoding.Decoder.{Decoder, Grammar, Fault, ◌>>=◌, pure, byte, look}
+use Rattle.wasm_types.specs.decoding.Leb.{s33, IsSigned}
+use Rattle.wasm_types.specs.values.Decode.{begins_index}
+use Rattle.wasm_types.specs.values.DecodeValues.{value_type}
+use Rattle.wasm_types.specs.values.ValueExact.{SpelledValue}
 use Rattle.wasm_operators_immediates.specs.declared.block.BlockType.{BlockType}
 use Rattle.wasm_operators_immediates.specs.declared.block.BlockType.TheVariants.{Empty, Val, FuncType}
 

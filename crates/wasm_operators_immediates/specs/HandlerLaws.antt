@@ -1,13 +1,13 @@
 -- Clauses and handlers are read lawfully, and exactly where bytes spell them.
 use Rattle.std.proofs.Common.{ℕ, List, ◌∷◌, refl, sym, ap, subst}
-use Rattle.wasm_types_decoding.specs.declared.Refusal.TheVariants.{Other}
-use Rattle.wasm_types_decoding.specs.Decoder.{Grammar, ◌>>=◌, pure, refuse, byte, choice, IsLawful, Decides, Then}
-use Rattle.wasm_types_decoding.specs.Laws.{lawful-byte, lawful->>=, lawful-pure, lawful-refuse, lawful-choice}
-use Rattle.wasm_types_decoding.specs.Exact.{Sound, Reads, ReadsTagged, Mapped, decides->>=, decides-same, decides-map, decides-table, sound-map, reads-map}
-use Rattle.wasm_types_decoding.specs.Leb.{u32, IsUnsigned}
-use Rattle.wasm_types_decoding.specs.LebLaws.{lawful-unsigned, decides-u32}
-use Rattle.wasm_types_decoding.specs.Lists.{listed_within, IsListedWithin}
-use Rattle.wasm_types_decoding.specs.ListLaws.{lawful-listed_within, decides-listed_within}
+use Rattle.wasm_types.specs.decoding.declared.Refusal.TheVariants.{Other}
+use Rattle.wasm_types.specs.decoding.Decoder.{Grammar, ◌>>=◌, pure, refuse, byte, choice, IsLawful, Decides, Then}
+use Rattle.wasm_types.specs.decoding.Laws.{lawful-byte, lawful->>=, lawful-pure, lawful-refuse, lawful-choice}
+use Rattle.wasm_types.specs.decoding.Exact.{Sound, Reads, ReadsTagged, Mapped, decides->>=, decides-same, decides-map, decides-table, sound-map, reads-map}
+use Rattle.wasm_types.specs.decoding.Leb.{u32, IsUnsigned}
+use Rattle.wasm_types.specs.decoding.LebLaws.{lawful-unsigned, decides-u32}
+use Rattle.wasm_types.specs.decoding.Lists.{listed_within, IsListedWithin}
+use Rattle.wasm_types.specs.decoding.ListLaws.{lawful-listed_within, decides-listed_within}
 use Rattle.wasm_operators_immediates.specs.declared.handlers.Catch.{Catch}
 use Rattle.wasm_operators_immediates.specs.declared.handlers.Catch.TheVariants.{One, OneRef, All, AllRef}
 use Rattle.wasm_operators_immediates.specs.declared.handlers.Handle.{Handle}

@@ -1,11 +1,11 @@
 -- What an operator carries behind its opcode (WebAssembly 3.0, binary format, instructions). What is a matter of spelling alone,
 -- as the flags of a memory argument, belongs to the immediate's own bytes.
 use Rattle.std.specs.Prelude.{ℕ, ℤ, List}
-use Rattle.wasm_types_reader.specs.declared.words.Ieee32.{Ieee32}
-use Rattle.wasm_types_reader.specs.declared.words.Ieee64.{Ieee64}
-use Rattle.wasm_types_values.specs.declared.heap.HeapType.{HeapType}
-use Rattle.wasm_types_values.specs.declared.value.ValType.{ValType}
-use Rattle.wasm_types_values.specs.Reference.{Reference}
+use Rattle.wasm_types.specs.reader.declared.words.Ieee32.{Ieee32}
+use Rattle.wasm_types.specs.reader.declared.words.Ieee64.{Ieee64}
+use Rattle.wasm_types.specs.values.declared.heap.HeapType.{HeapType}
+use Rattle.wasm_types.specs.values.declared.value.ValType.{ValType}
+use Rattle.wasm_types.specs.values.Reference.{Reference}
 use Rattle.wasm_operators_immediates.specs.declared.block.BlockType.{BlockType}
 use Rattle.wasm_operators_immediates.specs.declared.handlers.Handle.{Handle}
 use Rattle.wasm_operators_immediates.specs.declared.memory.MemArg.{MemArg}

@@ -1,12 +1,12 @@
 -- The labels of br_table are read lawfully, and exactly where bytes spell them.
 use Rattle.std.proofs.Common.{◌≡◌, ℕ, List, refl, sym, ap, subst}
-use Rattle.wasm_types_decoding.specs.Decoder.{Grammar, ◌>>=◌, pure, IsLawful, Decides, Then}
-use Rattle.wasm_types_decoding.specs.Laws.{lawful->>=, lawful-pure}
-use Rattle.wasm_types_decoding.specs.Exact.{decides->>=, decides-same, decides-map, Mapped}
-use Rattle.wasm_types_decoding.specs.Leb.{u32, IsUnsigned}
-use Rattle.wasm_types_decoding.specs.LebLaws.{lawful-unsigned, decides-u32}
-use Rattle.wasm_types_decoding.specs.Lists.{listed_within, IsListedWithin}
-use Rattle.wasm_types_decoding.specs.ListLaws.{lawful-listed_within, decides-listed_within}
+use Rattle.wasm_types.specs.decoding.Decoder.{Grammar, ◌>>=◌, pure, IsLawful, Decides, Then}
+use Rattle.wasm_types.specs.decoding.Laws.{lawful->>=, lawful-pure}
+use Rattle.wasm_types.specs.decoding.Exact.{decides->>=, decides-same, decides-map, Mapped}
+use Rattle.wasm_types.specs.decoding.Leb.{u32, IsUnsigned}
+use Rattle.wasm_types.specs.decoding.LebLaws.{lawful-unsigned, decides-u32}
+use Rattle.wasm_types.specs.decoding.Lists.{listed_within, IsListedWithin}
+use Rattle.wasm_types.specs.decoding.ListLaws.{lawful-listed_within, decides-listed_within}
 use Rattle.wasm_operators_immediates.specs.Tables.{Labels}
 use Rattle.wasm_operators_immediates.specs.Labels.{most_targets, with_default, labels, SpelledLabels}
 

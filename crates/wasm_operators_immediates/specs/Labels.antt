@@ -1,8 +1,8 @@
 -- The labels of br_table as bytes (WebAssembly 3.0, binary format, control instructions), and how they are read.
 use Rattle.std.specs.Prelude.{◌≡◌, ℕ, List, ◌++◌}
-use Rattle.wasm_types_decoding.specs.Decoder.{Decoder, ◌>>=◌, pure}
-use Rattle.wasm_types_decoding.specs.Leb.{u32, IsUnsigned}
-use Rattle.wasm_types_decoding.specs.Lists.{listed_within, IsListedWithin}
+use Rattle.wasm_types.specs.decoding.Decoder.{Decoder, ◌>>=◌, pure}
+use Rattle.wasm_types.specs.decoding.Leb.{u32, IsUnsigned}
+use Rattle.wasm_types.specs.decoding.Lists.{listed_within, IsListedWithin}
 use Rattle.wasm_operators_immediates.specs.Tables.{Labels}
 
 -- the most targets that are read

@@ -1,9 +1,9 @@
 -- Numbers that stand in bytes one after the other.
 use Rattle.std.specs.Prelude.{◌≡◌, ℕ, Bool, false, List, [], length, ◌==◌, Result, Ok, Err}
-use Rattle.wasm_types_decoding.specs.Decoder.{State, Outcome, Done, Short, Fault, repeated}
-use Rattle.wasm_types_decoding.specs.Leb.{u32}
-use Rattle.wasm_types_error.specs.ErrorValue.{ErrorValue}
-use Rattle.wasm_types_reader.specs.Reading.{Fails}
+use Rattle.wasm_types.specs.decoding.Decoder.{State, Outcome, Done, Short, Fault, repeated}
+use Rattle.wasm_types.specs.decoding.Leb.{u32}
+use Rattle.wasm_types.specs.error.ErrorValue.{ErrorValue}
+use Rattle.wasm_types.specs.reader.Reading.{Fails}
 
 -- the next n numbers of 32 bits
 unfoldable pub numbers_at : ℕ → State → Outcome (List ℕ)

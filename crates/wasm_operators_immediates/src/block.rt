@@ -1,6 +1,6 @@
 //! The types of blocks.
 
-use wasm_types_values::ValType;
+use wasm_types::ValType;
 
 /// The type of a block (WebAssembly 3.0, structure, control instructions).
 #[derive(Clone, Copy, Debug, PartialEq, Eq)]

@@ -10,7 +10,7 @@ ghost use Rattle.wasm_operators_immediates.specs.TableLaws.{same_labels_equal};
 
 use std::alloc::AllocError;
 use std::marker::Model;
-use wasm_types_reader::BinaryReader;
+use wasm_types::BinaryReader;
 
 /// The labels of `br_table` (WebAssembly 3.0, structure, control instructions): targets and a default. It keeps the
 /// bytes that the targets were read from. A contract sees the targets as a list of numbers.

@@ -3,7 +3,7 @@
 ghost use Rattle.wasm_operators_immediates.specs.Laws.{LabelEqualityIsIdentity, NumbersAreKept, BytesAreKept};
 ghost use Rattle.wasm_operators_immediates.specs.Laws.{ArgumentEqualityIsIdentity, OrderingEqualityIsIdentity, BlockEqualityIsIdentity, VectorEqualityIsIdentity, CatchEqualityIsIdentity, HandleEqualityIsIdentity, TryTableEqualityIsOfTrees, ResumeTableEqualityIsOfTrees};
 
-use wasm_types_values::laws::equality_is_identity;
+use wasm_types::equality_is_identity;
 
 /// `==` of tables of labels holds of those with equal targets and default, and of no others.
 pub const fn equality_is_of_labels()

@@ -1,15 +1,14 @@
 //! The types of blocks from their bytes.
 
 ghost use Rattle.std.specs.Prelude.{◌≡◌};
-ghost use Rattle.wasm_types_decoding.specs.Decoder.{Reaches};
-ghost use Rattle.wasm_types_error.specs.declared.error.ErrorKind.TheVariants.{Other};
-ghost use Rattle.wasm_types_reader.specs.Reading.{Gives, NeedsNoMemory};
+ghost use Rattle.wasm_types.specs.decoding.Decoder.{Reaches};
+ghost use Rattle.wasm_types.specs.error.declared.error.ErrorKind.TheVariants.{Other};
+ghost use Rattle.wasm_types.specs.reader.Reading.{Gives, NeedsNoMemory};
 ghost use Rattle.wasm_operators_immediates.specs.Blocks.{begins_value, function_block, value_block, empty_block, block_type};
 
 use crate::BlockType;
 use std::alloc::Global;
-use wasm_types_reader::{BinaryReader, Error, FromReader, Result};
-use wasm_types_values::ValType;
+use wasm_types::{BinaryReader, Error, FromReader, Result, ValType};
 
 // Whether a byte begins a value type, where it begins no index.
 #[inline]
@@ -39,7 +38,7 @@ fn no_block_type(offset: u64) -> Error
 }
 
 // A function type, by its index in a number with a sign.
-#[tactic(auto, using(wasm_types_decoding::specs::Laws::reaches_self, wasm_types_decoding::specs::Laws::reaches_then), unfolding(crate::specs::Blocks::function_block))]
+#[tactic(auto, using(wasm_types::specs::Laws::reaches_self, wasm_types::specs::Laws::reaches_then), unfolding(crate::specs::Blocks::function_block))]
 fn read_function<'a>(reader: &mut BinaryReader<'a>) -> Result<BlockType>
     ensures answer { Gives (λ ty. ty) result reader.new (function_block reader.old) }
     ensures no_memory { NeedsNoMemory result }
@@ -56,7 +55,7 @@ fn read_function<'a>(reader: &mut BinaryReader<'a>) -> Result<BlockType>
 }
 
 // A value type.
-#[tactic(auto, using(wasm_types_decoding::specs::Laws::reaches_self, wasm_types_decoding::specs::Laws::reaches_then), unfolding(crate::specs::Blocks::value_block))]
+#[tactic(auto, using(wasm_types::specs::Laws::reaches_self, wasm_types::specs::Laws::reaches_then), unfolding(crate::specs::Blocks::value_block))]
 fn read_value<'a>(alloc: Global, reader: &mut BinaryReader<'a>) -> Result<BlockType>
     ensures answer { Gives (λ ty. ty) result reader.new (value_block reader.old) }
     ensures no_memory { NeedsNoMemory result }
@@ -67,7 +66,7 @@ fn read_value<'a>(alloc: Global, reader: &mut BinaryReader<'a>) -> Result<BlockT
 }
 
 // The byte of the empty type.
-#[tactic(auto, using(wasm_types_decoding::specs::Laws::reaches_self, wasm_types_decoding::specs::Laws::reaches_then), unfolding(crate::specs::Blocks::empty_block))]
+#[tactic(auto, using(wasm_types::specs::Laws::reaches_self, wasm_types::specs::Laws::reaches_then), unfolding(crate::specs::Blocks::empty_block))]
 fn read_empty<'a>(reader: &mut BinaryReader<'a>) -> Result<BlockType>
     ensures answer { Gives (λ ty. ty) result reader.new (empty_block reader.old) }
     ensures no_memory { NeedsNoMemory result }
@@ -100,7 +99,7 @@ impl<'a> FromReader<'a> for BlockType {
 
     ghost exact = { decides-block_type };
 
-    #[tactic(auto, using(wasm_types_decoding::specs::Laws::reaches_self, wasm_types_decoding::specs::Laws::reaches_then), unfolding(crate::specs::Blocks::block_type))]
+    #[tactic(auto, using(wasm_types::specs::Laws::reaches_self, wasm_types::specs::Laws::reaches_then), unfolding(crate::specs::Blocks::block_type))]
     fn from_reader(alloc: Global, reader: &mut BinaryReader<'a>) -> Result<BlockType>
         ensures answer { Gives (λ ty. ty) result reader.new (block_type reader.old) }
         ensures forward { Reaches reader.old reader.new }

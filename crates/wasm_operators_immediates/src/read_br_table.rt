@@ -1,20 +1,20 @@
 //! The labels of `br_table` from their bytes.
 
 ghost use Rattle.std.specs.Prelude.{◌≡◌};
-ghost use Rattle.wasm_types_decoding.specs.Decoder.{Reaches};
-ghost use Rattle.wasm_types_reader.specs.Reading.{Gives, NeedsNoMemory};
+ghost use Rattle.wasm_types.specs.decoding.Decoder.{Reaches};
+ghost use Rattle.wasm_types.specs.reader.Reading.{Gives, NeedsNoMemory};
 ghost use Rattle.wasm_operators_immediates.specs.Numbers.{Passes};
 ghost use Rattle.wasm_operators_immediates.specs.Labels.{labels};
 
 use crate::BrTable;
 use std::alloc::Global;
-use wasm_types_reader::{BinaryReader, FromReader, Result};
+use wasm_types::{BinaryReader, FromReader, Result};
 
 /// The most targets that a `br_table` has: as many as a body has bytes.
 pub const MAX_WASM_BR_TABLE_SIZE: usize = 7_654_321;
 
 /// Goes past `count` numbers of 32 bits.
-#[tactic(auto, using(wasm_types_decoding::specs::Laws::reaches_self, wasm_types_decoding::specs::Laws::reaches_then))]
+#[tactic(auto, using(wasm_types::specs::Laws::reaches_self, wasm_types::specs::Laws::reaches_then))]
 fn pass_numbers<'a>(count: u32, reader: &mut BinaryReader<'a>) -> Result<()>
     ensures answer { Passes count result reader.old reader.new }
     ensures no_memory { NeedsNoMemory result }
@@ -46,7 +46,7 @@ impl<'a> FromReader<'a> for BrTable<'a> {
 
     ghost exact = { decides-labels };
 
-    #[tactic(auto, using(wasm_types_decoding::specs::Laws::reaches_self, wasm_types_decoding::specs::Laws::reaches_then, crate::proofs::Passing::size_is_small), unfolding(crate::specs::Labels::labels, wasm_types_decoding::specs::Lists::listed_within))]
+    #[tactic(auto, using(wasm_types::specs::Laws::reaches_self, wasm_types::specs::Laws::reaches_then, crate::proofs::Passing::size_is_small), unfolding(crate::specs::Labels::labels, wasm_types::specs::Laws::listed_within))]
     fn from_reader(_alloc: Global, reader: &mut BinaryReader<'a>) -> Result<BrTable<'a>>
         ensures answer { Gives (λ t. t) result reader.new (labels reader.old) }
         ensures forward { Reaches reader.old reader.new }

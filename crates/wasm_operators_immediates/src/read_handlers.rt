@@ -1,14 +1,14 @@
 //! The clauses of `try_table` and the handlers of `resume` from their bytes.
 
 ghost use Rattle.std.specs.Prelude.{◌≡◌};
-ghost use Rattle.wasm_types_decoding.specs.Decoder.{Reaches};
-ghost use Rattle.wasm_types_error.specs.declared.error.ErrorKind.TheVariants.{Other};
-ghost use Rattle.wasm_types_reader.specs.Reading.{Gives, NeedsNoMemory};
+ghost use Rattle.wasm_types.specs.decoding.Decoder.{Reaches};
+ghost use Rattle.wasm_types.specs.error.declared.error.ErrorKind.TheVariants.{Other};
+ghost use Rattle.wasm_types.specs.reader.Reading.{Gives, NeedsNoMemory};
 ghost use Rattle.wasm_operators_immediates.specs.Handlers.{clause, handle, try_table, handlers};
 
 use crate::{BlockType, Catch, Handle, ResumeTable, TryTable};
 use std::alloc::Global;
-use wasm_types_reader::{BinaryReader, Error, FromReader, Result, read_list};
+use wasm_types::{BinaryReader, Error, FromReader, Result, read_list};
 
 /// The most clauses of a `try_table`.
 pub const MAX_WASM_CATCHES: usize = 10_000;
@@ -48,7 +48,7 @@ impl<'a> FromReader<'a> for Catch {
 
     ghost exact = { decides-clause };
 
-    #[tactic(auto, using(wasm_types_decoding::specs::Laws::reaches_self, wasm_types_decoding::specs::Laws::reaches_then), unfolding(crate::specs::Handlers::clause, crate::specs::Handlers::clause_after))]
+    #[tactic(auto, using(wasm_types::specs::Laws::reaches_self, wasm_types::specs::Laws::reaches_then), unfolding(crate::specs::Handlers::clause, crate::specs::Handlers::clause_after))]
     fn from_reader(_alloc: Global, reader: &mut BinaryReader<'a>) -> Result<Catch>
         ensures answer { Gives (λ c. c) result reader.new (clause reader.old) }
         ensures forward { Reaches reader.old reader.new }
@@ -100,7 +100,7 @@ impl<'a> FromReader<'a> for TryTable {
 
     ghost exact = { decides-try_table };
 
-    #[tactic(auto, using(wasm_types_decoding::specs::Laws::reaches_self, wasm_types_decoding::specs::Laws::reaches_then), unfolding(crate::specs::Handlers::try_table))]
+    #[tactic(auto, using(wasm_types::specs::Laws::reaches_self, wasm_types::specs::Laws::reaches_then), unfolding(crate::specs::Handlers::try_table))]
     fn from_reader(alloc: Global, reader: &mut BinaryReader<'a>) -> Result<TryTable> {
         let ty = BlockType::from_reader(alloc, reader)?;
         let catches = read_list(alloc, MAX_WASM_CATCHES, "catches", reader)?;
@@ -128,7 +128,7 @@ impl<'a> FromReader<'a> for Handle {
 
     ghost exact = { decides-handle };
 
-    #[tactic(auto, using(wasm_types_decoding::specs::Laws::reaches_self, wasm_types_decoding::specs::Laws::reaches_then), unfolding(crate::specs::Handlers::handle, crate::specs::Handlers::handle_after))]
+    #[tactic(auto, using(wasm_types::specs::Laws::reaches_self, wasm_types::specs::Laws::reaches_then), unfolding(crate::specs::Handlers::handle, crate::specs::Handlers::handle_after))]
     fn from_reader(_alloc: Global, reader: &mut BinaryReader<'a>) -> Result<Handle>
         ensures answer { Gives (λ h. h) result reader.new (handle reader.old) }
         ensures forward { Reaches reader.old reader.new }
@@ -171,7 +171,7 @@ impl<'a> FromReader<'a> for ResumeTable {
 
     ghost exact = { decides-handlers };
 
-    #[tactic(auto, using(wasm_types_decoding::specs::Laws::reaches_self, wasm_types_decoding::specs::Laws::reaches_then), unfolding(crate::specs::Handlers::handlers))]
+    #[tactic(auto, using(wasm_types::specs::Laws::reaches_self, wasm_types::specs::Laws::reaches_then), unfolding(crate::specs::Handlers::handlers))]
     fn from_reader(alloc: Global, reader: &mut BinaryReader<'a>) -> Result<ResumeTable> {
         let handlers = read_list(alloc, MAX_WASM_HANDLERS, "resume table", reader)?;
         Ok(ResumeTable { handlers })

@@ -1,10 +1,10 @@
 -- What a row of the list has of an operator, and what it is compared with.
 use Rattle.std.specs.Prelude.{◌≡◌, ℕ, ℤ, List, Option, map}
-use Rattle.wasm_types_reader.specs.declared.words.Ieee32.{Ieee32}
-use Rattle.wasm_types_reader.specs.declared.words.Ieee64.{Ieee64}
-use Rattle.wasm_types_values.specs.declared.heap.HeapType.{HeapType}
-use Rattle.wasm_types_values.specs.declared.value.ValType.{ValType}
-use Rattle.wasm_types_values.specs.Reference.{Reference}
+use Rattle.wasm_types.specs.reader.declared.words.Ieee32.{Ieee32}
+use Rattle.wasm_types.specs.reader.declared.words.Ieee64.{Ieee64}
+use Rattle.wasm_types.specs.values.declared.heap.HeapType.{HeapType}
+use Rattle.wasm_types.specs.values.declared.value.ValType.{ValType}
+use Rattle.wasm_types.specs.values.Reference.{Reference}
 use Rattle.wasm_operators_info.specs.Info.{Info}
 use Rattle.wasm_operators_info.specs.declared.proposal.Proposal.{Proposal}
 use Rattle.wasm_operators_immediates.specs.declared.block.BlockType.{BlockType}

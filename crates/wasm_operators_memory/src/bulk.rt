@@ -4,7 +4,7 @@ ghost use Rattle.std.specs.Prelude.{◌≡◌};
 ghost use Rattle.wasm_operators_info.specs.Info.{told};
 
 use wasm_operators_info::{OperatorInfo, Proposal};
-use wasm_types_values::HeapType;
+use wasm_types::HeapType;
 
 /// Ranges of memories and tables, tables, and references (WebAssembly 3.0, structure, memory, table and reference
 /// instructions; `memory.discard` by the proposal on memory control).

@@ -5,7 +5,7 @@ ghost use Rattle.wasm_operators_info.specs.Info.{told, row};
 ghost use Rattle.wasm_operators_info.specs.declared.proposal.Proposal.TheVariants as Proposal;
 
 use wasm_operators_info::{OperatorInfo, Proposal};
-use wasm_types_reader::{Ieee32, Ieee64};
+use wasm_types::{Ieee32, Ieee64};
 
 // A row of the first release.
 fn mvp(name: &'static str, code: u32) -> OperatorInfo

@@ -4,7 +4,7 @@ ghost use Rattle.wasm_operators_operator.specs.Laws.{ClonesHaveTheTree, RowsFoll
 ghost use Rattle.wasm_operators_operator.specs.RoleRows.{FitsAsWorked, EffectsAsWorked};
 ghost use Rattle.wasm_operators_operator.specs.EqualityLaws.{EqualOperatorsHaveEqualTrees, ControlEqualityIsIdentity, ParametricEqualityIsOfTrees, ExceptionEqualityIsOfTrees, MemoryEqualityIsIdentity, ConstEqualityIsIdentity, NumericEqualityIsIdentity, BulkEqualityIsIdentity, GcEqualityIsIdentity, DescriptorEqualityIsIdentity, SimdEqualityIsIdentity, SimdNumericEqualityIsIdentity, AtomicEqualityIsIdentity, SharedEqualityIsIdentity, ContinuationEqualityIsOfTrees};
 
-use wasm_types_values::laws::equality_is_identity;
+use wasm_types::equality_is_identity;
 
 /// A clone of an operator has the operator's tree.
 pub const fn clones_have_the_tree()

@@ -1,9 +1,9 @@
 -- What a reader reads from its start to its end is an expression, and an expression is read so.
 use Rattle.std.proofs.Common.{◌≡◌, inl, inr, ℕ, ◌+◌, List, [], ◌∷◌, ◌++◌, length, Some, None, refl, sym, ◌∙◌, ap, subst, append-nil, map, arith}
 use Rattle.std.proofs.lemmas.List.{map-append}
-use Rattle.wasm_types_decoding.specs.Decoder.{State, Done}
-use Rattle.wasm_types_error.specs.ErrorValue.{ErrorValue}
-use Rattle.wasm_types_reader.specs.Reading.{IsNotMemory}
+use Rattle.wasm_types.specs.decoding.Decoder.{State, Done}
+use Rattle.wasm_types.specs.error.ErrorValue.{ErrorValue}
+use Rattle.wasm_types.specs.reader.Reading.{IsNotMemory}
 use Rattle.wasm_operators_immediates.specs.declared.frames.FrameKind.{FrameKind}
 use Rattle.wasm_operators_immediates.specs.declared.frames.FrameKind.TheVariants.{Block}
 use Rattle.wasm_operators_operator.specs.Op.{Op}

@@ -1,9 +1,9 @@
 -- Where a reader of operators stands, what it reads there, and why it refuses.
 use Rattle.std.specs.Prelude.{◌≡◌, IsTrue, ◌⊎◌, ◌+◌, List, [], ◌∷◌, Some, None}
-use Rattle.wasm_types_decoding.specs.Decoder.{State, Done}
-use Rattle.wasm_types_error.specs.declared.error.ErrorKind.TheVariants.{Other}
-use Rattle.wasm_types_error.specs.ErrorValue.{ErrorValue}
-use Rattle.wasm_types_reader.specs.Reading.{Fails}
+use Rattle.wasm_types.specs.decoding.Decoder.{State, Done}
+use Rattle.wasm_types.specs.error.declared.error.ErrorKind.TheVariants.{Other}
+use Rattle.wasm_types.specs.error.ErrorValue.{ErrorValue}
+use Rattle.wasm_types.specs.reader.Reading.{Fails}
 use Rattle.wasm_operators_immediates.specs.declared.frames.FrameKind.{FrameKind}
 use Rattle.wasm_operators_immediates.specs.declared.frames.FrameKind.TheVariants.{Block}
 use Rattle.wasm_operators_operator.specs.Op.{Op}

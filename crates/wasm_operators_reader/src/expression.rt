@@ -1,7 +1,7 @@
 //! Expressions as lists of operators.
 
 ghost use Rattle.std.specs.Prelude.{◌≡◌, List, [], map, IfOk, IfErr};
-ghost use Rattle.wasm_types_reader.specs.Reading.{IsNotMemory};
+ghost use Rattle.wasm_types.specs.reader.Reading.{IsNotMemory};
 ghost use Rattle.wasm_operators_operator.specs.Op.{Op, op_of};
 ghost use Rattle.wasm_operators_expression.specs.Code.{Code, walk};
 ghost use Rattle.wasm_operators_expression.specs.Spelling.{SpelledExpression};
@@ -10,8 +10,7 @@ ghost use Rattle.wasm_operators_reader.specs.Standing.{Refuses, Runs};
 use crate::OperatorsReader;
 use std::alloc::Global;
 use wasm_operators_operator::Operator;
-use wasm_types_error::Result;
-use wasm_types_reader::BinaryReader;
+use wasm_types::{BinaryReader, Result};
 
 /// Reads an expression, which all bytes of the reader spell.
 ///

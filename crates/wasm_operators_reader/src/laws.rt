@@ -1,9 +1,9 @@
 //! Laws of readers of operators, each the contract of a function that does nothing.
 
 ghost use Rattle.std.specs.Prelude.{◌≡◌, List, []};
-ghost use Rattle.wasm_types_decoding.specs.Decoder.{State};
-ghost use Rattle.wasm_types_error.specs.ErrorValue.{ErrorValue};
-ghost use Rattle.wasm_types_reader.specs.Reading.{IsNotMemory};
+ghost use Rattle.wasm_types.specs.decoding.Decoder.{State};
+ghost use Rattle.wasm_types.specs.error.ErrorValue.{ErrorValue};
+ghost use Rattle.wasm_types.specs.reader.Reading.{IsNotMemory};
 ghost use Rattle.wasm_operators_operator.specs.Op.{Op};
 ghost use Rattle.wasm_operators_expression.specs.Code.{Code, walk};
 ghost use Rattle.wasm_operators_expression.specs.Spelling.{SpelledExpression};

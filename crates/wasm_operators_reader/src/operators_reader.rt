@@ -1,8 +1,8 @@
 //! The reader of operators in frames.
 
 ghost use Rattle.std.specs.Prelude.{◌≡◌, ◌↔◌, ◌==◌, ◌+◌, ◌<◌, [], ◌∷◌, IsTrue, IfOk, IfErr, length};
-ghost use Rattle.wasm_types_error.specs.declared.error.ErrorKind.TheVariants.{Other};
-ghost use Rattle.wasm_types_reader.specs.Reading.{NeedsNoMemory};
+ghost use Rattle.wasm_types.specs.error.declared.error.ErrorKind.TheVariants.{Other};
+ghost use Rattle.wasm_types.specs.reader.Reading.{NeedsNoMemory};
 ghost use Rattle.wasm_operators_operator.specs.Op.{op_of};
 ghost use Rattle.wasm_operators_reader.specs.Standing.{at_start, IsFinished, Reads, Refuses, WantsMemory};
 
@@ -12,8 +12,7 @@ use wasm_operators_decode::read_operator;
 use wasm_operators_expression::{ControlStack, Role};
 use wasm_operators_immediates::{FrameKind, FrameStack};
 use wasm_operators_operator::Operator;
-use wasm_types_error::{Error, Result};
-use wasm_types_reader::BinaryReader;
+use wasm_types::{BinaryReader, Error, Result};
 
 /// The memory of a reader's frames.
 #[derive(Drop)]

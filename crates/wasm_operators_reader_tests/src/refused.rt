@@ -3,8 +3,7 @@ use bitflags::Flags;
 use std::process::Abort;
 use std::test::Fail;
 use wasm_operators_reader::{OperatorsReader, read_expression};
-use wasm_types_features::WasmFeatures;
-use wasm_types_reader::{BinaryReader, Result};
+use wasm_types::{BinaryReader, Result, WasmFeatures};
 
 // The bytes, with all features.
 fn bytes(text: &[u8]) -> BinaryReader {

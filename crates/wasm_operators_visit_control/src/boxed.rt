@@ -2,7 +2,7 @@
 
 use crate::VisitControl;
 use wasm_operators_immediates::{BlockType, BrTable, ResumeTable, TryTable};
-use wasm_types_values::ValType;
+use wasm_types::ValType;
 
 /// A visitor in a box is told by its own visits.
 impl<'a, V: VisitControl<'a>> VisitControl<'a> for Box<V> {

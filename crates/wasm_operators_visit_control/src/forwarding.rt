@@ -2,7 +2,7 @@
 
 use crate::VisitControl;
 use wasm_operators_immediates::{BlockType, BrTable, ResumeTable, TryTable};
-use wasm_types_values::ValType;
+use wasm_types::ValType;
 
 /// A visitor that is lent is told by the visits of what lies behind the reference.
 impl<'a, V: VisitControl<'a>> VisitControl<'a> for &mut V {

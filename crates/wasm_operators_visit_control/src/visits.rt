@@ -6,7 +6,7 @@ ghost use Rattle.wasm_operators_control.specs.declared.control.ControlOperator.{
 
 use wasm_operators_immediates::{BlockType, BrTable, ResumeTable, TryTable};
 use wasm_operators_visit::Visitor;
-use wasm_types_values::ValType;
+use wasm_types::ValType;
 
 /// A visit for each operator of control, of exceptions and of continuations, and for what takes operands of any type
 /// (WebAssembly 3.0, structure, control instructions and parametric instructions).

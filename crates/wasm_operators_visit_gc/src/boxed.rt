@@ -1,7 +1,7 @@
 //! Visitors in a box.
 
 use crate::VisitGc;
-use wasm_types_values::{HeapType, RefType};
+use wasm_types::{HeapType, RefType};
 
 /// A visitor in a box is told by its own visits.
 impl<'a, V: VisitGc<'a>> VisitGc<'a> for Box<V> {

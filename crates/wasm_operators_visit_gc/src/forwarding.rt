@@ -1,7 +1,7 @@
 //! Visitors that are lent.
 
 use crate::VisitGc;
-use wasm_types_values::{HeapType, RefType};
+use wasm_types::{HeapType, RefType};
 
 /// A visitor that is lent is told by the visits of what lies behind the reference.
 impl<'a, V: VisitGc<'a>> VisitGc<'a> for &mut V {

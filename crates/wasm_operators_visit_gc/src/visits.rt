@@ -5,7 +5,7 @@ ghost use Rattle.wasm_operators_gc.specs.declared.gc.GcOperator.{GcOperator};
 ghost use Rattle.wasm_operators_gc.specs.declared.gc.DescriptorOperator.{DescriptorOperator};
 
 use wasm_operators_visit::Visitor;
-use wasm_types_values::{HeapType, RefType};
+use wasm_types::{HeapType, RefType};
 
 /// A visit for each operator on structs, arrays, `i31` and descriptors, and for casts (WebAssembly 3.0, structure,
 /// aggregate instructions and reference instructions).

@@ -2,8 +2,7 @@
 
 use crate::VisitMemory;
 use wasm_operators_immediates::MemArg;
-use wasm_types_reader::{Ieee32, Ieee64};
-use wasm_types_values::HeapType;
+use wasm_types::{HeapType, Ieee32, Ieee64};
 
 /// A visitor in a box is told by its own visits.
 impl<'a, V: VisitMemory<'a>> VisitMemory<'a> for Box<V> {

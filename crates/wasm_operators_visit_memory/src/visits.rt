@@ -7,8 +7,7 @@ ghost use Rattle.wasm_operators_memory.specs.declared.constant.ConstOperator.{Co
 
 use wasm_operators_immediates::MemArg;
 use wasm_operators_visit::Visitor;
-use wasm_types_reader::{Ieee32, Ieee64};
-use wasm_types_values::HeapType;
+use wasm_types::{HeapType, Ieee32, Ieee64};
 
 /// A visit for each operator on variables, memories and tables, for what makes and tests references, and for constants
 /// (WebAssembly 3.0, structure, variable, memory, table and numeric instructions).

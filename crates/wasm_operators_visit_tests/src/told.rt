@@ -4,7 +4,7 @@ use std::process::Abort;
 use std::test::Fail;
 use wasm_operators_gc::{DescriptorOperator, GcOperator};
 use wasm_operators_visit_gc::{VisitGc, visit_descriptor, visit_gc};
-use wasm_types_values::HeapType;
+use wasm_types::HeapType;
 
 // The answers for an operator without fields, for one with two, and for one of the other group.
 fn assert_told<'a, V: VisitGc<'a, Output = u32>>(rt: &impl Abort, visitor: &mut V) {

@@ -2,7 +2,7 @@
 
 use crate::Counter;
 use wasm_operators_visit_gc::VisitGc;
-use wasm_types_values::{HeapType, RefType};
+use wasm_types::{HeapType, RefType};
 
 impl<'a> VisitGc<'a> for Counter {
     fn visit_ref_eq(&mut self) -> u32 {

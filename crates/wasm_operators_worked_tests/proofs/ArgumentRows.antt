@@ -1,7 +1,7 @@
 -- These rows compute.
 use Rattle.std.proofs.Common.{refl}
-use Rattle.wasm_types_features.specs.Features.{has}
-use Rattle.wasm_types_decoding.specs.Leb.{unsigned}
+use Rattle.wasm_types.specs.features.Features.{has}
+use Rattle.wasm_types.specs.decoding.Leb.{unsigned}
 use Rattle.wasm_operators_decode_immediates.specs.MemoryArguments.{memory_argument, flags, after_flags, named_memory, named_ordering, access_ordering, offset}
 use Rattle.wasm_operators_decode_immediates.specs.Bytes.{ordering_by}
 use Rattle.wasm_operators_decode_immediates.specs.Immediates.{immediate}

@@ -1,8 +1,8 @@
 -- These rows compute.
 use Rattle.std.proofs.Common.{refl}
-use Rattle.wasm_types_features.specs.Features.{has}
-use Rattle.wasm_types_decoding.specs.Leb.{unsigned}
-use Rattle.wasm_types_decoding.specs.Decoder.{repeated}
+use Rattle.wasm_types.specs.features.Features.{has}
+use Rattle.wasm_types.specs.decoding.Leb.{unsigned}
+use Rattle.wasm_types.specs.decoding.Decoder.{repeated}
 use Rattle.wasm_operators_decode_immediates.specs.Bytes.{index_or_zero, zero_byte, ordering_by, lane, shuffle, vector}
 use Rattle.wasm_operators_decode_immediates.specs.Immediates.{immediate}
 use Rattle.wasm_operators_worked_tests.specs.ByteRows.{ByteRows}

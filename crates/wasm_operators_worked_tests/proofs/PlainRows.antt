@@ -1,12 +1,12 @@
 -- These rows compute.
 use Rattle.std.proofs.Common.{refl}
-use Rattle.wasm_types_features.specs.Features.{has}
-use Rattle.wasm_types_decoding.specs.Decoder.{repeated}
-use Rattle.wasm_types_decoding.specs.Leb.{unsigned, signed, last_bits}
-use Rattle.wasm_types_decoding.specs.Lists.{size_within, listed_within}
-use Rattle.wasm_types_decoding.specs.Text.{word}
-use Rattle.wasm_types_values.specs.Decode.{abstract_heap_type, concrete_heap_type, exact_heap_type, heap_type_after, heap_type, reference_after}
-use Rattle.wasm_types_values.specs.DecodeValues.{value_type_after, value_type}
+use Rattle.wasm_types.specs.features.Features.{has}
+use Rattle.wasm_types.specs.decoding.Decoder.{repeated}
+use Rattle.wasm_types.specs.decoding.Leb.{unsigned, signed, last_bits}
+use Rattle.wasm_types.specs.decoding.Lists.{size_within, listed_within}
+use Rattle.wasm_types.specs.decoding.Text.{word}
+use Rattle.wasm_types.specs.values.Decode.{abstract_heap_type, concrete_heap_type, exact_heap_type, heap_type_after, heap_type, reference_after}
+use Rattle.wasm_types.specs.values.DecodeValues.{value_type_after, value_type}
 use Rattle.wasm_operators_immediates.specs.Blocks.{function_block, value_block, empty_block, block_type}
 use Rattle.wasm_operators_immediates.specs.Handlers.{clause_after, clause, try_table, handle_after, handle, handlers}
 use Rattle.wasm_operators_immediates.specs.Labels.{labels}

@@ -1,9 +1,9 @@
 -- These rows compute.
 use Rattle.std.proofs.Common.{refl}
-use Rattle.wasm_types_decoding.specs.Leb.{unsigned}
-use Rattle.wasm_types_decoding.specs.Decoder.{repeated}
-use Rattle.wasm_types_decoding.specs.Lists.{size_within, listed_within}
-use Rattle.wasm_types_values.specs.DecodeValues.{value_type, value_type_after}
+use Rattle.wasm_types.specs.decoding.Leb.{unsigned}
+use Rattle.wasm_types.specs.decoding.Decoder.{repeated}
+use Rattle.wasm_types.specs.decoding.Lists.{size_within, listed_within}
+use Rattle.wasm_types.specs.values.DecodeValues.{value_type, value_type_after}
 use Rattle.wasm_operators_immediates.specs.Blocks.{block_type, value_block, empty_block}
 use Rattle.wasm_operators_immediates.specs.Labels.{labels}
 use Rattle.wasm_operators_immediates.specs.Handlers.{clause, clause_after, try_table, handle, handle_after, handlers}

@@ -1,10 +1,10 @@
 -- These rows compute.
 use Rattle.std.proofs.Common.{refl}
-use Rattle.wasm_types_decoding.specs.Leb.{unsigned, signed, last_bits}
-use Rattle.wasm_types_decoding.specs.Decoder.{repeated}
-use Rattle.wasm_types_decoding.specs.Lists.{size_within, listed_within}
-use Rattle.wasm_types_values.specs.Decode.{heap_type, heap_type_after, concrete_heap_type, exact_heap_type, abstract_heap_type, reference_after}
-use Rattle.wasm_types_values.specs.DecodeValues.{value_type, value_type_after}
+use Rattle.wasm_types.specs.decoding.Leb.{unsigned, signed, last_bits}
+use Rattle.wasm_types.specs.decoding.Decoder.{repeated}
+use Rattle.wasm_types.specs.decoding.Lists.{size_within, listed_within}
+use Rattle.wasm_types.specs.values.Decode.{heap_type, heap_type_after, concrete_heap_type, exact_heap_type, abstract_heap_type, reference_after}
+use Rattle.wasm_types.specs.values.DecodeValues.{value_type, value_type_after}
 use Rattle.wasm_operators_immediates.specs.Blocks.{block_type, function_block, value_block, empty_block}
 use Rattle.wasm_operators_decode_immediates.specs.Bytes.{select_types}
 use Rattle.wasm_operators_decode_immediates.specs.Casts.{cast_branch, cast_after}

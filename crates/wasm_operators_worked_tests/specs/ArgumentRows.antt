@@ -1,7 +1,7 @@
 -- Memory arguments: flags, the index of a memory, an ordering and an offset (WebAssembly 3.0, binary format, memory instructions;
 -- orderings by the proposal on shared everything).
 use Rattle.std.specs.Prelude.{[], ◌∷◌, Some, None, ◌+◌}
-use Rattle.wasm_types_features.specs.Features.{mask, MultiMemory, Memory64, SharedEverythingThreads}
+use Rattle.wasm_types.specs.features.Features.{mask, MultiMemory, Memory64, SharedEverythingThreads}
 use Rattle.wasm_operators_immediates.specs.declared.memory.Ordering.TheVariants.{AcqRel, SeqCst}
 use Rattle.wasm_operators_immediates.specs.declared.memory.MemArgOrdering.TheVariants.{Op, Rmw}
 use Rattle.wasm_operators_immediates.specs.Kinds.{Plain, Atomic, ReadModifyWrite}

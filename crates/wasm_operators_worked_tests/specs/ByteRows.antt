@@ -1,7 +1,7 @@
 -- What is a byte or a few: indices where a byte was reserved, orderings, lanes and vectors (WebAssembly 3.0, binary format,
 -- instructions; orderings by the proposal on shared everything).
 use Rattle.std.specs.Prelude.{[], ◌∷◌}
-use Rattle.wasm_types_features.specs.Features.{mask, MultiMemory, CallIndirectOverlong}
+use Rattle.wasm_types.specs.features.Features.{mask, MultiMemory, CallIndirectOverlong}
 use Rattle.wasm_operators_immediates.specs.declared.memory.Ordering.TheVariants.{AcqRel, SeqCst}
 use Rattle.wasm_operators_immediates.specs.Kinds.{Tables, Memories}
 use Rattle.wasm_operators_immediates.specs.Kinds as kind

@@ -1,9 +1,9 @@
 -- Operators whose opcode is one byte (WebAssembly 3.0, binary format, instructions).
 use Rattle.std.specs.Prelude.{false, [], ◌∷◌, None, negsuc}
-use Rattle.wasm_types_features.specs.Features.{mask, MultiMemory, CallIndirectOverlong, TailCall}
-use Rattle.wasm_types_values.specs.declared.heap.HeapType.TheVariants.{Abstract}
-use Rattle.wasm_types_values.specs.declared.heap.AbstractHeapType.TheVariants.{Func}
-use Rattle.wasm_types_values.specs.declared.value.ValType.TheVariants.{I32, I64}
+use Rattle.wasm_types.specs.features.Features.{mask, MultiMemory, CallIndirectOverlong, TailCall}
+use Rattle.wasm_types.specs.values.declared.heap.HeapType.TheVariants.{Abstract}
+use Rattle.wasm_types.specs.values.declared.heap.AbstractHeapType.TheVariants.{Func}
+use Rattle.wasm_types.specs.values.declared.value.ValType.TheVariants.{I32, I64}
 use Rattle.wasm_operators_immediates.specs.declared.block.BlockType.TheVariants.{Empty}
 use Rattle.wasm_operators_immediates.specs.declared.handlers.Catch.TheVariants.{All}
 use Rattle.wasm_operators_immediates.specs.declared.handlers.Handle.TheVariants.{OnSwitch}

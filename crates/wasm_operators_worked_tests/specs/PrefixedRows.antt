@@ -1,10 +1,10 @@
 -- Operators whose code follows a prefix (WebAssembly 3.0, binary format, instructions; continuations, descriptors and what is shared
 -- by their proposals).
 use Rattle.std.specs.Prelude.{true, false, [], ◌∷◌, Some, None}
-use Rattle.wasm_types_features.specs.Features.{mask, SharedEverythingThreads}
-use Rattle.wasm_types_values.specs.declared.heap.HeapType.TheVariants.{Abstract}
-use Rattle.wasm_types_values.specs.declared.heap.AbstractHeapType.TheVariants.{Func, Any}
-use Rattle.wasm_types_values.specs.Decode.{reference}
+use Rattle.wasm_types.specs.features.Features.{mask, SharedEverythingThreads}
+use Rattle.wasm_types.specs.values.declared.heap.HeapType.TheVariants.{Abstract}
+use Rattle.wasm_types.specs.values.declared.heap.AbstractHeapType.TheVariants.{Func, Any}
+use Rattle.wasm_types.specs.values.Decode.{reference}
 use Rattle.wasm_operators_immediates.specs.declared.memory.Ordering.TheVariants.{AcqRel}
 use Rattle.wasm_operators_immediates.specs.declared.memory.MemArgOrdering.TheVariants.{Op}
 use Rattle.wasm_operators_decode_immediates.specs.MemoryArguments.{argument}

@@ -1,7 +1,7 @@
 -- Tables of labels, clauses and handlers (WebAssembly 3.0, binary format, control instructions; handlers by the proposal on stack
 -- switching).
 use Rattle.std.specs.Prelude.{[], ◌∷◌}
-use Rattle.wasm_types_values.specs.declared.value.ValType.TheVariants.{I32}
+use Rattle.wasm_types.specs.values.declared.value.ValType.TheVariants.{I32}
 use Rattle.wasm_operators_immediates.specs.declared.block.BlockType.TheVariants.{Empty, Val}
 use Rattle.wasm_operators_immediates.specs.declared.handlers.Catch.TheVariants.{One, OneRef, All, AllRef}
 use Rattle.wasm_operators_immediates.specs.declared.handlers.Handle.TheVariants.{OnLabel, OnSwitch}

@@ -1,10 +1,10 @@
 -- Types: of blocks, of heaps, of a select, of a branch on a cast (WebAssembly 3.0, binary format, types and instructions).
 use Rattle.std.specs.Prelude.{true, false, [], ◌∷◌}
-use Rattle.wasm_types_values.specs.declared.heap.HeapType.TheVariants.{Abstract, Concrete}
-use Rattle.wasm_types_values.specs.declared.heap.AbstractHeapType.TheVariants.{Func, Any}
-use Rattle.wasm_types_values.specs.declared.value.ValType.TheVariants.{I32, V128, Ref}
-use Rattle.wasm_types_indices.specs.declared.index.UnpackedIndex.TheVariants.{Module}
-use Rattle.wasm_types_values.specs.Decode.{reference}
+use Rattle.wasm_types.specs.values.declared.heap.HeapType.TheVariants.{Abstract, Concrete}
+use Rattle.wasm_types.specs.values.declared.heap.AbstractHeapType.TheVariants.{Func, Any}
+use Rattle.wasm_types.specs.values.declared.value.ValType.TheVariants.{I32, V128, Ref}
+use Rattle.wasm_types.specs.indices.declared.index.UnpackedIndex.TheVariants.{Module}
+use Rattle.wasm_types.specs.values.Decode.{reference}
 use Rattle.wasm_operators_immediates.specs.declared.block.BlockType.TheVariants.{Empty, Val, FuncType}
 use Rattle.wasm_operators_immediates.specs.Kinds as kind
 use Rattle.wasm_operators_immediates.specs.Immediates as value

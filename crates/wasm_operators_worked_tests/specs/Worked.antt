@@ -1,7 +1,7 @@
 -- What is said of worked bytes, which begin at place 0: of an immediate by its kind, and of an operator.
 use Rattle.std.specs.Prelude.{◌≡◌, ℕ, List, [], length}
-use Rattle.wasm_types_decoding.specs.declared.Refusal.TheVariants.{Other}
-use Rattle.wasm_types_decoding.specs.Decoder.{State, Done, Short, Fault}
+use Rattle.wasm_types.specs.decoding.declared.Refusal.TheVariants.{Other}
+use Rattle.wasm_types.specs.decoding.Decoder.{State, Done, Short, Fault}
 use Rattle.wasm_operators_immediates.specs.Kinds.{Kind}
 use Rattle.wasm_operators_immediates.specs.Immediates.{Immediate}
 use Rattle.wasm_operators_operator.specs.Op.{Op}

@@ -2,7 +2,7 @@
 
 use crate::expect::same;
 use bitflags::Flags;
-use wasm_types_features::{WasmFeatures, WasmFeaturesInflated};
+use wasm_types::{WasmFeatures, WasmFeaturesInflated};
 
 // Each name with its bits.
 const NAMES: [(&str, u32); 28] = [

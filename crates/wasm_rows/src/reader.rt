@@ -3,8 +3,7 @@
 use crate::expect::same;
 use bitflags::Flags;
 use std::test::Fail;
-use wasm_types_features::WasmFeatures;
-use wasm_types_reader::*;
+use wasm_types::{WasmFeatures, *};
 
 #[test]
 fn numbers_of_32_bits(rt: HostRuntime) -> std::result::Result<(), Fail> {

@@ -1,8 +1,9 @@
 //! What no clause says: the messages of refused types. The bytes are those of the standard's rules and their edges.
 use crate::expect::same;
 use std::test::Fail;
-use wasm_types_reader::{BinaryReader, Result};
-use wasm_types_values::{AbstractHeapType, HeapType, RefType, UnpackedIndex, ValType};
+use wasm_types::{
+    AbstractHeapType, BinaryReader, HeapType, RefType, Result, UnpackedIndex, ValType,
+};
 
 // What reading one type from these bytes answers.
 fn read_reference(alloc: std::alloc::Global, bytes: &[u8]) -> Result<RefType> {

@@ -3,15 +3,15 @@ use Rattle.std.proofs.Common.{◌≡◌, ℕ, ◌<◌, ◌≤◌, List, [], leng
 use Rattle.std.specs.Prelude.{nat_lt}
 use Rattle.std.proofs.lemmas.List.{append-nil}
 use Rattle.std.proofs.lemmas.Bool.{ltb-true, ltb-false}
-use Rattle.wasm_types_decoding.specs.declared.Refusal.TheVariants.{Other}
-use Rattle.wasm_types_decoding.specs.Decoder.{State, Outcome, Done, Short, Fault, Decoder, Grammar, ◌>>=◌, pure, bytes, continue_with, IsLawful, Decides, Then}
-use Rattle.wasm_types_decoding.specs.Laws.{lawful->>=, lawful-pure, lawful-if, lawful-bytes}
-use Rattle.wasm_types_decoding.specs.Exact.{decides->>=, decides-same, decides-pure, decides-if, decides-bytes, Exactly}
-use Rattle.wasm_types_decoding.specs.Leb.{u32, IsUnsigned}
-use Rattle.wasm_types_decoding.specs.LebLaws.{lawful-unsigned, decides-u32}
-use Rattle.wasm_types_decoding.specs.Lists.{refuse_at}
-use Rattle.wasm_types_decoding.specs.ListLaws.{lawful-refuse_at, decides-refuse_at, lawful-from_place, decides-from_place}
-use Rattle.wasm_types_reader.specs.Parts.{counted_part, next_part, part_at}
+use Rattle.wasm_types.specs.decoding.declared.Refusal.TheVariants.{Other}
+use Rattle.wasm_types.specs.decoding.Decoder.{State, Outcome, Done, Short, Fault, Decoder, Grammar, ◌>>=◌, pure, bytes, continue_with, IsLawful, Decides, Then}
+use Rattle.wasm_types.specs.decoding.Laws.{lawful->>=, lawful-pure, lawful-if, lawful-bytes}
+use Rattle.wasm_types.specs.decoding.Exact.{decides->>=, decides-same, decides-pure, decides-if, decides-bytes, Exactly}
+use Rattle.wasm_types.specs.decoding.Leb.{u32, IsUnsigned}
+use Rattle.wasm_types.specs.decoding.LebLaws.{lawful-unsigned, decides-u32}
+use Rattle.wasm_types.specs.decoding.Lists.{refuse_at}
+use Rattle.wasm_types.specs.decoding.ListLaws.{lawful-refuse_at, decides-refuse_at, lawful-from_place, decides-from_place}
+use Rattle.wasm_types.specs.reader.Parts.{counted_part, next_part, part_at}
 use Rattle.wasm_module_validator.specs.laws.Frames.{IsCounted, few_or, body}
 
 -- ---- an entry: the same, by its parts

@@ -1,11 +1,11 @@
 -- How the sections of a module are read, before the functions in them are judged: what the reader answers, as decoders.
 use Rattle.std.specs.Prelude.{◌≡◌, ◌≤◌, ◌++◌, ℕ, Bool, false, List, [], ◌∷◌, length, nat_lt, ◌==◌, if◌then◌else◌}
 use Rattle.std.specs.Str.{bytes_eq}
-use Rattle.wasm_types_decoding.specs.declared.Refusal.TheVariants.{Other}
-use Rattle.wasm_types_decoding.specs.Decoder.{State, Outcome, Done, Short, Fault, Decoder, ◌>>=◌, pure, byte, bytes, repeated}
-use Rattle.wasm_types_decoding.specs.Leb.{u32, IsUnsigned}
-use Rattle.wasm_types_decoding.specs.Lists.{refuse_at}
-use Rattle.wasm_types_reader.specs.Parts.{counted_part}
+use Rattle.wasm_types.specs.decoding.declared.Refusal.TheVariants.{Other}
+use Rattle.wasm_types.specs.decoding.Decoder.{State, Outcome, Done, Short, Fault, Decoder, ◌>>=◌, pure, byte, bytes, repeated}
+use Rattle.wasm_types.specs.decoding.Leb.{u32, IsUnsigned}
+use Rattle.wasm_types.specs.decoding.Lists.{refuse_at}
+use Rattle.wasm_types.specs.reader.Parts.{counted_part}
 use Rattle.wasm_module_validator_operands.specs.Syntax.{FunctionType}
 use Rattle.wasm_module_validator.specs.laws.Types.{function_type}
 

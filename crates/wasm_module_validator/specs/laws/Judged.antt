@@ -4,15 +4,15 @@ use Rattle.std.specs.Prelude.{◌==◌, slice_get}
 use Rattle.std.proofs.lemmas.List.{append-nil}
 use Rattle.std.proofs.lemmas.Bool.{eqb-true}
 use Rattle.std.proofs.lemmas.Option.{slice_get_within}
-use Rattle.wasm_types_decoding.specs.declared.Refusal.TheVariants.{Other}
-use Rattle.wasm_types_decoding.specs.Decoder.{State, Done, Fault, Grammar, ◌>>=◌, pure, bytes, Many, Decides, Takes, Then}
-use Rattle.wasm_types_decoding.specs.Exact.{done_then, value_is, state_is, decides->>=, decides-same, decides-if, decides-pure, decides-bytes, Exactly}
-use Rattle.wasm_types_decoding.specs.ListLaws.{decides-refuse_at, decides-from_place}
-use Rattle.wasm_types_decoding.specs.Lists.{refuse_at}
+use Rattle.wasm_types.specs.decoding.declared.Refusal.TheVariants.{Other}
+use Rattle.wasm_types.specs.decoding.Decoder.{State, Done, Fault, Grammar, ◌>>=◌, pure, bytes, Many, Decides, Takes, Then}
+use Rattle.wasm_types.specs.decoding.Exact.{done_then, value_is, state_is, decides->>=, decides-same, decides-if, decides-pure, decides-bytes, Exactly}
+use Rattle.wasm_types.specs.decoding.ListLaws.{decides-refuse_at, decides-from_place}
+use Rattle.wasm_types.specs.decoding.Lists.{refuse_at}
 use Rattle.std.specs.Str.{bytes_eq}
 use Rattle.std.proofs.lemmas.Slice.Eq.{bytes_eq-Decides}
-use Rattle.wasm_types_decoding.specs.Leb.{IsUnsigned, IsListed}
-use Rattle.wasm_types_decoding.specs.Lists.{IsListedWithin}
+use Rattle.wasm_types.specs.decoding.Leb.{IsUnsigned, IsListed}
+use Rattle.wasm_types.specs.decoding.Lists.{IsListedWithin}
 use Rattle.wasm_module_validator_operands.specs.Syntax.{FunctionType, Function}
 use Rattle.wasm_module_validator.specs.Syntax.{Module}
 use Rattle.wasm_module_validator_bodies.specs.Binary.{SpellsFunction}

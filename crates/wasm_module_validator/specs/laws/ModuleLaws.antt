@@ -3,14 +3,14 @@ use Rattle.std.proofs.Common.{◌≡◌, ℕ, zero, suc, ◌+◌, ◌<◌, ◌�
 use Rattle.std.specs.Prelude.{nat_lt, ◌==◌}
 use Rattle.std.proofs.lemmas.List.{append-nil}
 use Rattle.std.proofs.lemmas.Bool.{ltb-true, ltb-false, eqb-true, eqb-false, eq-eqb}
-use Rattle.wasm_types_decoding.specs.declared.Refusal.TheVariants.{Other}
-use Rattle.wasm_types_decoding.specs.Decoder.{State, Done, Decoder, Grammar, ◌>>=◌, pure, repeated, Decides, Takes, Then, Many}
-use Rattle.wasm_types_decoding.specs.Exact.{decides-same, decides->>=, decides-if, decides-pure, decides-repeated}
-use Rattle.wasm_types_decoding.specs.Leb.{u32, IsUnsigned, IsListed}
-use Rattle.wasm_types_decoding.specs.LebLaws.{decides-u32}
-use Rattle.wasm_types_decoding.specs.Lists.{refuse_at, IsListedWithin}
-use Rattle.wasm_types_decoding.specs.ListLaws.{decides-refuse_at, decides-from_place}
-use Rattle.wasm_types_decoding.specs.Text.{IsSized}
+use Rattle.wasm_types.specs.decoding.declared.Refusal.TheVariants.{Other}
+use Rattle.wasm_types.specs.decoding.Decoder.{State, Done, Decoder, Grammar, ◌>>=◌, pure, repeated, Decides, Takes, Then, Many}
+use Rattle.wasm_types.specs.decoding.Exact.{decides-same, decides->>=, decides-if, decides-pure, decides-repeated}
+use Rattle.wasm_types.specs.decoding.Leb.{u32, IsUnsigned, IsListed}
+use Rattle.wasm_types.specs.decoding.LebLaws.{decides-u32}
+use Rattle.wasm_types.specs.decoding.Lists.{refuse_at, IsListedWithin}
+use Rattle.wasm_types.specs.decoding.ListLaws.{decides-refuse_at, decides-from_place}
+use Rattle.wasm_types.specs.decoding.Text.{IsSized}
 use Rattle.wasm_module_validator_bodies.specs.laws.TypeLaws.{head_is}
 use Rattle.wasm_module_validator.specs.laws.Frames.{IsCounted, begins, contents, section, items, at_most_or, below_or, type_index, body, as_many_or, entries}
 use Rattle.wasm_module_validator.specs.laws.FrameLaws.{decides-body}

@@ -1,13 +1,13 @@
 -- Where a module is refused, by what refused its parts.
 use Rattle.std.specs.Prelude.{◌≡◌, ℕ, List, Result, Ok, Err}
 use Rattle.std.proofs.Common.{refl}
-use Rattle.wasm_types_decoding.specs.Decoder.{State, Outcome, Done, Short, Fault}
-use Rattle.wasm_types_decoding.specs.Exact.{same_state}
-use Rattle.wasm_types_error.specs.declared.error.ErrorKind.{ErrorKind}
-use Rattle.wasm_types_error.specs.declared.error.ErrorKind.TheVariants as kinds
-use Rattle.wasm_types_error.specs.ErrorValue.{ErrorValue}
-use Rattle.wasm_types_features.specs.Sets.{bits_of, default_features}
-use Rattle.wasm_types_reader.specs.Reading.{FailsAt, Fails}
+use Rattle.wasm_types.specs.decoding.Decoder.{State, Outcome, Done, Short, Fault}
+use Rattle.wasm_types.specs.decoding.Exact.{same_state}
+use Rattle.wasm_types.specs.error.declared.error.ErrorKind.{ErrorKind}
+use Rattle.wasm_types.specs.error.declared.error.ErrorKind.TheVariants as kinds
+use Rattle.wasm_types.specs.error.ErrorValue.{ErrorValue}
+use Rattle.wasm_types.specs.features.Sets.{bits_of, default_features}
+use Rattle.wasm_types.specs.reader.Reading.{FailsAt, Fails}
 use Rattle.wasm_module_validator_operands.specs.Answers.{UnlessMemory, IsRefusalOf, RefusedWithin}
 use Rattle.wasm_module_validator.specs.declared.validator.State.TheVariants as states
 use Rattle.wasm_module_validator.specs.Refusals.{at_begin, IsFunctionRefusal, RefusesFunction, FailsFrames, after_function, after_frames, IsPlaceOf, IsRefusedAt}

@@ -1,14 +1,14 @@
 -- The sections of a module are read exactly as they are spelled.
 use Rattle.std.proofs.Common.{◌≡◌, ℕ, ◌+◌, ◌-◌, ◌<◌, ◌≤◌, List, ◌∷◌, length, take, drop, refl, sym, ap, ◌∙◌, subst, arith, inl, inr}
 use Rattle.std.proofs.lemmas.Bool.{cases_lt}
-use Rattle.wasm_types_decoding.specs.declared.Refusal.TheVariants.{Other}
-use Rattle.wasm_types_decoding.specs.Decoder.{State, Outcome, Done, Short, Fault, Decoder, Grammar, ◌>>=◌, byte, continue_with, ended, within, Decides}
-use Rattle.wasm_types_decoding.specs.Laws.{bytes-enough, bytes-short}
-use Rattle.wasm_types_decoding.specs.Exact.{decides-same, decides-byte, done_then}
-use Rattle.wasm_types_decoding.specs.Leb.{u32}
-use Rattle.wasm_types_decoding.specs.Text.{sized, IsSized}
-use Rattle.wasm_types_decoding.specs.TextLaws.{decides-sized}
-use Rattle.wasm_types_reader.specs.Parts.{counted_part, next_part, part_at}
+use Rattle.wasm_types.specs.decoding.declared.Refusal.TheVariants.{Other}
+use Rattle.wasm_types.specs.decoding.Decoder.{State, Outcome, Done, Short, Fault, Decoder, Grammar, ◌>>=◌, byte, continue_with, ended, within, Decides}
+use Rattle.wasm_types.specs.decoding.Laws.{bytes-enough, bytes-short}
+use Rattle.wasm_types.specs.decoding.Exact.{decides-same, decides-byte, done_then}
+use Rattle.wasm_types.specs.decoding.Leb.{u32}
+use Rattle.wasm_types.specs.decoding.Text.{sized, IsSized}
+use Rattle.wasm_types.specs.decoding.TextLaws.{decides-sized}
+use Rattle.wasm_types.specs.reader.Parts.{counted_part, next_part, part_at}
 use Rattle.wasm_module_validator.specs.laws.Frames.{finished, contents}
 use Rattle.wasm_module_validator.specs.laws.FrameLaws.{decides-along}
 use Rattle.wasm_module_validator_bodies.specs.laws.TypeLaws.{tail_is}

@@ -2,18 +2,18 @@
 use Rattle.std.proofs.Common.{◌≡◌, ℕ, zero, suc, List, [], ◌∷◌, ◌++◌, length, refl, sym, ap, ◌∙◌, subst, Bool, true, false}
 use Rattle.std.specs.Prelude.{◌&&◌}
 use Rattle.std.proofs.lemmas.List.{append-nil}
-use Rattle.wasm_types_decoding.specs.declared.Refusal.TheVariants.{Other}
-use Rattle.wasm_types_decoding.specs.Decoder.{Grammar, ◌>>=◌, pure, byte, IsLawful, Decides, Then, Many}
-use Rattle.wasm_types_decoding.specs.Laws.{lawful-byte, lawful->>=, lawful-pure, lawful-refuse, lawful-choice, lawful-if}
-use Rattle.wasm_types_decoding.specs.Exact.{decides->>=, decides-same, decides-pure, decides-if, has_tag, decides-choice}
-use Rattle.wasm_types_decoding.specs.Lists.{refuse_at, IsListedWithin}
-use Rattle.wasm_types_decoding.specs.ListLaws.{lawful-from_place, decides-from_place, lawful-refuse_at, decides-refuse_at}
-use Rattle.wasm_types_values.specs.ValueExact.{SpelledValue}
-use Rattle.wasm_types_fields.specs.Spells.{Signature, SpelledSignature}
-use Rattle.wasm_types_fields.specs.Decode.{signature}
-use Rattle.wasm_types_fields.specs.DecodeLaws.{lawful-signature, decides-signature}
-use Rattle.wasm_types_values.specs.declared.value.ValType.{ValType}
-use Rattle.wasm_types_values.specs.declared.value.ValType.TheVariants.{I32, I64, F32, F64, V128, Ref}
+use Rattle.wasm_types.specs.decoding.declared.Refusal.TheVariants.{Other}
+use Rattle.wasm_types.specs.decoding.Decoder.{Grammar, ◌>>=◌, pure, byte, IsLawful, Decides, Then, Many}
+use Rattle.wasm_types.specs.decoding.Laws.{lawful-byte, lawful->>=, lawful-pure, lawful-refuse, lawful-choice, lawful-if}
+use Rattle.wasm_types.specs.decoding.Exact.{decides->>=, decides-same, decides-pure, decides-if, has_tag, decides-choice}
+use Rattle.wasm_types.specs.decoding.Lists.{refuse_at, IsListedWithin}
+use Rattle.wasm_types.specs.decoding.ListLaws.{lawful-from_place, decides-from_place, lawful-refuse_at, decides-refuse_at}
+use Rattle.wasm_types.specs.values.ValueExact.{SpelledValue}
+use Rattle.wasm_types.specs.fields.Spells.{Signature, SpelledSignature}
+use Rattle.wasm_types.specs.fields.Decode.{signature}
+use Rattle.wasm_types.specs.fields.DecodeLaws.{lawful-signature, decides-signature}
+use Rattle.wasm_types.specs.values.declared.value.ValType.{ValType}
+use Rattle.wasm_types.specs.values.declared.value.ValType.TheVariants.{I32, I64, F32, F64, V128, Ref}
 use Rattle.wasm_module_validator_operands.specs.Syntax.{FunctionType}
 use Rattle.wasm_module_validator_bodies.specs.Binary.{SpellsValType}
 use Rattle.wasm_module_validator_bodies.specs.laws.Types.{is_number}

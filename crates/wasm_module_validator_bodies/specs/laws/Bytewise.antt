@@ -2,10 +2,10 @@
 -- they refuse is none of a feature.
 use Rattle.std.proofs.Common.{◌≡◌, ℕ, zero, suc, ◌+◌, ◌-◌, ◌*◌, ◌^◌, List, [], ◌∷◌, length, refl, subst, arith, Bool, true, false}
 use Rattle.std.specs.Prelude.{if◌then◌else◌, ◌==◌, pos, ◌+ℤ◌, ◌-ℤ◌, ◌*ℤ◌, nat_lt}
-use Rattle.wasm_types_decoding.specs.declared.Refusal.TheVariants.{Other}
-use Rattle.wasm_types_decoding.specs.Decoder.{State, Outcome, Done, Short, Fault, Decoder, continue_with, ◌>>=◌, pure, refuse, first_of_rest, byte, choice}
-use Rattle.wasm_types_decoding.specs.Leb.{unsigned, signed, last_bits, seven_bits}
-use Rattle.wasm_types_decoding.specs.Places.{end_of}
+use Rattle.wasm_types.specs.decoding.declared.Refusal.TheVariants.{Other}
+use Rattle.wasm_types.specs.decoding.Decoder.{State, Outcome, Done, Short, Fault, Decoder, continue_with, ◌>>=◌, pure, refuse, first_of_rest, byte, choice}
+use Rattle.wasm_types.specs.decoding.Leb.{unsigned, signed, last_bits, seven_bits}
+use Rattle.wasm_types.specs.decoding.Places.{end_of}
 
 -- where the bytes end at `end`
 abbrev pub StopsAt : {A : Type 0} → ℕ → Outcome A → Type 0

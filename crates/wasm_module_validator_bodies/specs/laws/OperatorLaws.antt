@@ -1,16 +1,16 @@
 -- Operators and groups of locals are read lawfully and exactly.
 use Rattle.std.proofs.Common.{ℕ, ℤ, List, ◌∷◌, refl, sym, subst}
-use Rattle.wasm_types_decoding.specs.declared.Refusal.TheVariants.{Other}
-use Rattle.wasm_types_decoding.specs.Decoder.{Grammar, refuse, byte, choice, IsLawful, Decides, Then}
-use Rattle.wasm_types_decoding.specs.Laws.{lawful-byte, lawful->>=, lawful-pure, lawful-refuse, lawful-choice}
-use Rattle.wasm_types_decoding.specs.Exact.{decides->>=, decides-same, decides-map, decides-table, Mapped, sound-pure, sound-map, reads-pure, reads-map, ReadsTagged, AllSound}
-use Rattle.wasm_types_decoding.specs.Leb.{IsUnsigned, IsSigned, u32, s32, s64}
-use Rattle.wasm_types_decoding.specs.LebLaws.{lawful-unsigned, decides-u32}
-use Rattle.wasm_types_decoding.specs.SignedLaws.{lawful-signed, decides-s32, decides-s64}
-use Rattle.wasm_types_decoding.specs.Places.{RefusesWithin, within->>=, within-pure, within-choice, within-unsigned, within-signed}
+use Rattle.wasm_types.specs.decoding.declared.Refusal.TheVariants.{Other}
+use Rattle.wasm_types.specs.decoding.Decoder.{Grammar, refuse, byte, choice, IsLawful, Decides, Then}
+use Rattle.wasm_types.specs.decoding.Laws.{lawful-byte, lawful->>=, lawful-pure, lawful-refuse, lawful-choice}
+use Rattle.wasm_types.specs.decoding.Exact.{decides->>=, decides-same, decides-map, decides-table, Mapped, sound-pure, sound-map, reads-pure, reads-map, ReadsTagged, AllSound}
+use Rattle.wasm_types.specs.decoding.Leb.{IsUnsigned, IsSigned, u32, s32, s64}
+use Rattle.wasm_types.specs.decoding.LebLaws.{lawful-unsigned, decides-u32}
+use Rattle.wasm_types.specs.decoding.SignedLaws.{lawful-signed, decides-s32, decides-s64}
+use Rattle.wasm_types.specs.decoding.Places.{RefusesWithin, within->>=, within-pure, within-choice, within-unsigned, within-signed}
 use Rattle.wasm_module_validator_bodies.specs.laws.Bytewise.{IsBytewise, bytewise->>=, bytewise-pure, bytewise-choice, bytewise-unsigned, bytewise-signed}
-use Rattle.wasm_types_values.specs.declared.value.ValType.{ValType}
-use Rattle.wasm_types_values.specs.declared.value.ValType.TheVariants.{I32, I64, F32, F64}
+use Rattle.wasm_types.specs.values.declared.value.ValType.{ValType}
+use Rattle.wasm_types.specs.values.declared.value.ValType.TheVariants.{I32, I64, F32, F64}
 use Rattle.wasm_module_validator_bodies.specs.declared.operators.Operator.{Operator}
 use Rattle.wasm_module_validator_bodies.specs.declared.operators.Operator.TheVariants.{Unreachable, Nop, End, Drop, LocalGet, I32Const, I64Const, I32Add, I64Add}
 use Rattle.wasm_module_validator_operands.specs.Syntax.{LocalGroup}

@@ -1,8 +1,8 @@
 -- Operators as they follow one another in a body, and groups of locals: which bytes they are, and how they are read.
 use Rattle.std.specs.Prelude.{◌≡◌, ℕ, List, [], ◌∷◌}
-use Rattle.wasm_types_decoding.specs.declared.Refusal.TheVariants.{Other}
-use Rattle.wasm_types_decoding.specs.Decoder.{Decoder, Grammar, ◌>>=◌, pure, refuse, byte, choice}
-use Rattle.wasm_types_decoding.specs.Leb.{u32, s32, s64}
+use Rattle.wasm_types.specs.decoding.declared.Refusal.TheVariants.{Other}
+use Rattle.wasm_types.specs.decoding.Decoder.{Decoder, Grammar, ◌>>=◌, pure, refuse, byte, choice}
+use Rattle.wasm_types.specs.decoding.Leb.{u32, s32, s64}
 use Rattle.wasm_module_validator_bodies.specs.declared.operators.Operator.{Operator}
 use Rattle.wasm_module_validator_bodies.specs.declared.operators.Operator.TheVariants.{Unreachable, Nop, End, Drop, LocalGet, I32Const, I64Const, I32Add, I64Add}
 use Rattle.wasm_module_validator_operands.specs.Syntax.{unreachable, nop, drop, local_get, i32_const, i64_const, i32_add, i64_add, LocalGroup}

@@ -1,11 +1,11 @@
 -- Number types are read lawfully, and exactly as they are spelled.
 use Rattle.std.proofs.Common.{◌≡◌, ℕ, List, [], ◌∷◌, refl, sym, true, arith}
-use Rattle.wasm_types_decoding.specs.declared.Refusal.TheVariants.{Other}
-use Rattle.wasm_types_decoding.specs.Decoder.{byte, IsLawful, Decides}
-use Rattle.wasm_types_decoding.specs.Laws.{lawful-byte, lawful->>=, lawful-pure, lawful-refuse, lawful-choice}
-use Rattle.wasm_types_decoding.specs.Exact.{decides-pure, has_tag, decides-choice}
-use Rattle.wasm_types_values.specs.declared.value.ValType.{ValType}
-use Rattle.wasm_types_values.specs.declared.value.ValType.TheVariants.{I32, I64, F32, F64, V128, Ref}
+use Rattle.wasm_types.specs.decoding.declared.Refusal.TheVariants.{Other}
+use Rattle.wasm_types.specs.decoding.Decoder.{byte, IsLawful, Decides}
+use Rattle.wasm_types.specs.decoding.Laws.{lawful-byte, lawful->>=, lawful-pure, lawful-refuse, lawful-choice}
+use Rattle.wasm_types.specs.decoding.Exact.{decides-pure, has_tag, decides-choice}
+use Rattle.wasm_types.specs.values.declared.value.ValType.{ValType}
+use Rattle.wasm_types.specs.values.declared.value.ValType.TheVariants.{I32, I64, F32, F64, V128, Ref}
 use Rattle.wasm_module_validator_bodies.specs.Binary.{SpellsValType}
 use Rattle.wasm_module_validator_bodies.specs.laws.Types.{val_types, val_type, is_number}
 

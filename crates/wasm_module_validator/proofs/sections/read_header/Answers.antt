@@ -2,8 +2,8 @@
 use Rattle.std.proofs.Common.{◌≡◌, List, ℕ, ◌∷◌, [], refl, sym, ◌∙◌, ap, Bool, true, false, not}
 use Rattle.std.specs.Str.{bytes_eq}
 use Rattle.std.proofs.lemmas.Result.{err_from_is_err_and}
-use Rattle.wasm_types_decoding.specs.Decoder.{bytes}
-use Rattle.wasm_types_reader.specs.ReadingLaws.{fails_then}
+use Rattle.wasm_types.specs.decoding.Decoder.{bytes}
+use Rattle.wasm_types.specs.reader.ReadingLaws.{fails_then}
 use Rattle.wasm_module_validator.specs.laws.Frames.{version_or, preamble}
 use Rattle.wasm_module_validator.proofs.sections.read_header.Goals as goal
 

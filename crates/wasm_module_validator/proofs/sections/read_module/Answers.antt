@@ -1,7 +1,7 @@
 -- What was read of the header and of each section is the module's, where nothing follows.
 use Rattle.std.proofs.Common.{◌≡◌, ◌∙◌, ℕ, true, length, refl, rules, subst}
 use Rattle.std.specs.Prelude.{◌==◌}
-use Rattle.wasm_types_decoding.specs.Decoder.{Done}
+use Rattle.wasm_types.specs.decoding.Decoder.{Done}
 use Rattle.wasm_module_validator.specs.laws.Frames.{function_section, code_section, frames, module_frames}
 use Rattle.wasm_module_validator.specs.laws.Entries.{bodies}
 use Rattle.wasm_module_validator.proofs.sections.read_module.Goals as goal

@@ -2,7 +2,7 @@
 use Rattle.std.proofs.Common.{arith}
 use Rattle.std.proofs.lemmas.Result.{err_from_is_err_and}
 use Rattle.wasm_module_validator.specs.laws.Frames.{type_index}
-use Rattle.wasm_types_reader.proofs.Rows.{goes_on, ends, is_done}
+use Rattle.wasm_types.proofs.Rows.{goes_on, ends, is_done}
 use Rattle.wasm_module_validator.proofs.sections.read_type_indices.Goals as goal
 
 pub returns-in_err-index : goal.returns-in_err-index

@@ -1,7 +1,7 @@
 use Rattle.std.proofs.Common.{◌≡◌, ◌-◌}
-use Rattle.wasm_types_decoding.specs.Decoder.{repeated}
+use Rattle.wasm_types.specs.decoding.Decoder.{repeated}
 use Rattle.wasm_module_validator.specs.laws.Frames.{type_index}
-use Rattle.wasm_types_reader.proofs.Rows.{with_front}
+use Rattle.wasm_types.proofs.Rows.{with_front}
 use Rattle.wasm_module_validator.proofs.sections.read_type_indices.Given as goal
 
 -- what was read, and what is still read, is what all of it is read as

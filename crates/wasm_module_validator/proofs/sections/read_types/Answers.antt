@@ -2,9 +2,9 @@ use Rattle.std.proofs.Common.{◌≡◌, ◌∙◌, ap, false, Result, Ok, Err, 
 use Rattle.std.specs.Prelude.{nat_lt}
 use Rattle.std.proofs.lemmas.Bool.{le-ltb}
 use Rattle.std.proofs.lemmas.List.{map-id}
-use Rattle.wasm_types_decoding.specs.Decoder.{State, Outcome, Done}
-use Rattle.wasm_types_error.specs.ErrorValue.{ErrorValue}
-use Rattle.wasm_types_reader.specs.Reading.{Gives}
+use Rattle.wasm_types.specs.decoding.Decoder.{State, Outcome, Done}
+use Rattle.wasm_types.specs.error.ErrorValue.{ErrorValue}
+use Rattle.wasm_types.specs.reader.Reading.{Gives}
 use Rattle.wasm_module_validator.specs.laws.Frames.{items}
 use Rattle.wasm_module_validator.proofs.sections.read_types.Goals as goal
 

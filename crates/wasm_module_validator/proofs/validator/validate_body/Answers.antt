@@ -2,7 +2,7 @@
 use Rattle.std.proofs.Common.{◌≡◌, List, ℕ, Some, ap, ◌∙◌, option_map, subst}
 use Rattle.std.specs.Prelude.{slice_get}
 use Rattle.std.proofs.lemmas.Option.{slice_get-map}
-use Rattle.wasm_types_decoding.specs.Decoder.{State}
+use Rattle.wasm_types.specs.decoding.Decoder.{State}
 use Rattle.wasm_module_validator_operands.specs.Syntax.{FunctionType}
 use Rattle.wasm_module_validator_bodies.specs.Bodies.{AcceptsBody}
 use Rattle.wasm_module_validator_operands.specs.Answers.{Tells}

@@ -1,9 +1,9 @@
 -- One more number is passed, or the passing ends where it does.
 use Rattle.std.proofs.Common.{arith, ◌++◌, ◌∷◌, []}
 use Rattle.std.proofs.lemmas.Result.{err_from_is_err_and}
-use Rattle.wasm_types_decoding.specs.Laws.{reaches_then}
-use Rattle.wasm_types_decoding.specs.Leb.{u32}
-use Rattle.wasm_types_reader.proofs.Rows.{goes_on, ends, is_done}
+use Rattle.wasm_types.specs.decoding.Laws.{reaches_then}
+use Rattle.wasm_types.specs.decoding.Leb.{u32}
+use Rattle.wasm_types.proofs.Rows.{goes_on, ends, is_done}
 use Rattle.wasm_operators_immediates.proofs.read_br_table.pass_numbers.Goals as goal
 
 pub returns-in_err-read_var_u32-clause-answer : goal.returns-in_err-read_var_u32-clause-answer

@@ -1,7 +1,7 @@
 use Rattle.std.proofs.Common.{◌≡◌, ◌-◌, ℕ, List}
-use Rattle.wasm_types_decoding.specs.Decoder.{repeated, Reaches}
-use Rattle.wasm_types_decoding.specs.Leb.{u32}
-use Rattle.wasm_types_reader.proofs.Rows.{with_front}
+use Rattle.wasm_types.specs.decoding.Decoder.{repeated, Reaches}
+use Rattle.wasm_types.specs.decoding.Leb.{u32}
+use Rattle.wasm_types.proofs.Rows.{with_front}
 use Rattle.wasm_operators_immediates.proofs.read_br_table.pass_numbers.Given as goal
 
 -- what was read, and what is still read, is what all of it is read as

@@ -1,6 +1,6 @@
 use Rattle.std.proofs.Common.{◌≡◌, ◌+◌, ◌-◌, suc, arith}
 use Rattle.std.proofs.lemmas.Result.{err_from_is_err_and}
-use Rattle.wasm_types_decoding.specs.Laws.{reaches_self, reaches_then}
+use Rattle.wasm_types.specs.decoding.Laws.{reaches_self, reaches_then}
 use Rattle.wasm_module_validator_bodies.specs.laws.Operators.{local_group}
 use Rattle.wasm_module_validator_bodies.specs.laws.OperatorLaws.{within-local_group, bytewise-local_group}
 use Rattle.wasm_module_validator_bodies.proofs.Places.{read_refused, refused_there}

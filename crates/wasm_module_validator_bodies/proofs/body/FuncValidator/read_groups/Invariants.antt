@@ -1,6 +1,6 @@
 use Rattle.std.proofs.Common.{◌≡◌, ◌↔◌, ◌≤◌, ◌-◌, List, length}
-use Rattle.wasm_types_values.specs.declared.value.ValType.{ValType}
-use Rattle.wasm_types_decoding.specs.Decoder.{Reaches}
+use Rattle.wasm_types.specs.values.declared.value.ValType.{ValType}
+use Rattle.wasm_types.specs.decoding.Decoder.{Reaches}
 use Rattle.wasm_module_validator_operands.specs.Operands.{fresh}
 use Rattle.wasm_module_validator_bodies.specs.Remaining.{GroupsLeft}
 use Rattle.wasm_module_validator_bodies.proofs.body.FuncValidator.read_groups.Given as goal

@@ -1,7 +1,7 @@
 use Rattle.std.proofs.lemmas.Result.{err_from_is_err_and}
-use Rattle.wasm_types_decoding.specs.Laws.{reaches_self}
-use Rattle.wasm_types_decoding.specs.Leb.{u32}
-use Rattle.wasm_types_decoding.specs.Places.{within-unsigned}
+use Rattle.wasm_types.specs.decoding.Laws.{reaches_self}
+use Rattle.wasm_types.specs.decoding.Leb.{u32}
+use Rattle.wasm_types.specs.decoding.Places.{within-unsigned}
 use Rattle.wasm_module_validator_bodies.specs.laws.OperatorLaws.{bytewise-u32}
 use Rattle.wasm_module_validator_bodies.proofs.Places.{read_refused, refused_there, within_further}
 use Rattle.wasm_module_validator_operands.proofs.Covering.{does_also}

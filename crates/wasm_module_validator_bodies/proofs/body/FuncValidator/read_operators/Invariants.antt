@@ -1,5 +1,5 @@
 use Rattle.std.proofs.Common.{◌↔◌, length}
-use Rattle.wasm_types_decoding.specs.Decoder.{Reaches}
+use Rattle.wasm_types.specs.decoding.Decoder.{Reaches}
 use Rattle.wasm_module_validator_bodies.specs.Remaining.{BodyLeft}
 use Rattle.wasm_module_validator_bodies.proofs.body.FuncValidator.read_operators.Given as goal
 

@@ -1,6 +1,6 @@
 -- The body is judged with what its groups of locals leave, for the type's own results.
 use Rattle.std.proofs.Common.{List, subst}
-use Rattle.wasm_types_values.specs.declared.value.ValType.{ValType}
+use Rattle.wasm_types.specs.values.declared.value.ValType.{ValType}
 use Rattle.wasm_module_validator_operands.specs.Answers.{Tells}
 use Rattle.wasm_module_validator_operands.proofs.Covering.{tells_also}
 use Rattle.wasm_module_validator_bodies.specs.Bodies.{AcceptsBody}

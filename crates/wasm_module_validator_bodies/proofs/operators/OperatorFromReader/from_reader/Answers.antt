@@ -1,7 +1,7 @@
 use Rattle.std.proofs.Common.{◌≡◌, List, ℕ, [], ◌∷◌, Bool, true, false, cond, refl, rules}
 use Rattle.std.specs.Prelude.{◌==◌}
-use Rattle.wasm_types_decoding.specs.Decoder.{Decoder, choice}
-use Rattle.wasm_types_decoding.specs.Exact.{has_tag}
+use Rattle.wasm_types.specs.decoding.Decoder.{Decoder, choice}
+use Rattle.wasm_types.specs.decoding.Exact.{has_tag}
 use Rattle.wasm_module_validator_bodies.specs.laws.Operators.{opcodes, operator}
 use Rattle.wasm_module_validator_bodies.proofs.operators.OperatorFromReader.from_reader.Goals as goal
 

@@ -1,4 +1,4 @@
-use Rattle.wasm_types_values.specs.declared.value.ValType.TheVariants.{I64}
+use Rattle.wasm_types.specs.values.declared.value.ValType.TheVariants.{I64}
 use Rattle.wasm_module_validator_operands.specs.Syntax.{i64_const}
 use Rattle.wasm_module_validator_operands.proofs.Covering.{does_also}
 use Rattle.wasm_module_validator_operands.proofs.Exchanging.{constant_stepped}

@@ -1,6 +1,6 @@
 -- The bytes are read again from their first on.
 use Rattle.std.proofs.Common.{◌∙◌, ap}
-use Rattle.wasm_types_decoding.specs.Decoder.{State}
+use Rattle.wasm_types.specs.decoding.Decoder.{State}
 use Rattle.wasm_operators_immediates.specs.Tables.{Labels}
 use Rattle.wasm_operators_immediates.proofs.Reading.{again}
 use Rattle.wasm_operators_immediates.proofs.br_table.BrTable.targets.Goals as goal

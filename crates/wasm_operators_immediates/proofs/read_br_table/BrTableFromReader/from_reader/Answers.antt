@@ -1,8 +1,8 @@
 -- The bytes that were passed are the table's.
 use Rattle.std.proofs.Common.{◌≡◌, ◌∙◌, refl}
-use Rattle.wasm_types_decoding.specs.Decoder.{Done, repeated}
-use Rattle.wasm_types_decoding.specs.Leb.{u32}
-use Rattle.wasm_types_decoding.specs.Lists.{listed_within}
+use Rattle.wasm_types.specs.decoding.Decoder.{Done, repeated}
+use Rattle.wasm_types.specs.decoding.Leb.{u32}
+use Rattle.wasm_types.specs.decoding.Lists.{listed_within}
 use Rattle.wasm_operators_immediates.specs.Labels.{labels}
 use Rattle.wasm_operators_immediates.proofs.Passing.{part_is}
 use Rattle.wasm_operators_immediates.proofs.read_br_table.BrTableFromReader.from_reader.Goals as goal

@@ -1,7 +1,7 @@
 -- The clause of the third byte.
 use Rattle.std.proofs.Common.{refl}
 use Rattle.std.proofs.lemmas.Result.{err_from_is_err_and}
-use Rattle.wasm_types_reader.specs.ReadingLaws.{fails_then}
+use Rattle.wasm_types.specs.reader.ReadingLaws.{fails_then}
 use Rattle.wasm_operators_immediates.specs.Handlers.{clause, clause_after}
 use Rattle.wasm_operators_immediates.proofs.read_handlers.CatchFromReader.from_reader.Goals as goal
 

@@ -1,6 +1,6 @@
 use Rattle.std.proofs.Common.{inr, sym, ◌∙◌, ◌+◌, ap, subst}
 use Rattle.wasm_operators_operator.specs.Op.{op_of}
-use Rattle.wasm_types_decoding.specs.Decoder.{State}
+use Rattle.wasm_types.specs.decoding.Decoder.{State}
 use Rattle.wasm_operators_reader.specs.Standing.{Standing, Refuses, IsUnfit, IsOpening, WantsMemory}
 use Rattle.wasm_operators_reader.specs.StandingLaws.{some_left, refuses_fault, refuses_unfit, same_parts, no_list}
 use Rattle.wasm_operators_reader.proofs.operators_reader.OperatorsReader.read.Goals as goal

@@ -1,0 +1,1 @@
+pub use Rattle.wasm_types_reader.proofs.Rows
