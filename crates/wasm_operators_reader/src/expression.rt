@@ -5,7 +5,7 @@ ghost use Rattle.wasm_types.specs.reader.Reading.{IsNotMemory};
 ghost use Rattle.wasm_operators_operator.specs.Op.{Op, op_of};
 ghost use Rattle.wasm_operators_expression.specs.Code.{Code, walk};
 ghost use Rattle.wasm_operators_expression.specs.Spelling.{SpelledExpression};
-ghost use Rattle.wasm_operators_reader.specs.Standing.{Refuses, Runs};
+ghost use Rattle.wasm_operators_reader.specs.Standing.{at_start, Refuses, Runs, StopsAfter};
 
 use crate::OperatorsReader;
 use std::alloc::Global;
@@ -16,10 +16,12 @@ use wasm_types::{BinaryReader, Result};
 ///
 /// # Errors
 ///
-/// The bytes spell no expression, or there is no memory.
+/// The bytes spell no expression, or there is no memory. Operators are read in order, and the first that is refused gives kind
+/// and offset; where the bytes end while a frame is open, that is refused at their end.
 pub fn read_expression<'a>(alloc: Global, reader: BinaryReader<'a>) -> Result<Vec<Operator<'a>>>
     ensures spelled { IfOk result (λ ops. (c : Code) × (walk c ≡ map op_of ops.items) × SpelledExpression reader.entry.features c reader.entry.rest) }
     ensures refused { IfErr result (λ e. IsNotMemory e.kind → (c : Code) → SpelledExpression reader.entry.features c reader.entry.rest → ⊥) }
+    ensures stops { IfErr result (λ e. IsNotMemory e.kind → StopsAfter (at_start reader.entry) e) }
 {
     let mut operators = OperatorsReader::new(alloc, reader);
     let ops = read_all(alloc, &mut operators)?;

@@ -9,9 +9,9 @@ ghost use Rattle.wasm_operators_reader.specs.Standing.{at_start, IsFinished, Rea
 use std::alloc::Global;
 use std::marker::Model;
 use wasm_operators_decode::read_operator;
-use wasm_operators_expression::{ControlStack, Role};
+use wasm_operators_expression::ControlStack;
 use wasm_operators_immediates::{FrameKind, FrameStack};
-use wasm_operators_operator::Operator;
+use wasm_operators_operator::{Operator, Role};
 use wasm_types::{BinaryReader, Error, Result};
 
 /// The memory of a reader's frames.
@@ -21,7 +21,7 @@ pub struct OperatorsReaderAllocations(ControlStack);
 impl OperatorsReaderAllocations {
     /// None.
     pub fn new(alloc: Global) -> OperatorsReaderAllocations
-        ensures { result.0 ≡ [] }
+        ensures { result.0.frames ≡ [] }
     {
         OperatorsReaderAllocations(ControlStack::new(alloc))
     }
@@ -40,7 +40,7 @@ impl<'a> Model for OperatorsReader<'a> {
 
     ghost Value = { Standing };
 
-    ghost view = { λ r. record { bytes = r.reader; frames = r.control } };
+    ghost view = { λ r. record { bytes = r.reader; frames = r.control.frames } };
 }
 
 impl<'a> OperatorsReader<'a> {
@@ -77,7 +77,7 @@ impl<'a> OperatorsReader<'a> {
 
     /// The memory of its frames, for a reader to come.
     pub fn into_allocations(self) -> OperatorsReaderAllocations
-        ensures { result.0 ≡ self.entry.frames }
+        ensures { result.0.frames ≡ self.entry.frames }
     {
         let OperatorsReader {
             reader: _,

@@ -1,4 +1,4 @@
-use Rattle.std.proofs.Common.{map, subst}
+use Rattle.std.proofs.Common.{◌≡◌, [], map, subst, inl, inr}
 use Rattle.std.proofs.lemmas.Result.{err_from_is_err_and}
 use Rattle.wasm_operators_operator.specs.Op.{op_of}
 use Rattle.wasm_operators_reader.specs.Standing.{Standing, Runs}
@@ -12,6 +12,23 @@ returns-in_err-ops-clause-refused c =
     let found = c.in_err-ops.ensures.refused n in
     let run : Runs _ found.0.0 c.read_all.new.operators = subst (λ (s : Standing). Runs s found.0.0 c.read_all.new.operators) c.new-operators.ensures found.0.1 in
     refused_run c.args.reader found.0.0 c.read_all.new.operators run (λ f. found.2 f.bytes) code spelled _ found.1 n)
+
+pub returns-in_err-ops-clause-stops : goal.returns-in_err-ops-clause-stops
+returns-in_err-ops-clause-stops c =
+    let p = err_from_is_err_and c.from_residual.result c.from_residual.ensures.1 in
+    rw (p.1, p.2) (λ n.
+    let found = c.in_err-ops.ensures.refused n in
+    let run : Runs _ found.0.0 c.read_all.new.operators = subst (λ (s : Standing). Runs s found.0.0 c.read_all.new.operators) c.new-operators.ensures found.0.1 in
+    (found.0.0, c.read_all.new.operators, run, inl (found.2, found.1)))
+
+pub returns-in_err-finish-clause-stops : goal.returns-in_err-finish-clause-stops
+returns-in_err-finish-clause-stops c =
+    let p = err_from_is_err_and c.from_residual-in_err-finish.result c.from_residual-in_err-finish.ensures.1 in
+    let run = c.in_ok-ops.ensures.read in
+    let starts = subst (λ (s : Standing). Runs s (map op_of c.in_ok-ops.ops.items) c.read_all.new.operators) c.new-operators.ensures run.0 in
+    let cut = c.in_err-finish.ensures.refused in
+    let open_still : c.read_all.new.operators.frames ≡ [] → ⊥ = λ f. cut.0 (record { frames = f; bytes = run.1 }) in
+    rw (p.1, p.2) (λ n. (_, c.read_all.new.operators, starts, inr (run.1, open_still, cut.1, cut.2)))
 
 pub returns-in_err-finish-clause-refused : goal.returns-in_err-finish-clause-refused
 returns-in_err-finish-clause-refused c =
