@@ -1,9 +1,9 @@
 -- The rows of `Rows`, by computing them.
 use Rattle.std.proofs.Common.{◌≡◌, ℕ, ◌∷◌, [], codes, length, refl, sym, ap, ◌∙◌, inl, inr, arith, false}
 use Rattle.std.proofs.lemmas.List.{length-append}
-use Rattle.wasm_types_decoding.specs.Decoder.{State, Outcome, Done, byte}
+use Rattle.wasm_types_decoding.specs.Decoder.{State, Done, byte}
 use Rattle.wasm_types_decoding.specs.Leb.{unsigned}
-use Rattle.wasm_types_decoding.specs.Rows.{start_of, behind}
+use Rattle.wasm_types_decoding.specs.Rows.{behind}
 use Rattle.wasm_types_error.specs.declared.error.ErrorKind.{ErrorKind}
 use Rattle.wasm_types_error.specs.declared.error.ErrorKind.TheVariants.{EndOfData, MissingFeature, OutOfMemory, Failed, Other}
 use Rattle.wasm_types_reader.specs.Reading.{FailsAt, IsNotMemory}

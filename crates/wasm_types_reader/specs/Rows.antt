@@ -2,7 +2,7 @@
 -- nobody wants.
 use Rattle.std.specs.Prelude.{◌≡◌, ℕ, [], ◌∷◌, codes, true, false, Ok, Err, Some, None}
 use Rattle.wasm_types_decoding.specs.declared.Refusal.TheVariants as refusals
-use Rattle.wasm_types_decoding.specs.Decoder.{State, Outcome, Done, Short, Fault, byte}
+use Rattle.wasm_types_decoding.specs.Decoder.{Done, Short, Fault, byte}
 use Rattle.wasm_types_decoding.specs.Rows.{start_of, behind}
 use Rattle.wasm_types_error.specs.declared.error.ErrorKind.TheVariants.{EndOfData, OutOfMemory, Failed, Other}
 use Rattle.wasm_types_error.specs.ErrorValue.{ErrorValue}

@@ -1,9 +1,9 @@
 //! Lists that are counted within a limit.
 
-ghost use Rattle.std.specs.Prelude.{◌≡◌, map};
+ghost use Rattle.std.specs.Prelude.{◌≡◌, map, IfErr};
 ghost use Rattle.wasm_types_decoding.specs.Decoder.{repeated, Reaches};
 ghost use Rattle.wasm_types_decoding.specs.Lists.{listed_within};
-ghost use Rattle.wasm_types_reader.specs.Reading.{Answers, Gives};
+ghost use Rattle.wasm_types_reader.specs.Reading.{Gives};
 
 use crate::{BinaryReader, FromReader, Result};
 use std::alloc::Global;
@@ -17,7 +17,8 @@ pub fn read_list<'a, T: FromReader<'a>>(
     desc: &str,
     reader: &mut BinaryReader<'a>,
 ) -> Result<Vec<T>>
-    ensures answer { Answers (λ v. map T.view v.items) result reader.old reader.new (listed_within limit T.decoder reader.old) }
+    ensures answer { Gives (λ v. map T.view v.items) result reader.new (listed_within limit T.decoder reader.old) }
+    ensures stays { IfErr result (λ e. reader.new ≡ reader.old) }
     ensures forward { Reaches reader.old reader.new }
 {
     let start = reader.clone();
@@ -38,7 +39,8 @@ pub fn read_many<'a, T: FromReader<'a>>(
     count: usize,
     reader: &mut BinaryReader<'a>,
 ) -> Result<Vec<T>>
-    ensures answer { Answers (λ v. map T.view v.items) result reader.old reader.new (repeated count T.decoder reader.old) }
+    ensures answer { Gives (λ v. map T.view v.items) result reader.new (repeated count T.decoder reader.old) }
+    ensures stays { IfErr result (λ e. reader.new ≡ reader.old) }
     ensures forward { Reaches reader.old reader.new }
 {
     let start = reader.clone();
