@@ -1,4 +1,8 @@
-//! Operators of WebAssembly and visitors of them.
+//! Operators of WebAssembly, readers and visitors of them.
+//!
+//! `OperatorsReader` reads operators from bytes, one after the other, and knows which frames are open (`ControlStack`);
+//! `read_expression` reads a whole expression. `Operator::info` tells an operator's proposal, name, prefix and code
+//! (`OperatorInfo`).
 //!
 //! A visitor implements the traits of groups (`VisitControl`, `VisitMemory` and so on), one visit for each operator, under
 //! the relation that its `Visitor` states. It is then a `VisitOperator`, the name for all visits together but those of
@@ -9,14 +13,20 @@
 pub use wasm_operators_control::{
     ContinuationOperator, ControlOperator, ExceptionOperator, ParametricOperator,
 };
+pub use wasm_operators_expression::ControlStack;
 pub use wasm_operators_gc::{DescriptorOperator, GcOperator};
 pub use wasm_operators_immediates::{
     BlockType, BrTable, BrTableTargets, Catch, FrameKind, FrameStack, Handle, MemArg,
     MemArgOrdering, MemArgTarget, Ordering, ResumeTable, TryTable, V128,
 };
+pub use wasm_operators_info::{OperatorInfo, Proposal};
 pub use wasm_operators_memory::{BulkOperator, ConstOperator, MemoryOperator};
 pub use wasm_operators_numbers::NumericOperator;
 pub use wasm_operators_operator::Operator;
+pub use wasm_operators_reader::{
+    OperatorsIterator, OperatorsIteratorWithOffsets, OperatorsReader, OperatorsReaderAllocations,
+    read_expression,
+};
 pub use wasm_operators_threads::{AtomicOperator, SharedOperator};
 pub use wasm_operators_vectors::{SimdNumericOperator, SimdOperator};
 pub use wasm_operators_visit::Visitor;

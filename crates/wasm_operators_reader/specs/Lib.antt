@@ -1,3 +1,6 @@
+-- The rules, in reading order.
 pub mod Standing
+pub mod Iterating
+-- What is proved of it.
 pub mod StandingLaws
 pub mod RunLaws

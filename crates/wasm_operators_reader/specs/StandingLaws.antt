@@ -15,6 +15,7 @@ use Rattle.wasm_operators_decode_encoding.specs.OperatorLaws.{coded_apart}
 use Rattle.wasm_operators_decode.specs.Memory.{keeps_list_at}
 use Rattle.wasm_operators_expression.specs.Frames.{after}
 use Rattle.wasm_operators_reader.specs.Standing.{Standing, Reads, IsUnfit, RefusesIn, Refuses, WantsMemory}
+use Rattle.wasm_operators_reader.specs.Iterating.{items_left}
 
 -- ---- an operator has bytes
 
@@ -36,6 +37,11 @@ module _ (features : ℕ) (s t : State) (c : Coded) (read : operator features s 
 
 pub reads_fewer : (s : Standing) (o : Op) (t : Standing) → Reads s o t → length t.bytes.rest < length s.bytes.rest
 reads_fewer s o t h = fewer_left s.bytes.features s.bytes t.bytes (coded_of o) h.read
+
+-- and an iterator has fewer items left
+pub fewer_items : (failed : Bool) (s : Standing) (o : Op) (t : Standing) → failed ≡ false → Reads s o t → items_left failed t < items_left failed s
+fewer_items true s o t e h = absurd cc
+fewer_items false s o t e h = reads_fewer s o t h
 
 -- ---- one step
 
