@@ -11,6 +11,3 @@ mod judging;
 pub use command::{reads_worked_words, run};
 pub use error::CheckError;
 pub use judging::{Input, MAX_BYTES, Status, check};
-
-#[cfg(test)]
-mod tests;

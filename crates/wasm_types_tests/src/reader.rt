@@ -3,7 +3,7 @@
 use crate::expect::same;
 use bitflags::Flags;
 use std::test::Fail;
-use wasm_types::{WasmFeatures, *};
+use wasm_types::*;
 
 #[test]
 fn numbers_of_32_bits(rt: HostRuntime) -> std::result::Result<(), Fail> {

@@ -1,22 +1,12 @@
-use crate::command::run;
-use crate::error::CheckError;
-use crate::judging::{Input, Status, check};
+//! Inputs that are judged, or not, and what the words of a command line lead to.
+
+use crate::expect::same;
+use crate::modules::{CONST_42, EMPTY_BODY};
 use std::alloc::{AllocError, Global};
 use std::io;
 use std::io::Read;
 use std::test::Fail;
-
-/// A module with one function, which gives 42 (WebAssembly 3.0, binary format, modules).
-static CONST_42: [u8; 27] = [
-    0x00, 0x61, 0x73, 0x6d, 0x01, 0x00, 0x00, 0x00, 0x01, 0x05, 0x01, 0x60, 0x00, 0x01, 0x7f, 0x03,
-    0x02, 0x01, 0x00, 0x0a, 0x06, 0x01, 0x04, 0x00, 0x41, 0x2a, 0x0b,
-];
-
-/// The same with a body that gives nothing.
-static EMPTY_BODY: [u8; 25] = [
-    0x00, 0x61, 0x73, 0x6d, 0x01, 0x00, 0x00, 0x00, 0x01, 0x05, 0x01, 0x60, 0x00, 0x01, 0x7f, 0x03,
-    0x02, 0x01, 0x00, 0x0a, 0x04, 0x01, 0x02, 0x00, 0x0b,
-];
+use wasm_check_program::{CheckError, Input, Status, check, run};
 
 /// Gives its bytes a few at a time, and then ends or fails.
 #[derive(Drop)]
@@ -62,40 +52,44 @@ fn two_inputs(alloc: Global, fails: bool) -> Result<Vec<Input<'static, Pieces>>,
 fn says_nothing_of_no_input(rt: HostRuntime) -> Result<(), Fail> {
     let inputs: Vec<Input<'static, Pieces>> = Vec::new(rt.alloc());
     let mut out: Vec<u8> = Vec::new(rt.alloc());
-    assert_eq!(rt; check(rt.alloc(), inputs, &mut out)?, Status::AllValid);
+    same(&rt, check(rt.alloc(), inputs, &mut out)?, Status::AllValid);
     assert!(rt; out.is_empty());
     Ok(())
 }
 
-// This test wants the validator's own verdicts.
 #[test]
 fn writes_a_line_for_each_input(rt: HostRuntime) -> Result<(), Fail> {
     let mut out: Vec<u8> = Vec::new(rt.alloc());
     let inputs = two_inputs(rt.alloc(), false)?;
-    assert_eq!(rt; check(rt.alloc(), inputs, &mut out)?, Status::SomeInvalid);
+    same(
+        &rt,
+        check(rt.alloc(), inputs, &mut out)?,
+        Status::SomeInvalid,
+    );
     let text =
         b"m42.wasm: valid\nbad.wasm: invalid at 0x18: type mismatch: expected i32 but nothing on stack\n";
-    assert_eq!(rt; out.as_slice(), text.as_slice());
+    same(&rt, out.as_slice(), text.as_slice());
     Ok(())
 }
 
-// This test wants the validator's own verdicts.
 #[test]
 fn stops_at_the_first_fault(rt: HostRuntime) -> Result<(), Fail> {
     let mut out: Vec<u8> = Vec::new(rt.alloc());
     let inputs = two_inputs(rt.alloc(), true)?;
-    assert_eq!(rt;
+    same(
+        &rt,
         check(rt.alloc(), inputs, &mut out),
-        Err(CheckError::Read(1))
+        Err(CheckError::Read(1)),
     );
-    assert_eq!(rt; out.as_slice(), b"m42.wasm: valid\n".as_slice());
+    same(&rt, out.as_slice(), b"m42.wasm: valid\n".as_slice());
 
     let mut room = [0u8; 20];
     let mut full = room.as_mut_slice();
     let inputs = two_inputs(rt.alloc(), false)?;
-    assert_eq!(rt;
+    same(
+        &rt,
         check(rt.alloc(), inputs, &mut full),
-        Err(CheckError::Write)
+        Err(CheckError::Write),
     );
     Ok(())
 }
@@ -117,13 +111,19 @@ fn tells_faults_from_help(rt: HostRuntime) -> Result<(), Fail> {
             "",
             "wasm-check: gone.wasm: cannot open\n",
         ),
+        (
+            ["wasm-check", "--", "--help", "gone.wasm"].as_slice(),
+            2,
+            "",
+            "wasm-check: --help: cannot open\n",
+        ),
         (["wasm-check"].as_slice(), 2, "", missing),
         (["wasm-check", "--help"].as_slice(), 0, help, ""),
     ];
     for (words, status, shown, told) in rows {
         let mut out: Vec<u8> = Vec::new(rt.alloc());
         let mut err: Vec<u8> = Vec::new(rt.alloc());
-        assert_eq!(rt; run(&rt, words, &mut out, &mut err), status);
+        same(&rt, run(&rt, words, &mut out, &mut err), status);
         assert!(rt; out.starts_with(shown.as_bytes()) && out.is_empty() == shown.is_empty());
         assert!(rt; err.starts_with(told.as_bytes()) && err.is_empty() == told.is_empty());
     }
@@ -139,7 +139,7 @@ fn tells_what_went_wrong(rt: HostRuntime) -> Result<(), Fail> {
         (CheckError::Write, 4, "cannot write"),
     ];
     for (error, number, text) in rows {
-        assert_eq!(rt; error.number(), number);
+        same(&rt, error.number(), number);
         assert!(rt; error.to_string(rt.alloc())?.as_str() == text);
     }
     Ok(())
