@@ -6,3 +6,4 @@ pub mod Spelled
 pub mod LebGroups
 pub mod LebSigned
 pub mod LebUnsigned
+pub mod AtOnce

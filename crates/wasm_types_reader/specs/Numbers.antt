@@ -1,6 +1,6 @@
 -- How a number in LEB128 is refused, apart from how the number is named in messages.
 use Rattle.std.specs.Prelude.{◌≡◌, ℕ, ◌+◌, ◌-◌, ◌/◌, ◌%◌, ◌^◌, ◌<◌, ◌≤◌, ◌⊎◌, ℤ, pos, negsuc, Result, Ok, Err, drop}
-use Rattle.wasm_types_decoding.specs.Decoder.{State, Outcome, Done, Decoder}
+use Rattle.wasm_types_decoding.specs.Decoder.{State, Outcome, Done, Short, Fault, Decoder}
 use Rattle.wasm_types_decoding.specs.Leb.{unsigned, signed}
 use Rattle.wasm_types_error.specs.declared.error.ErrorKind.{ErrorKind}
 use Rattle.wasm_types_error.specs.declared.error.ErrorKind.TheVariants.{EndOfData, Other}
@@ -42,3 +42,9 @@ flaw_place (NoRoom place b) = place
 abbrev pub ReadsNumber : {X : Type 0} → Result X Flaw → State → State → Outcome X → Type 0
 ReadsNumber (Ok x) before after o = o ≡ Done x after
 ReadsNumber (Err f) before after o = FailsAt (flaw_kind f) (flaw_place f) o × (after ≡ before)
+
+-- no value was read
+abbrev pub IsRefused : {X : Type 0} → Outcome X → Type 0
+IsRefused (Done x s) = ⊥
+IsRefused (Short p h) = Unit {0}
+IsRefused (Fault k p) = Unit {0}

@@ -15,7 +15,7 @@ use crate::{BinaryReader, Error, Result};
 
 /// Why the bytes at hand spell no number, and the place that shows it.
 #[derive(Clone, Copy)]
-enum Flaw {
+pub(crate) enum Flaw {
     /// The bytes end there, before the number does.
     Ended(u64),
     /// The number has no room for that byte, the last that it may have.
@@ -166,7 +166,7 @@ impl<'a> BinaryReader<'a> {
     /// The next byte, where the number that begins there is of that byte alone.
     #[inline]
     #[tactic(auto, using(crate::proofs::LebGroups::first_byte, crate::proofs::LebGroups::one_forward, wasm_types_decoding::specs::Laws::reaches_self))]
-    fn one_byte(&mut self) -> Option<u8>
+    pub(crate) fn one_byte(&mut self) -> Option<u8>
         ensures found { IfSome result (λ b. (byte self.old ≡ Done b self.new) × (b < 128)) }
         ensures none { IfNone result (self.new ≡ self.old) }
         ensures forward { Reaches self.old self.new }
@@ -180,7 +180,7 @@ impl<'a> BinaryReader<'a> {
     }
 
     #[inline(never)]
-    fn long_var_u32(&mut self) -> Result<u32, Flaw>
+    pub(crate) fn long_var_u32(&mut self) -> Result<u32, Flaw>
         ensures answer { ReadsNumber result self.old self.new (u32_decoder self.old) }
         ensures forward { Reaches self.old self.new }
     {
@@ -191,7 +191,7 @@ impl<'a> BinaryReader<'a> {
     }
 
     #[inline(never)]
-    fn long_var_u64(&mut self) -> Result<u64, Flaw>
+    pub(crate) fn long_var_u64(&mut self) -> Result<u64, Flaw>
         ensures answer { ReadsNumber result self.old self.new (u64_decoder self.old) }
         ensures forward { Reaches self.old self.new }
     {
@@ -199,7 +199,7 @@ impl<'a> BinaryReader<'a> {
     }
 
     #[inline(never)]
-    fn long_var_i32(&mut self) -> Result<i32, Flaw>
+    pub(crate) fn long_var_i32(&mut self) -> Result<i32, Flaw>
         ensures answer { ReadsNumber result self.old self.new (s32 self.old) }
         ensures forward { Reaches self.old self.new }
     {
@@ -210,7 +210,7 @@ impl<'a> BinaryReader<'a> {
     }
 
     #[inline(never)]
-    fn long_var_s33(&mut self) -> Result<i64, Flaw>
+    pub(crate) fn long_var_s33(&mut self) -> Result<i64, Flaw>
         ensures answer { ReadsNumber result self.old self.new (s33 self.old) }
         ensures forward { Reaches self.old self.new }
     {
@@ -218,7 +218,7 @@ impl<'a> BinaryReader<'a> {
     }
 
     #[inline(never)]
-    fn long_var_i64(&mut self) -> Result<i64, Flaw>
+    pub(crate) fn long_var_i64(&mut self) -> Result<i64, Flaw>
         ensures answer { ReadsNumber result self.old self.new (s64 self.old) }
         ensures forward { Reaches self.old self.new }
     {
@@ -292,7 +292,7 @@ impl<'a> BinaryReader<'a> {
 
 /// The number that seven bits are, of which the highest is the sign.
 #[inline]
-fn seven_bits(byte: u8) -> i64
+pub(crate) fn seven_bits(byte: u8) -> i64
     requires { byte < 128 }
     ensures { result ≡ bits_signed byte }
 {

@@ -12,6 +12,7 @@ mod laws;
 mod leb;
 pub mod limits;
 mod lists;
+mod short;
 mod texts;
 mod words;
 

@@ -1,0 +1,16 @@
+-- What a reader of these bytes alone reads, any reader of them does.
+use Rattle.std.proofs.Common.{ap, ◌+◌, ◌∙◌, sym, ℕ}
+use Rattle.wasm_types_decoding.specs.Leb.{u64 as decoder, IsUnsigned}
+use Rattle.wasm_types_decoding.specs.LebLaws.{decides-u64 as exact}
+use Rattle.wasm_types_reader.proofs.AtOnce.{read_there, refused_there, flawed}
+use Rattle.wasm_types_reader.proofs.short.long_u64.Goals as goal
+
+pub returns-in-Ok-clause-found : goal.returns-in-Ok-clause-found
+returns-in-Ok-clause-found c = λ s e.
+    let start = c.in-Ok.ensures.forward.taken.start in
+    read_there decoder (IsUnsigned 64) exact c.new-reader.result s (e ∙ sym c.new-reader.ensures.rest) _ _ _ c.in-Ok.ensures.answer
+    (ap (λ (n : ℕ). n + c.current_position.result) (sym start) ∙ c.current_position.ensures) (c.new-reader.ensures.place ∙ sym c.new-reader.ensures.start)
+
+pub returns-in-Err-clause-none : goal.returns-in-Err-clause-none
+returns-in-Err-clause-none c = λ s e.
+    refused_there decoder (IsUnsigned 64) exact c.new-reader.result s (e ∙ sym c.new-reader.ensures.rest) (flawed _ _ _ (decoder c.new-reader.result) c.in-Err.ensures.answer)
