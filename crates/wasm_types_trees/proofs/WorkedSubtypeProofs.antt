@@ -101,6 +101,7 @@ subtypes_worked = record {
   non_null = ((tt, itself), ((tt, itself), tt));
   null = ((tt, itself), tt);
   null_for_non_null = search rules;
+  no_null_carried = ((λ p. let e = (p.1 base broken_base).1 in cc), ((λ p. let e = (p.1 base itself).1 in cc), ((λ p. elim p.1.1 [ ]), ((λ p. elim p.1.1 [ ]), tt))));
   eq_types = ((tt, (refl, same)), ((tt, (refl, eq_any)), tt));
   eq_types_not = ((λ p. elim p.1.1 [ ]), ((λ p. elim p.1.1 [ ]), ((λ p. elim p.1.1 [ ]), ((λ p. let e = p.1.0 in cc), ((λ p. elim p.1.1 [ ]), tt)))));
   any_types_not = ((λ p. elim p.1.1 [ ]), ((λ p. elim p.1.1 [ ]), ((λ p. elim p.1.1 [ ]), ((λ p. let e = (p.1 base itself).1 in cc), ((λ p. let e = (p.1 base itself).1 in cc), tt)))));

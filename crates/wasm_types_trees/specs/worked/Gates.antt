@@ -1,4 +1,5 @@
--- Value types that features allow and refuse, one of each for each clause of the gates.
+-- Value types that are allowed by the features that they need alone, and refused without one of them: for each clause of the
+-- gates.
 use Rattle.std.specs.Prelude.{ℕ, ◌-◌, true, false, List, [], ◌∷◌}
 use Rattle.wasm_types_features.specs.Features.{Feature, ReferenceTypes, Simd, SharedEverythingThreads, Floats, Exceptions, FunctionReferences, Gc, GcTypes, StackSwitching, CustomDescriptors, mask}
 use Rattle.wasm_types_features.specs.Sets.{bits_of}
@@ -9,12 +10,12 @@ use Rattle.wasm_types_trees.specs.Gates.{ValueIsAllowed}
 abbrev pub all_but : Feature → ℕ
 all_but f = 0xfff_ffff - mask f
 
--- under these features alone each of the value types is allowed, or none
+-- with these features alone each of the value types is allowed
 abbrev pub AreAllowed : List Feature → List (ValueOf ℕ) → Type 0
 AreAllowed fs [] = Unit {0}
 AreAllowed fs (v ∷ vs) = ValueIsAllowed (bits_of fs) v × AreAllowed fs vs
 
--- each of the value types needs the feature: every other does not do
+-- with every feature but this one none of the value types is allowed
 abbrev pub AllNeed : Feature → List (ValueOf ℕ) → Type 0
 AllNeed f [] = Unit {0}
 AllNeed f (v ∷ vs) = (ValueIsAllowed (all_but f) v → ⊥) × AllNeed f vs

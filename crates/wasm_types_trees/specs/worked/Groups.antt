@@ -1,39 +1,40 @@
 -- Groups that are valid and groups that are not.
-use Rattle.std.specs.Prelude.{◌≡◌, ℕ, zero, suc, true, false, List, [], ◌∷◌, ◌++◌, map, Some, None}
+use Rattle.std.specs.Prelude.{◌≡◌, ℕ, zero, suc, true, false, List, [], ◌∷◌, ◌++◌, map, reverse, Some, None}
 use Rattle.wasm_types_features.specs.Features.{Feature, ReferenceTypes, MultiValue, Simd, SharedEverythingThreads, Floats, Exceptions, FunctionReferences, Gc, GcTypes, StackSwitching, CustomDescriptors}
 use Rattle.wasm_types_features.specs.Sets.{bits_of}
 use Rattle.wasm_types_trees.specs.Rows.{i32, i64, f32, v128, func, any, eq, exn, abstract, concrete, ValueOf, number, ref, i8, InnerOf, function, array_of, struct_of, continuation, SubtypeOf}
 use Rattle.wasm_types_trees.specs.Trees.{TypeTree}
-use Rattle.wasm_types_trees.specs.ValidGroup.{Written, written_tree, types_of, IsValidType, IsValidGroup}
+use Rattle.wasm_types_trees.specs.ValidGroup.{Written, written_tree, types_of, IsValidType, IsValidGroup, AreValidGroups}
 use Rattle.wasm_types_trees.specs.worked.Types.{constant, variable, declared_row, alone}
 use Rattle.wasm_types_trees.specs.worked.Gates.{all_but}
 
 -- ---- groups as they are written
 
--- an open subtype and a final one by the supertypes that they declare, and a group of one, which is not written as a group
+-- an open subtype and a final one, by the supertypes that they declare, and a shared one
 abbrev pub open_type : List ℕ → InnerOf ℕ → SubtypeOf ℕ
 open_type supertypes inner = record { is_final = false; supertypes = supertypes; shared = false; descriptor = None; describes = None; inner = inner }
 
 abbrev pub final_type : List ℕ → InnerOf ℕ → SubtypeOf ℕ
 final_type supertypes inner = record (open_type supertypes inner) { is_final = true }
 
-abbrev pub single : SubtypeOf ℕ → Written
-single x = record { is_explicit = false; types = x ∷ [] }
-
 abbrev pub shared_type : InnerOf ℕ → SubtypeOf ℕ
 shared_type inner = record (final_type [] inner) { shared = true }
 
-abbrev pub together : List (SubtypeOf ℕ) → Written
-together xs = record { is_explicit = true; types = xs }
-
--- the type that has this descriptor, and the one that describes this type
+-- with this descriptor, and describing this type
 abbrev pub described_by : ℕ → SubtypeOf ℕ → SubtypeOf ℕ
 described_by i x = record x { descriptor = Some i }
 
 abbrev pub describing : ℕ → SubtypeOf ℕ → SubtypeOf ℕ
 describing i x = record x { describes = Some i }
 
--- composite types
+-- a type by itself, and types written as a group
+abbrev pub single : SubtypeOf ℕ → Written
+single x = record { is_explicit = false; types = x ∷ [] }
+
+abbrev pub together : List (SubtypeOf ℕ) → Written
+together xs = record { is_explicit = true; types = xs }
+
+-- composite types, and a reference to an index
 abbrev pub struct_type : List (ValueOf ℕ) → InnerOf ℕ
 struct_type vs = struct_of (map constant vs)
 
@@ -175,6 +176,9 @@ pub record GroupsWorked : Type 0 where
   -- at most 63 types above one
   pub depth_63 : IsValidType (bits_of gc) (deep 63)
   pub depth_64 : IsValidType 0xfff_ffff (deep 64) → ⊥
+  -- groups one after the other, and not in the other order
+  pub in_turn : AreValidGroups (bits_of gc) [] two_structs (space_of [] two_structs)
+  pub out_of_turn : (after : List TypeTree) → AreValidGroups 0xfff_ffff [] (reverse two_structs) after → ⊥
   -- equal types: two structs that refer to each other are the same wherever they stand, but not in the other order
   pub equal_groups : written_tree [] (mutual_structs 0 1 integer long) ≡ written_tree (space_of [] (mutual_structs 0 1 integer long ∷ [])) (mutual_structs 2 3 integer long)
   pub other_groups : written_tree [] (mutual_structs 0 1 integer long) ≡ written_tree [] (mutual_structs 0 1 long integer) → ⊥

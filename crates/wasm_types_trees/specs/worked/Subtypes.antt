@@ -62,7 +62,8 @@ pub record SubtypesWorked : Type 0 where
   -- exactly one type
   pub exact_types : HeapIsBelowEach (exact derived) (exact derived ∷ concrete derived ∷ concrete base ∷ plain struct ∷ plain any ∷ [])
   pub exact_types_not : HeapIsBelowNone (exact derived) (exact base ∷ exact leaf ∷ concrete leaf ∷ plain array ∷ plain none ∷ [])
-  -- the function type that declares a struct carries no null of functions to the structs, and no null of structs to the functions
+  -- a function type that declares a struct carries no null of functions to a null of structs, nor the other way round
+  pub no_null_carried : IsBelowNone (ref true (plain nofunc)) (ref true (concrete broken) ∷ ref true (concrete base) ∷ ref true (plain struct) ∷ ref true (plain none) ∷ [])
   pub broken_chain : HeapIsBelowEach (concrete broken) (concrete base ∷ plain func ∷ plain struct ∷ [])
   pub no_way_in : HeapIsBelowNone (plain nofunc) (concrete broken ∷ exact broken ∷ [])
   pub no_way_in_either : HeapIsBelowNone (plain none) (concrete broken ∷ exact broken ∷ [])
