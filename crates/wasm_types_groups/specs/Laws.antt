@@ -1,5 +1,5 @@
 -- Laws of groups: what the functions of src/laws.rt promise.
-use Rattle.std.specs.Prelude.{◌≡◌, ◌↔◌, IsTrue, ℕ, List, map}
+use Rattle.std.specs.Prelude.{◌≡◌, ◌↔◌, IsTrue, Bool, ℕ, List, map}
 use Rattle.std.specs.Cmp.Lexicographic.{slice_cmp}
 use Rattle.std.specs.Hash.{slice}
 use Rattle.std.specs.declared.cmp.Ordering.TheVariants.{Equal}
@@ -15,7 +15,7 @@ use Rattle.wasm_types_groups.specs.contracts.sub_type.SubTypeHash.TheImpl as sub
 use Rattle.wasm_types_groups.specs.contracts.rec_group.RecGroupHash.TheImpl as group_hash
 use Rattle.wasm_types_groups.specs.SpellsTypes.{CompositeValue, SubValue, GroupValue, SpelledComposite, SpelledSub, SpelledGroup, inner_tree, declared_by, sub_value, group_value}
 use Rattle.wasm_types_groups.specs.Spells.{SpellsParts, SpellsSub, SpellsGroup}
-use Rattle.wasm_types_groups.specs.Rows.{subtypes, declared_of, declared_types}
+use Rattle.wasm_types_groups.specs.Rows.{Declared, subtypes, declared_of, declared_types}
 
 -- `==` holds of subtypes that declare the same
 abbrev pub SubTypesAreToldApart : Type 0
@@ -60,3 +60,7 @@ SubTypesAreSpelledAsTrees = (x : SubValue) (text : List ℕ) → SpelledSub x te
 
 abbrev pub GroupsAreSpelledAsTrees : Type 0
 GroupsAreSpelledAsTrees = (g : GroupValue) (text : List ℕ) → SpelledGroup g text ↔ SpellsGroup g.is_explicit (map declared_by g.types) text
+
+-- and each tree that bytes spell is declared by a value
+abbrev pub GroupTreesAreRead : Type 0
+GroupTreesAreRead = (b : Bool) (ds : List Declared) (text : List ℕ) → SpellsGroup b ds text → (g : GroupValue) × (g.is_explicit ≡ b) × (map declared_by g.types ≡ ds)

@@ -11,3 +11,4 @@ pub mod TypeLaws
 pub mod Laws
 pub mod WorkedGroups
 pub mod SpellsLaws
+pub mod TreesRead

@@ -7,7 +7,7 @@ use Rattle.wasm_types_trees.specs.Rows as tree
 use Rattle.wasm_types_trees.specs.Rows.{ValueOf, FieldOf, InnerOf, RowOf}
 use Rattle.wasm_types_values.specs.Spells.{SpellsValue, SpellsStorage, SpellsExactIndex}
 use Rattle.wasm_types_fields.specs.Spells.{IsMutability}
-use Rattle.wasm_types_groups.specs.Rows.{Declared}
+use Rattle.wasm_types_groups.specs.Rows.{first_of, Declared}
 
 -- ---- composite types
 
@@ -71,6 +71,7 @@ final_byte false = 0x50
 pub record SpellsLong (x : Declared) (text : List ℕ) : Type 0 where
   pub supertypes : List ℕ
   pub composite : List ℕ
+  pub first : x.row.supertype ≡ first_of x.supertypes
   pub above : IsListedWithin 1 SpellsExactIndex x.supertypes supertypes
   pub itself : SpellsComposite x.row composite
   pub whole : text ≡ final_byte x.row.is_final ∷ (supertypes ++ composite)
@@ -79,6 +80,7 @@ pub record SpellsLong (x : Declared) (text : List ℕ) : Type 0 where
 pub record SpellsShort (x : Declared) (text : List ℕ) : Type 0 where
   pub is_final : x.row.is_final ≡ true
   pub alone : x.supertypes ≡ []
+  pub none : x.row.supertype ≡ None
   pub itself : SpellsComposite x.row text
 
 abbrev pub SpellsSub : Declared → List ℕ → Type 0

@@ -206,8 +206,8 @@ composite_from c text h = marked_from c.shared c.describes c.descriptor c.inner 
 -- ---- subtypes and groups
 
 pub sub_to : (x : SubValue) (text : List ℕ) → SpelledSub x text → SpellsSub (declared_by x) text
-sub_to x text (inl m) = subst (λ (y : SubValue). SpellsSub (declared_by y) text) (sym m.2) (inl (record { is_final = refl; alone = refl; itself = composite_to m.0 text m.1 }))
-sub_to x text (inr h) = inr (record { supertypes = h.supertypes; composite = h.composite; above = h.above; itself = composite_to x.composite h.composite h.itself; whole = h.whole })
+sub_to x text (inl m) = subst (λ (y : SubValue). SpellsSub (declared_by y) text) (sym m.2) (inl (record { is_final = refl; alone = refl; none = refl; itself = composite_to m.0 text m.1 }))
+sub_to x text (inr h) = inr (record { supertypes = h.supertypes; composite = h.composite; first = refl; above = h.above; itself = composite_to x.composite h.composite h.itself; whole = h.whole })
 
 pub sub_from : (x : SubValue) (text : List ℕ) → SpellsSub (declared_by x) text → SpelledSub x text
 sub_from x text (inl h) = inl (x.composite, composite_from x.composite text h.itself, (λ i. record { is_final = h.is_final i; supertypes = h.alone i; composite = x.composite }))
