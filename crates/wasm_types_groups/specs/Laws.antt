@@ -15,6 +15,8 @@ use Rattle.wasm_types_groups.specs.contracts.sub_type.SubTypeHash.TheImpl as sub
 use Rattle.wasm_types_groups.specs.contracts.rec_group.RecGroupHash.TheImpl as group_hash
 use Rattle.wasm_types_groups.specs.SpellsTypes.{CompositeValue, SubValue, GroupValue, SpelledComposite, SpelledSub, SpelledGroup, inner_tree, declared_by, sub_value, group_value}
 use Rattle.wasm_types_groups.specs.Spells.{SpellsParts, SpellsSub, SpellsGroup}
+use Rattle.wasm_types_indices.specs.declared.index.UnpackedIndex.{UnpackedIndex}
+use Rattle.wasm_types_groups.specs.Remap.{declared_shape, declared_indices, declared_map}
 use Rattle.wasm_types_groups.specs.Rows.{Declared, subtypes, declared_of, declared_types}
 
 -- `==` holds of subtypes that declare the same
@@ -64,3 +66,8 @@ GroupsAreSpelledAsTrees = (g : GroupValue) (text : List ℕ) → SpelledGroup g 
 -- and each tree that bytes spell is declared by a value
 abbrev pub GroupTreesAreRead : Type 0
 GroupTreesAreRead = (b : Bool) (ds : List Declared) (text : List ℕ) → SpellsGroup b ds text → (g : GroupValue) × (g.is_explicit ≡ b) × (map declared_by g.types ≡ ds)
+
+-- a subtype is its shape and its indices: where those are another's, mapped by m, it declares what the other does, mapped
+abbrev pub ShapesAndIndicesAreAll : Type 0
+ShapesAndIndicesAreAll = (m : UnpackedIndex → UnpackedIndex) (x y : SubType) → declared_shape (declared_of y) ≡ declared_shape (declared_of x)
+    → declared_indices (declared_of y) ≡ map m (declared_indices (declared_of x)) → declared_of y ≡ declared_map m (declared_of x)

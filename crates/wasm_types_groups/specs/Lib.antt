@@ -12,3 +12,4 @@ pub mod Laws
 pub mod WorkedGroups
 pub mod SpellsLaws
 pub mod TreesRead
+pub mod IndexLaws

@@ -106,7 +106,7 @@ descriptor_to s e c text (inl m) =
     subst (λ (d : CompositeValue). Described s e d text) (sym m.2) (record { descriptor = []; inner = text; shares = refl; describes = refl; described = refl; itself = inner_to m.0 text m.1; whole = refl })
 descriptor_to s e c text (inr p) =
     subst (λ (d : CompositeValue). Described s e d text) (sym p.second.2)
-        (record { descriptor = 0x4d ∷ p.front; inner = p.back; shares = refl; describes = refl; described = (p.front, refl, p.first); itself = inner_to p.second.0 p.back p.second.1; whole = p.whole })
+    (record { descriptor = 0x4d ∷ p.front; inner = p.back; shares = refl; describes = refl; described = (p.front, refl, p.first); itself = inner_to p.second.0 p.back p.second.1; whole = p.whole })
 
 descriptor_from : (s : Option (Unit {0})) (e d : Option UnpackedIndex) (x : InnerValue) (text rest : List ℕ) → SpellsOption 0x4d d text → SpelledInner x rest → SpelledDescriptor s e (composite_with s e d x) (text ++ rest)
 descriptor_from s e None x text rest h i = inl (x, subst (λ (z : List ℕ). SpelledInner x (z ++ rest)) (sym h) i, refl)
@@ -198,7 +198,7 @@ marked_from true e d x text h =
 marked_from false e d x text h =
     let last = descriptor_from None e d x h.descriptor h.inner h.described (inner_from x h.inner h.itself) in
     inl (subst (SpelledDescribes None (composite_with None e d x)) (sym (h.whole ∙ ap (λ (z : List ℕ). z ++ (h.describes ++ (h.descriptor ++ h.inner))) h.marked))
-        (describes_from None e (composite_with None e d x) h.describes (h.descriptor ++ h.inner) h.describing last))
+    (describes_from None e (composite_with None e d x) h.describes (h.descriptor ++ h.inner) h.describing last))
 
 pub composite_from : (c : CompositeValue) (text : List ℕ) → Parts c text → SpelledComposite c text
 composite_from c text h = marked_from c.shared c.describes c.descriptor c.inner text h

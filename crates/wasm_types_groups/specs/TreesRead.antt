@@ -123,11 +123,13 @@ declared d e =
       is_final = d.row.is_final;
       supertypes = d.supertypes;
       composite = record { inner = inner_from d.row.inner; shared = d.row.shared; descriptor = d.row.descriptor; describes = d.row.describes };
-    } in
-    (x, (λ i. record {
-      supertypes = d.supertypes;
-      row = record { is_final = d.row.is_final; supertype = sym e i; shared = d.row.shared; descriptor = d.row.descriptor; describes = d.row.describes; inner = same_inner d.row.inner i };
-    }))
+    } in (
+      x,
+      (λ i. record {
+        supertypes = d.supertypes;
+        row = record { is_final = d.row.is_final; supertype = sym e i; shared = d.row.shared; descriptor = d.row.descriptor; describes = d.row.describes; inner = same_inner d.row.inner i };
+      }),
+    )
 
 sub_read : (d : Declared) (text : List ℕ) → SpellsSub d text → IsDeclared d
 sub_read d text (inl h) = declared d (h.none ∙ sym (ap first_of h.alone))
