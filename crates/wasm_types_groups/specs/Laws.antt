@@ -1,5 +1,5 @@
 -- Laws of groups: what the functions of src/laws.rt promise.
-use Rattle.std.specs.Prelude.{◌≡◌, ◌↔◌, IsTrue, map}
+use Rattle.std.specs.Prelude.{◌≡◌, ◌↔◌, IsTrue, Bool, ℕ, List, map}
 use Rattle.std.specs.Cmp.Lexicographic.{slice_cmp}
 use Rattle.std.specs.Hash.{slice}
 use Rattle.std.specs.declared.cmp.Ordering.TheVariants.{Equal}
@@ -13,8 +13,11 @@ use Rattle.wasm_types_groups.specs.contracts.sub_type.SubTypeOrd.TheImpl as subt
 use Rattle.wasm_types_groups.specs.contracts.rec_group.RecGroupOrd.TheImpl as group_order
 use Rattle.wasm_types_groups.specs.contracts.sub_type.SubTypeHash.TheImpl as subtype_hash
 use Rattle.wasm_types_groups.specs.contracts.rec_group.RecGroupHash.TheImpl as group_hash
-use Rattle.wasm_types_groups.specs.SpellsTypes.{declared_by, sub_value, group_value}
-use Rattle.wasm_types_groups.specs.Rows.{subtypes, declared_of, declared_types}
+use Rattle.wasm_types_groups.specs.SpellsTypes.{CompositeValue, SubValue, GroupValue, SpelledComposite, SpelledSub, SpelledGroup, inner_tree, declared_by, sub_value, group_value}
+use Rattle.wasm_types_groups.specs.Spells.{SpellsParts, SpellsSub, SpellsGroup}
+use Rattle.wasm_types_indices.specs.declared.index.UnpackedIndex.{UnpackedIndex}
+use Rattle.wasm_types_groups.specs.Remap.{declared_shape, declared_indices, declared_map}
+use Rattle.wasm_types_groups.specs.Rows.{Declared, subtypes, declared_of, declared_types}
 
 -- `==` holds of subtypes that declare the same
 abbrev pub SubTypesAreToldApart : Type 0
@@ -49,3 +52,22 @@ ValuesDeclareTheSame = (x : SubType) → declared_by (sub_value x) ≡ declared_
 
 abbrev pub GroupValuesDeclareTheSame : Type 0
 GroupValuesDeclareTheSame = (g : RecGroup) → map declared_by (group_value g).types ≡ declared_types g
+
+-- the values that bytes are read as are spelled as the trees that they declare
+abbrev pub CompositeTypesAreSpelledAsTrees : Type 0
+CompositeTypesAreSpelledAsTrees = (c : CompositeValue) (text : List ℕ) → SpelledComposite c text ↔ SpellsParts c.shared c.describes c.descriptor (inner_tree c.inner) text
+
+abbrev pub SubTypesAreSpelledAsTrees : Type 0
+SubTypesAreSpelledAsTrees = (x : SubValue) (text : List ℕ) → SpelledSub x text ↔ SpellsSub (declared_by x) text
+
+abbrev pub GroupsAreSpelledAsTrees : Type 0
+GroupsAreSpelledAsTrees = (g : GroupValue) (text : List ℕ) → SpelledGroup g text ↔ SpellsGroup g.is_explicit (map declared_by g.types) text
+
+-- and each tree that bytes spell is declared by a value
+abbrev pub GroupTreesAreRead : Type 0
+GroupTreesAreRead = (b : Bool) (ds : List Declared) (text : List ℕ) → SpellsGroup b ds text → (g : GroupValue) × (g.is_explicit ≡ b) × (map declared_by g.types ≡ ds)
+
+-- a subtype is its shape and its indices: where those are another's, mapped by m, it declares what the other does, mapped
+abbrev pub ShapesAndIndicesAreAll : Type 0
+ShapesAndIndicesAreAll = (m : UnpackedIndex → UnpackedIndex) (x y : SubType) → declared_shape (declared_of y) ≡ declared_shape (declared_of x)
+    → declared_indices (declared_of y) ≡ map m (declared_indices (declared_of x)) → declared_of y ≡ declared_map m (declared_of x)

@@ -3,9 +3,13 @@ pub mod Kinds
 pub mod Text
 pub mod Copies
 pub mod Remap
+pub mod Spells
 pub mod SpellsTypes
 pub mod DecodeTypes
 pub mod Places
 pub mod TypeLaws
 pub mod Laws
 pub mod WorkedGroups
+pub mod SpellsLaws
+pub mod TreesRead
+pub mod IndexLaws

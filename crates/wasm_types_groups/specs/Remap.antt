@@ -35,3 +35,7 @@ IsOptionAnswered answers (Some i) (Some j) = answers i (Ok j)
 
 abbrev pub OptionRemapped : {R E : Type 0} → (R → Result R E → Type 0) → Result (Option R) E → Option R → Type 0
 OptionRemapped {R = R} answers result index = MatchResult result (IsOptionAnswered answers index) (λ e. (i : R) × (index ≡ Some i) × answers i (Err e))
+
+-- what a type declares with each index mapped
+abbrev pub declared_map : {R S : Type 0} → (R → S) → DeclaredOf R → DeclaredOf S
+declared_map m d = record { supertypes = map m d.supertypes; row = row_map m d.row }

@@ -11,6 +11,7 @@ use Rattle.wasm_types_trees.specs.Rows.{InnerOf}
 use Rattle.wasm_types_values.specs.Values.{value_of}
 use Rattle.wasm_types_fields.specs.Fields.{field_of}
 use Rattle.wasm_types_groups.specs.Rows.{first_of, Declared}
+use Rattle.wasm_types_groups.specs.Spells.{final_byte}
 use Rattle.wasm_types_fields.specs.declared.field.FieldType.{FieldType}
 use Rattle.wasm_types_groups.specs.declared.composite.CompositeInnerType.{CompositeInnerType}
 use Rattle.wasm_types_groups.specs.declared.composite.CompositeInnerType.TheVariants.{Func, Array, Struct, Cont}
@@ -114,10 +115,6 @@ abbrev pub SpelledComposite : Grammar CompositeValue
 SpelledComposite = Optionally 0x65 Nothing SpelledDescribes
 
 -- ---- subtypes
-
-abbrev pub final_byte : Bool → ℕ
-final_byte true = 0x4f
-final_byte false = 0x50
 
 abbrev pub sub_with : Bool → List UnpackedIndex → CompositeValue → SubValue
 sub_with f sups c = record { is_final = f; supertypes = sups; composite = c }

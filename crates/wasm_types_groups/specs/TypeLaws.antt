@@ -11,7 +11,8 @@ use Rattle.wasm_types_indices.specs.declared.index.UnpackedIndex.{UnpackedIndex}
 use Rattle.wasm_types_fields.specs.Spells.{SpelledField, SpelledFields, SpelledSignature, SpelledIndex}
 use Rattle.wasm_types_fields.specs.Decode.{field_type, fields, signature, module_index}
 use Rattle.wasm_types_fields.specs.DecodeLaws.{lawful-field_type, decides-field_type, lawful-fields, decides-fields, lawful-signature, decides-signature, lawful-module_index, decides-module_index}
-use Rattle.wasm_types_groups.specs.SpellsTypes.{InnerValue, function, array_of, struct_of, continuation, CompositeValue, SubValue, SpelledInner, Optionally, Nothing, composite_with, SpelledDescriptor, SpelledDescribes, SpelledComposite, final_byte, sub_with, SpelledDeclared, SpelledSub, GroupValue, group_with, SpelledTypes, SpelledGroup}
+use Rattle.wasm_types_groups.specs.Spells.{final_byte}
+use Rattle.wasm_types_groups.specs.SpellsTypes.{InnerValue, function, array_of, struct_of, continuation, CompositeValue, SubValue, SpelledInner, Optionally, Nothing, composite_with, SpelledDescriptor, SpelledDescribes, SpelledComposite, sub_with, SpelledDeclared, SpelledSub, GroupValue, group_with, SpelledTypes, SpelledGroup}
 use Rattle.wasm_types_groups.specs.DecodeTypes.{inners, inner_after, optional, last_after, descriptor_after, describes_after, composite_after, composite, supertypes, declared_sub, sub_after, sub_type, explicit_group, group_after, rec_group}
 
 heads : (a b : ℕ) (s t : List ℕ) → a ∷ s ≡ b ∷ t → a ≡ b

@@ -1,6 +1,6 @@
 //! The laws of types, each on the contract of a function that does nothing.
 
-ghost use Rattle.wasm_types_groups.specs.Laws.{SubTypesAreToldApart, GroupsAreToldApart, GroupsAreOrderedByTypes, TiesDeclareTheSame, GroupsAreHashedByTypes, SubTypesAreCloned, GroupsAreCloned, ValuesDeclareTheSame, GroupValuesDeclareTheSame};
+ghost use Rattle.wasm_types_groups.specs.Laws.{SubTypesAreToldApart, GroupsAreToldApart, GroupsAreOrderedByTypes, TiesDeclareTheSame, GroupsAreHashedByTypes, SubTypesAreCloned, GroupsAreCloned, ValuesDeclareTheSame, GroupValuesDeclareTheSame, CompositeTypesAreSpelledAsTrees, SubTypesAreSpelledAsTrees, GroupsAreSpelledAsTrees, GroupTreesAreRead, ShapesAndIndicesAreAll};
 ghost use Rattle.wasm_types_groups.specs.WorkedGroups.{CompositeTypesAreRead, SubTypesAreRead, GroupsAreRead, KindsAreTold, TextsAreWritten};
 
 use wasm_types_values::laws::equality_is_identity;
@@ -41,4 +41,18 @@ pub fn groups_are_worked()
     ensures groups { GroupsAreRead }
     ensures kinds { KindsAreTold }
     ensures texts { TextsAreWritten }
+{}
+
+/// Bytes spell the value that is read of them just where they spell the tree that it declares, by the rules of
+/// `specs/Spells.antt`; and each tree that they spell is declared by a value.
+pub fn bytes_spell_trees()
+    ensures composite_types { CompositeTypesAreSpelledAsTrees }
+    ensures subtypes { SubTypesAreSpelledAsTrees }
+    ensures groups { GroupsAreSpelledAsTrees }
+    ensures trees { GroupTreesAreRead }
+{}
+
+/// A subtype is its shape and its indices in order, of which `remap_indices` speaks: a map of the indices maps all of it.
+pub fn indices_and_shape_are_all()
+    ensures { ShapesAndIndicesAreAll }
 {}
