@@ -1,5 +1,5 @@
 -- The labels of br_table are read lawfully, and exactly where bytes spell them.
-use Rattle.std.proofs.Common.{◌≡◌, ℕ, List, refl, sym, ap, subst}
+use Rattle.std.proofs.Common.{ℕ, List, refl, sym, ap, subst}
 use Rattle.wasm_types.specs.decoding.Decoder.{Grammar, ◌>>=◌, pure, IsLawful, Decides, Then}
 use Rattle.wasm_types.specs.decoding.Laws.{lawful->>=, lawful-pure}
 use Rattle.wasm_types.specs.decoding.Exact.{decides->>=, decides-same, decides-map, Mapped}
