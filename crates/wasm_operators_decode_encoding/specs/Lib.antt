@@ -11,6 +11,5 @@ pub mod SequenceLaws
 pub mod OpcodeLaws
 pub mod CodedLaws
 pub mod RowLaws
-pub mod RunLaws
 pub mod TableLaws
 pub mod OperatorLaws

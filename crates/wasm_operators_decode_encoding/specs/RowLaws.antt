@@ -93,6 +93,11 @@ module _ {G : Type 0} (info : G → Info) (carried : G → List Immediate) (list
   pub kinds_told : kinds_by (rows info carried (info o).prefix list) (info o).code ≡ Some (map kind_of (carried o))
   kinds_told = kinds_in_rows info carried (info o) (map kind_of (carried o)) list told
 
+  -- and so have those with this prefix, if it is the operator's
+  pub own_kinds_behind : (p : Option ℕ) → (info o).prefix ≡ p → kinds_by (rows info carried p list) (info o).code ≡ Some (map kind_of (carried o))
+  own_kinds_behind p e =
+      subst (λ (q : Option ℕ). kinds_by (rows info carried q list) (info o).code ≡ Some (map kind_of (carried o))) e kinds_told
+
   -- kinds by prefix and code, which have all that the rows with this prefix have
   abbrev pub Follows : (Option ℕ → ℕ → Option (List Kind)) → Option ℕ → Type 0
   Follows kinds p = (code : ℕ) (ks : List Kind) → kinds_by (rows info carried p list) code ≡ Some ks → kinds p code ≡ Some ks
