@@ -1,7 +1,10 @@
+-- Rules: types as plain trees, which bytes spell them, how they are written and remapped.
 pub mod Fields
 pub mod Remap
 pub mod Text
 pub mod Spells
+-- Decoders.
 pub mod Decode
+-- Laws.
 pub mod DecodeLaws
-pub mod WorkedFields
+pub mod WorkedFieldLaws

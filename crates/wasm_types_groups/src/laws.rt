@@ -1,7 +1,7 @@
 //! The laws of types, each on the contract of a function that does nothing.
 
 ghost use Rattle.wasm_types_groups.specs.Laws.{SubTypesAreToldApart, GroupsAreToldApart, GroupsAreOrderedByTypes, TiesDeclareTheSame, GroupsAreHashedByTypes, SubTypesAreCloned, GroupsAreCloned, ValuesDeclareTheSame, GroupValuesDeclareTheSame, CompositeTypesAreSpelledAsTrees, SubTypesAreSpelledAsTrees, GroupsAreSpelledAsTrees, GroupTreesAreRead, ShapesAndIndicesAreAll};
-ghost use Rattle.wasm_types_groups.specs.WorkedGroups.{CompositeTypesAreRead, SubTypesAreRead, GroupsAreRead, KindsAreTold, TextsAreWritten};
+ghost use Rattle.wasm_types_groups.specs.WorkedGroupLaws.{CompositeTypesAreRead, SubTypesAreRead, GroupsAreRead, KindsAreTold, TextsAreWritten};
 
 use wasm_types_values::laws::equality_is_identity;
 

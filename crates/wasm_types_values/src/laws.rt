@@ -3,7 +3,7 @@ ghost use Rattle.std.specs.Prelude.{◌≡◌, Some, true, false};
 ghost use Rattle.wasm_types_values.specs.Constants.{references};
 ghost use Rattle.wasm_types_values.specs.Laws.{AbstractTypesAreOrderedAsDeclared, ReferenceEqualityIsIdentity, ValueEqualityIsIdentity, StorageEqualityIsIdentity, HeapEqualityIsIdentity, AbstractEqualityIsIdentity};
 ghost use Rattle.wasm_types_trees.specs.laws.Statements.{AbstractIsReflexive, AbstractIsTransitive, AbstractIsAntisymmetric};
-ghost use Rattle.wasm_types_values.specs.WorkedTypes.{AbstractBytesAreRead, IndicesAreRead, ReferencesAreRead, ValuesAreRead, KindsAreTold, TextsAreWritten};
+ghost use Rattle.wasm_types_values.specs.WorkedTypeLaws.{AbstractBytesAreRead, IndicesAreRead, ReferencesAreRead, ValuesAreRead, KindsAreTold, TextsAreWritten};
 
 use crate::reference::RefType;
 

@@ -1,4 +1,4 @@
-use Rattle.wasm_types_fields.specs.WorkedFields.{field_bytes, function_bytes, index_bytes, texts_written}
+use Rattle.wasm_types_fields.specs.WorkedFieldLaws.{field_bytes, function_bytes, index_bytes, texts_written}
 use Rattle.wasm_types_fields.proofs.laws.fields_are_worked.Goals as goal
 
 pub returns-clause-fields : goal.returns-clause-fields

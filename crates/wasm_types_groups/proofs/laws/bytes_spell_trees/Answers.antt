@@ -1,5 +1,5 @@
 use Rattle.wasm_types_groups.specs.SpellsLaws.{composite_to, composite_from, sub_to, sub_from, group_to, group_from}
-use Rattle.wasm_types_groups.specs.TreesRead.{group_read}
+use Rattle.wasm_types_groups.specs.TreeLaws.{group_read}
 use Rattle.wasm_types_groups.proofs.laws.bytes_spell_trees.Goals as goal
 
 pub returns-clause-composite_types : goal.returns-clause-composite_types

@@ -1,4 +1,4 @@
-use Rattle.wasm_types_groups.specs.WorkedGroups.{composite_bytes, sub_bytes, group_bytes, kinds_told, texts_written}
+use Rattle.wasm_types_groups.specs.WorkedGroupLaws.{composite_bytes, sub_bytes, group_bytes, kinds_told, texts_written}
 use Rattle.wasm_types_groups.proofs.laws.groups_are_worked.Goals as goal
 
 pub returns-clause-composite_types : goal.returns-clause-composite_types

@@ -1,4 +1,4 @@
-use Rattle.wasm_types_values.specs.WorkedTypes.{abstract_bytes, index_bytes, reference_bytes, value_bytes, kinds_told, texts_written}
+use Rattle.wasm_types_values.specs.WorkedTypeLaws.{abstract_bytes, index_bytes, reference_bytes, value_bytes, kinds_told, texts_written}
 use Rattle.wasm_types_values.proofs.laws.types_are_worked.Goals as goal
 
 pub returns-clause-abstract_types : goal.returns-clause-abstract_types

@@ -16,7 +16,7 @@ use Rattle.wasm_types_values.specs.declared.value.StorageType.{StorageType}
 use Rattle.wasm_types_values.specs.declared.value.StorageType.TheVariants.{I8, I16, Val}
 use Rattle.wasm_types_values.specs.Decode.{reference, reference_after}
 use Rattle.wasm_types_values.specs.DecodeValues.{value_type_after, value_type, storage_type_after, storage_type}
-use Rattle.wasm_types_values.specs.WorkedTypes.{start_of, behind}
+use Rattle.wasm_types_values.specs.WorkedTypeLaws.{start_of, behind}
 use Rattle.wasm_types_fields.specs.declared.field.FieldType.{FieldType}
 use Rattle.wasm_types_fields.specs.Spells.{Signature}
 use Rattle.wasm_types_fields.specs.Decode.{mutability, field_type, fields, signature, module_index}

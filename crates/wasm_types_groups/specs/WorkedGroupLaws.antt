@@ -12,7 +12,7 @@ use Rattle.wasm_types_values.specs.declared.value.ValType.TheVariants.{I32}
 use Rattle.wasm_types_values.specs.declared.value.StorageType.TheVariants.{Val}
 use Rattle.wasm_types_values.specs.Decode.{reference_after}
 use Rattle.wasm_types_values.specs.DecodeValues.{value_type, value_type_after, storage_type_after, storage_type}
-use Rattle.wasm_types_values.specs.WorkedTypes.{start_of, behind}
+use Rattle.wasm_types_values.specs.WorkedTypeLaws.{start_of, behind}
 use Rattle.wasm_types_fields.specs.declared.field.ArrayType.{ArrayType}
 use Rattle.wasm_types_fields.specs.declared.field.StructType.{StructType}
 use Rattle.wasm_types_fields.specs.declared.func.FuncType.{FuncType}
