@@ -1,7 +1,7 @@
 //! What judges one function of a module: the bytes of its entry in the code section.
 //!
 //! A [`FuncValidator`] is Ok exactly where the bytes spell groups of locals and an expression that is valid with them by the
-//! rules of `specs/`, want of memory aside. At this stage the rules know number types and a few operators; any other operator
+//! rules of `specs/`, out of memory aside. At this stage the rules know number types and a few operators; any other operator
 //! is refused.
 #![tactic(auto)]
 

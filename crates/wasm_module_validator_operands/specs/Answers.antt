@@ -6,7 +6,7 @@ use Rattle.wasm_types.specs.error.declared.error.ErrorKind.TheVariants as kinds
 use Rattle.wasm_types.specs.decoding.Decoder.{State}
 use Rattle.wasm_types.specs.decoding.Places.{end_of}
 
--- the fact doesn't hold, unless memory was wanted
+-- the fact doesn't hold, unless it is out of memory
 abbrev pub Denies : ErrorKind → Type 0 → Type 0
 Denies (kinds.EndOfData h) P = ¬ P
 Denies (kinds.MissingFeature f) P = ¬ P
@@ -30,12 +30,12 @@ denies kinds.OutOfMemory P n = tt
 denies kinds.Failed P n = n
 denies kinds.Other P n = n
 
--- Ok exactly where the fact holds, unless memory was wanted
+-- Ok exactly where the fact holds, unless it is out of memory
 abbrev pub Tells : {X : Type 0} → Result X ErrorValue → Type 0 → Type 0
 Tells (Ok x) P = P
 Tells (Err e) P = Denies e.kind P
 
--- the fact holds of a refusal; of want of memory nothing is said
+-- the fact holds of a refusal; of out of memory nothing is promised
 abbrev pub UnlessMemory : ErrorKind → Type 0 → Type 0
 UnlessMemory (kinds.EndOfData h) P = P
 UnlessMemory (kinds.MissingFeature f) P = P

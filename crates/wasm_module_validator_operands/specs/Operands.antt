@@ -30,7 +30,7 @@ Covers u (m ∷ ms) (t ∷ s) = Matches (value m) t × Covers u ms s
 abbrev pub Stacks : Known → List OperandType → Type 0
 Stacks k s = Covers k.unreachable k.operands s
 
--- On Ok this was done. Otherwise it isn't possible, unless memory was wanted.
+-- On Ok this was done. Otherwise it isn't possible, unless it is out of memory.
 abbrev pub Does : {X : Type 0} → Result X ErrorValue → Type 0 → Type 0 → Type 0
 Does (Ok x) done possible = done
 Does (Err e) done possible = Denies e.kind possible

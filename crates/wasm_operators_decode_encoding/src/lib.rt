@@ -13,7 +13,7 @@ ghost use Rattle.wasm_operators_decode_encoding.specs.Coded.{operator, kinds_at,
 ghost use Rattle.wasm_operators_decode_encoding.specs.Operators.{opcode_of, coded_of, SpelledOperator};
 
 /// Opcodes, and immediates one after the other, whatever features are allowed: a value and a fault stay whatever bytes
-/// follow, a want of bytes is exact, and a value is read exactly where a front of the bytes spells it.
+/// follow, the hint of an end of data is exact, and a value is read exactly where a front of the bytes spells it.
 pub const fn opcodes_and_immediates_are_lawful()
     ensures opcodes { IsLawful opcode }
     ensures opcodes_exact { Decides opcode SpelledOpcode }
@@ -22,7 +22,7 @@ pub const fn opcodes_and_immediates_are_lawful()
 {}
 
 /// Operators, each an opcode with the immediates that belong to it, whatever features are allowed: a value and a fault stay
-/// whatever bytes follow, a want of bytes is exact, and a value is read exactly where a front of the bytes spells it.
+/// whatever bytes follow, the hint of an end of data is exact, and a value is read exactly where a front of the bytes spells it.
 pub const fn operators_are_lawful()
     ensures lawful { (features : ℕ) → IsLawful (operator features) }
     ensures exact { (features : ℕ) → Decides (operator features) (SpelledCoded features) }

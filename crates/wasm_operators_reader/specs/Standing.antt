@@ -59,7 +59,7 @@ pub record IsOpening (s : Standing) : Type 0 where
   pub read : operator s.bytes.features s.bytes ≡ Done (coded_of op) behind
   pub opens : after op s.frames ≡ Some (frame ∷ s.frames)
 
--- memory is wanted for a list that the operator keeps, or for a frame
+-- memory is taken for a list that the operator keeps, or for a frame
 abbrev pub WantsMemory : Standing → Type 0
 WantsMemory s = IsTrue (keeps_list_at s.bytes) ⊎ IsOpening s
 

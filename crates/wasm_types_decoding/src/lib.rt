@@ -1,5 +1,5 @@
 //! Decoders of bytes as definitions: what a reader answers, the laws that it keeps (a value and a fault stay whatever
-//! bytes follow, a want of bytes is exact), and when it reads exactly what a grammar spells. Readers of other crates
+//! bytes follow, the hint of an end of data is exact), and when it reads exactly what a grammar spells. Readers of other crates
 //! state their contracts by these definitions; `docs/decoding.md` explains them in plain words.
 #![tactic(auto)]
 

@@ -38,7 +38,7 @@ abbrev pub Collects : {X Y : Type 0} → (X → Y) → Result X ErrorValue → O
 Collects view (Ok x) o = (t : State) × (o ≡ Done (view x) t)
 Collects view (Err e) o = Fails e o
 
--- this is another kind than want of memory
+-- this is another kind than out of memory
 abbrev pub IsNotMemory : ErrorKind → Type 0
 IsNotMemory (EndOfData h) = Unit {0}
 IsNotMemory (MissingFeature f) = Unit {0}

@@ -32,7 +32,7 @@ pub trait FromReader<'a>: Drop {
         ensures memory { MemoryOnlyIf takes_memory result }
         ensures forward { Reaches reader.old reader.new };
 
-    /// It takes bytes from the front; a value and a fault stay whatever bytes follow; a want of bytes is exact.
+    /// It takes bytes from the front; a value and a fault stay whatever bytes follow; the hint of an end of data is exact.
     ghost lawful: { IsLawful decoder };
 
     /// It reads a value exactly where a front of the bytes spells it.

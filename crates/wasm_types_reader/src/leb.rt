@@ -40,7 +40,7 @@ impl Flaw {
     }
 }
 
-/// What holds of numbers of any width, by their decoders: a value and a fault stay, whatever bytes follow; a want of bytes is
+/// What holds of numbers of any width, by their decoders: a value and a fault stay, whatever bytes follow; the hint of an end of data is
 /// exact; and a number is read exactly where a front of the bytes is one of its spellings.
 pub fn numbers_are_lawful()
     ensures unsigned { (k r : ℕ) → 0 < r → r ≤ 7 → IsLawful (unsigned k r) × Decides (unsigned k r) (IsUnsigned (7 * k + r)) }

@@ -1,4 +1,4 @@
--- Decoders that take one byte after another: where the bytes end too early they stop at that end, for want of one byte, and what
+-- Decoders that take one byte after another: where the bytes end too early they stop at that end, lacking one byte, and what
 -- they refuse is none of a feature.
 use Rattle.std.proofs.Common.{◌≡◌, ℕ, zero, suc, ◌+◌, ◌-◌, ◌*◌, ◌^◌, List, [], ◌∷◌, length, refl, subst, arith, Bool, true, false}
 use Rattle.std.specs.Prelude.{if◌then◌else◌, ◌==◌, pos, ◌+ℤ◌, ◌-ℤ◌, ◌*ℤ◌, nat_lt}
