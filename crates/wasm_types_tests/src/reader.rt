@@ -30,6 +30,13 @@ fn numbers_of_32_bits(rt: HostRuntime) -> std::result::Result<(), Fail> {
         "invalid var_u32: integer representation too long",
     );
 
+    let mut reader = BinaryReader::new(&[0xe5, 0x8e, 0x26, 0x80, 0x7f, 0x80], 0);
+    same(&rt, reader.short_u32(), Some(624_485));
+    same(&rt, reader.short_s33(), Some(-128));
+    same(&rt, reader.short_u32(), None);
+    same(&rt, reader.current_position(), 5);
+    same(&rt, reader.short_u8(), Some(0x80));
+
     let mut reader = BinaryReader::new(&[0x80], 7);
     let error = reader.read_var_u32().err().expect(&rt, "too short");
     same(&rt, error.kind().number(), 1);
@@ -154,6 +161,7 @@ fn values_in_a_row(rt: HostRuntime) -> std::result::Result<(), Fail> {
         .expect(&rt, "three");
     same(&rt, error.message(), "type count size is out of bounds");
     same(&rt, error.offset(), 0x10);
+    same(&rt, reader.current_position(), 0);
 
     // dropped after the first, it reads the other two
     let mut reader = BinaryReader::new(&bytes, 0);
