@@ -1,12 +1,11 @@
 -- Laws: worked fields, functions and indices. What these bytes are read as, and how these types are written.
-use Rattle.std.proofs.Common.{◌≡◌, ℕ, ◌++◌, List, [], ◌∷◌, refl, Bool, true, false}
+use Rattle.std.proofs.Common.{◌≡◌, ◌++◌, List, [], ◌∷◌, refl, Bool, true, false}
 use Rattle.std.specs.Prelude.{codes}
 use Rattle.std.specs.Fmt.{decimal}
 use Rattle.wasm_types_decoding.specs.declared.Refusal.TheVariants.{Other}
-use Rattle.wasm_types_decoding.specs.Decoder.{State, Outcome, Done, Short, Fault, repeated}
+use Rattle.wasm_types_decoding.specs.Decoder.{Done, Short, Fault, repeated}
 use Rattle.wasm_types_decoding.specs.Leb.{unsigned}
 use Rattle.wasm_types_decoding.specs.Lists.{size_within, listed_within}
-use Rattle.wasm_types_indices.specs.declared.index.UnpackedIndex.{UnpackedIndex}
 use Rattle.wasm_types_indices.specs.declared.index.UnpackedIndex.TheVariants.{Module}
 use Rattle.wasm_types_values.specs.declared.heap.AbstractHeapType.TheVariants as heap
 use Rattle.wasm_types_values.specs.declared.heap.HeapType.TheVariants.{Abstract}

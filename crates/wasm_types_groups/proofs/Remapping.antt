@@ -10,7 +10,7 @@ use Rattle.wasm_types_values.specs.RemapLaws.{refused_alone, walked_next, cut_be
 use Rattle.wasm_types_fields.specs.Remap.{inner_indices, inner_shape}
 use Rattle.wasm_types_fields.proofs.Remapping.{SoFar, cut}
 use Rattle.wasm_types_groups.specs.Rows.{first_of, declared_with}
-use Rattle.wasm_types_groups.specs.Remap.{list_shape, option_indices, row_indices, row_shape, declared_indices, declared_shape, IsOptionAnswered}
+use Rattle.wasm_types_groups.specs.Remap.{list_shape, option_indices, row_indices, row_shape, declared_shape, IsOptionAnswered}
 
 -- ---- indices alone
 

@@ -1,5 +1,5 @@
 -- Laws: a subtype is its shape and its indices in order. Where these are those of another, mapped, it is the other mapped.
-use Rattle.std.proofs.Common.{◌≡◌, ℕ, ◌+◌, suc, List, [], ◌∷◌, ◌++◌, refl, sym, ap, ◌∙◌, subst, length, map, Bool, true, Option, Some, None}
+use Rattle.std.proofs.Common.{◌≡◌, suc, List, [], ◌∷◌, ◌++◌, refl, sym, ap, ◌∙◌, length, map, Bool, Option, Some, None}
 use Rattle.std.specs.List.{flat_map}
 use Rattle.std.specs.Option.{option_map}
 use Rattle.std.proofs.lemmas.List.{length-append}
@@ -8,7 +8,7 @@ use Rattle.wasm_types_trees.specs.Rows.{HeapOf, ValueOf, StorageOf, FieldOf, Inn
 use Rattle.wasm_types_values.specs.Remap.{heap_indices, value_indices, storage_indices, value_shape, storage_shape}
 use Rattle.wasm_types_fields.specs.Remap.{field_indices, field_shape, inner_indices, inner_shape}
 use Rattle.wasm_types_groups.specs.Rows.{first_of, DeclaredOf, declared_with}
-use Rattle.wasm_types_groups.specs.Remap.{option_indices, row_indices, row_shape, list_shape, declared_indices, declared_shape, declared_map}
+use Rattle.wasm_types_groups.specs.Remap.{option_indices, row_indices, list_shape, declared_indices, declared_shape, declared_map}
 
 -- ---- lists
 

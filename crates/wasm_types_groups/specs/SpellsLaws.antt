@@ -1,9 +1,8 @@
 -- Laws: the values that are read are spelled as the trees that they declare.
-use Rattle.std.proofs.Common.{◌≡◌, ◌⊎◌, ℕ, zero, suc, ◌≤◌, List, [], ◌∷◌, ◌++◌, refl, sym, ap, ◌∙◌, subst, length, map, Bool, true, false, Option, Some, None, inl, inr}
+use Rattle.std.proofs.Common.{◌≡◌, ℕ, zero, suc, ◌≤◌, List, [], ◌∷◌, ◌++◌, refl, sym, ap, ◌∙◌, subst, length, map, Bool, true, false, Option, Some, None, inl, inr}
 use Rattle.std.specs.Option.{is_some}
 use Rattle.wasm_types_decoding.specs.Decoder.{Grammar, Many}
-use Rattle.wasm_types_decoding.specs.Exact.{Mapped}
-use Rattle.wasm_types_decoding.specs.Leb.{IsUnsigned, IsListed}
+use Rattle.wasm_types_decoding.specs.Leb.{IsUnsigned}
 use Rattle.wasm_types_decoding.specs.Lists.{IsListedWithin}
 use Rattle.wasm_types_indices.specs.declared.index.UnpackedIndex.{UnpackedIndex}
 use Rattle.wasm_types_values.specs.declared.value.ValType.{ValType}
@@ -12,7 +11,7 @@ use Rattle.wasm_types_values.specs.Spells.{SpellsValue}
 use Rattle.wasm_types_values.specs.ValueExact.{SpelledValue}
 use Rattle.wasm_types_fields.specs.Fields.{field_of}
 use Rattle.wasm_types_fields.specs.declared.field.FieldType.{FieldType}
-use Rattle.wasm_types_fields.specs.Spells.{SpelledField, SpelledIndex}
+use Rattle.wasm_types_fields.specs.Spells.{SpelledField}
 use Rattle.wasm_types_groups.specs.Rows.{Declared}
 use Rattle.wasm_types_groups.specs.SpellsTypes.{InnerValue, CompositeValue, SubValue, GroupValue, function, array_of, struct_of, continuation, inner_tree, declared_by, composite_with, group_with, SpelledInner, SpelledDescriptor, SpelledDescribes, SpelledComposite, SpelledSub, SpelledGroup}
 use Rattle.wasm_types_groups.specs.Spells.{SpellsField, SpellsInner, SpellsShared, SpellsOption, SpellsParts, SpellsSub, SpellsGroup}

@@ -1,9 +1,9 @@
 -- Laws: worked composite types, subtypes and groups. What these bytes are read as, and how parts of these types are written.
-use Rattle.std.proofs.Common.{◌≡◌, ℕ, ◌++◌, List, [], ◌∷◌, refl, Bool, true, false, Option, Some, None}
+use Rattle.std.proofs.Common.{◌≡◌, ℕ, ◌++◌, List, [], ◌∷◌, refl, true, false, Option, Some, None}
 use Rattle.std.specs.Prelude.{codes}
 use Rattle.std.specs.Fmt.{decimal}
 use Rattle.wasm_types_decoding.specs.declared.Refusal.TheVariants.{Other}
-use Rattle.wasm_types_decoding.specs.Decoder.{State, Outcome, Done, Short, Fault, repeated}
+use Rattle.wasm_types_decoding.specs.Decoder.{Done, Short, Fault, repeated}
 use Rattle.wasm_types_decoding.specs.Leb.{unsigned}
 use Rattle.wasm_types_decoding.specs.Lists.{size_within, listed_within}
 use Rattle.wasm_types_indices.specs.declared.index.UnpackedIndex.{UnpackedIndex}

@@ -1,5 +1,5 @@
 -- The index of a value type is replaced, or refused.
-use Rattle.std.proofs.Common.{◌≡◌, refl, sym, subst, Option, Some, Bool, true, false, cond}
+use Rattle.std.proofs.Common.{◌≡◌, refl, sym, subst, Some, Bool, true, false}
 use Rattle.std.specs.Prelude.{Result, Ok, Err}
 use Rattle.wasm_types_error.specs.ErrorValue.{ErrorValue}
 use Rattle.wasm_types_indices.specs.declared.index.UnpackedIndex.{UnpackedIndex}

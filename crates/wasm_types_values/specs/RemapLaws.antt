@@ -1,9 +1,8 @@
 -- Laws of what is remapped: a type with one index, and parts one after the other.
-use Rattle.std.proofs.Common.{◌≡◌, List, [], ◌∷◌, ◌++◌, refl, sym, ap, ◌∙◌}
+use Rattle.std.proofs.Common.{List, [], ◌∷◌, ◌++◌, refl, sym, ap, ◌∙◌}
 use Rattle.std.proofs.lemmas.List.{append_assoc}
 use Rattle.std.specs.Prelude.{Result, Ok, Err}
-use Rattle.std.specs.List.{AllZip}
-use Rattle.wasm_types_values.specs.Remap.{AreAnswered, IsCutShort, IsWalked, Remapped}
+use Rattle.wasm_types_values.specs.Remap.{AreAnswered, IsCutShort, IsWalked}
 
 module _ {R E : Type 0} (answers : R → Result R E → Type 0) where
   -- ---- one index

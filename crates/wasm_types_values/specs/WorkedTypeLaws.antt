@@ -1,10 +1,10 @@
 -- Laws: worked types. What these bytes are read as, what is said of these types, and how they are written.
-use Rattle.std.proofs.Common.{◌≡◌, ℕ, ◌^◌, ◌<◌, ◌++◌, List, [], ◌∷◌, refl, Bool, true, false, Option, Some, None, lit<, arith}
+use Rattle.std.proofs.Common.{◌≡◌, ℕ, ◌++◌, List, [], ◌∷◌, refl, Bool, true, false, Some, None, lit<, arith}
 use Rattle.std.specs.Prelude.{codes}
 use Rattle.std.specs.Fmt.{decimal}
 use Rattle.std.specs.declared.cmp.Ordering.TheVariants.{Less, Greater}
 use Rattle.wasm_types_decoding.specs.declared.Refusal.TheVariants.{Other}
-use Rattle.wasm_types_decoding.specs.Decoder.{State, Outcome, Done, Short, Fault}
+use Rattle.wasm_types_decoding.specs.Decoder.{State, Done, Short, Fault}
 use Rattle.wasm_types_decoding.specs.Leb.{unsigned, signed, last_bits}
 use Rattle.wasm_types_indices.specs.declared.index.UnpackedIndex.TheVariants.{Module, RecGroup}
 use Rattle.wasm_types_values.specs.declared.heap.AbstractHeapType.{AbstractHeapType}
