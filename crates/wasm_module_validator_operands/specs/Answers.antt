@@ -1,47 +1,12 @@
 -- What an answer tells.
 use Rattle.std.specs.Prelude.{◌≡◌, ◌≤◌, ℕ, Result, Ok, Err}
+pub use Rattle.wasm_types.specs.error.Denials.{Denies, Tells, UnlessMemory}
+pub use Rattle.wasm_types.specs.error.DenialLaws.{denies, denies_from}
 use Rattle.wasm_types.specs.error.ErrorValue.{ErrorValue}
 use Rattle.wasm_types.specs.error.declared.error.ErrorKind.{ErrorKind}
 use Rattle.wasm_types.specs.error.declared.error.ErrorKind.TheVariants as kinds
 use Rattle.wasm_types.specs.decoding.Decoder.{State}
 use Rattle.wasm_types.specs.decoding.Places.{end_of}
-
--- the fact doesn't hold, unless it is out of memory
-abbrev pub Denies : ErrorKind → Type 0 → Type 0
-Denies (kinds.EndOfData h) P = ¬ P
-Denies (kinds.MissingFeature f) P = ¬ P
-Denies kinds.OutOfMemory P = Unit {0}
-Denies kinds.Failed P = ¬ P
-Denies kinds.Other P = ¬ P
-
--- what implies what is denied is denied
-pub denies_from : (k : ErrorKind) (P Q : Type 0) → (Q → P) → Denies k P → Denies k Q
-denies_from (kinds.EndOfData h) P Q f d = λ q. d (f q)
-denies_from (kinds.MissingFeature h) P Q f d = λ q. d (f q)
-denies_from kinds.OutOfMemory P Q f d = tt
-denies_from kinds.Failed P Q f d = λ q. d (f q)
-denies_from kinds.Other P Q f d = λ q. d (f q)
-
--- what doesn't hold is denied
-pub denies : (k : ErrorKind) (P : Type 0) → (P → ⊥) → Denies k P
-denies (kinds.EndOfData h) P n = n
-denies (kinds.MissingFeature h) P n = n
-denies kinds.OutOfMemory P n = tt
-denies kinds.Failed P n = n
-denies kinds.Other P n = n
-
--- Ok exactly where the fact holds, unless it is out of memory
-abbrev pub Tells : {X : Type 0} → Result X ErrorValue → Type 0 → Type 0
-Tells (Ok x) P = P
-Tells (Err e) P = Denies e.kind P
-
--- the fact holds of a refusal; of out of memory nothing is promised
-abbrev pub UnlessMemory : ErrorKind → Type 0 → Type 0
-UnlessMemory (kinds.EndOfData h) P = P
-UnlessMemory (kinds.MissingFeature f) P = P
-UnlessMemory kinds.OutOfMemory P = Unit {0}
-UnlessMemory kinds.Failed P = P
-UnlessMemory kinds.Other P = P
 
 -- The fact holds of a refusal of content, which is of kind 5. Where memory ran out nothing is said; no other kind comes.
 abbrev pub OfContent : ErrorKind → Type 0 → Type 0

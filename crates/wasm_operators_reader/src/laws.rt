@@ -23,7 +23,7 @@ pub const fn runs_are_expressions()
     ensures complete { (s : State) (c : Code) → SpelledExpression s.features c s.rest → (t : Standing) × Runs (at_start s) (walk c) t × IsFinished t }
 {}
 
-/// A reader that refuses on the way, but because it is out of memory, and one whose bytes end while a frame is open, tell that all of the
+/// A reader that refuses on the way, unless memory ran out, and one whose bytes end while a frame is open, tell that all of the
 /// bytes spell no expression.
 pub const fn refusals_deny_expressions()
     ensures refused { (s : State) (os : List Op) (t : Standing) → Runs (at_start s) os t → (IsFinished t → ⊥) → (e : ErrorValue) → Refuses t e → IsNotMemory e.kind → (c : Code) → SpelledExpression s.features c s.rest → ⊥ }
