@@ -7,7 +7,7 @@ use Rattle.wasm_module_validator_operands.specs.Syntax.{Instruction}
 use Rattle.wasm_module_validator_operands.specs.Validation.{OperandType, value, Matches, stack, Steps}
 use Rattle.wasm_module_validator_operands.specs.Answers.{Denies}
 
--- What is known: the locals; the operands of known types, the top first; whether the place can't be reached; whether the
+-- What is known: the locals; the operands of known types, the top first; whether the code here is unreachable; whether the
 -- body has had its end.
 pub record Known : Type 0 where
   pub locals : List ValType
@@ -19,7 +19,7 @@ pub record Known : Type 0 where
 abbrev pub fresh : List ValType → Known
 fresh locals = record { locals = locals; operands = []; unreachable = false; ended = false }
 
--- the stacks that operands stand for: where the place can't be reached, anything may lie below them
+-- the stacks that operands stand for: where the code is unreachable, anything may lie below them
 abbrev pub Covers : Bool → List ValType → List OperandType → Type 0
 Covers true [] s = Unit {0}
 Covers false [] [] = Unit {0}

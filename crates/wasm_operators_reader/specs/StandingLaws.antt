@@ -63,7 +63,7 @@ same_standing t u e f = λ i. record { bytes = e i; frames = f i }
 pub same_parts : (b d : State) (is js : List FrameKind) → b ≡ d → is ≡ js → ◌≡◌ {A = Standing} (record { bytes = b; frames = is }) (record { bytes = d; frames = js })
 same_parts b d is js e f = λ i. record { bytes = e i; frames = f i }
 
--- two steps from one place are the same
+-- two steps from one standing are the same
 pub one_step : (s : Standing) (o p : Op) (t u : Standing) → Reads s o t → Reads s p u → (o ≡ p) × (t ≡ u)
 one_step s o p t u h g =
     let again = sym h.read ∙ g.read in

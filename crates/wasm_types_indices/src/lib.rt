@@ -1,5 +1,5 @@
-//! How a core type is named: by its place in a module's types, by its place in its own group, or by its identity
-//! among all the types that a validator knows.
+//! How a core type is named: by its index among a module's types, by its index in its own recursion group, or by its
+//! identity among all the types that a validator knows.
 //!
 //! A [`PackedIndex`] is an [`UnpackedIndex`] in 22 bits. A contract sees it as the index that it holds.
 #![tactic(auto)]

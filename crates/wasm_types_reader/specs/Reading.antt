@@ -6,7 +6,7 @@ use Rattle.wasm_types_error.specs.declared.error.ErrorKind.{ErrorKind}
 use Rattle.wasm_types_error.specs.declared.error.ErrorKind.TheVariants.{EndOfData, MissingFeature, OutOfMemory, Failed, Other}
 use Rattle.wasm_types_error.specs.ErrorValue.{ErrorValue}
 
--- an error of this kind at this place is the outcome, unless memory ran out
+-- an error of this kind at this offset is the outcome, unless memory ran out
 abbrev pub FailsAt : {Y : Type 0} → ErrorKind → ℕ → Outcome Y → Type 0
 FailsAt (EndOfData h) p o = o ≡ Short p h
 FailsAt (MissingFeature f) p o = o ≡ Fault (refusals.MissingFeature f.0) p
