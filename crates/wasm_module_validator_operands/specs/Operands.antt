@@ -1,4 +1,4 @@
--- What is known of a body while it is validated, and what each step does to it. It is said by sets of stacks: the operands
+-- What is known of a body while it is validated, and what each step does to it. It is defined by sets of stacks: the operands
 -- stand for each stack that the code so far may leave (WebAssembly 3.0, validation, instructions).
 use Rattle.std.specs.Prelude.{◌≡◌, ◌↔◌, List, [], ◌∷◌, ◌++◌, Bool, true, false, Result, Ok, Err}
 use Rattle.wasm_types.specs.error.ErrorValue.{ErrorValue}
@@ -96,6 +96,6 @@ pub record Stepped (i : Instruction) (before after : Known) : Type 0 where
 abbrev pub MayStep : Instruction → Known → Type 0
 MayStep i before = (s : List OperandType) × (t : List OperandType) × Stacks before s × Steps before.locals i s t
 
--- what an answer to an instruction says
+-- what the answer to an instruction promises
 abbrev pub Visits : {X : Type 0} → Instruction → Result X ErrorValue → Known → Known → Type 0
 Visits i answer before after = Does answer (Stepped i before after) (MayStep i before)

@@ -136,8 +136,8 @@ Many g (suc n) (x ∷ xs) text = (front : List ℕ) × (back : List ℕ) × g x 
 
 -- ---- parts and looks ahead
 
--- What was said of a part of its own, and the reader stands behind the part. Where it ended too early that is a fault,
--- and so it is where bytes of the part are left.
+-- The outcome of reading a part, with the reader behind the part. A part that ends too early is a fault, and so is one of
+-- which bytes are left.
 abbrev pub ended : {A : Type 0} → Refusal → Refusal → State → Outcome A → Outcome A
 ended early late t (Done x u) = if length u.rest == 0 then Done x t else Fault late u.place
 ended early late t (Short p h) = Fault early p
