@@ -1,4 +1,4 @@
-//! Visits of control, of what takes operands of any type, of exceptions and of continuations.
+//! Visits of operators of control, of those that take operands of any type, of exceptions and of continuations.
 //!
 //! [`VisitControl`] has one visit for each operator. Each visit promises the one relation of its visitor (`Visitor` of
 //! `wasm_operators_visit`) for its own operator. So do the visits of a visitor that is lent (`&mut V`) or in a box. The
