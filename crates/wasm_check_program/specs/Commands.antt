@@ -12,6 +12,7 @@ pub record Names (words files : List (List ℕ)) : Type 0 where
   pub taken : refusals_of words ≡ []
   pub named : files_of words ≡ files
 
+-- the worked command lines, each with its answer
 pub record AreRead : Type 0 where
   pub two : Names (line_of (codes "a" ∷ codes "b" ∷ [])) (codes "a" ∷ codes "b" ∷ [])
   pub behind_dashes : Names (line_of (codes "--" ∷ codes "--help" ∷ codes "b" ∷ [])) (codes "--help" ∷ codes "b" ∷ [])

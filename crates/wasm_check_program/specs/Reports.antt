@@ -19,6 +19,7 @@ pub record Source : Type 0 where
 abbrev pub source_of : {R : Type 0} → (R → Option (List ℕ)) → Input R → Source
 source_of remaining i = record { name = i.name.now; said = remaining i.reader }
 
+-- inputs as contracts see them
 abbrev pub sources_of : {R : Type 0} → (R → Option (List ℕ)) → List (Input R) → List Source
 sources_of remaining inputs = map (source_of remaining) inputs
 

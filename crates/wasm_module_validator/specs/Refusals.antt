@@ -52,6 +52,7 @@ abbrev pub progress_of : {X : Type 0} → Result X ErrorValue → Progress
 progress_of (Ok x) = states.Ended
 progress_of (Err e) = after_function e.kind
 
+-- a validator whose header and sections were read goes by the functions; else it has failed
 abbrev pub after_frames : ErrorKind → Outcome Frames → Progress
 after_frames k (Done f t) = after_function k
 after_frames k (Short p h) = states.Failed

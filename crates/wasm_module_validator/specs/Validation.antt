@@ -11,5 +11,6 @@ AreValidFunctions types [] (f ∷ fs) = ⊥
 AreValidFunctions types (x ∷ xs) [] = ⊥
 AreValidFunctions types (x ∷ xs) (f ∷ fs) = (type : FunctionType) × (slice_get types x ≡ Some type) × IsValidFunction type f × AreValidFunctions types xs fs
 
+-- a module is valid where its functions are (validation, modules)
 abbrev pub IsValidModule : Module → Type 0
 IsValidModule m = AreValidFunctions m.types m.functions m.code

@@ -21,6 +21,7 @@ abbrev pub Closes : Bool → List ValType → Known → List ℕ → Type 0
 Closes false results k bytes = Continues results k bytes
 Closes true results k bytes = bytes ≡ []
 
+-- what may still come of a body, by what is known of it
 abbrev pub BodyLeft : List ValType → Known → List ℕ → Type 0
 BodyLeft results k bytes = Closes k.ended results k bytes
 

@@ -27,6 +27,7 @@ Covers false [] (t ∷ s) = ⊥
 Covers u (m ∷ ms) [] = ⊥
 Covers u (m ∷ ms) (t ∷ s) = Matches (value m) t × Covers u ms s
 
+-- the stacks that are possible by what is known
 abbrev pub Stacks : Known → List OperandType → Type 0
 Stacks k s = Covers k.unreachable k.operands s
 
@@ -68,6 +69,7 @@ pub record PoppedAll (ts : List ValType) (before after : Known) : Type 0 where
   pub same : Same before after
   pub stacks : (s : List OperandType) → Stacks before (stack ts ++ s) ↔ Stacks after s
 
+-- such operands can be taken off one of the possible stacks
 abbrev pub MayPopAll : List ValType → Known → Type 0
 MayPopAll ts before = (s : List OperandType) × Stacks before (stack ts ++ s)
 
@@ -76,6 +78,7 @@ pub record Combined (t : ValType) (before after : Known) : Type 0 where
   pub same : Same before after
   pub stacks : (s : List OperandType) → Stacks after s ↔ ((rest : List OperandType) × Stacks before (value t ∷ value t ∷ rest) × (s ≡ value t ∷ rest))
 
+-- two operands of this type can be taken off one of them
 abbrev pub MayCombine : ValType → Known → Type 0
 MayCombine t before = (s : List OperandType) × Stacks before (value t ∷ value t ∷ s)
 
@@ -84,6 +87,7 @@ pub record Ended (results : List ValType) (before after : Known) : Type 0 where
   pub results_are : Stacks before (stack results)
   pub ended : after.ended ≡ true
 
+-- the results are one of them
 abbrev pub MayEnd : List ValType → Known → Type 0
 MayEnd results before = Stacks before (stack results)
 

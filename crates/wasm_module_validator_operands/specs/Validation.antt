@@ -23,6 +23,7 @@ AllMatch [] (u ∷ us) = ⊥
 AllMatch (t ∷ ts) [] = ⊥
 AllMatch (t ∷ ts) (u ∷ us) = Matches t u × AllMatch ts us
 
+-- value types as the types of operands
 abbrev pub values : List ValType → List OperandType
 values ts = map value ts
 

@@ -8,6 +8,7 @@ use Rattle.wasm_operators_control.specs.declared.control.ControlOperator.TheVari
 use Rattle.wasm_operators_control.specs.Trees as tree
 use Rattle.wasm_operators_control.specs.Trees.{ParametricTree, ExceptionTree, ContinuationTree}
 
+-- of operators of control
 abbrev pub control_immediates : ControlOperator → List Immediate
 control_immediates control.Unreachable = []
 control_immediates control.Nop = []
@@ -30,6 +31,7 @@ control_immediates control.RefAsNonNull = []
 control_immediates (control.BrOnNull relative_depth) = Label relative_depth ∷ []
 control_immediates (control.BrOnNonNull relative_depth) = Label relative_depth ∷ []
 
+-- of those that take operands of any type: `select` alone may name types
 abbrev pub parametric_immediates : ParametricTree → List Immediate
 parametric_immediates tree.Drop = []
 parametric_immediates tree.Select = []
@@ -41,6 +43,7 @@ abbrev pub is_canonical : ParametricTree → Bool
 is_canonical (tree.TypedSelectMulti (ty ∷ [])) = false
 is_canonical o = true
 
+-- of exceptions
 abbrev pub exception_immediates : ExceptionTree → List Immediate
 exception_immediates (tree.Try blockty) = Block blockty ∷ []
 exception_immediates (tree.Catch tag_index) = Index Tags tag_index ∷ []
@@ -51,6 +54,7 @@ exception_immediates (tree.Delegate relative_depth) = Label relative_depth ∷ [
 exception_immediates tree.CatchAll = []
 exception_immediates (tree.TryTable try_table) = TryTable try_table ∷ []
 
+-- of continuations (the proposal on stack switching)
 abbrev pub continuation_immediates : ContinuationTree → List Immediate
 continuation_immediates (tree.ContNew cont_type_index) = Index Types cont_type_index ∷ []
 continuation_immediates (tree.ContBind argument_index result_index) = Index Types argument_index ∷ Index Types result_index ∷ []

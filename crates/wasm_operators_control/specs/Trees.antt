@@ -30,12 +30,14 @@ pub data ExceptionTree : Type 0 where
   CatchAll : ExceptionTree
   TryTable : CatchTable → ExceptionTree
 
+-- the trees of what the code holds
 abbrev pub parametric_of : ParametricOperator → ParametricTree
 parametric_of parametric.Drop = Drop
 parametric_of parametric.Select = Select
 parametric_of (parametric.TypedSelect ty) = TypedSelect ty
 parametric_of (parametric.TypedSelectMulti tys) = TypedSelectMulti tys.items
 
+-- the same of exceptions
 abbrev pub exception_of : ExceptionOperator → ExceptionTree
 exception_of (exception.Try blockty) = Try blockty
 exception_of (exception.Catch tag_index) = Catch tag_index
@@ -56,6 +58,7 @@ pub data ContinuationTree : Type 0 where
   ResumeThrowRef : ℕ → List Handle → ContinuationTree
   Switch : ℕ → ℕ → ContinuationTree
 
+-- the same of continuations
 abbrev pub continuation_of : ContinuationOperator → ContinuationTree
 continuation_of (continuation.ContNew cont_type_index) = ContNew cont_type_index
 continuation_of (continuation.ContBind argument_index result_index) = ContBind argument_index result_index

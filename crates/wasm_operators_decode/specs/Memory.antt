@@ -6,12 +6,14 @@ use Rattle.wasm_operators_immediates.specs.Kinds.{Kind}
 use Rattle.wasm_operators_decode_encoding.specs.Opcodes.{Opcode, opcode}
 use Rattle.wasm_operators_decode_encoding.specs.Coded.{kinds_at}
 
+-- the kinds that are kept as a list
 abbrev pub is_list : Kind → Bool
 is_list kind.ValueTypes = true
 is_list kind.TryTable = true
 is_list kind.Handlers = true
 is_list k = false
 
+-- one of them is
 abbrev pub has_list : List Kind → Bool
 has_list [] = false
 has_list (k ∷ ks) = is_list k || has_list ks
@@ -21,6 +23,7 @@ abbrev pub keeps_list : Option (List Kind) → Bool
 keeps_list None = false
 keeps_list (Some ks) = has_list ks
 
+-- the operator with the opcode that was read keeps a list; where none was read, none does
 abbrev pub keeps_list_behind : Outcome Opcode → Bool
 keeps_list_behind (Done o t) = keeps_list (kinds_at o)
 keeps_list_behind (Short p h) = false

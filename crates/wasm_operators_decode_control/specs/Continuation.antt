@@ -5,6 +5,7 @@ use Rattle.wasm_operators_immediates.specs.Kinds.{Kind, Tags, Types}
 use Rattle.wasm_operators_decode_control.specs.declared.continuation.ContinuationShape.{ContinuationShape}
 use Rattle.wasm_operators_decode_control.specs.declared.continuation.ContinuationShape.TheVariants as shape
 
+-- the kinds of immediates of each shape
 abbrev pub continuation_shape_kinds : ContinuationShape → List Kind
 continuation_shape_kinds shape.Type = kind.Index Types ∷ []
 continuation_shape_kinds shape.TypeType = kind.Index Types ∷ kind.Index Types ∷ []

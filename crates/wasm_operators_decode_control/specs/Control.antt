@@ -5,6 +5,7 @@ use Rattle.wasm_operators_immediates.specs.Kinds.{Kind, Functions, Tables, Types
 use Rattle.wasm_operators_decode_control.specs.declared.control.ControlShape.{ControlShape}
 use Rattle.wasm_operators_decode_control.specs.declared.control.ControlShape.TheVariants as shape
 
+-- the kinds of immediates of each shape
 abbrev pub control_shape_kinds : ControlShape → List Kind
 control_shape_kinds shape.Nothing = []
 control_shape_kinds shape.Block = kind.Block ∷ []

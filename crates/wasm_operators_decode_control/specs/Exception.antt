@@ -5,6 +5,7 @@ use Rattle.wasm_operators_immediates.specs.Kinds.{Kind, Tags}
 use Rattle.wasm_operators_decode_control.specs.declared.exception.ExceptionShape.{ExceptionShape}
 use Rattle.wasm_operators_decode_control.specs.declared.exception.ExceptionShape.TheVariants as shape
 
+-- the kinds of immediates of each shape
 abbrev pub exception_shape_kinds : ExceptionShape → List Kind
 exception_shape_kinds shape.Block = kind.Block ∷ []
 exception_shape_kinds shape.Tag = kind.Index Tags ∷ []

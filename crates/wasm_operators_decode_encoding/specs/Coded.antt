@@ -57,6 +57,7 @@ pub record Coded : Type 0 where
   pub opcode : Opcode
   pub carried : List Immediate
 
+-- an operator of its opcode and its immediates
 abbrev pub coded : Opcode → List Immediate → Coded
 coded o is = record { opcode = o; carried = is }
 

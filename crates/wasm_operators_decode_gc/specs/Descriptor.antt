@@ -5,6 +5,7 @@ use Rattle.wasm_operators_immediates.specs.Kinds.{Kind, Types}
 use Rattle.wasm_operators_decode_gc.specs.declared.descriptor.DescriptorShape.{DescriptorShape}
 use Rattle.wasm_operators_decode_gc.specs.declared.descriptor.DescriptorShape.TheVariants as shape
 
+-- the kinds of immediates of each shape
 abbrev pub descriptor_shape_kinds : DescriptorShape → List Kind
 descriptor_shape_kinds shape.Type = kind.Index Types ∷ []
 descriptor_shape_kinds shape.Heap = kind.Heap ∷ []

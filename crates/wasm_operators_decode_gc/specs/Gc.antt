@@ -5,6 +5,7 @@ use Rattle.wasm_operators_immediates.specs.Kinds.{Kind, DataSegments, Elements, 
 use Rattle.wasm_operators_decode_gc.specs.declared.gc.GcShape.{GcShape}
 use Rattle.wasm_operators_decode_gc.specs.declared.gc.GcShape.TheVariants as shape
 
+-- the kinds of immediates of each shape
 abbrev pub gc_shape_kinds : GcShape → List Kind
 gc_shape_kinds shape.Type = kind.Index Types ∷ []
 gc_shape_kinds shape.TypeField = kind.Index Types ∷ kind.Index Fields ∷ []

@@ -3,6 +3,7 @@ use Rattle.wasm_operators_immediates.specs.Kinds as kind
 use Rattle.wasm_operators_decode_immediates.specs.declared.memory_argument.Access.{Access}
 use Rattle.wasm_operators_decode_immediates.specs.declared.memory_argument.Access.TheVariants.{Plain, Atomic, ReadModifyWrite}
 
+-- the same three kinds of access, in the words of the table
 abbrev pub access_of : Access → kind.Access
 access_of Plain = kind.Plain
 access_of Atomic = kind.Atomic

@@ -14,6 +14,7 @@ use Rattle.wasm_operators_immediates.specs.declared.vector.V128.{V128}
 
 -- ---- decoders
 
+-- zero alone, or the byte is refused
 abbrev pub zero_after : ℕ → Decoder ℕ
 zero_after b = if b == 0 then pure 0 else refuse Other 1
 
@@ -25,6 +26,7 @@ zero_byte = byte >>= zero_after
 unfoldable pub index_or_zero : Bool → Decoder ℕ
 index_or_zero allowed = if allowed then u32 else zero_byte
 
+-- the two orderings by their bytes
 abbrev pub orderings : ℕ → List (ℕ × Decoder Ordering)
 orderings n = (0x00, pure SeqCst) ∷ (n, pure AcqRel) ∷ []
 
@@ -32,6 +34,7 @@ orderings n = (0x00, pure SeqCst) ∷ (n, pure AcqRel) ∷ []
 unfoldable pub ordering_by : ℕ → Decoder Ordering
 ordering_by n = byte >>= choice (orderings n) (refuse Other 1)
 
+-- a lane below this number, or the byte is refused
 abbrev pub lane_after : ℕ → ℕ → Decoder ℕ
 lane_after lanes b = if nat_lt b lanes then pure b else refuse Other 1
 
@@ -43,6 +46,7 @@ lane lanes = byte >>= lane_after lanes
 unfoldable pub shuffle : Decoder (List ℕ)
 shuffle = repeated 16 (lane 32)
 
+-- a vector of its bytes
 abbrev pub vector_of : List ℕ → V128
 vector_of text = record { 0 = text }
 
@@ -54,6 +58,7 @@ vector = bytes 16 >>= λ text. pure (vector_of text)
 abbrev pub most_types : ℕ
 most_types = 10
 
+-- the types of a `select`, counted
 unfoldable pub select_types : Decoder (List ValType)
 select_types = listed_within most_types value_type
 

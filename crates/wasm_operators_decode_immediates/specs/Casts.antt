@@ -9,6 +9,7 @@ use Rattle.wasm_types.specs.values.HeapExact.{Spelled}
 use Rattle.wasm_operators_decode_immediates.specs.declared.cast.CastBranch.{CastBranch}
 use Rattle.wasm_operators_decode_immediates.specs.MemoryArguments.{weight}
 
+-- what a branch on a cast carries, of its parts
 abbrev pub branch : ℕ → Reference → Reference → CastBranch
 branch depth from to = record { relative_depth = depth; from_ref_type = from; to_ref_type = to }
 
@@ -16,6 +17,7 @@ branch depth from to = record { relative_depth = depth; from_ref_type = from; to
 unfoldable pub cast_after : ℕ → Decoder CastBranch
 cast_after b = if nat_lt b 4 then (u32 >>= λ depth. long_reference (b % 2 == 1) >>= λ from. long_reference (b / 2 == 1) >>= λ to. pure (branch depth from to)) else refuse Other 1
 
+-- a branch on a cast from its flags on
 unfoldable pub cast_branch : Decoder CastBranch
 cast_branch = byte >>= cast_after
 

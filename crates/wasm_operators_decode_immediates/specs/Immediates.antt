@@ -31,18 +31,23 @@ may_index features space = false
 abbrev pub read_as : {A : Type 0} → Decoder A → (A → Immediate) → Decoder Immediate
 read_as d f = d >>= λ x. pure (f x)
 
+-- a branch on a cast as an immediate
 abbrev pub of_branch : Branch → Immediate
 of_branch c = CastBranch c.relative_depth c.from_ref_type c.to_ref_type
 
+-- the bits of an f32 as an immediate
 abbrev pub of_bits32 : ℕ → Immediate
 of_bits32 n = F32Constant (record { 0 = n })
 
+-- the bits of an f64 as an immediate
 abbrev pub of_bits64 : ℕ → Immediate
 of_bits64 n = F64Constant (record { 0 = n })
 
+-- the zero byte as an immediate
 abbrev pub of_zero : ℕ → Immediate
 of_zero n = ZeroByte
 
+-- how each kind is read, where these features are allowed
 unfoldable pub immediate : ℕ → Kind → Decoder Immediate
 immediate features (kind.Index space) = read_as u32 (Index space)
 immediate features (kind.IndexOrZero space) = read_as (index_or_zero (may_index features space)) (IndexOrZero space)
@@ -68,6 +73,7 @@ immediate features kind.ZeroByte = read_as zero_byte of_zero
 
 -- ---- grammars
 
+-- which bytes spell each immediate, where these features are allowed
 abbrev pub SpelledImmediate : ℕ → Grammar Immediate
 -- x:idx
 SpelledImmediate features (Index space n) text = IsUnsigned 32 n text

@@ -17,6 +17,7 @@ use Rattle.wasm_operators_decode_immediates.specs.Bytes.{ordering_by, SpelledOrd
 
 -- ---- what is allowed
 
+-- whether an access is atomic
 abbrev pub is_atomic : Access → Bool
 is_atomic Plain = false
 is_atomic Atomic = true
@@ -37,6 +38,7 @@ weight false n = 0
 abbrev pub number_of : Flags → ℕ
 number_of f = f.align + weight f.has_ordering 0x20 + weight f.has_memory 0x40
 
+-- the flags that a number below 128 holds
 abbrev pub flags_in : ℕ → Flags
 flags_in n = record { align = n % 16; has_ordering = n / 32 % 2 == 1; has_memory = n / 64 == 1 }
 
@@ -50,6 +52,7 @@ lacks false allowed = false
 abbrev pub allowed : Bool → Bool → ℕ → Flags → Decoder Flags
 allowed order memory place f = if lacks f.has_ordering order then refuse_at Other place else (if lacks f.has_memory memory then refuse_at Other place else pure f)
 
+-- the flags of a number, which is refused at this offset where it has no flags or they are not allowed
 abbrev pub flags_from : Bool → Bool → ℕ → ℕ → Decoder Flags
 flags_from order memory place n = if nat_lt n 128 then (if n / 16 % 2 == 0 then allowed order memory place (flags_in n) else refuse_at Other place) else refuse_at Other place
 
@@ -59,20 +62,25 @@ flags order memory s = (u32 >>= flags_from order memory s.place) s
 
 -- ---- what follows them
 
+-- the index of a memory where one is named, else memory 0
 unfoldable pub named_memory : Bool → Decoder ℕ
 named_memory named = if named then u32 else pure 0
 
+-- the ordering by the byte of such an access; both halves of a read-modify-write have one
 unfoldable pub access_ordering : Access → Decoder MemArgOrdering
 access_ordering Plain = refuse_here Other
 access_ordering Atomic = ordering_by 0x01 >>= λ o. pure (Op o)
 access_ordering ReadModifyWrite = ordering_by 0x11 >>= λ o. pure (Rmw o)
 
+-- an ordering where one is named
 unfoldable pub named_ordering : Access → Bool → Decoder (Option MemArgOrdering)
 named_ordering access named = if named then (access_ordering access >>= λ o. pure (Some o)) else pure None
 
+-- an offset of 64 bits, or of 32
 unfoldable pub offset : Bool → Decoder ℕ
 offset wide = if wide then u64 else u32
 
+-- a memory argument of its parts
 abbrev pub argument : ℕ → ℕ → ℕ → Option MemArgOrdering → ℕ → MemArg
 argument align natural memory ordering x = record { align = align; max_align = natural; offset = x; memory = memory; ordering = ordering; target = Memory }
 
@@ -107,6 +115,7 @@ SpelledAccessOrdering Atomic (Rmw o) text = ⊥
 SpelledAccessOrdering ReadModifyWrite (Op o) text = ⊥
 SpelledAccessOrdering ReadModifyWrite (Rmw o) text = SpelledOrdering 0x11 o text
 
+-- an ordering where one is named, and nothing else
 abbrev pub NamedOrdering : Access → Bool → Grammar (Option MemArgOrdering)
 NamedOrdering access true (Some o) text = SpelledAccessOrdering access o text
 NamedOrdering access true None text = ⊥

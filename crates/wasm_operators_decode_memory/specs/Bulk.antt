@@ -5,6 +5,7 @@ use Rattle.wasm_operators_immediates.specs.Kinds.{Kind, DataSegments, Elements, 
 use Rattle.wasm_operators_decode_memory.specs.declared.bulk.BulkShape.{BulkShape}
 use Rattle.wasm_operators_decode_memory.specs.declared.bulk.BulkShape.TheVariants as shape
 
+-- the kinds of immediates of each shape
 abbrev pub bulk_shape_kinds : BulkShape → List Kind
 bulk_shape_kinds shape.DataMemory = kind.Index DataSegments ∷ kind.Index Memories ∷ []
 bulk_shape_kinds shape.Data = kind.Index DataSegments ∷ []

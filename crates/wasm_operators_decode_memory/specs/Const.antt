@@ -5,6 +5,7 @@ use Rattle.wasm_operators_immediates.specs.Kinds.{Kind}
 use Rattle.wasm_operators_decode_memory.specs.declared.constant.ConstShape.{ConstShape}
 use Rattle.wasm_operators_decode_memory.specs.declared.constant.ConstShape.TheVariants as shape
 
+-- the kinds of immediates of each shape
 abbrev pub const_shape_kinds : ConstShape → List Kind
 const_shape_kinds shape.I32 = kind.I32Constant ∷ []
 const_shape_kinds shape.I64 = kind.I64Constant ∷ []

@@ -5,6 +5,7 @@ use Rattle.wasm_operators_immediates.specs.Kinds.{Kind, Globals, Locals, Memorie
 use Rattle.wasm_operators_decode_memory.specs.declared.memory.MemoryShape.{MemoryShape}
 use Rattle.wasm_operators_decode_memory.specs.declared.memory.MemoryShape.TheVariants as shape
 
+-- the kinds of immediates of each shape
 abbrev pub memory_shape_kinds : MemoryShape → List Kind
 memory_shape_kinds shape.Local = kind.Index Locals ∷ []
 memory_shape_kinds shape.Global = kind.Index Globals ∷ []

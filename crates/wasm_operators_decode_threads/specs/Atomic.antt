@@ -10,6 +10,7 @@ use Rattle.wasm_operators_decode_encoding.specs.KeptRows.{between, kept}
 use Rattle.wasm_operators_decode_threads.specs.declared.atomic.AtomicShape.{AtomicShape}
 use Rattle.wasm_operators_decode_threads.specs.declared.atomic.AtomicShape.TheVariants as shape
 
+-- the kinds of immediates of each shape
 abbrev pub atomic_shape_kinds : AtomicShape → List Kind
 atomic_shape_kinds (shape.Access natural) = kind.MemoryArgument Atomic natural ∷ []
 atomic_shape_kinds shape.Zero = kind.ZeroByte ∷ []

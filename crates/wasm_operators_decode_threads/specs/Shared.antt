@@ -5,6 +5,7 @@ use Rattle.wasm_operators_immediates.specs.Kinds.{Kind, Fields, Globals, Tables,
 use Rattle.wasm_operators_decode_threads.specs.declared.shared.SharedShape.{SharedShape}
 use Rattle.wasm_operators_decode_threads.specs.declared.shared.SharedShape.TheVariants as shape
 
+-- the kinds of immediates of each shape
 abbrev pub shared_shape_kinds : SharedShape → List Kind
 shared_shape_kinds shape.OrderingGlobal = kind.MemoryOrdering ∷ kind.Index Globals ∷ []
 shared_shape_kinds shape.OrderingTable = kind.MemoryOrdering ∷ kind.Index Tables ∷ []

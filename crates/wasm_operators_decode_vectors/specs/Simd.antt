@@ -5,6 +5,7 @@ use Rattle.wasm_operators_immediates.specs.Kinds.{Kind, Plain}
 use Rattle.wasm_operators_decode_vectors.specs.declared.simd.SimdShape.{SimdShape}
 use Rattle.wasm_operators_decode_vectors.specs.declared.simd.SimdShape.TheVariants as shape
 
+-- the kinds of immediates of each shape
 abbrev pub simd_shape_kinds : SimdShape → List Kind
 simd_shape_kinds (shape.Access natural) = kind.MemoryArgument Plain natural ∷ []
 simd_shape_kinds shape.Vector = kind.V128Constant ∷ []

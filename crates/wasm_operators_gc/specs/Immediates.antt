@@ -8,6 +8,7 @@ use Rattle.wasm_operators_gc.specs.declared.gc.GcOperator.TheVariants as gc
 use Rattle.wasm_operators_gc.specs.declared.gc.DescriptorOperator.{DescriptorOperator}
 use Rattle.wasm_operators_gc.specs.declared.gc.DescriptorOperator.TheVariants as descriptor
 
+-- of aggregates, casts and `i31`
 abbrev pub gc_immediates : GcOperator → List Immediate
 gc_immediates gc.RefEq = []
 gc_immediates (gc.StructNew struct_type_index) = Index Types struct_type_index ∷ []
@@ -42,6 +43,7 @@ gc_immediates gc.RefI31 = []
 gc_immediates gc.I31GetS = []
 gc_immediates gc.I31GetU = []
 
+-- of descriptors (the proposal on custom descriptors)
 abbrev pub descriptor_immediates : DescriptorOperator → List Immediate
 descriptor_immediates (descriptor.StructNewDesc struct_type_index) = Index Types struct_type_index ∷ []
 descriptor_immediates (descriptor.StructNewDefaultDesc struct_type_index) = Index Types struct_type_index ∷ []

@@ -8,6 +8,7 @@ use Rattle.wasm_operators_gc.specs.declared.gc.GcOperator.TheVariants as gc
 use Rattle.wasm_operators_gc.specs.declared.gc.DescriptorOperator.{DescriptorOperator}
 use Rattle.wasm_operators_gc.specs.declared.gc.DescriptorOperator.TheVariants as descriptor
 
+-- of aggregates, casts and `i31`
 abbrev pub gc_info : GcOperator → Info
 gc_info gc.RefEq = row Gc (codes "ref.eq") None 0xd3
 gc_info (gc.StructNew struct_type_index) = row Gc (codes "struct.new") (Some 0xfb) 0x00
@@ -42,6 +43,7 @@ gc_info gc.RefI31 = row Gc (codes "ref.i31") (Some 0xfb) 0x1c
 gc_info gc.I31GetS = row Gc (codes "i31.get_s") (Some 0xfb) 0x1d
 gc_info gc.I31GetU = row Gc (codes "i31.get_u") (Some 0xfb) 0x1e
 
+-- of descriptors (the proposal on custom descriptors)
 abbrev pub descriptor_info : DescriptorOperator → Info
 descriptor_info (descriptor.StructNewDesc struct_type_index) = row CustomDescriptors (codes "struct.new_desc") (Some 0xfb) 0x20
 descriptor_info (descriptor.StructNewDefaultDesc struct_type_index) = row CustomDescriptors (codes "struct.new_default_desc") (Some 0xfb) 0x21

@@ -19,6 +19,7 @@ abbrev pub indexed : ℤ → Decoder BlockType
 indexed (pos n) = if nat_lt n 0x1_0000_0000 then pure (FuncType n) else refuse_here Other
 indexed (negsuc n) = refuse_here Other
 
+-- a function type by its index, a number of 33 bits with a sign
 unfoldable pub function_block : Decoder BlockType
 function_block = s33 >>= indexed
 
@@ -26,6 +27,7 @@ function_block = s33 >>= indexed
 abbrev pub begins_value : ℕ → Bool
 begins_value b = if nat_lt b 0x63 then false else (if nat_lt b 0x66 then true else (if nat_lt b 0x68 then false else (if nat_lt b 0x76 then true else nat_lt 0x7a b)))
 
+-- one value type, which is the result
 unfoldable pub value_block : Decoder BlockType
 value_block = value_type >>= λ ty. pure (Val ty)
 
@@ -33,12 +35,15 @@ value_block = value_type >>= λ ty. pure (Val ty)
 abbrev pub empty_after : ℕ → Decoder BlockType
 empty_after b = if b == 0x40 then pure Empty else refuse_here Other
 
+-- the byte that remains
 unfoldable pub empty_block : Decoder BlockType
 empty_block = byte >>= empty_after
 
+-- a block type by its first byte, which is looked at
 abbrev pub block_at : ℕ → Decoder BlockType
 block_at b = if begins_index b then function_block else (if begins_value b then value_block else empty_block)
 
+-- a block type from its first byte on
 unfoldable pub block_type : Decoder BlockType
 block_type = look block_at
 

@@ -27,30 +27,39 @@ one_index f = u32 >>= λ n. pure (f n)
 abbrev pub two_indices : {A : Type 0} → (ℕ → ℕ → A) → Decoder A
 two_indices f = u32 >>= λ tag. one_index (f tag)
 
+-- each form of a clause by its byte
 abbrev pub clauses : List (ℕ × Decoder Catch)
 clauses = (0x00, two_indices One) ∷ (0x01, two_indices OneRef) ∷ (0x02, one_index All) ∷ (0x03, one_index AllRef) ∷ []
 
+-- a clause behind its byte
 unfoldable pub clause_after : ℕ → Decoder Catch
 clause_after = choice clauses (refuse Other 1)
 
+-- a clause from its byte on
 unfoldable pub clause : Decoder Catch
 clause = byte >>= clause_after
 
+-- a table of its parts
 abbrev pub catch_table : BlockType → List Catch → CatchTable
 catch_table ty catches = record { ty = ty; catches = catches }
 
+-- a block type, and clauses that are counted
 unfoldable pub try_table : Decoder CatchTable
 try_table = block_type >>= λ ty. listed_within most_handlers clause >>= λ catches. pure (catch_table ty catches)
 
+-- each form of a handler by its byte
 abbrev pub handles : List (ℕ × Decoder Handle)
 handles = (0x00, two_indices OnLabel) ∷ (0x01, one_index OnSwitch) ∷ []
 
+-- a handler behind its byte
 unfoldable pub handle_after : ℕ → Decoder Handle
 handle_after = choice handles (refuse Other 1)
 
+-- a handler from its byte on
 unfoldable pub handle : Decoder Handle
 handle = byte >>= handle_after
 
+-- handlers that are counted
 unfoldable pub handlers : Decoder (List Handle)
 handlers = listed_within most_handlers handle
 

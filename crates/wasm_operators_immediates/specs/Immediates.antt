@@ -42,6 +42,7 @@ pub data Immediate : Type 0 where
   Handlers : List Handle → Immediate
   ZeroByte : Immediate
 
+-- the kind of an immediate
 abbrev pub kind_of : Immediate → Kind
 kind_of (Index space index) = kind.Index space
 kind_of (IndexOrZero space index) = kind.IndexOrZero space

@@ -22,6 +22,7 @@ pub data Access : Type 0 where
   Atomic : Access
   ReadModifyWrite : Access
 
+-- each kind, with all that its bytes are read by
 pub data Kind : Type 0 where
   -- an index
   Index : IndexSpace → Kind

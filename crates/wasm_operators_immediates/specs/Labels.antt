@@ -13,6 +13,7 @@ most_targets = 7654321
 abbrev pub with_default : List ℕ → ℕ → Labels
 with_default targets default = record { targets = targets; default = default }
 
+-- a list of targets, and the default
 unfoldable pub labels : Decoder Labels
 labels = listed_within most_targets u32 >>= λ targets. u32 >>= λ default. pure (with_default targets default)
 

@@ -20,5 +20,6 @@ pub record CatchTable : Type 0 where
 abbrev pub same_labels : Labels → Labels → Bool
 same_labels = eq_of_both (on (λ t. t.default) ◌==◌) (on (λ t. t.targets) (pointwise ◌==◌))
 
+-- the tree of a table of clauses that the code holds
 abbrev pub catch_table_of : TryTable → CatchTable
 catch_table_of t = record { ty = t.ty; catches = t.catches.items }

@@ -13,6 +13,7 @@ pub record Info : Type 0 where
   pub prefix : Option ℕ
   pub code : ℕ
 
+-- a row of its four columns
 abbrev pub row : Proposal → List ℕ → Option ℕ → ℕ → Info
 row proposal name prefix code = record { proposal = proposal; name = name; prefix = prefix; code = code }
 

@@ -10,6 +10,7 @@ use Rattle.wasm_operators_memory.specs.declared.constant.ConstOperator.TheVarian
 use Rattle.wasm_operators_memory.specs.declared.bulk.BulkOperator.{BulkOperator}
 use Rattle.wasm_operators_memory.specs.declared.bulk.BulkOperator.TheVariants as bulk
 
+-- of variables and memories
 abbrev pub memory_immediates : MemoryOperator → List Immediate
 memory_immediates (memory.LocalGet local_index) = Index Locals local_index ∷ []
 memory_immediates (memory.LocalSet local_index) = Index Locals local_index ∷ []
@@ -42,12 +43,14 @@ memory_immediates (memory.I64Store32 memarg) = MemoryArgument Plain 2 memarg ∷
 memory_immediates (memory.MemorySize mem) = IndexOrZero Memories mem ∷ []
 memory_immediates (memory.MemoryGrow mem) = IndexOrZero Memories mem ∷ []
 
+-- of constants: the constant itself
 abbrev pub const_immediates : ConstOperator → List Immediate
 const_immediates (const.I32Const value) = I32Constant value ∷ []
 const_immediates (const.I64Const value) = I64Constant value ∷ []
 const_immediates (const.F32Const value) = F32Constant value ∷ []
 const_immediates (const.F64Const value) = F64Constant value ∷ []
 
+-- of ranges of memories and tables, of tables and of references
 abbrev pub bulk_immediates : BulkOperator → List Immediate
 bulk_immediates (bulk.TableGet table) = Index Tables table ∷ []
 bulk_immediates (bulk.TableSet table) = Index Tables table ∷ []

@@ -4,5 +4,6 @@ use Rattle.std.specs.Prelude.{List, []}
 use Rattle.wasm_operators_immediates.specs.Immediates.{Immediate}
 use Rattle.wasm_operators_numbers.specs.declared.numeric.NumericOperator.{NumericOperator}
 
+-- none carries anything
 abbrev pub numeric_immediates : NumericOperator → List Immediate
 numeric_immediates o = []

@@ -12,6 +12,7 @@ use Rattle.wasm_operators_vectors.specs.Immediates.{simd_immediates, simd_numeri
 use Rattle.wasm_operators_operator.specs.Op as op
 use Rattle.wasm_operators_operator.specs.Op.{Op}
 
+-- what each operator carries, by the tables of the groups
 abbrev pub immediates_of : Op → List Immediate
 immediates_of (op.Control o) = control_immediates o
 immediates_of (op.Parametric o) = parametric_immediates o

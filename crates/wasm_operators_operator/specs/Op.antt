@@ -35,6 +35,7 @@ pub data Op : Type 0 where
 
 -- ---- the trees of operators
 
+-- the tree of an operator that the code holds
 abbrev pub op_of : Operator → Op
 op_of (operator.Control o) = Control o
 op_of (operator.Parametric o) = Parametric (parametric_of o)

@@ -13,6 +13,7 @@ use Rattle.wasm_operators_operator.specs.declared.role.Role.TheVariants.{Plain, 
 use Rattle.wasm_operators_operator.specs.declared.role.Effect.{Effect}
 use Rattle.wasm_operators_operator.specs.declared.role.Effect.TheVariants as effects
 
+-- the openers of blocks, `else` and `end` have a role of their own
 abbrev pub control_role : ControlOperator → Role
 control_role (control.Block blockty) = Opens frames.Block
 control_role (control.Loop blockty) = Opens frames.Loop
@@ -21,6 +22,7 @@ control_role control.Else = Else
 control_role control.End = End
 control_role o = Plain
 
+-- the two forms of `try`, and the clauses of the older one
 abbrev pub exception_role : ExceptionTree → Role
 exception_role (op.Try blockty) = Opens frames.LegacyTry
 exception_role (op.TryTable try_table) = Opens frames.TryTable
@@ -29,6 +31,7 @@ exception_role op.CatchAll = CatchAll
 exception_role (op.Delegate relative_depth) = Delegate
 exception_role o = Plain
 
+-- no other operator opens, turns or closes a frame
 abbrev pub role_of : Op → Role
 role_of (op.Control o) = control_role o
 role_of (op.Exception o) = exception_role o

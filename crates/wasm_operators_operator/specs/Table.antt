@@ -10,6 +10,7 @@ use Rattle.wasm_operators_vectors.specs.Table.{simd_info, simd_numeric_info}
 use Rattle.wasm_operators_operator.specs.Op as op
 use Rattle.wasm_operators_operator.specs.Op.{Op}
 
+-- the row of each operator, by the tables of the groups
 abbrev pub info_of : Op → Info
 info_of (op.Control o) = control_info o
 info_of (op.Parametric o) = parametric_info o

@@ -47,6 +47,7 @@ abbrev pub RefusesIn : List FrameKind → Standing → ErrorValue → Type 0
 RefusesIn [] s e = (e.kind ≡ Other) × (e.offset ≡ s.bytes.place)
 RefusesIn (k ∷ ks) s e = Fails e (operator s.bytes.features s.bytes) ⊎ (IsUnfit s × (e.kind ≡ Other) × (e.offset ≡ s.bytes.place + 1))
 
+-- the same, by the frames of the standing
 abbrev pub Refuses : Standing → ErrorValue → Type 0
 Refuses s e = RefusesIn s.frames s e
 

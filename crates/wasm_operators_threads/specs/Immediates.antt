@@ -8,6 +8,7 @@ use Rattle.wasm_operators_threads.specs.declared.atomic.AtomicOperator.TheVarian
 use Rattle.wasm_operators_threads.specs.declared.atomic.SharedOperator.{SharedOperator}
 use Rattle.wasm_operators_threads.specs.declared.atomic.SharedOperator.TheVariants as shared
 
+-- of accesses to memories (the proposal on threads)
 abbrev pub atomic_immediates : AtomicOperator → List Immediate
 atomic_immediates (atomic.MemoryAtomicNotify memarg) = MemoryArgument Atomic 2 memarg ∷ []
 atomic_immediates (atomic.MemoryAtomicWait32 memarg) = MemoryArgument Atomic 2 memarg ∷ []
@@ -77,6 +78,7 @@ atomic_immediates (atomic.I64AtomicRmw8CmpxchgU memarg) = MemoryArgument ReadMod
 atomic_immediates (atomic.I64AtomicRmw16CmpxchgU memarg) = MemoryArgument ReadModifyWrite 1 memarg ∷ []
 atomic_immediates (atomic.I64AtomicRmw32CmpxchgU memarg) = MemoryArgument ReadModifyWrite 2 memarg ∷ []
 
+-- of accesses to what is shared besides: globals, tables, structs and arrays (the proposal on shared everything)
 abbrev pub shared_immediates : SharedOperator → List Immediate
 shared_immediates (shared.GlobalAtomicGet ordering global_index) = MemoryOrdering ordering ∷ Index Globals global_index ∷ []
 shared_immediates (shared.GlobalAtomicSet ordering global_index) = MemoryOrdering ordering ∷ Index Globals global_index ∷ []

@@ -8,6 +8,7 @@ use Rattle.wasm_operators_vectors.specs.declared.vector.SimdOperator.TheVariants
 use Rattle.wasm_operators_vectors.specs.declared.vector_numeric.SimdNumericOperator.{SimdNumericOperator}
 use Rattle.wasm_operators_vectors.specs.declared.vector_numeric.SimdNumericOperator.TheVariants as simd_numeric
 
+-- of operators that carry something
 abbrev pub simd_info : SimdOperator → Info
 simd_info (simd.V128Load memarg) = row Simd (codes "v128.load") (Some 0xfd) 0x00
 simd_info (simd.V128Load8x8S memarg) = row Simd (codes "v128.load8x8_s") (Some 0xfd) 0x01
@@ -48,6 +49,7 @@ simd_info (simd.V128Store64Lane memarg lane) = row Simd (codes "v128.store64_lan
 simd_info (simd.V128Load32Zero memarg) = row Simd (codes "v128.load32_zero") (Some 0xfd) 0x5c
 simd_info (simd.V128Load64Zero memarg) = row Simd (codes "v128.load64_zero") (Some 0xfd) 0x5d
 
+-- of those that carry nothing
 abbrev pub simd_numeric_info : SimdNumericOperator → Info
 simd_numeric_info simd_numeric.I8x16Swizzle = row Simd (codes "i8x16.swizzle") (Some 0xfd) 0x0e
 simd_numeric_info simd_numeric.I8x16Splat = row Simd (codes "i8x16.splat") (Some 0xfd) 0x0f

@@ -19,6 +19,7 @@ continuation_keeps_list (ResumeThrow cont_type_index tag_index handlers) = true
 continuation_keeps_list (ResumeThrowRef cont_type_index handlers) = true
 continuation_keeps_list o = false
 
+-- only these three groups have operators with a list
 abbrev pub keeps_list : Op → Bool
 keeps_list (Parametric o) = parametric_keeps_list o
 keeps_list (Exception o) = exception_keeps_list o

@@ -2,6 +2,7 @@
 use Rattle.std.specs.Prelude.{Bool, true, false}
 use Rattle.wasm_operators_operator.specs.Op.{Op, Control, Parametric, Exception, Memory, Const, Numeric, Bulk, Gc, Descriptor, Simd, SimdNumeric, Atomic, Shared, Continuation}
 
+-- the two groups of vectors
 abbrev pub is_simd : Op → Bool
 is_simd (Control o) = false
 is_simd (Parametric o) = false

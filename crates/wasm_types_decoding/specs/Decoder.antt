@@ -22,9 +22,11 @@ pub data Outcome (A : Type 0) : Type 0 where
   -- what no further byte mends, and its offset
   Fault : Refusal → ℕ → Outcome A
 
+-- from where a reader stands to what it answers
 abbrev pub Decoder : Type 0 → Type 0
 Decoder A = State → Outcome A
 
+-- a value goes on with f; an end of data and a fault stay
 abbrev pub continue_with : {A B : Type 0} → Outcome A → (A → Decoder B) → Outcome B
 continue_with (Done x s) f = f x s
 continue_with (Short p h) f = Short p h
@@ -37,6 +39,7 @@ infixl 10 ◌>>=◌
 abbrev pub ◌>>=◌ : {A B : Type 0} → Decoder A → (A → Decoder B) → Decoder B
 (d >>= f) s = continue_with (d s) f
 
+-- a value of no bytes
 abbrev pub pure : {A : Type 0} → A → Decoder A
 pure x s = Done x s
 
@@ -44,10 +47,12 @@ pure x s = Done x s
 abbrev pub refuse : {A : Type 0} → Refusal → ℕ → Decoder A
 refuse k back s = Fault k (s.place - back)
 
+-- the first of these bytes, if there is one
 abbrev pub first_of_rest : List ℕ → State → Outcome ℕ
 first_of_rest [] s = Short s.place 1
 first_of_rest (b ∷ rest) s = Done b (record { rest = rest; place = s.place + 1; features = s.features; start = s.start })
 
+-- the next byte
 abbrev pub byte : Decoder ℕ
 byte s = first_of_rest s.rest s
 
@@ -92,6 +97,7 @@ GoesOn (Done x s) more after = after ≡ Done x (extended s more)
 GoesOn (Short p h) more after = (length more < h → after ≡ Short p (h - length more)) × (h ≤ length more → IsBeyond p after)
 GoesOn (Fault k p) more after = after ≡ Fault k p
 
+-- an answer is final, and a hint is exact
 abbrev pub IsSteady : {A : Type 0} → Decoder A → Type 0
 IsSteady d = (s : State) (more : List ℕ) → GoesOn (d s) more (d (extended s more))
 
@@ -101,15 +107,18 @@ GoesForward s (Done x t) = (text : List ℕ) × Takes s text t
 GoesForward s (Short p h) = (s.place ≤ p) × (0 < h)
 GoesForward s (Fault k p) = Unit {0}
 
+-- for each state
 abbrev pub IsForward : {A : Type 0} → Decoder A → Type 0
 IsForward d = (s : State) → GoesForward s (d s)
 
+-- what every decoder here is proved to be
 pub record IsLawful {A : Type 0} (d : Decoder A) : Type 0 where
   pub forward : IsForward d
   pub steady : IsSteady d
 
 -- ---- grammars
 
+-- which bytes spell a value; a grammar knows nothing of states
 abbrev pub Grammar : Type 0 → Type 1
 Grammar A = A → List ℕ → Type 0
 
@@ -147,6 +156,7 @@ ended early late t (Fault k p) = Fault k p
 abbrev pub inside : {A : Type 0} → Refusal → Refusal → ℕ → Decoder A → List ℕ → Decoder A
 inside early late n d part t = ended early late t (d (record { rest = part; place = t.place - n; features = t.features; start = t.place - n }))
 
+-- the same; where fewer than n bytes are left, that is an end of data
 unfoldable pub within : {A : Type 0} → Refusal → Refusal → ℕ → Decoder A → Decoder A
 within early late n d = bytes n >>= inside early late n d
 
@@ -155,6 +165,7 @@ abbrev pub look_first : {A : Type 0} → List ℕ → State → (ℕ → Decoder
 look_first [] s f = Short s.place 1
 look_first (b ∷ rest) s f = f b s
 
+-- f of the next byte, which is not taken
 abbrev pub look : {A : Type 0} → (ℕ → Decoder A) → Decoder A
 look f s = look_first s.rest s f
 

@@ -290,7 +290,7 @@ module _ {A : Type 0} (f : ℕ → Decoder A) (g : Grammar A) (some : (x : A) �
   pub decides-look_apart : Decides (look f) g
   decides-look_apart = record { sound = λ s t x e. ahead_sound s.rest s t x e; complete = ahead_complete }
 
--- what g says of a text that begins with this byte
+-- g, of a text that begins with this byte
 abbrev pub Begins : {A : Type 0} → ℕ → Grammar A → Grammar A
 Begins b g x [] = ⊥
 Begins b g x (c ∷ text) = (c ≡ b) × g x (c ∷ text)

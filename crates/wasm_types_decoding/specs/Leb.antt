@@ -14,9 +14,11 @@ unfoldable pub unsigned : ℕ → ℕ → Decoder ℕ
 unsigned zero r = byte >>= λ b. if nat_lt b (2 ^ r) then pure b else refuse Other 1
 unsigned (suc k) r = byte >>= λ b. if nat_lt b 128 then pure b else (unsigned k r >>= λ m. pure (128 * m + (b - 128)))
 
+-- the widths that the format has: 32 = 7 * 4 + 4 bits
 abbrev pub u32 : Decoder ℕ
 u32 = unsigned 4 4
 
+-- 64 = 7 * 9 + 1 bits
 abbrev pub u64 : Decoder ℕ
 u64 = unsigned 9 1
 
@@ -42,12 +44,15 @@ unfoldable pub signed : ℕ → ℕ → Decoder ℤ
 signed zero r = byte >>= last_bits r
 signed (suc k) r = byte >>= λ b. if nat_lt b 128 then pure (seven_bits b) else (signed k r >>= λ m. pure (pos 128 *ℤ m +ℤ pos (b - 128)))
 
+-- 32 bits with a sign
 abbrev pub s32 : Decoder ℤ
 s32 = signed 4 4
 
+-- 33 bits with a sign, as for a block type and a heap type
 abbrev pub s33 : Decoder ℤ
 s33 = signed 4 5
 
+-- 64 bits with a sign
 abbrev pub s64 : Decoder ℤ
 s64 = signed 9 1
 
@@ -55,6 +60,7 @@ s64 = signed 9 1
 unfoldable pub listed : {A : Type 0} → Decoder A → Decoder (List A)
 listed d = u32 >>= λ n. repeated n d
 
+-- list(X) ::= n:u32 (x:X)^n => x^n (binary format, conventions, lists)
 pub record IsListed {A : Type 0} (g : Grammar A) (xs : List A) (text : List ℕ) : Type 0 where
   pub count : List ℕ
   pub values : List ℕ

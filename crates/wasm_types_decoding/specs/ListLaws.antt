@@ -1,4 +1,4 @@
--- Numbers and lists with a limit are lawful, and read what their grammars say.
+-- The decoders of numbers and lists with a limit are lawful, and read exactly what their grammars spell.
 use Rattle.std.proofs.Common.{◌≡◌, ℕ, zero, suc, ◌<◌, ◌≤◌, List, [], ◌∷◌, ◌++◌, length, refl, sym, ap, ◌∙◌, subst, arith, ltb}
 use Rattle.std.specs.Prelude.{nat_lt}
 use Rattle.std.proofs.lemmas.Bool.{ltb-true, ltb-false}

@@ -23,10 +23,12 @@ listed_within limit d = size_within limit >>= λ n. repeated n d
 
 -- ---- grammars
 
+-- a number of 32 bits that is at most limit
 pub record IsSizeWithin (limit n : ℕ) (text : List ℕ) : Type 0 where
   pub number : IsUnsigned 32 n text
   pub within : n ≤ limit
 
+-- a list of at most limit values (appendix, implementation limitations)
 pub record IsListedWithin {A : Type 0} (limit : ℕ) (g : Grammar A) (xs : List A) (text : List ℕ) : Type 0 where
   pub listed : IsListed g xs text
   pub within : length xs ≤ limit

@@ -1,4 +1,4 @@
--- The reader of signed numbers is lawful, and reads what the specification says.
+-- The decoder of signed numbers is lawful, and reads exactly what the specification's productions spell.
 use Rattle.std.proofs.Common.{◌≡◌, ℕ, zero, suc, ◌+◌, ◌-◌, ◌*◌, ◌^◌, ◌<◌, ◌≤◌, List, [], ◌∷◌, refl, arith, ltb, cond, Bool, true, false, ◌⊎◌, inl, inr}
 use Rattle.std.specs.Prelude.{nat_lt, ℤ, pos, ◌+ℤ◌, ◌-ℤ◌, ◌*ℤ◌}
 use Rattle.std.proofs.lemmas.Bool.{ltb-true, ltb-false}

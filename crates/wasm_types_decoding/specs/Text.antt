@@ -18,6 +18,7 @@ pub record IsWord (n v : ℕ) (text : List ℕ) : Type 0 where
   pub count : length text ≡ n
   pub value : v ≡ little_endian text
 
+-- the next n bytes as such a number
 unfoldable pub word : ℕ → Decoder ℕ
 word n = bytes n >>= λ text. pure (little_endian text)
 
@@ -51,9 +52,11 @@ pub record IsName (limit : ℕ) (content text : List ℕ) : Type 0 where
   pub name : IsAnyName content text
   pub within : length content ≤ limit
 
+-- a name of any length
 unfoldable pub any_name : Decoder (List ℕ)
 any_name = u32 >>= text_of
 
+-- a name of at most limit bytes
 abbrev pub name : ℕ → Decoder (List ℕ)
 name limit = counted_within limit text_of
 

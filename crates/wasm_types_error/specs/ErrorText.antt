@@ -31,6 +31,7 @@ kind_number OutOfMemory = 3
 kind_number Failed = 4
 kind_number Other = 5
 
+-- the hint of an end of data; no other kind has one
 abbrev pub hint_of : ErrorKind → Option ℕ
 hint_of (EndOfData h) = Some h
 hint_of (MissingFeature f) = None
@@ -38,6 +39,7 @@ hint_of OutOfMemory = None
 hint_of Failed = None
 hint_of Other = None
 
+-- the features that are missing; no other kind has any
 abbrev pub feature_of : ErrorKind → Option WasmFeatures
 feature_of (EndOfData h) = None
 feature_of (MissingFeature f) = Some f

@@ -25,7 +25,7 @@ wasm2 = wasm1 ++ MultiValue ∷ SignExtension ∷ SaturatingFloatToInt ∷ BulkM
 abbrev pub wasm3 : List Feature
 wasm3 = wasm2 ++ TailCall ∷ ExtendedConst ∷ FunctionReferences ∷ Gc ∷ MultiMemory ∷ RelaxedSimd ∷ Threads ∷ Exceptions ∷ Memory64 ∷ []
 
--- what is allowed where nothing else is said
+-- what is allowed by default
 abbrev pub default_features : List Feature
 default_features = wasm3 ++ ComponentModel ∷ []
 

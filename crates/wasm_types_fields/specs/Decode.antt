@@ -10,18 +10,23 @@ use Rattle.wasm_types_values.specs.DecodeValues.{value_type, storage_type}
 use Rattle.wasm_types_fields.specs.declared.field.FieldType.{FieldType}
 use Rattle.wasm_types_fields.specs.Spells.{Signature}
 
+-- whether a field is mutable, by its byte
 abbrev pub mutabilities : List (ℕ × Decoder Bool)
 mutabilities = (0x00, pure false) ∷ (0x01, pure true) ∷ []
 
+-- one of these bytes
 unfoldable pub mutability : Decoder Bool
 mutability = byte >>= choice mutabilities (refuse Other 1)
 
+-- a storage type, and then the mutability
 unfoldable pub field_type : Decoder FieldType
 field_type = storage_type >>= λ s. mutability >>= λ m. pure (record { element_type = s; mutable = m })
 
+-- the fields of a struct, 10,000 at most
 unfoldable pub fields : Decoder (List FieldType)
 fields = listed_within 10000 field_type
 
+-- parameters and results, a thousand of each at most
 unfoldable pub signature : Decoder Signature
 signature = listed_within 1000 value_type >>= λ ps. listed_within 1000 value_type >>= λ rs. pure (record { params = ps; results = rs })
 
@@ -29,5 +34,6 @@ signature = listed_within 1000 value_type >>= λ ps. listed_within 1000 value_ty
 abbrev pub index_from : ℕ → ℕ → Decoder UnpackedIndex
 index_from place n = if nat_lt n 0x10_0000 then pure (Module n) else refuse_at Other place
 
+-- a type of the module, below 2^20
 unfoldable pub module_index : Decoder UnpackedIndex
 module_index s = (u32 >>= index_from s.place) s

@@ -11,12 +11,15 @@ use Rattle.wasm_types_fields.specs.declared.field.StructType.{StructType}
 use Rattle.wasm_types_fields.specs.declared.func.FuncType.{FuncType}
 use Rattle.wasm_types_fields.specs.declared.cont.ContType.{ContType}
 
+-- a field as a tree
 abbrev pub field_of : FieldType → FieldOf UnpackedIndex
 field_of x = record { storage = storage_of x.element_type; mutable = x.mutable }
 
+-- an array as a tree
 abbrev pub array_tree : ArrayType → InnerOf UnpackedIndex
 array_tree a = tree.array_of (field_of a.0)
 
+-- a struct as a tree
 abbrev pub struct_tree : StructType → InnerOf UnpackedIndex
 struct_tree s = tree.struct_of (map field_of s.fields.items)
 
@@ -24,8 +27,10 @@ struct_tree s = tree.struct_of (map field_of s.fields.items)
 abbrev pub signature_tree : List ValType → List ValType → InnerOf UnpackedIndex
 signature_tree params results = tree.function (map value_of params) (map value_of results)
 
+-- a function type as a tree
 abbrev pub function_tree : FuncType → InnerOf UnpackedIndex
 function_tree f = signature_tree f.params.items f.results.items
 
+-- a continuation as a tree
 abbrev pub continuation_tree : ContType → InnerOf UnpackedIndex
 continuation_tree c = tree.continuation c.0

@@ -13,6 +13,7 @@ abbrev pub IsMutability : Grammar Bool
 IsMutability false text = text ≡ 0x00 ∷ []
 IsMutability true text = text ≡ 0x01 ∷ []
 
+-- st:storagetype mut:mut => mut st
 pub record SpelledField (x : FieldType) (text : List ℕ) : Type 0 where
   pub storage : List ℕ
   pub mutability : List ℕ

@@ -8,9 +8,11 @@ use Rattle.wasm_types_fields.specs.declared.field.FieldType.{FieldType}
 use Rattle.wasm_types_fields.specs.declared.field.ArrayType.{ArrayType}
 use Rattle.wasm_types_fields.specs.declared.cont.ContType.{ContType}
 
+-- a field, mutable or not
 abbrev pub field_text : FieldType → List ℕ
 field_text x = if x.mutable then codes "(mut " ++ storage_text x.element_type ++ codes ")" else storage_text x.element_type
 
+-- an array by its element
 abbrev pub array_text : ArrayType → List ℕ
 array_text a = codes "(array " ++ field_text a.0 ++ codes ")"
 
@@ -35,5 +37,6 @@ types_text word (v ∷ vs) = codes " (" ++ word ++ flat_map spaced_text (v ∷ v
 abbrev pub func_text : List ValType → List ValType → List ℕ
 func_text params results = codes "(func" ++ types_text (codes "param") params ++ types_text (codes "result") results ++ codes ")"
 
+-- a continuation by the index of its function type
 abbrev pub cont_text : ContType → List ℕ
 cont_text c = codes "(cont " ++ index_text c.0 ++ codes ")"

@@ -16,5 +16,6 @@ places = listed_within 1000000 (place_of sub_type)
 abbrev pub places_after : ℕ → ℕ → Decoder (List ℕ)
 places_after place b = if b == 0x4e then places else (sub_after b >>= λ x. pure (place ∷ []))
 
+-- of each type of a group, from the group's first byte on
 unfoldable pub group_places : Decoder (List ℕ)
 group_places s = (byte >>= places_after s.place) s

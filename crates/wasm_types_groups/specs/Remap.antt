@@ -9,6 +9,7 @@ use Rattle.wasm_types_groups.specs.Rows.{DeclaredOf}
 abbrev pub list_shape : {R : Type 0} → List R → List (Unit {0})
 list_shape is = map (λ i. tt) is
 
+-- the index that may be absent
 abbrev pub option_indices : {R : Type 0} → Option R → List R
 option_indices None = []
 option_indices (Some i) = i ∷ []
@@ -17,12 +18,15 @@ option_indices (Some i) = i ∷ []
 abbrev pub row_indices : {R : Type 0} → RowOf R → List R
 row_indices x = inner_indices x.inner ++ (option_indices x.descriptor ++ option_indices x.describes)
 
+-- of a row, with nothing where an index stands
 abbrev pub row_shape : {R : Type 0} → RowOf R → RowOf (Unit {0})
 row_shape = row_map (λ i. tt)
 
+-- of what a subtype declares: its supertypes first
 abbrev pub declared_indices : {R : Type 0} → DeclaredOf R → List R
 declared_indices d = d.supertypes ++ row_indices d.row
 
+-- the shape of what a subtype declares
 abbrev pub declared_shape : {R : Type 0} → DeclaredOf R → DeclaredOf (Unit {0})
 declared_shape d = record { supertypes = list_shape d.supertypes; row = row_shape d.row }
 
@@ -33,6 +37,7 @@ IsOptionAnswered answers None (Some j) = ⊥
 IsOptionAnswered answers (Some i) None = ⊥
 IsOptionAnswered answers (Some i) (Some j) = answers i (Ok j)
 
+-- an index that may be absent is answered, or it is refused
 abbrev pub OptionRemapped : {R E : Type 0} → (R → Result R E → Type 0) → Result (Option R) E → Option R → Type 0
 OptionRemapped {R = R} answers result index = MatchResult result (IsOptionAnswered answers index) (λ e. (i : R) × (index ≡ Some i) × answers i (Err e))
 

@@ -11,6 +11,7 @@ use Rattle.wasm_types_groups.specs.Rows.{first_of, Declared}
 
 -- ---- composite types
 
+-- fieldtype: the storage type, and then the mutability
 pub record SpellsField (x : FieldOf UnpackedIndex) (text : List ℕ) : Type 0 where
   pub storage : List ℕ
   pub mutability : List ℕ
@@ -37,6 +38,7 @@ SpellsInner (tree.array_of x) text = Follows 0x5e (SpellsField x) text
 SpellsInner (tree.struct_of xs) text = Follows 0x5f (IsListedWithin 10000 SpellsField xs) text
 SpellsInner (tree.continuation i) text = Follows 0x5d (SpellsExactIndex i) text
 
+-- the mark of a shared type, or nothing (the proposal on shared everything)
 abbrev pub SpellsShared : Bool → List ℕ → Type 0
 SpellsShared true text = text ≡ 0x65 ∷ []
 SpellsShared false text = text ≡ []
@@ -58,11 +60,13 @@ pub record SpellsParts (s : Bool) (e d : Option UnpackedIndex) (x : InnerOf Unpa
   pub itself : SpellsInner x inner
   pub whole : text ≡ shared ++ (describes ++ (descriptor ++ inner))
 
+-- comptype with what may stand before it (binary format, types, composite types)
 abbrev pub SpellsComposite : RowOf UnpackedIndex → List ℕ → Type 0
 SpellsComposite x text = SpellsParts x.shared x.describes x.descriptor x.inner text
 
 -- ---- subtypes and groups
 
+-- the byte of a subtype that is written in full, final (true) or open
 abbrev pub final_byte : Bool → ℕ
 final_byte true = 0x4f
 final_byte false = 0x50
@@ -83,6 +87,7 @@ pub record SpellsShort (x : Declared) (text : List ℕ) : Type 0 where
   pub none : x.row.supertype ≡ None
   pub itself : SpellsComposite x.row text
 
+-- subtype: the short form or the full one (binary format, types, recursive types)
 abbrev pub SpellsSub : Declared → List ℕ → Type 0
 SpellsSub x text = SpellsShort x text ⊎ SpellsLong x text
 

@@ -22,32 +22,38 @@ use Rattle.wasm_types_fields.specs.Spells.{SpelledField, SpelledFields, Signatur
 
 -- ---- the values
 
+-- a composite type by its constructor, with lists for what lies in memory
 pub data InnerValue : Type 0 where
   function : Signature → InnerValue
   array_of : FieldType → InnerValue
   struct_of : List FieldType → InnerValue
   continuation : UnpackedIndex → InnerValue
 
+-- a composite type with what may stand before it
 pub record CompositeValue : Type 0 where
   pub inner : InnerValue
   pub shared : Bool
   pub descriptor : Option UnpackedIndex
   pub describes : Option UnpackedIndex
 
+-- a subtype
 pub record SubValue : Type 0 where
   pub is_final : Bool
   pub supertypes : List UnpackedIndex
   pub composite : CompositeValue
 
+-- the values of what the code holds
 abbrev pub inner_value : CompositeInnerType → InnerValue
 inner_value (Func f) = function (record { params = f.params.items; results = f.results.items })
 inner_value (Array a) = array_of a.0
 inner_value (Struct s) = struct_of s.fields.items
 inner_value (Cont c) = continuation c.0
 
+-- the same of a composite type
 abbrev pub composite_value : CompositeType → CompositeValue
 composite_value t = record { inner = inner_value t.inner; shared = t.shared; descriptor = t.descriptor_idx; describes = t.describes_idx }
 
+-- the same of a subtype
 abbrev pub sub_value : SubType → SubValue
 sub_value t = record { is_final = t.is_final; supertypes = t.supertype_idxs.items; composite = composite_value t.composite_type }
 
@@ -58,6 +64,7 @@ inner_tree (array_of x) = tree.array_of (field_of x)
 inner_tree (struct_of xs) = tree.struct_of (map field_of xs)
 inner_tree (continuation i) = tree.continuation i
 
+-- the same of a subtype, with all the supertypes that it names
 abbrev pub declared_by : SubValue → Declared
 declared_by x = record {
   supertypes = x.supertypes;
@@ -73,6 +80,7 @@ declared_by x = record {
 
 -- ---- composite types
 
+-- a composite type by its first byte (binary format, types, composite types)
 abbrev pub SpelledInner : Grammar InnerValue
 SpelledInner (function f) text = (rest : List ℕ) × (text ≡ 0x60 ∷ rest) × SpelledSignature f rest
 SpelledInner (array_of x) text = (rest : List ℕ) × (text ≡ 0x5e ∷ rest) × SpelledField x rest
@@ -101,12 +109,15 @@ abbrev pub marked : Bool → Option (Unit {0})
 marked true = Some tt
 marked false = None
 
+-- a composite type of its parts
 abbrev pub composite_with : Option (Unit {0}) → Option UnpackedIndex → Option UnpackedIndex → InnerValue → CompositeValue
 composite_with s e d x = record { inner = x; shared = is_some s; descriptor = d; describes = e }
 
+-- its descriptor, if it has one, and the type itself
 abbrev pub SpelledDescriptor : Option (Unit {0}) → Option UnpackedIndex → Grammar CompositeValue
 SpelledDescriptor s e = Optionally 0x4d SpelledIndex (λ d. Mapped (composite_with s e d) SpelledInner)
 
+-- the type that it describes, if it describes one, and what follows
 abbrev pub SpelledDescribes : Option (Unit {0}) → Grammar CompositeValue
 SpelledDescribes s = Optionally 0x4c SpelledIndex (SpelledDescriptor s)
 
@@ -116,6 +127,7 @@ SpelledComposite = Optionally 0x65 Nothing SpelledDescribes
 
 -- ---- subtypes
 
+-- a subtype of its parts
 abbrev pub sub_with : Bool → List UnpackedIndex → CompositeValue → SubValue
 sub_with f sups c = record { is_final = f; supertypes = sups; composite = c }
 
@@ -133,13 +145,16 @@ SpelledSub x text = Mapped (sub_with true []) SpelledComposite x text ⊎ Spelle
 
 -- ---- groups
 
+-- whether a group is written as one, and its subtypes
 pub record GroupValue : Type 0 where
   pub is_explicit : Bool
   pub types : List SubValue
 
+-- the value of a group that the code holds
 abbrev pub group_value : RecGroup → GroupValue
 group_value g = record { is_explicit = g.is_explicit; types = map sub_value g.types.items }
 
+-- a group of its parts
 abbrev pub group_with : Bool → List SubValue → GroupValue
 group_with e xs = record { is_explicit = e; types = xs }
 

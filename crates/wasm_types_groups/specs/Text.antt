@@ -10,6 +10,7 @@ use Rattle.wasm_types_groups.specs.declared.composite.CompositeInnerType.TheVari
 use Rattle.wasm_types_groups.specs.declared.composite.CompositeType.{CompositeType}
 use Rattle.wasm_types_groups.specs.declared.sub_type.SubType.{SubType}
 
+-- a composite type without what may stand before it
 abbrev pub inner_text : CompositeInnerType → List ℕ
 inner_text (Func f) = func_text f.params.items f.results.items
 inner_text (Array a) = array_text a
@@ -25,10 +26,12 @@ prefix_text word (Some i) = codes "(" ++ word ++ codes " " ++ index_text i ++ co
 abbrev pub described_text : CompositeType → List ℕ
 described_text t = prefix_text (codes "describes") t.describes_idx ++ prefix_text (codes "descriptor") t.descriptor_idx ++ inner_text t.inner
 
+-- a shared type (true) in parentheses of its own
 abbrev pub shared_text : Bool → List ℕ → List ℕ
 shared_text true text = codes "(shared " ++ text ++ codes ")"
 shared_text false text = text
 
+-- a composite type with what may stand before it
 abbrev pub composite_text : CompositeType → List ℕ
 composite_text t = shared_text t.shared (described_text t)
 
@@ -42,5 +45,6 @@ declared_text true [] text = text
 declared_text true (i ∷ is) text = codes "(sub final " ++ flat_map supertype_text (i ∷ is) ++ text ++ codes ")"
 declared_text false is text = codes "(sub " ++ flat_map supertype_text is ++ text ++ codes ")"
 
+-- a subtype: in full, or a composite type alone
 abbrev pub sub_text : SubType → List ℕ
 sub_text t = declared_text t.is_final t.supertype_idxs.items (composite_text t.composite_type)

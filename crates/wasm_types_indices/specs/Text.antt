@@ -4,6 +4,7 @@ use Rattle.std.specs.Fmt.{decimal}
 use Rattle.wasm_types_indices.specs.declared.index.UnpackedIndex.{UnpackedIndex}
 use Rattle.wasm_types_indices.specs.declared.index.UnpackedIndex.TheVariants.{Module, RecGroup, Id}
 
+-- an index as `Display` writes it
 abbrev pub index_text : UnpackedIndex → List ℕ
 index_text (Module n) = codes "(module " ++ decimal n ++ codes ")"
 index_text (RecGroup n) = codes "(recgroup " ++ decimal n ++ codes ")"

@@ -107,7 +107,7 @@ impl PackedIndex {
         PackedIndex { bits }
     }
 
-    /// Whether it is an identity or an index in a group, and so names the same type in every module.
+    /// Whether it is an identity or an index in a group, and so means the same in every module.
     pub const fn is_canonical(&self) -> bool
         ensures { result ≡ is_canonical_index self.now }
     {

@@ -34,6 +34,7 @@ abbrev pub flaw_kind : Flaw → ErrorKind
 flaw_kind (Ended place) = EndOfData 1
 flaw_kind (NoRoom place b) = Other
 
+-- the offset that shows a flaw
 abbrev pub flaw_place : Flaw → ℕ
 flaw_place (Ended place) = place
 flaw_place (NoRoom place b) = place

@@ -14,6 +14,7 @@ FailsAt OutOfMemory p o = Unit {0}
 FailsAt Failed p o = ⊥
 FailsAt Other p o = o ≡ Fault refusals.Other p
 
+-- this error is the outcome
 abbrev pub Fails : {Y : Type 0} → ErrorValue → Outcome Y → Type 0
 Fails e o = FailsAt e.kind e.offset o
 

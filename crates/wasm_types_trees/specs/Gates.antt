@@ -8,6 +8,7 @@ use Rattle.wasm_types_trees.specs.Rows.{Number, i32, i64, f32, f64, v128, Abstra
 abbrev pub Has : ℕ → Feature → Type 0
 Has bits f = IsTrue (has f bits)
 
+-- what a number type or the vector type needs; floats and vectors are features of their own
 abbrev pub NumberIsAllowed : ℕ → Number → Type 0
 NumberIsAllowed bits i32 = Unit {0}
 NumberIsAllowed bits i64 = Unit {0}
@@ -33,12 +34,14 @@ AbstractIsAllowed bits n cont = Has bits StackSwitching
 AbstractIsAllowed bits n nocont = Has bits StackSwitching
 AbstractIsAllowed bits n _ = Has bits Gc
 
+-- what a heap type needs; a defined type needs function references or garbage collection
 abbrev pub HeapIsAllowed : {R : Type 0} → ℕ → Bool → HeapOf R → Type 0
 HeapIsAllowed bits n (abstract s a) =
     (IsTrue s → Has bits SharedEverythingThreads) × CollectorIsAllowed bits a × AbstractIsAllowed bits n a
 HeapIsAllowed bits n (concrete r) = Has bits FunctionReferences ⊎ Has bits Gc
 HeapIsAllowed bits n (exact r) = Has bits CustomDescriptors
 
+-- what a value type needs
 abbrev pub ValueIsAllowed : {R : Type 0} → ℕ → ValueOf R → Type 0
 ValueIsAllowed bits (number n) = NumberIsAllowed bits n
 ValueIsAllowed bits (ref n h) = Has bits ReferenceTypes × HeapIsAllowed bits n h

@@ -21,6 +21,7 @@ pub record Written : Type 0 where
 abbrev pub max_supertypes : ℕ
 max_supertypes = 1
 
+-- a subtype declares no more of them
 abbrev pub IsWithinSupertypes : SubtypeOf ℕ → Type 0
 IsWithinSupertypes x = length x.supertypes ≤ max_supertypes
 
@@ -72,27 +73,33 @@ AreWellReferenced bits start end own (x ∷ xs) = IsWellReferenced bits start en
 abbrev pub IsValidPart : ℕ → Bool → ValueOf TypeTree → Type 0
 IsValidPart bits s v = ValueIsAllowed bits v × (IsTrue s → IsTrue (value_is_shared v))
 
+-- the same of each value type of a list
 abbrev pub AreValidParts : ℕ → Bool → List (ValueOf TypeTree) → Type 0
 AreValidParts bits s [] = Unit {0}
 AreValidParts bits s (v ∷ vs) = IsValidPart bits s v × AreValidParts bits s vs
 
+-- a packed type is always valid, a value type as a part
 abbrev pub IsValidStorage : ℕ → Bool → StorageOf TypeTree → Type 0
 IsValidStorage bits s i8 = Unit {0}
 IsValidStorage bits s i16 = Unit {0}
 IsValidStorage bits s (value v) = IsValidPart bits s v
 
+-- the same of each field
 abbrev pub AreValidFields : ℕ → Bool → List (FieldOf TypeTree) → Type 0
 AreValidFields bits s [] = Unit {0}
 AreValidFields bits s (x ∷ xs) = IsValidStorage bits s x.storage × AreValidFields bits s xs
 
+-- a continuation is made of a function type alone (the proposal on stack switching)
 abbrev pub IsFunction : InnerOf TypeTree → Type 0
 IsFunction (function ps rs) = Unit {0}
 IsFunction _ = ⊥
 
+-- what a type with a descriptor has to be
 abbrev pub IsStruct : InnerOf TypeTree → Type 0
 IsStruct (struct_of xs) = Unit {0}
 IsStruct _ = ⊥
 
+-- a composite type by its constructor, with the features that it needs; several results need one of their own
 abbrev pub IsValidInner : ℕ → Bool → InnerOf TypeTree → Type 0
 IsValidInner bits s (function ps rs) =
     AreValidParts bits s ps × AreValidParts bits s rs × (1 < length rs → Has bits MultiValue)
@@ -100,11 +107,13 @@ IsValidInner bits s (array_of x) = Has bits Gc × Has bits GcTypes × IsValidSto
 IsValidInner bits s (struct_of xs) = Has bits Gc × Has bits GcTypes × AreValidFields bits s xs
 IsValidInner bits s (continuation f) = Has bits StackSwitching × Has bits GcTypes × IsFunction (expanded f)
 
+-- a composite type, shared or not
 abbrev pub IsValidComposite : ℕ → RowOf TypeTree → Type 0
 IsValidComposite bits x = (IsTrue x.shared → Has bits SharedEverythingThreads) × IsValidInner bits x.shared x.inner
 
 -- ---- a subtype (validation, types, sub types)
 
+-- there is one
 abbrev pub IsSome : Option TypeTree → Type 0
 IsSome None = ⊥
 IsSome (Some t) = Unit {0}
@@ -138,6 +147,7 @@ GoAlong (Some d) (Some e) = supertype d ≡ Some e
 GoAlong None (Some e) = ⊥
 GoAlong (Some d) None = ⊥
 
+-- the descriptor of a subtype goes along with that of its supertype, and so does what the two describe
 abbrev pub DescriptorsGoAlong : RowOf TypeTree → Option TypeTree → Type 0
 DescriptorsGoAlong x None = Unit {0}
 DescriptorsGoAlong x (Some u) = GoAlong x.descriptor (opened u).descriptor × GoAlong x.describes (opened u).describes
@@ -169,6 +179,7 @@ pub record IsValidType (bits : ℕ) (t : TypeTree) : Type 0 where
   pub described : IsDescribedBy t (opened t).descriptor
   pub describes : Describes t (opened t).describes
 
+-- the same of each type of a list
 abbrev pub AreValidTypes : ℕ → List TypeTree → Type 0
 AreValidTypes bits [] = Unit {0}
 AreValidTypes bits (t ∷ ts) = IsValidType bits t × AreValidTypes bits ts

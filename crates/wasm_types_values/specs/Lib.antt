@@ -1,4 +1,4 @@
--- Rules: types as what they say, as plain trees, which bytes spell them, how they are written, ordered and remapped.
+-- Rules: types as what they mean and as plain trees, which bytes spell them, how they are written, ordered and remapped.
 pub mod Reference
 pub mod Kinds
 pub mod ValueKinds

@@ -30,15 +30,18 @@ pub record Remapped {T S R E U : Type 0} (shape : T → S) (indices : T → List
 
 -- ---- the indices of types, in order
 
+-- of a heap type: one at most
 abbrev pub heap_indices : {R : Type 0} → HeapOf R → List R
 heap_indices (tree.abstract s a) = []
 heap_indices (tree.concrete i) = i ∷ []
 heap_indices (tree.exact i) = i ∷ []
 
+-- of a value type
 abbrev pub value_indices : {R : Type 0} → ValueOf R → List R
 value_indices (tree.number n) = []
 value_indices (tree.ref b h) = heap_indices h
 
+-- of a storage type
 abbrev pub storage_indices : {R : Type 0} → StorageOf R → List R
 storage_indices tree.i8 = []
 storage_indices tree.i16 = []
@@ -46,8 +49,10 @@ storage_indices (tree.value v) = value_indices v
 
 -- ---- their shapes
 
+-- a value type with nothing where an index stands
 abbrev pub value_shape : {R : Type 0} → ValueOf R → ValueOf (Unit {0})
 value_shape = value_map (λ i. tt)
 
+-- a storage type with nothing where an index stands
 abbrev pub storage_shape : {R : Type 0} → StorageOf R → StorageOf (Unit {0})
 storage_shape = storage_map (λ i. tt)

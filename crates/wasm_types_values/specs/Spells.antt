@@ -6,6 +6,7 @@ use Rattle.wasm_types_indices.specs.declared.index.UnpackedIndex.TheVariants.{Mo
 use Rattle.wasm_types_trees.specs.Rows as tree
 use Rattle.wasm_types_trees.specs.Rows.{Number, Abstract, HeapOf, ValueOf, StorageOf}
 
+-- numtype and vectype: a byte each (binary format, types, number types and vector types)
 abbrev pub number_byte : Number → ℕ
 number_byte tree.i32 = 0x7f
 number_byte tree.i64 = 0x7e
@@ -13,6 +14,7 @@ number_byte tree.f32 = 0x7d
 number_byte tree.f64 = 0x7c
 number_byte tree.v128 = 0x7b
 
+-- absheaptype: a byte each (binary format, types, heap types)
 abbrev pub abstract_byte : Abstract → ℕ
 abstract_byte tree.cont = 0x68
 abstract_byte tree.exn = 0x69
@@ -41,12 +43,14 @@ SpellsExactIndex (Module n) text = IsUnsigned 32 n text × (n < 2 ^ 20)
 SpellsExactIndex (RecGroup n) text = ⊥
 SpellsExactIndex (Id i) text = ⊥
 
+-- heaptype (binary format, types, heap types): a shared type and an exact one each behind a mark, by their proposals
 abbrev pub SpellsHeap : HeapOf UnpackedIndex → List ℕ → Type 0
 SpellsHeap (tree.abstract false a) text = text ≡ abstract_byte a ∷ []
 SpellsHeap (tree.abstract true a) text = text ≡ 0x65 ∷ abstract_byte a ∷ []
 SpellsHeap (tree.concrete i) text = SpellsIndex i text
 SpellsHeap (tree.exact i) text = (rest : List ℕ) × (text ≡ 0x62 ∷ rest) × SpellsExactIndex i rest
 
+-- the byte before a heap type that makes it a reference, nullable (true) or not (binary format, types, reference types)
 abbrev pub null_byte : Bool → ℕ
 null_byte true = 0x63
 null_byte false = 0x64
@@ -58,16 +62,20 @@ IsShort true (tree.concrete i) text = ⊥
 IsShort true (tree.exact i) text = ⊥
 IsShort false h text = ⊥
 
+-- that byte, and the heap type
 abbrev pub IsLong : Bool → HeapOf UnpackedIndex → List ℕ → Type 0
 IsLong b h text = (rest : List ℕ) × (text ≡ null_byte b ∷ rest) × SpellsHeap h rest
 
+-- reftype: the long form or the short one (binary format, types, reference types)
 abbrev pub SpellsReference : Bool → HeapOf UnpackedIndex → List ℕ → Type 0
 SpellsReference b h text = IsLong b h text ⊎ IsShort b h text
 
+-- valtype (binary format, types, value types)
 abbrev pub SpellsValue : ValueOf UnpackedIndex → List ℕ → Type 0
 SpellsValue (tree.number n) text = text ≡ number_byte n ∷ []
 SpellsValue (tree.ref b h) text = SpellsReference b h text
 
+-- storagetype: a packed type or a value type
 abbrev pub SpellsStorage : StorageOf UnpackedIndex → List ℕ → Type 0
 SpellsStorage tree.i8 text = text ≡ 0x78 ∷ []
 SpellsStorage tree.i16 text = text ≡ 0x77 ∷ []

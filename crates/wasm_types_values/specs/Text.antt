@@ -7,6 +7,7 @@ use Rattle.wasm_types_values.specs.declared.heap.HeapType.{HeapType}
 use Rattle.wasm_types_values.specs.declared.heap.HeapType.TheVariants.{Abstract, Concrete, Exact}
 use Rattle.wasm_types_values.specs.Reference.{Reference}
 
+-- the name of an abstract type (text format, types, heap types)
 abbrev pub name_text : AbstractHeapType → List ℕ
 name_text heap.Func = codes "func"
 name_text heap.Extern = codes "extern"
@@ -40,15 +41,19 @@ short_text heap.NoExn = codes "nullexnref"
 short_text heap.Cont = codes "contref"
 short_text heap.NoCont = codes "nullcontref"
 
+-- a reference to it that may not be null
 abbrev pub non_null_text : AbstractHeapType → List ℕ
 non_null_text ty = codes "(ref " ++ name_text ty ++ codes ")"
 
+-- the same of a shared type
 abbrev pub shared_text : AbstractHeapType → List ℕ
 shared_text ty = codes "(ref (shared " ++ name_text ty ++ codes "))"
 
+-- a nullable reference to a shared type
 abbrev pub shared_null_text : AbstractHeapType → List ℕ
 shared_null_text ty = codes "(ref null (shared " ++ name_text ty ++ codes "))"
 
+-- nullable (true) or not, shared (true) or not
 abbrev pub abstract_text : Bool → Bool → AbstractHeapType → List ℕ
 abstract_text true false ty = short_text ty
 abstract_text false false ty = non_null_text ty
@@ -60,6 +65,7 @@ abbrev pub to_text : Bool → List ℕ → List ℕ
 to_text true word = codes "(ref null " ++ word ++ codes ")"
 to_text false word = codes "(ref " ++ word ++ codes ")"
 
+-- the same of an exact type, nullable (true) or not
 abbrev pub exact_text : Bool → List ℕ → List ℕ
 exact_text true word = codes "(ref null (exact " ++ word ++ codes "))"
 exact_text false word = codes "(ref (exact " ++ word ++ codes "))"
@@ -70,6 +76,7 @@ wat_of nullable (Abstract shared ty) = abstract_text nullable shared ty
 wat_of nullable (Concrete i) = to_text nullable (codes "$type")
 wat_of nullable (Exact i) = exact_text nullable (codes "$type")
 
+-- a reference with the same word for each index
 abbrev pub wat_text : Reference → List ℕ
 wat_text r = wat_of r.nullable r.heap
 
@@ -79,5 +86,6 @@ text_of nullable (Abstract shared ty) = abstract_text nullable shared ty
 text_of nullable (Concrete i) = to_text nullable (index_text i)
 text_of nullable (Exact i) = exact_text nullable (index_text i)
 
+-- a reference with its index, as `Display` writes it
 abbrev pub reference_text : Reference → List ℕ
 reference_text r = text_of r.nullable r.heap

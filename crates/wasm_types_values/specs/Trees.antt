@@ -7,6 +7,7 @@ use Rattle.wasm_types_values.specs.declared.heap.AbstractHeapType.TheVariants as
 use Rattle.wasm_types_values.specs.declared.heap.HeapType.{HeapType}
 use Rattle.wasm_types_values.specs.declared.heap.HeapType.TheVariants.{Abstract as AbstractType, Concrete, Exact}
 
+-- an abstract type as a tree
 abbrev pub abstract_of : AbstractHeapType → Abstract
 abstract_of heap.Func = tree.func
 abstract_of heap.Extern = tree.extern
@@ -23,6 +24,7 @@ abstract_of heap.NoExn = tree.noexn
 abstract_of heap.Cont = tree.cont
 abstract_of heap.NoCont = tree.nocont
 
+-- a heap type as a tree
 abbrev pub heap_of : HeapType → HeapOf UnpackedIndex
 heap_of (AbstractType shared ty) = tree.abstract shared (abstract_of ty)
 heap_of (Concrete i) = tree.concrete i

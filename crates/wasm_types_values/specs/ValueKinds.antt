@@ -6,6 +6,7 @@ use Rattle.wasm_types_values.specs.declared.value.StorageType.{StorageType}
 use Rattle.wasm_types_values.specs.declared.value.StorageType.TheVariants.{I8, I16, Val}
 use Rattle.wasm_types_values.specs.Reference.{Reference}
 
+-- whether it is a reference type
 abbrev pub is_reference : ValType → Bool
 is_reference I32 = false
 is_reference I64 = false
@@ -14,6 +15,7 @@ is_reference F64 = false
 is_reference V128 = false
 is_reference (Ref r) = true
 
+-- the reference type, if it is one
 abbrev pub reference_in : ValType → Option Reference
 reference_in I32 = None
 reference_in I64 = None
@@ -22,6 +24,7 @@ reference_in F64 = None
 reference_in V128 = None
 reference_in (Ref r) = Some r
 
+-- whether it has a default value: all but references that may not be null (validation, types)
 abbrev pub is_defaultable_type : ValType → Bool
 is_defaultable_type I32 = true
 is_defaultable_type I64 = true
@@ -30,11 +33,13 @@ is_defaultable_type F64 = true
 is_defaultable_type V128 = true
 is_defaultable_type (Ref r) = r.nullable
 
+-- whether it is a packed type (structure, aggregate types)
 abbrev pub is_packed_type : StorageType → Bool
 is_packed_type I8 = true
 is_packed_type I16 = true
 is_packed_type (Val v) = false
 
+-- the value type of what is stored (structure, aggregate types)
 abbrev pub unpacked_type : StorageType → ValType
 unpacked_type I8 = I32
 unpacked_type I16 = I32

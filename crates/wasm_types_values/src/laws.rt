@@ -28,7 +28,7 @@ pub const fn equality_is_identity()
     ensures storage { StorageEqualityIsIdentity }
 {}
 
-/// A reference type is made of what it says.
+/// A reference type is determined by what it means.
 pub const fn made_again(ty: RefType) -> Option<RefType>
     ensures { result ≡ Some ty }
 {

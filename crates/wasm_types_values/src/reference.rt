@@ -177,7 +177,7 @@ impl RefType {
         bits: AbstractCode::NoCont as u32,
     };
 
-    /// The reference type that says this. There is none where the number of an index is not below 2^20.
+    /// The reference type that means this. There is none where the number of an index is not below 2^20.
     pub const fn new(nullable: bool, heap_type: HeapType) -> Option<Self>
         ensures fits { IsSome result ↔ Fits heap_type }
         ensures value { IfSome result (λ r. r ≡ record { nullable = nullable; heap = heap_type }) }
