@@ -14,7 +14,7 @@ use Rattle.wasm_module_validator.specs.laws.Frames.{Frames, module_frames}
 unfoldable pub at_begin : List ℕ → State
 at_begin bytes = record { rest = bytes; place = 0; features = bits_of default_features; start = 0 }
 
--- A function is refused with kind 5, or with kind 1 where its bytes end too early, one byte more being wanted; or memory ran out.
+-- A function is refused with kind 5, or with kind 1 where its bytes end too early and one byte more is needed; or memory ran out.
 abbrev pub IsFunctionRefusal : ErrorKind → Type 0
 IsFunctionRefusal (kinds.EndOfData h) = h ≡ 1
 IsFunctionRefusal (kinds.MissingFeature f) = ⊥

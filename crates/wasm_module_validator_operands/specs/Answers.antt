@@ -21,7 +21,7 @@ abbrev pub RefusedAt : {X : Type 0} → ℕ → Result X ErrorValue → Type 0
 RefusedAt place (Ok x) = Unit {0}
 RefusedAt place (Err e) = OfContent e.kind (e.offset ≡ place)
 
--- Of the bytes that were left at s: where they end too early, kind 1 at their end, and one byte more is wanted; other content,
+-- Of the bytes that were left at s: where they end too early, kind 1 at their end, and one byte more is needed; other content,
 -- kind 5 at an offset among them or at their end. Out of memory promises nothing; no other kind comes.
 abbrev pub IsRefusalOf : State → ErrorKind → ℕ → Type 0
 IsRefusalOf s (kinds.EndOfData h) p = (p ≡ end_of s) × (h ≡ 1)

@@ -1,4 +1,4 @@
-//! Operators whose opcode is one byte.
+//! Operators whose opcode is one byte, from their bytes.
 
 ghost use Rattle.std.specs.Prelude.{◌≡◌, IfOk, IsTrue, false};
 ghost use Rattle.wasm_types.specs.reader.Reading.{Gives, NeedsNoMemory};

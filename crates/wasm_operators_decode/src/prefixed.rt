@@ -1,4 +1,4 @@
-//! Operators whose code stands behind a prefix.
+//! Operators whose code stands behind a prefix, from their bytes.
 
 ghost use Rattle.std.specs.Prelude.{◌≡◌, IfOk, IsTrue, Some};
 ghost use Rattle.wasm_types.specs.reader.Reading.{Gives, NeedsNoMemory};

@@ -6,7 +6,7 @@ ghost use Rattle.wasm_operators_immediates.specs.Kinds.{Kind};
 ghost use Rattle.wasm_operators_decode_immediates.specs.Immediates.{immediate, OfKind};
 
 /// Each kind of immediate, whatever features are allowed: a value and a fault stay whatever bytes follow, an end of data
-/// wants exactly as many bytes as are missing, and a value is read exactly where a front of the bytes spells one of this kind.
+/// needs exactly as many bytes as are missing, and a value is read exactly where a front of the bytes spells one of this kind.
 pub const fn immediates_are_lawful()
     ensures lawful { (features : ℕ) (k : Kind) → IsLawful (immediate features k) }
     ensures exact { (features : ℕ) (k : Kind) → Decides (immediate features k) (OfKind features k) }

@@ -27,7 +27,7 @@ reads features k text i = immediate features k (behind features 0 text) ≡ Done
 abbrev pub refuses : ℕ → Kind → List ℕ → ℕ → Type 0
 refuses features k text offset = immediate features k (behind features 0 text) ≡ Fault Other offset
 
--- they end at this offset, where so many more are wanted
+-- they end at this offset, where so many more are needed
 abbrev pub ends : ℕ → Kind → List ℕ → ℕ → ℕ → Type 0
 ends features k text offset wanted = immediate features k (behind features 0 text) ≡ Short offset wanted
 
@@ -45,6 +45,6 @@ spells features text o = begins features text o (length text) []
 abbrev pub is_none : ℕ → List ℕ → ℕ → Type 0
 is_none features text offset = operator features (behind features 0 text) ≡ Fault Other offset
 
--- they end at this offset, where so many more are wanted
+-- they end at this offset, where so many more are needed
 abbrev pub breaks_off : ℕ → List ℕ → ℕ → ℕ → Type 0
 breaks_off features text offset wanted = operator features (behind features 0 text) ≡ Short offset wanted

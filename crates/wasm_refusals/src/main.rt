@@ -1,7 +1,7 @@
 //! Reads and clones what takes memory: the types of a group, and operators with tables.
 //!
-//! It ends with status 0 where each clone is equal, with 2 where memory was refused and each refusal was told as that, and
-//! with 1 otherwise. `bench/refused-memory` refuses it each allocation in turn.
+//! It ends with status 0 where each clone is equal, with 2 where memory was refused and each refusal was answered as out of
+//! memory, and with 1 otherwise. `bench/refused-memory` refuses it each allocation in turn.
 #![tactic(auto)]
 
 use std::alloc::{AllocError, AllocFailed, Global};

@@ -91,7 +91,7 @@ IsBeyond p (Short q h) = p < q
 IsBeyond p (Fault k q) = Unit {0}
 
 -- What a decoder answers once more bytes stand behind the buffer. A value and a fault stay. Where the bytes end, it
--- stays there until as many have come as were wanted, and then no longer.
+-- stays there until as many have come as were needed, and then no longer.
 abbrev pub GoesOn : {A : Type 0} → Outcome A → List ℕ → Outcome A → Type 0
 GoesOn (Done x s) more after = after ≡ Done x (extended s more)
 GoesOn (Short p h) more after = (length more < h → after ≡ Short p (h - length more)) × (h ≤ length more → IsBeyond p after)
@@ -101,7 +101,7 @@ GoesOn (Fault k p) more after = after ≡ Fault k p
 abbrev pub IsSteady : {A : Type 0} → Decoder A → Type 0
 IsSteady d = (s : State) (more : List ℕ) → GoesOn (d s) more (d (extended s more))
 
--- a value is taken from the front; the bytes end no earlier than here, and one more is wanted at least
+-- a value is taken from the front; the bytes end no earlier than here, and one more is needed at least
 abbrev pub GoesForward : {A : Type 0} → State → Outcome A → Type 0
 GoesForward s (Done x t) = (text : List ℕ) × Takes s text t
 GoesForward s (Short p h) = (s.place ≤ p) × (0 < h)

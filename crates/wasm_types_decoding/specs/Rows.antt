@@ -1,4 +1,4 @@
--- Worked bytes: what each decoder answers, by hand. A decoder that turns breaks a row.
+-- Worked bytes: what each decoder answers, by hand. A changed decoder breaks a row.
 use Rattle.std.specs.Prelude.{◌≡◌, ℕ, ◌+◌, pos, negsuc, List, [], ◌∷◌, true, false}
 use Rattle.std.specs.Str.{is_utf8}
 use Rattle.wasm_types_decoding.specs.declared.Refusal.TheVariants.{MissingFeature, Other}

@@ -11,7 +11,7 @@ use Rattle.wasm_types_reader.specs.Draining.{Drains}
 use Rattle.wasm_types_reader.specs.Parts.{counted_part, IsPassed}
 use Rattle.wasm_types_reader.specs.Words.{u7}
 
--- the end of the data at the offset 7 where 3 bytes more are wanted, a fault there, and a refusal for memory
+-- the end of the data at offset 7 where 3 bytes more are needed, a fault there, and out of memory
 abbrev pub ended : ErrorValue
 ended = record { kind = EndOfData 3; offset = 7; message = codes "unexpected end-of-file" }
 

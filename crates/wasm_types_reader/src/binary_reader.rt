@@ -225,7 +225,7 @@ impl<'a> BinaryReader<'a> {
         Ok(b)
     }
 
-    /// That the data end too early, and so many bytes more are wanted.
+    /// That the data end too early, and so many bytes more are needed.
     #[cold]
     fn eof_error(&self, needed_hint: usize) -> Error
         ensures kind { result.kind ≡ EndOfData needed_hint }

@@ -1,4 +1,4 @@
-//! Worked values from outside, texts of messages, and each generic function once.
+//! Tests of worked values from outside, of the texts of messages, and of each generic function once.
 
 use crate::expect::same;
 use bitflags::Flags;

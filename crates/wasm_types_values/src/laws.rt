@@ -1,4 +1,4 @@
-//! Laws of types, each the contract of a function that does nothing, or of one that puts a type together again.
+//! Laws of types, each the contract of a function that does nothing, or of one that makes a type again of its parts.
 ghost use Rattle.std.specs.Prelude.{◌≡◌, Some, true, false};
 ghost use Rattle.wasm_types_values.specs.Constants.{references};
 ghost use Rattle.wasm_types_values.specs.Laws.{AbstractTypesAreOrderedAsDeclared, ReferenceEqualityIsIdentity, ValueEqualityIsIdentity, StorageEqualityIsIdentity, HeapEqualityIsIdentity, AbstractEqualityIsIdentity};
