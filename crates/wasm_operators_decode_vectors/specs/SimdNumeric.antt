@@ -7,5 +7,6 @@ use Rattle.wasm_operators_vectors.proofs.Codes.{simd_numeric_list}
 use Rattle.wasm_operators_decode_encoding.specs.Rows.{kinds_by, rows}
 use Rattle.wasm_operators_decode_encoding.specs.KeptRows.{between, kept}
 
+-- the kinds of a code, by the rows with codes of this run
 unfoldable pub simd_numeric_run : ℕ → ℕ → ℕ → Option (List Kind)
 simd_numeric_run from to = kinds_by (kept (between from to) (rows simd_numeric_info simd_numeric_immediates (Some 0xfd) simd_numeric_list))

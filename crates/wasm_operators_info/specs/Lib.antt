@@ -1,1 +1,2 @@
+-- what is told of an operator
 pub mod Info

@@ -6,6 +6,7 @@ use Rattle.wasm_operators_info.specs.declared.proposal.Proposal.TheVariants.{Mvp
 use Rattle.wasm_operators_numbers.specs.declared.numeric.NumericOperator.{NumericOperator}
 use Rattle.wasm_operators_numbers.specs.declared.numeric.NumericOperator.TheVariants as numeric
 
+-- codes alone, and those behind the prefix `fc`
 abbrev pub numeric_info : NumericOperator → Info
 numeric_info numeric.I32Eqz = row Mvp (codes "i32.eqz") None 0x45
 numeric_info numeric.I32Eq = row Mvp (codes "i32.eq") None 0x46

@@ -40,12 +40,12 @@ pub trait VisitOperator<'a>: VisitControl<'a>
     + VisitFloats<'a>
     + VisitAtomic<'a>
     + VisitShared<'a> {
-    /// Tells the visitor of an operator that is its to keep, by the visit that belongs to it. It takes no memory.
+    /// Calls the visit that belongs to this operator, and hands the operator over. It takes no memory.
     fn visit_owned(&mut self, op: Operator<'a>) -> Self::Output
         requires { is_simd (op_of op) ≡ false }
         ensures { Self.visits self.old (op_of op.entry) result self.new };
 
-    /// Tells the visitor of an operator by the visit that belongs to it, which gets a copy of the operator's tables.
+    /// Calls the visit that belongs to this operator, which gets a copy of the operator's tables.
     ///
     /// # Errors
     ///

@@ -31,11 +31,11 @@ pub trait VisitSimdOperator<'a>: VisitOperator<'a>
     + VisitSimdNarrow<'a>
     + VisitSimdWide<'a>
     + VisitSimdFloats<'a> {
-    /// Tells the visitor of any operator that is its to keep, by the visit that belongs to it. It takes no memory.
+    /// Calls the visit that belongs to any operator, and hands the operator over. It takes no memory.
     fn visit_simd_owned(&mut self, op: Operator<'a>) -> Self::Output
         ensures { Self.visits self.old (op_of op.entry) result self.new };
 
-    /// Tells the visitor of any operator by the visit that belongs to it, which gets a copy of the operator's tables.
+    /// Calls the visit that belongs to any operator, which gets a copy of the operator's tables.
     ///
     /// # Errors
     ///

@@ -14,6 +14,7 @@ pub record State : Type 0 where
 abbrev pub extended : State → List ℕ → State
 extended s more = record { rest = s.rest ++ more; place = s.place; features = s.features; start = s.start }
 
+-- what a decoder answers
 pub data Outcome (A : Type 0) : Type 0 where
   -- a value, and where the reader stands behind it
   Done : A → State → Outcome A
