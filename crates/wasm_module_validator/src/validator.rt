@@ -79,7 +79,8 @@ impl Validator {
 
     /// Validates a module that is all of these bytes.
     ///
-    /// Refused for a function alone it has ended; refused for the header or a section, or for memory, it has failed.
+    /// Where only a function is refused, the validator has ended. Where the header or a section is refused, or memory ran out,
+    /// it has failed.
     pub fn validate_all(&mut self, bytes: &[u8]) -> Result<Types, Error>
         requires { self.old ≡ states.Unparsed }
         ensures verdict { Tells result (Accepts bytes.now) }
@@ -95,7 +96,7 @@ impl Validator {
     }
 }
 
-/// How far a validator is that read all sections and judged the functions.
+/// How far a validator is once it has read all sections and judged the functions.
 fn state_after(judged: &Result<Types, Error>) -> State
     ensures { result ≡ progress_of judged.now }
 {

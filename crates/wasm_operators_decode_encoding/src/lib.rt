@@ -33,8 +33,8 @@ pub const fn operators_are_lawful()
     ensures exact { (features : ℕ) → Decides (operator features) (SpelledCoded features) }
 {}
 
-/// What bytes tell of an operator. Behind its opcode stand immediates of its own kinds; it is spelled exactly where its opcode
-/// and immediates are, in the form that bytes give it; and no other operator of that form has the same opcode and immediates.
+/// How bytes spell operators. Behind its opcode stand immediates of an operator's own kinds. A canonical operator is spelled
+/// exactly where its opcode and its immediates are; another is never spelled. No two canonical operators share both.
 pub const fn operators_are_spelled()
     ensures kinds { (o : Op) → kinds_at (opcode_of o) ≡ Some (kinds_of o) }
     ensures spelled { (features : ℕ) (o : Op) (text : List ℕ) → SpelledOperator features o text → IsTrue (is_canonical o) × SpelledCoded features (coded_of o) text }

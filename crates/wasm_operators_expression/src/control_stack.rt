@@ -11,7 +11,7 @@ use std::marker::Model;
 use wasm_operators_immediates::{FrameKind, FrameStack};
 use wasm_operators_operator::{Effect, Operator, Role};
 
-/// The frames that are open, the innermost first, and room for more, which no frame that closes gives back.
+/// The frames that are open, the innermost first, and room for more. Closing a frame gives no room back.
 #[derive(Drop)]
 pub struct ControlStack {
     innermost: Option<FrameKind>,

@@ -19,24 +19,24 @@ pub const fn expressions_have_one_tree()
     ensures { (features : ℕ) (c d : Code) (text : List ℕ) → SpelledExpression features c text → SpelledExpression features d text → c ≡ d }
 {}
 
-/// The frames that are open tell which operator fits: the structural order allows one exactly where there are frames behind
-/// it. An operator makes one frame more at most, and that only where it opens one.
+/// The open frames determine which operator fits: the structural order allows one exactly where there are frames behind it.
+/// An operator adds one frame at most, and only where it opens one.
 pub const fn frames_tell_what_fits()
     ensures fits { (o : Op) (k : Kind) (ks : List Kind) → IsTrue (fits o (Some k)) ↔ ((js : List Kind) × (after o (k ∷ ks) ≡ Some js)) }
     ensures bounded { (o : Op) (ks js : List Kind) → after o ks ≡ Some js → length js ≤ length ks + 1 }
     ensures opened { (o : Op) (ks js : List Kind) → after o ks ≡ Some js → length ks < length js → (j : Kind) × (role_of o ≡ Opens j) × (js ≡ j ∷ ks) }
 {}
 
-/// Frames may be counted off operator by operator. Operators close the frames that are open exactly where the first may stand
-/// in the innermost, and the others close the frames behind it; with a frame open there is a first, and with none there is none.
+/// Frames are closed operator by operator. Operators close the open frames exactly where the first may stand in the
+/// innermost frame and the others close the frames behind it. With a frame open there is a first operator, else there is none.
 pub const fn frames_close_step_by_step()
     ensures step { (o : Op) (k : Kind) (ks : List Kind) (os : List Op) → Closes (k ∷ ks) (o ∷ os) ↔ ((js : List Kind) × (after o (k ∷ ks) ≡ Some js) × Closes js os) }
     ensures more { (k : Kind) (ks : List Kind) → Closes (k ∷ ks) [] → ⊥ }
     ensures ended { (os : List Op) → Closes [] os ↔ (os ≡ []) }
 {}
 
-/// The same of bytes, whatever features are allowed: where the frame of an expression is open they close it exactly where they
-/// spell one, an operator that was read is a step, and where none can be read they close no frame.
+/// The same of bytes, whatever features are allowed. Where the frame of an expression is open, bytes close it exactly where
+/// they spell an expression. An operator that was read is a step. Where none can be read, the bytes close no frame.
 pub const fn bytes_close_step_by_step()
     ensures whole { (features : ℕ) (text : List ℕ) → BytesClose features (Block ∷ []) text ↔ ((c : Code) × SpelledExpression features c text) }
     ensures step { (features : ℕ) (s t : State) (o : Op) → operator features s ≡ Done (coded_of o) t → IsTrue (is_canonical o) → (k : Kind) (ks : List Kind) → BytesClose features (k ∷ ks) s.rest ↔ ((js : List Kind) × (after o (k ∷ ks) ≡ Some js) × BytesClose features js t.rest) }
