@@ -52,14 +52,14 @@ pub some_texts : (names : List (Bor (List ℕ))) → false ≡ (length names == 
 some_texts [] e = absurd cc
 some_texts (n ∷ names) e = omega arith
 
--- what status 0 says of what was judged
+-- what status 0 promises of what was judged
 pub judged_valid : (a b : List (List ℕ)) (old new : Option (List ℕ)) (r : Result Status Fault) (n : ℕ) → a ≡ b → 0 < length a → IfOk r (ReportsFiles a old new) → n ≡ code_of r → n ≡ 0
     → Reports b old new AllValid
 judged_valid a b old new (Ok AllValid) n e some h q z = judged_as a b old new AllValid e some h
 judged_valid a b old new (Ok SomeInvalid) n e some h q z = absurd (omega (arith, q, z))
 judged_valid a b old new (Err f) n e some h q z = absurd (omega (arith, q, z))
 
--- what status 1 says of it
+-- what status 1 promises of it
 pub judged_invalid : (a b : List (List ℕ)) (old new : Option (List ℕ)) (r : Result Status Fault) (n : ℕ) → a ≡ b → 0 < length a → IfOk r (ReportsFiles a old new) → n ≡ code_of r → n ≡ 1
     → Reports b old new SomeInvalid
 judged_invalid a b old new (Ok AllValid) n e some h q z = absurd (omega (arith, q, z))

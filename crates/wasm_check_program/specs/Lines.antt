@@ -18,7 +18,7 @@ abbrev pub invalid_line : List ℕ → ℕ → List ℕ → List ℕ
 invalid_line name offset message = name ++ codes ": invalid at 0x" ++ digits 16 false offset ++ codes ": " ++ message ++ codes "\n"
 
 -- The line says of these bytes whether they spell a valid module, and, where their header or a section is refused, at which
--- place.
+-- offset.
 abbrev pub IsLine : List ℕ → List ℕ → List ℕ → Type 0
 IsLine name bytes line = (Accepts bytes × (line ≡ valid_line name))
     ⊎ (¬ Accepts bytes × ((offset : ℕ) × (message : List ℕ) × (line ≡ invalid_line name offset message) × IsRefusedAt offset bytes))

@@ -1,5 +1,7 @@
-//! Lines and statuses of the program where a reader, a writer or the words fail, and the validator's answers by their kinds. What a module's
-//! line is shows the stored run of `wasm_check`. It has no code of its own.
+//! Tests of lines and statuses of the program where a reader, a writer or the words fail, and of the validator's
+//! answers by their kinds.
+//!
+//! The line of a module is tested by the stored run of `wasm_check`. The crate has no code of its own.
 #![tactic(auto)]
 
 #[cfg(test)]

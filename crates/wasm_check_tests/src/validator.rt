@@ -1,4 +1,4 @@
-//! What a line does not tell: what an accepting answer shows, and the kind of a refusal.
+//! What the lines of the program do not show: what an accepting answer gives, and the kind of a refusal.
 
 use crate::expect::same;
 use crate::modules::{CONST_42, EMPTY_BODY};

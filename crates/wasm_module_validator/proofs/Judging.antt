@@ -1,4 +1,4 @@
--- What a refusal of a part says of the whole.
+-- What a refusal of a part promises of the whole.
 use Rattle.std.proofs.Common.{◌≡◌, ℕ, ◌<◌, ◌≤◌, List, length, get_or, Option, Some, Result, Ok, Err, refl, sym, ◌∙◌, subst}
 use Rattle.std.specs.Prelude.{slice_get, IfOk}
 use Rattle.std.proofs.lemmas.Option.{slice_get_read}
@@ -67,7 +67,7 @@ module _ (bytes : List ℕ) (f : Frames) (t : State) (read : module_frames (at_b
       (m.0, m.1, record { types = types ∙ sym m.2; functions = functions ∙ sym m.3 })
   begin_shown (Err k) d types functions = tt
 
--- ---- a function at its place
+-- ---- a function at its index
 
 -- what was found in a list stands there
 pub found_at : {A : Type 0} (xs ys : List A) (i : ℕ) (x : A) → xs ≡ ys → (i < length xs) × ((other : A) → x ≡ get_or xs i other) → slice_get ys i ≡ Some x

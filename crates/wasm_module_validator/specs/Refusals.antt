@@ -63,7 +63,7 @@ abbrev pub progress_after : {X : Type 0} → Result X ErrorValue → List ℕ �
 progress_after (Ok x) bytes = states.Ended
 progress_after (Err e) bytes = after_frames e.kind (module_frames (at_begin bytes))
 
--- this is the place where a reading was refused; where all was read no place is
+-- this is the offset at which a reading was refused; where all was read, any offset will do
 abbrev pub IsPlaceOf : {A : Type 0} → ℕ → Outcome A → Type 0
 IsPlaceOf place (Done x t) = Unit {0}
 IsPlaceOf place (Short p h) = place ≡ p

@@ -1,4 +1,4 @@
--- Modules as plain trees (WebAssembly 3.0, structure). Types and functions are named by their places.
+-- Modules as plain trees (WebAssembly 3.0, structure). Types and functions are named by their indices.
 use Rattle.std.specs.Prelude.{ℕ, List}
 use Rattle.wasm_module_validator_operands.specs.Syntax.{FunctionType, Function}
 

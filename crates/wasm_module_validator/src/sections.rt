@@ -224,7 +224,7 @@ fn read_types<'a>(alloc: Global, contents: &mut BinaryReader<'a>) -> Result<Vec<
     read_many(alloc, count, contents)
 }
 
-/// The place of each function's type, where there are so many types; none where there is no function section. Where it is
+/// The index of each function's type, where there are so many types; none where there is no function section. Where it is
 /// refused the reader may have gone on.
 #[tactic(auto, using(wasm_types::specs::Laws::reaches_self, wasm_types::specs::Laws::reaches_then), unfolding(crate::specs::laws::Frames::section, crate::specs::laws::Frames::contents, crate::specs::laws::Frames::function_section))]
 pub fn read_function_section<'a>(

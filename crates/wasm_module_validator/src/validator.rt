@@ -219,7 +219,7 @@ fn validate_bodies(alloc: Global, module: &ModuleFrames<'_>) -> Result<(), Error
     Ok(())
 }
 
-/// Judges the function at a place by its type.
+/// Judges the function at an index by its type.
 fn validate_body(
     validator: &mut FuncValidator,
     module: &ModuleFrames<'_>,

@@ -37,7 +37,8 @@ impl FuncValidator {
     ///
     /// Ok exactly where these bytes spell groups of locals and an expression that is valid with them: at most 50,000 locals
     /// with the parameters, and an expression that gives the type's results. Otherwise the error tells what is wrong and
-    /// where, unless it is of kind 3: a growth was refused, and nothing is said of the bytes. The place is one of the body's, or its end.
+    /// where, unless it is of kind 3: memory ran out, and nothing is promised of the bytes. The offset is that of one of the
+    /// body's bytes, or of its end.
     #[tactic(auto, using(crate::proofs::Places::within_further))]
     pub fn validate(&mut self, ty: &FuncType, body: BinaryReader<'_>) -> Result<()>
         ensures verdict { Tells result (AcceptsBody (function_type ty.now.params.items ty.now.results.items) body.entry.rest) }

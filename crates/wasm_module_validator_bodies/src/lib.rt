@@ -1,8 +1,8 @@
-//! What judges one function of a module: the bytes of its entry in the code section.
+//! The validator of one function of a module, by the bytes of its entry in the code section.
 //!
-//! A [`FuncValidator`] is Ok exactly where the bytes spell groups of locals and an expression that is valid with them by the
-//! rules of `specs/`, out of memory aside. At this stage the rules know number types and a few operators; any other operator
-//! is refused.
+//! A [`FuncValidator`] answers Ok exactly where the bytes spell groups of locals and an expression that is valid with
+//! them by the rules of `specs/`, out of memory aside. At this stage the rules know number types and a few operators;
+//! any other operator is refused.
 #![tactic(auto)]
 
 mod body;

@@ -8,7 +8,7 @@ use Rattle.wasm_types.specs.error.declared.error.ErrorKind.TheVariants as kinds
 use Rattle.wasm_types.specs.decoding.Decoder.{State}
 use Rattle.wasm_types.specs.decoding.Places.{end_of}
 
--- The fact holds of a refusal of content, which is of kind 5. Where memory ran out nothing is said; no other kind comes.
+-- The fact holds of a refusal of content, which is of kind 5. Out of memory promises nothing; no other kind comes.
 abbrev pub OfContent : ErrorKind → Type 0 → Type 0
 OfContent (kinds.EndOfData h) P = ⊥
 OfContent (kinds.MissingFeature f) P = ⊥
@@ -22,7 +22,7 @@ RefusedAt place (Ok x) = Unit {0}
 RefusedAt place (Err e) = OfContent e.kind (e.offset ≡ place)
 
 -- Of the bytes that were left at s: where they end too early, kind 1 at their end, and one byte more is wanted; other content,
--- kind 5 at an offset among them or at their end. Where memory ran out nothing is said; no other kind comes.
+-- kind 5 at an offset among them or at their end. Out of memory promises nothing; no other kind comes.
 abbrev pub IsRefusalOf : State → ErrorKind → ℕ → Type 0
 IsRefusalOf s (kinds.EndOfData h) p = (p ≡ end_of s) × (h ≡ 1)
 IsRefusalOf s (kinds.MissingFeature f) p = ⊥

@@ -1,7 +1,7 @@
 -- The rules for a function as a tree, in reading order.
 pub mod Syntax
 pub mod Validation
--- What contracts say beside them.
+-- What contracts promise besides them.
 pub mod Answers
 pub mod Operands
 pub mod Locals

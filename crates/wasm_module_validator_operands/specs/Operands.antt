@@ -1,4 +1,4 @@
--- What is known of a body while it is validated, and what each step does to it. It is said by sets of stacks: the operands
+-- What is known of a body while it is validated, and what each step does to it. It is defined by sets of stacks: the operands
 -- stand for each stack that the code so far may leave (WebAssembly 3.0, validation, instructions).
 use Rattle.std.specs.Prelude.{◌≡◌, ◌↔◌, List, [], ◌∷◌, ◌++◌, Bool, true, false, Result, Ok, Err}
 use Rattle.wasm_types.specs.error.ErrorValue.{ErrorValue}
@@ -7,7 +7,7 @@ use Rattle.wasm_module_validator_operands.specs.Syntax.{Instruction}
 use Rattle.wasm_module_validator_operands.specs.Validation.{OperandType, value, Matches, stack, Steps}
 use Rattle.wasm_module_validator_operands.specs.Answers.{Denies}
 
--- What is known: the locals; the operands of known types, the top first; whether the place can't be reached; whether the
+-- What is known: the locals; the operands of known types, the top first; whether the code here is unreachable; whether the
 -- body has had its end.
 pub record Known : Type 0 where
   pub locals : List ValType
@@ -19,7 +19,7 @@ pub record Known : Type 0 where
 abbrev pub fresh : List ValType → Known
 fresh locals = record { locals = locals; operands = []; unreachable = false; ended = false }
 
--- the stacks that operands stand for: where the place can't be reached, anything may lie below them
+-- the stacks that operands stand for: where the code is unreachable, anything may lie below them
 abbrev pub Covers : Bool → List ValType → List OperandType → Type 0
 Covers true [] s = Unit {0}
 Covers false [] [] = Unit {0}
@@ -96,6 +96,6 @@ pub record Stepped (i : Instruction) (before after : Known) : Type 0 where
 abbrev pub MayStep : Instruction → Known → Type 0
 MayStep i before = (s : List OperandType) × (t : List OperandType) × Stacks before s × Steps before.locals i s t
 
--- what an answer to an instruction says
+-- what the answer to an instruction promises
 abbrev pub Visits : {X : Type 0} → Instruction → Result X ErrorValue → Known → Known → Type 0
 Visits i answer before after = Does answer (Stepped i before after) (MayStep i before)

@@ -1,4 +1,4 @@
--- Functions as plain trees (WebAssembly 3.0, structure). Locals are named by their places.
+-- Functions as plain trees (WebAssembly 3.0, structure). Locals are named by their indices.
 use Rattle.std.specs.Prelude.{ℕ, ℤ, List}
 use Rattle.wasm_types.specs.values.declared.value.ValType.{ValType}
 

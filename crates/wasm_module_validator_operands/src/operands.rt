@@ -10,8 +10,8 @@ use std::fmt::Display;
 use std::marker::Model;
 use wasm_types::{Error, Result, ValType, equality_is_identity};
 
-/// What is known of a body: the locals, the operands, whether the place can't be reached, and whether the body has had its
-/// end. A visit of an instruction changes it as the instruction asks; after a refused one it may be anything.
+/// What is known of a body: the locals, the operands, whether the code here is unreachable, and whether the body has had
+/// its end. A visit of an instruction changes it as the instruction asks; after a refused one it may be anything.
 #[derive(Drop)]
 pub struct OperatorValidator {
     locals: Locals,

@@ -1,6 +1,7 @@
-//! Worked modules, each with a proved verdict: what `Accepts` holds of, and what it does not hold of.
+//! Worked modules, each with a proved verdict: that `Accepts` holds of it, or that it does not.
 //!
-//! The rules of `wasm_module_validator` are only read; a rule that is turned breaks a row here. There is no other code.
+//! The rules of `wasm_module_validator` are only read; a rule that is changed breaks a row here. There is no other
+//! code.
 #![tactic(auto)]
 
 ghost use Rattle.wasm_module_validator_rows.specs.Modules.{AreJudged};

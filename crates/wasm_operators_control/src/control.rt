@@ -1,4 +1,4 @@
-//! What steers the flow of control, and what takes operands of any type.
+//! Operators of the flow of control, and those that take operands of any type.
 
 ghost use Rattle.std.specs.Prelude.{◌≡◌, None};
 ghost use Rattle.wasm_operators_info.specs.Info.{told, row};

@@ -1,4 +1,4 @@
--- Which operators keep a list in memory, by the kinds of what stands behind their opcode. To read another takes no memory.
+-- Which operators keep a list in memory, by the kinds of their immediates. Reading any other operator takes no memory.
 use Rattle.std.specs.Prelude.{Bool, true, false, ◌||◌, List, [], ◌∷◌, Option, Some, None}
 use Rattle.wasm_types.specs.decoding.Decoder.{State, Outcome, Done, Short, Fault}
 use Rattle.wasm_operators_immediates.specs.Kinds as kind

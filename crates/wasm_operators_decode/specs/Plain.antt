@@ -1,4 +1,4 @@
--- The groups of codes of one byte that are asked last.
+-- The groups that are asked last for a code of one byte.
 use Rattle.std.specs.Prelude.{ℕ, List, Option}
 use Rattle.wasm_operators_immediates.specs.Kinds.{Kind}
 use Rattle.wasm_operators_decode_encoding.specs.Groups.{numeric_kinds, bulk_plain_kinds, gc_plain_kinds, continuation_kinds}

@@ -1,6 +1,11 @@
-//! Operators of control, parametric operators, and those of exceptions and continuations from their bytes (WebAssembly 3.0,
-//! binary format, control instructions and parametric instructions; the older exceptions and the continuations by the
-//! proposals on them).
+//! Operators of control, parametric operators, and those of exceptions and continuations from their bytes (WebAssembly
+//! 3.0, binary format, control instructions and parametric instructions; the older exceptions and the continuations by
+//! the proposals on them).
+//!
+//! For each group one function finds the shape of what stands behind a code, such as `control_shape`, and another reads
+//! the immediates of this shape and makes the operator. A reader promises that its operator has that code and exactly
+//! the immediates that the decoder of `wasm_operators_decode_encoding` gives. `specs/` has the kinds of immediates of
+//! each shape.
 #![tactic(auto)]
 
 mod continuation;

@@ -60,12 +60,12 @@ pub record Coded : Type 0 where
 abbrev pub coded : Opcode → List Immediate → Coded
 coded o is = record { opcode = o; carried = is }
 
--- immediates of these kinds, if the opcode has any; one that no operator has is refused at its own place
+-- immediates of these kinds, if the opcode has any; one that no operator has is refused at its own offset
 abbrev pub carried_by : ℕ → ℕ → Opcode → Option (List Kind) → Decoder Coded
 carried_by features place o None = refuse_at Other place
 carried_by features place o (Some ks) = immediates features ks >>= λ is. pure (coded o is)
 
--- what stands behind an opcode that begins at this place
+-- what stands behind an opcode that begins at this offset
 abbrev pub behind : ℕ → ℕ → Opcode → Decoder Coded
 behind features place o = carried_by features place o (kinds_at o)
 

@@ -1,4 +1,4 @@
--- Some of a group's rows alone, chosen by their codes: they have the kinds that all rows have at such a code.
+-- The rows of a group that have certain codes: at such a code they have the same kinds as all rows of the group.
 use Rattle.std.proofs.Common.{◌≡◌, ◌≤◌, ◌∙◌, ℕ, Bool, true, false, ◌&&◌, leb, List, [], ◌∷◌, Some, refl, sym, ap}
 use Rattle.std.specs.Prelude.{◌==◌, if◌then◌else◌}
 use Rattle.std.proofs.lemmas.Bool.{eqb-true, le-leb, and_parts, both_ways}

@@ -1,4 +1,4 @@
--- An operator is spelled as its opcode and immediates are, which tell it from every other.
+-- An operator is spelled by its opcode and its immediates, and no other operator has the same ones.
 use Rattle.std.proofs.Common.{◌≡◌, IsTrue, ℕ, List, ap}
 use Rattle.wasm_operators_operator.specs.Op.{Op}
 use Rattle.wasm_operators_operator.specs.Immediates.{is_canonical}

@@ -1,4 +1,4 @@
--- The kinds that the table of opcodes has behind an operator's opcode are the operator's own.
+-- At an operator's opcode the table of opcodes has the kinds of this operator.
 use Rattle.std.proofs.Common.{◌≡◌, List, [], ◌∷◌, Some, None, refl}
 use Rattle.wasm_operators_control.specs.Table.{control_info, parametric_info, exception_info}
 use Rattle.wasm_operators_memory.specs.Table.{memory_info, const_info}

@@ -1,5 +1,10 @@
-//! Operators of WebAssembly as bytes have them: an opcode, and immediates of the kinds that belong to it (WebAssembly 3.0,
-//! binary format, instructions).
+//! Operators of WebAssembly as bytes have them: an opcode, and immediates of the kinds that belong to it (WebAssembly
+//! 3.0, binary format, instructions).
+//!
+//! `specs/Coded.antt` has the decoder of operators, and `specs/Operators.antt` which bytes spell one. Which kinds
+//! belong to a code is looked up in the table of opcodes, so no operator has a definition of its own here. The laws are
+//! promised by functions that do nothing: the decoder is lawful and exact, and no two operators are spelled by the same
+//! bytes.
 #![tactic(auto)]
 
 ghost use Rattle.std.specs.Prelude.{◌≡◌, IsTrue, ℕ, List, Some};

@@ -1,5 +1,10 @@
-//! Operators of aggregates, casts and descriptors from their bytes (WebAssembly 3.0, binary format, aggregate instructions
-//! and reference instructions; for descriptors the proposal on them).
+//! Operators of aggregates, casts and descriptors from their bytes (WebAssembly 3.0, binary format, aggregate
+//! instructions and reference instructions; for descriptors the proposal on them).
+//!
+//! For each group one function finds the shape of what stands behind a code, such as `gc_shape`, and another reads the
+//! immediates of this shape and makes the operator. [`gc_plain_of`] does both for `ref.eq`, which carries nothing. A
+//! reader promises that its operator has that code and exactly the immediates that the decoder of
+//! `wasm_operators_decode_encoding` gives. `specs/` has the kinds of immediates of each shape.
 #![tactic(auto)]
 
 mod descriptor;

@@ -1,4 +1,4 @@
--- What ordering an access may name, as the table of immediates has it.
+-- Which accesses may name an ordering, as the table of immediates has it.
 use Rattle.wasm_operators_immediates.specs.Kinds as kind
 use Rattle.wasm_operators_decode_immediates.specs.declared.memory_argument.Access.{Access}
 use Rattle.wasm_operators_decode_immediates.specs.declared.memory_argument.Access.TheVariants.{Plain, Atomic, ReadModifyWrite}

@@ -53,7 +53,7 @@ allowed order memory place f = if lacks f.has_ordering order then refuse_at Othe
 abbrev pub flags_from : Bool → Bool → ℕ → ℕ → Decoder Flags
 flags_from order memory place n = if nat_lt n 128 then (if n / 16 % 2 == 0 then allowed order memory place (flags_in n) else refuse_at Other place) else refuse_at Other place
 
--- flags, where an ordering and a memory may be named or not; else they are refused at their place
+-- flags, where an ordering and a memory may be named or not; else they are refused at their offset
 unfoldable pub flags : Bool → Bool → Decoder Flags
 flags order memory s = (u32 >>= flags_from order memory s.place) s
 

@@ -29,7 +29,7 @@ fn read_zero<'a>(message: &str, reader: &mut BinaryReader<'a>) -> Result<()>
     Err(Error::new(message, offset))
 }
 
-/// The byte of `atomic.fence`, which is zero; another is refused at its place (the proposal on threads).
+/// The byte of `atomic.fence`, which is zero; another is refused at its offset (the proposal on threads).
 pub fn read_zero_byte<'a>(reader: &mut BinaryReader<'a>) -> Result<()>
     ensures answer { Gives (λ u. 0) result reader.new (zero_byte reader.old) }
     ensures no_memory { NeedsNoMemory result }
@@ -53,7 +53,7 @@ fn read_index_or_zero<'a>(allowed: bool, reader: &mut BinaryReader<'a>) -> Resul
 }
 
 /// The memory of `memory.size` and the like: an index where several memories are allowed, else a byte that is zero
-/// (WebAssembly 3.0, binary format, memory instructions). Another byte is refused at its place.
+/// (WebAssembly 3.0, binary format, memory instructions). Another byte is refused at its offset.
 pub fn read_memory_or_zero<'a>(reader: &mut BinaryReader<'a>) -> Result<u32>
     ensures answer { Gives (λ n. n) result reader.new (index_or_zero (has MultiMemory reader.old.features) reader.old) }
     ensures no_memory { NeedsNoMemory result }
@@ -64,7 +64,7 @@ pub fn read_memory_or_zero<'a>(reader: &mut BinaryReader<'a>) -> Result<u32>
 }
 
 /// The table of `call_indirect`: an index where that is allowed, else a byte that is zero (WebAssembly 3.0, binary
-/// format, control instructions). Another byte is refused at its place.
+/// format, control instructions). Another byte is refused at its offset.
 pub fn read_table_or_zero<'a>(reader: &mut BinaryReader<'a>) -> Result<u32>
     ensures answer { Gives (λ n. n) result reader.new (index_or_zero (has CallIndirectOverlong reader.old.features) reader.old) }
     ensures no_memory { NeedsNoMemory result }
@@ -108,7 +108,7 @@ pub(crate) fn read_ordering_by<'a>(
 }
 
 /// The ordering of an access to what is shared (the proposal on shared everything). A byte that stands for none is refused
-/// at its place.
+/// at its offset.
 pub fn read_ordering<'a>(reader: &mut BinaryReader<'a>) -> Result<Ordering>
     ensures answer { Gives (λ o. o) result reader.new (ordering_by 0x01 reader.old) }
     ensures no_memory { NeedsNoMemory result }
@@ -118,7 +118,7 @@ pub fn read_ordering<'a>(reader: &mut BinaryReader<'a>) -> Result<Ordering>
 }
 
 /// The index of a lane of a vector with so many (WebAssembly 3.0, binary format, vector instructions). A larger one is
-/// refused at its place.
+/// refused at its offset.
 #[tactic(auto, using(wasm_types::specs::Laws::reaches_self, wasm_types::specs::Laws::reaches_then), unfolding(crate::specs::Bytes::lane))]
 pub fn read_lane<'a>(lanes: u8, reader: &mut BinaryReader<'a>) -> Result<u8>
     ensures answer { Gives (λ l. l) result reader.new (lane lanes reader.old) }
@@ -134,7 +134,7 @@ pub fn read_lane<'a>(lanes: u8, reader: &mut BinaryReader<'a>) -> Result<u8>
 }
 
 /// The 16 lanes of `i8x16.shuffle`, each below 32 (WebAssembly 3.0, binary format, vector instructions). A larger one is
-/// refused at its place.
+/// refused at its offset.
 #[tactic(auto, using(wasm_types::specs::Laws::reaches_self, wasm_types::specs::Laws::reaches_then), unfolding(crate::specs::Bytes::shuffle))]
 pub fn read_shuffle<'a>(reader: &mut BinaryReader<'a>) -> Result<[u8; 16]>
     ensures answer { Gives (λ l. l) result reader.new (shuffle reader.old) }
@@ -163,7 +163,7 @@ pub fn read_vector<'a>(reader: &mut BinaryReader<'a>) -> Result<V128>
 }
 
 /// The types that a `select` names, at most [`MAX_WASM_SELECT_TYPES`] (WebAssembly 3.0, binary format, parametric
-/// instructions). A larger count is refused at its place.
+/// instructions). A larger count is refused at its offset.
 #[tactic(auto, using(wasm_types::specs::Laws::reaches_self, wasm_types::specs::Laws::reaches_then), unfolding(crate::specs::Bytes::select_types))]
 pub fn read_select_types<'a>(alloc: Global, reader: &mut BinaryReader<'a>) -> Result<Vec<ValType>>
     ensures answer { Gives (λ v. v.items) result reader.new (select_types reader.old) }

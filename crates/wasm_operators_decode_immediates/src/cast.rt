@@ -49,7 +49,7 @@ fn flags_error(flags: u8, offset: u64) -> Error
 
 /// What a branch on a cast carries: a byte of flags, of which bit 0 says that the type before the cast takes null and bit
 /// 1 that the other does, a label, and the heap types of the two (WebAssembly 3.0, binary format, control instructions).
-/// Other flags are refused at their place, and so is an index of 2^20 or more.
+/// Other flags are refused at their offset, and so is an index of 2^20 or more.
 #[tactic(auto, using(wasm_types::specs::Laws::reaches_self, wasm_types::specs::Laws::reaches_then), unfolding(crate::specs::Casts::cast_branch, crate::specs::Casts::cast_after))]
 pub fn read_cast_branch<'a>(alloc: Global, reader: &mut BinaryReader<'a>) -> Result<CastBranch>
     ensures answer { Gives (λ c. c) result reader.new (cast_branch reader.old) }

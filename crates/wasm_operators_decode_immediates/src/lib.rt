@@ -1,7 +1,8 @@
 //! What operators of WebAssembly carry besides their opcode, from bytes (WebAssembly 3.0, binary format, instructions).
 //!
-//! A function for each kind of immediate that has no `FromReader` of its own. Where a spelling depends on the features,
-//! each takes those of its reader. `specs/Immediates.antt` has all kinds as one decoder and one grammar, by features.
+//! There is a function for each kind of immediate that has no `FromReader` of its own. Where a spelling depends on the
+//! features, it goes by those of its reader. `specs/Immediates.antt` has all kinds as one decoder and one grammar, by
+//! features; `laws` promises that the two agree.
 #![tactic(auto)]
 
 mod bytes;

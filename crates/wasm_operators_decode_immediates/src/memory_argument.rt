@@ -178,7 +178,7 @@ fn read_after_flags<'a>(
 /// The argument of an access of this kind, the natural alignment of which is `2^max_align` bytes (WebAssembly 3.0, binary
 /// format, memory instructions). Flags come first: the exponent of the alignment, below 16; bit 5 where an ordering
 /// follows, on atomic accesses where shared everything is allowed; bit 6 where the index of a memory follows, where
-/// several are allowed. Other flags are refused at their place. Then come the index, the ordering, and an offset of 64
+/// several are allowed. Other flags are refused at their offset. Then come the index, the ordering, and an offset of 64
 /// bits where memories of 64 bits are allowed, else of 32.
 #[tactic(auto, using(wasm_types::specs::Laws::reaches_self, wasm_types::specs::Laws::reaches_then), unfolding(crate::specs::MemoryArguments::memory_argument))]
 pub fn read_memarg<'a>(

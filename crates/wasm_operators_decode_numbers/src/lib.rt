@@ -1,5 +1,9 @@
-//! Operators on numbers from their codes (WebAssembly 3.0, binary format, numeric instructions; sums and products of 128 bits by
-//! the proposal on wide arithmetic). None of them carries anything.
+//! Operators on numbers from their codes (WebAssembly 3.0, binary format, numeric instructions; sums and products of
+//! 128 bits by the proposal on wide arithmetic).
+//!
+//! None of these operators carries anything, so a code is all there is to look at: [`numeric_of`] goes by a code of one
+//! byte, [`numeric_prefixed_of`] by one behind `fc`. Each answers an operator exactly where the table of opcodes has
+//! one with this code. The table stands in `wasm_operators_numbers`.
 #![tactic(auto)]
 
 mod numeric;

@@ -1,5 +1,5 @@
-//! What no clause says of reading operators: the messages of refusals, and that each reading function answers where memory is
-//! ample. The crate has no code of its own.
+//! Tests of what no contract promises of reading operators: the messages of refusals, and that each reading function
+//! answers where memory is ample. The crate has no code of its own.
 #![tactic(auto)]
 
 #[cfg(test)]

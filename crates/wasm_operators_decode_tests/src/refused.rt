@@ -1,4 +1,4 @@
-//! What refusals tell: the message, and the number of their kind. The offsets are told by the decoder, and worked in
+//! The message of each refusal, and the number of its kind. The offsets are those of the decoder, and have worked rows in
 //! `wasm_operators_worked_tests`.
 use bitflags::Flags;
 use std::alloc::Global;

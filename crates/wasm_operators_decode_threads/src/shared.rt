@@ -1,4 +1,4 @@
-//! Atomic accesses to what is shared from their bytes.
+//! Atomic accesses to globals, tables, structs and arrays that are shared, from their bytes.
 
 ghost use Rattle.std.specs.Prelude.{◌≡◌, ◌≤◌, IfOk, option_map, Some, None, [], ◌∷◌};
 ghost use Rattle.wasm_types.specs.reader.Reading.{Gives, NeedsNoMemory};

@@ -1,4 +1,4 @@
--- What an operator makes of the frames is what its place in a tree says, and a tree follows from its operators.
+-- What an operator makes of the frames is fixed by its place in a tree, and a tree by its operators in order.
 use Rattle.std.proofs.Common.{◌≡◌, ◌↔◌, ◌⊎◌, inl, inr, ◌+◌, ◌<◌, ◌≤◌, List, [], ◌∷◌, ◌++◌, length, Option, Some, None, IsTrue, true, is_some, refl, sym, ◌∙◌, ap, subst, append_assoc, arith}
 use Rattle.wasm_operators_immediates.specs.declared.frames.FrameKind.{FrameKind}
 use Rattle.wasm_operators_immediates.specs.declared.frames.FrameKind.TheVariants as frames

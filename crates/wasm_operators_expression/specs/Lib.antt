@@ -1,7 +1,7 @@
--- The rules, in reading order. What an operator does to a frame is said in `Roles` of the crate of operators' trees.
+-- The rules, in reading order. What an operator does to a frame is defined in `Roles` of `wasm_operators_operator`.
 pub mod Code
 pub mod Spelling
--- What contracts say beside them.
+-- What contracts promise besides them.
 pub mod Frames
 pub mod Stack
 -- What is proved of it.

@@ -1,4 +1,4 @@
--- What an operator makes of the frames, told by bytes; and bytes have one tree.
+-- What an operator makes of the frames, by its bytes; and bytes spell at most one tree.
 use Rattle.std.proofs.Common.{◌≡◌, ◌↔◌, ℕ, ◌+◌, List, [], ◌∷◌, ◌++◌, length, Some, None, IsTrue, refl, sym, ◌∙◌, ap, subst, append-nil}
 use Rattle.wasm_types.specs.decoding.Decoder.{State, Done, Takes}
 use Rattle.wasm_operators_immediates.specs.declared.frames.FrameKind.{FrameKind}

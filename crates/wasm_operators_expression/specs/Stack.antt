@@ -1,4 +1,4 @@
--- Frames as a stack holds them.
+-- The open frames as `ControlStack` holds them.
 use Rattle.std.specs.Prelude.{◌≡◌, ℕ, List, [], ◌∷◌, reverse, Option, Some, None}
 use Rattle.wasm_operators_immediates.specs.declared.frames.FrameKind.{FrameKind}
 

@@ -1,4 +1,9 @@
-//! Expressions of WebAssembly: operators in frames, as trees and as bytes (WebAssembly 3.0, binary format, expressions).
+//! Expressions of WebAssembly: operators in frames, as trees and as bytes (WebAssembly 3.0, binary format,
+//! expressions).
+//!
+//! A frame is a block that is open. `specs/Code.antt` has instructions as a tree, where each operator may stand in it,
+//! and the order of its walk; `specs/Spelling.antt` has which bytes spell an expression. A reader needs less: the list
+//! of open frames, which `specs/Frames.antt` relates to the tree and a [`ControlStack`] keeps.
 #![tactic(auto)]
 
 mod control_stack;

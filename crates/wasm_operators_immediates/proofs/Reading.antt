@@ -40,7 +40,7 @@ length_is n s h =
     let p = (decides-repeated u32 (IsUnsigned 32) decides-u32 n).sound s w.behind (values (repeated n u32 s)) w.done in
     many_length n (values (repeated n u32 s)) p.0 p.2
 
--- the same bytes at another place
+-- the same bytes at another offset
 pub record IsReadAgain (n : ℕ) (s t : State) : Type 0 where
   pub same : values (numbers_at n t) ≡ values (numbers_at n s)
   pub read : IsTrue (is_whole (numbers_at n t))

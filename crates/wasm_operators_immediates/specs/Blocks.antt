@@ -10,7 +10,7 @@ use Rattle.wasm_types.specs.values.ValueExact.{SpelledValue}
 use Rattle.wasm_operators_immediates.specs.declared.block.BlockType.{BlockType}
 use Rattle.wasm_operators_immediates.specs.declared.block.BlockType.TheVariants.{Empty, Val, FuncType}
 
--- a fault at the place reached
+-- a fault at the offset reached
 abbrev pub refuse_here : {A : Type 0} → Refusal → Decoder A
 refuse_here k s = Fault k s.place
 

@@ -1,5 +1,5 @@
 -- The kinds of immediates: what may stand behind an opcode (WebAssembly 3.0, binary format, instructions; for atomic accesses,
--- continuations and descriptors the proposals on them). A kind says how its bytes are read.
+-- continuations and descriptors the proposals on them). A kind determines how its bytes are read.
 use Rattle.std.specs.Prelude.{ℕ}
 
 -- what an index counts (WebAssembly 3.0, structure, modules, indices)

@@ -1,4 +1,4 @@
--- Sameness of tables of labels is an equivalence.
+-- That two tables of labels are the same is an equivalence.
 use Rattle.std.specs.Cmp.{IsPartialEquivalence, IsEquivalence}
 use Rattle.std.specs.Cmp.Rules.{comparing}
 use Rattle.std.proofs.Common.{rules}

@@ -1,6 +1,9 @@
 //! What operators of WebAssembly carry besides their opcode: memory arguments, block types, tables of labels.
 //!
 //! Contracts see each as a plain tree: its variants and fields, with a list where the code has borrowed bytes.
+//! `specs/Kinds.antt` has the kinds of immediates, and `specs/Immediates.antt` what an immediate of each kind carries.
+//! Block types, tables of labels, clauses and handlers are read here, exactly where the bytes spell them
+//! (`specs/Blocks.antt`, `specs/Labels.antt`, `specs/Handlers.antt`).
 #![tactic(auto)]
 
 mod block;

@@ -1,4 +1,4 @@
--- What a row of the list has of an operator, and what it is compared with.
+-- A row of the list, and what it is compared with.
 use Rattle.std.specs.Prelude.{◌≡◌, ℕ, ℤ, List, Option, map}
 use Rattle.wasm_types.specs.reader.declared.words.Ieee32.{Ieee32}
 use Rattle.wasm_types.specs.reader.declared.words.Ieee64.{Ieee64}

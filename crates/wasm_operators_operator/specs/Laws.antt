@@ -1,4 +1,4 @@
--- What a clone keeps, and what prefix and code tell.
+-- What a clone keeps, and that prefix, code and immediates tell operators apart.
 use Rattle.std.proofs.Common.{◌≡◌, IsTrue}
 use Rattle.wasm_operators_operator.specs.declared.operator.Operator.{Operator}
 use Rattle.wasm_operators_operator.specs.contracts.operator.OperatorClone.TheImpl as clone
@@ -18,7 +18,7 @@ RowsFollowFromCodes = (a b : Op) → (info_of a).prefix ≡ (info_of b).prefix �
 abbrev pub KindsFollowFromCodes : Type 0
 KindsFollowFromCodes = (a b : Op) → (info_of a).prefix ≡ (info_of b).prefix → (info_of a).code ≡ (info_of b).code → kinds_of a ≡ kinds_of b
 
--- an operator is what its prefix, its code and its immediates say. `select` with one type has two trees, one of which,
--- TypedSelectMulti, is not canonical
+-- canonical operators with the same prefix, code and immediates are equal. `select` with one type has two trees; that by
+-- TypedSelectMulti is not canonical
 abbrev pub CodesTellOperatorsApart : Type 0
 CodesTellOperatorsApart = (a b : Op) → IsTrue (is_canonical a) → IsTrue (is_canonical b) → (info_of a).prefix ≡ (info_of b).prefix → (info_of a).code ≡ (info_of b).code → immediates_of a ≡ immediates_of b → a ≡ b

@@ -1,4 +1,4 @@
--- What an operator is for the nesting of instructions, and what it does to the frame in which it stands (WebAssembly 3.0,
+-- The role of an operator in the nesting of instructions, and what it does to the frame in which it stands (WebAssembly 3.0,
 -- structure, control instructions, and binary format, instructions: `else` behind `if`, and `end`; the older `try` with its clauses
 -- by the proposal on exceptions).
 use Rattle.std.specs.Prelude.{Bool, false, is_some, Option, Some, None}

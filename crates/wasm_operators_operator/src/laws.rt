@@ -18,8 +18,8 @@ pub const fn rows_follow_from_codes()
     ensures kinds { KindsFollowFromCodes }
 {}
 
-/// An operator is what its prefix, its code and its immediates say. `select` with types alone has two forms with one
-/// code, `TypedSelect` for one type and `TypedSelectMulti` for any other number, which the law asks for.
+/// Operators with the same prefix, code and immediates are equal, if they are canonical. Only `select` with types has two
+/// forms with one code: `TypedSelect` is canonical for one type, `TypedSelectMulti` for any other number.
 pub const fn codes_tell_operators_apart()
     ensures { CodesTellOperatorsApart }
 {}

@@ -1,4 +1,4 @@
--- What a reader reads from its start to its end is an expression, and an expression is read so.
+-- What a reader reads from its start to its end is an expression, and every expression is read that way.
 use Rattle.std.proofs.Common.{◌≡◌, inl, inr, ℕ, ◌+◌, List, [], ◌∷◌, ◌++◌, length, Some, None, refl, sym, ◌∙◌, ap, subst, append-nil, map, arith}
 use Rattle.std.proofs.lemmas.List.{map-append}
 use Rattle.wasm_types.specs.decoding.Decoder.{State, Done}
@@ -90,7 +90,7 @@ module _ (s : State) (os : List Op) (t : Standing) (run : Runs (at_start s) os t
   refused_left e (k ∷ ks) f (inr (u, kind, place)) n b =
       bytes_refused t.bytes.features t.bytes u.behind u.op u.read u.canonical k ks (subst (λ (js : List FrameKind). after u.op js ≡ None) f u.unfit) b
 
-  -- a refusal before the end says that there is no expression
+  -- where there is a refusal before the end, there is no expression
   pub refused_run : (e : ErrorValue) → Refuses t e → IsNotMemory e.kind → ⊥
   refused_run e r n = refused_left e t.frames refl r n left
 

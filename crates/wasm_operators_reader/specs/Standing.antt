@@ -41,8 +41,8 @@ pub record IsUnfit (s : Standing) : Type 0 where
   pub read : operator s.bytes.features s.bytes ≡ Done (coded_of op) behind
   pub unfit : after op s.frames ≡ None
 
--- this is why it reads nothing: with no frame open it is refused at its place, before a byte is read; else no operator begins
--- here, or one that may not come next, which is refused behind its first byte
+-- Why nothing is read. With no frame open the reader is refused where it stands, before a byte is read. With one open,
+-- no operator begins here; or one does that may not come next, which is refused behind its first byte.
 abbrev pub RefusesIn : List FrameKind → Standing → ErrorValue → Type 0
 RefusesIn [] s e = (e.kind ≡ Other) × (e.offset ≡ s.bytes.place)
 RefusesIn (k ∷ ks) s e = Fails e (operator s.bytes.features s.bytes) ⊎ (IsUnfit s × (e.kind ≡ Other) × (e.offset ≡ s.bytes.place + 1))

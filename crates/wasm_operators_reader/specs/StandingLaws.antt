@@ -1,4 +1,4 @@
--- A step of a reader is one alone, and a refusal is none.
+-- From one standing there is at most one step, and none where the reader refuses.
 use Rattle.std.proofs.Common.{nat_eq, Bool, true, false, IsTrue, ◌≡◌, inl, inr, ℕ, ◌+◌, ◌<◌, List, [], ◌∷◌, length, Option, Some, None, refl, sym, ◌∙◌, ap, subst, length-append, arith}
 use Rattle.wasm_types.specs.decoding.Decoder.{State, Outcome, Done}
 use Rattle.wasm_types.specs.error.declared.error.ErrorKind.{ErrorKind}
@@ -63,7 +63,7 @@ same_standing t u e f = λ i. record { bytes = e i; frames = f i }
 pub same_parts : (b d : State) (is js : List FrameKind) → b ≡ d → is ≡ js → ◌≡◌ {A = Standing} (record { bytes = b; frames = is }) (record { bytes = d; frames = js })
 same_parts b d is js e f = λ i. record { bytes = e i; frames = f i }
 
--- two steps from one place are the same
+-- two steps from one standing are the same
 pub one_step : (s : Standing) (o p : Op) (t u : Standing) → Reads s o t → Reads s p u → (o ≡ p) × (t ≡ u)
 one_step s o p t u h g =
     let again = sym h.read ∙ g.read in

@@ -9,8 +9,8 @@ ghost use Rattle.wasm_operators_expression.specs.Code.{Code, walk};
 ghost use Rattle.wasm_operators_expression.specs.Spelling.{SpelledExpression};
 ghost use Rattle.wasm_operators_reader.specs.Standing.{Standing, at_start, IsFinished, Reads, Refuses, Runs};
 
-/// What is read at a place is one operator, with one place behind it; and where a reader refuses, nothing is read there, unless
-/// memory ran out.
+/// From where a reader stands at most one operator can be read, and it leads to one standing. Where a reader refuses,
+/// nothing can be read, unless memory ran out.
 pub const fn readings_are_steps()
     ensures one { (s : Standing) (o p : Op) (t u : Standing) → Reads s o t → Reads s p u → (o ≡ p) × (t ≡ u) }
     ensures none { (s : Standing) (e : ErrorValue) → Refuses s e → IsNotMemory e.kind → (o : Op) (t : Standing) → Reads s o t → ⊥ }

@@ -87,7 +87,7 @@ impl<'a> OperatorsReader<'a> {
         OperatorsReaderAllocations(control)
     }
 
-    /// A reader of bytes at the same place, over the same bytes.
+    /// A reader of bytes at the same offset, over the same bytes.
     pub fn get_binary_reader(&self) -> BinaryReader<'a>
         ensures { result ≡ self.now.bytes }
     {
@@ -153,7 +153,7 @@ impl<'a> OperatorsReader<'a> {
         Ok(op)
     }
 
-    /// The next operator, as `read` gives it, and its place in the input.
+    /// The next operator, as `read` gives it, and its offset in the input.
     ///
     /// # Errors
     ///

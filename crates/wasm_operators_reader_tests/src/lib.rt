@@ -1,4 +1,5 @@
-//! What no clause says of reading operators in frames: the messages of refusals. The crate has no code of its own.
+//! Tests of what no contract promises of reading operators in frames: the messages of refusals. The crate has no code of its
+//! own.
 #![tactic(auto)]
 
 #[cfg(test)]

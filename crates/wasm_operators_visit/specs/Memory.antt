@@ -1,4 +1,4 @@
--- Which operators keep a list in memory: a copy of another takes none.
+-- Which operators keep a list in memory. A copy of any other operator takes no memory.
 use Rattle.std.specs.Prelude.{Bool, true, false}
 use Rattle.wasm_operators_operator.specs.Op.{Op, Parametric, Exception, Continuation, ParametricTree, TypedSelectMulti, ExceptionTree, TryTable, ContinuationTree, Resume, ResumeThrow, ResumeThrowRef}
 

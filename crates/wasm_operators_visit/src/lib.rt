@@ -1,7 +1,9 @@
 //! What a visitor of operators is.
 //!
-//! A visitor is told each operator by a visit of its own, a method of one of the traits of groups above this crate. All
-//! visits promise one relation: which answer and which state after belong to an operator that came in a state.
+//! A visitor is told each operator by a visit of its own, a method of one of the traits of groups in the crates above
+//! this one. All visits of a [`Visitor`] promise one relation, which the visitor names: of itself before, the operator,
+//! the answer, and itself after. `specs/Memory.antt` defines which operators keep a list, so that a copy of one takes
+//! memory.
 #![tactic(auto)]
 
 ghost use Rattle.wasm_operators_operator.specs.Op.{Op};

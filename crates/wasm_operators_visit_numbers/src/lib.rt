@@ -1,4 +1,8 @@
 //! The visit that belongs to an operator on numbers.
+//!
+//! [`visit_numeric`] takes an operator and calls its own visit, one of `VisitIntegers` or of `VisitFloats`. It promises
+//! the relation of the visitor for that operator. It stands apart from the visits because an operator on numbers may be
+//! of either trait.
 #![tactic(auto)]
 
 ghost use Rattle.wasm_operators_operator.specs.Op.{Op};

@@ -1,4 +1,8 @@
 //! Visits of all operators but those on vectors.
+//!
+//! [`VisitOperator`] is one name for the seven traits of visits that are not of vectors: whatever has these seven has
+//! it too. Its own two functions call the visit that belongs to an operator, and promise the relation of the visitor
+//! for that operator. `specs/Vectors.antt` defines which operators are on vectors.
 #![tactic(auto)]
 
 ghost use Rattle.std.specs.Prelude.{◌≡◌, false, IsTrue, IfOk, IfErr, OnErr};

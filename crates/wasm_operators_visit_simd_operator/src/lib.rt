@@ -1,4 +1,8 @@
 //! Visits of all operators.
+//!
+//! [`VisitSimdOperator`] is one name for all traits of visits: `VisitOperator` and the four of vectors. Whatever has
+//! these has it too. Its own two functions call the visit that belongs to an operator, vectors included, and promise
+//! the relation of the visitor for that operator.
 #![tactic(auto)]
 
 ghost use Rattle.std.specs.Prelude.{◌≡◌, IsTrue, IfOk, IfErr, OnErr};

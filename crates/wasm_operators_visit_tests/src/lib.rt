@@ -1,4 +1,8 @@
 //! A small visitor of one group, told by the dispatch of its group: directly, where it is lent, and in a box.
+//!
+//! [`Counter`] counts the operators on structs and arrays, casts and descriptors, and answers the code of each. It
+//! states its relation, and keeps it, for a concrete type. Here the dispatch is run; that it calls the right visit is
+//! proved for all groups.
 #![tactic(auto)]
 
 ghost use Rattle.std.specs.Prelude.{◌≡◌, ◌+◌, ◌%◌, ◌^◌};

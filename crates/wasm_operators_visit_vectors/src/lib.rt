@@ -1,4 +1,8 @@
 //! The visit that belongs to an operator on vectors.
+//!
+//! [`visit_simd`] takes an operator with immediates and calls its own visit, of `VisitSimd`. [`visit_simd_numeric`]
+//! takes one without, and calls a visit of one of the four traits for vectors. Each promises the relation of the
+//! visitor for that operator.
 #![tactic(auto)]
 
 ghost use Rattle.wasm_operators_operator.specs.Op.{Op};

@@ -1,4 +1,4 @@
--- what is said of worked bytes
+-- what worked bytes are read as
 pub mod Worked
 -- immediates
 pub mod ArgumentRows

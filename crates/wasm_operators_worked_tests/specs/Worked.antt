@@ -1,4 +1,4 @@
--- What is said of worked bytes, which begin at place 0: of an immediate by its kind, and of an operator.
+-- What worked bytes are read as: an immediate, by its kind, or an operator. They begin at offset 0.
 use Rattle.std.specs.Prelude.{◌≡◌, ℕ, List, [], length}
 use Rattle.wasm_types.specs.decoding.declared.Refusal.TheVariants.{Other}
 use Rattle.wasm_types.specs.decoding.Decoder.{State, Done, Short, Fault}

@@ -1,6 +1,6 @@
-//! The bottom of the validator: bytes, numbers, texts and faults, the features of WebAssembly, and core types.
+//! The lowest layer of the validator: bytes, numbers, texts and faults, the features of WebAssembly, and core types.
 //!
-//! This crate has no code of its own. It shows its parts under one name:
+//! This crate has no code of its own. It has its parts under one name, their rules included:
 //!
 //! - `wasm_types_reader` and `wasm_types_error`: the reader of bytes, errors, and the trait of all that is read;
 //! - `wasm_types_features`: the features and their sets;

@@ -2,8 +2,8 @@
 use Rattle.std.specs.Prelude.{◌≡◌, ℕ, zero, suc, ◌+◌, ◌-◌, ◌<◌, ◌≤◌, List, [], ◌∷◌, ◌++◌, length, take, drop, nat_lt, ◌==◌, if◌then◌else◌}
 use Rattle.wasm_types_decoding.specs.declared.Refusal.{Refusal}
 
--- Where a reader stands: the bytes that are left, the place of the first of them, the features that are allowed, as the
--- number of their bits, and the place where its data began.
+-- Where a reader stands: the bytes that are left, the offset of the first of them, the features that are allowed, as the
+-- number of their bits, and the offset where its data began.
 pub record State : Type 0 where
   pub rest : List ℕ
   pub place : ℕ
@@ -17,9 +17,9 @@ extended s more = record { rest = s.rest ++ more; place = s.place; features = s.
 pub data Outcome (A : Type 0) : Type 0 where
   -- a value, and where the reader stands behind it
   Done : A → State → Outcome A
-  -- the bytes end at this place, and at least so many more are wanted there
+  -- the bytes end at this offset, and at least so many more are needed there
   Short : ℕ → ℕ → Outcome A
-  -- what no further byte mends, and its place
+  -- what no further byte mends, and its offset
   Fault : Refusal → ℕ → Outcome A
 
 abbrev pub Decoder : Type 0 → Type 0
@@ -40,7 +40,7 @@ abbrev pub ◌>>=◌ : {A B : Type 0} → Decoder A → (A → Decoder B) → De
 abbrev pub pure : {A : Type 0} → A → Decoder A
 pure x s = Done x s
 
--- a fault at this many bytes before the place reached
+-- a fault at this many bytes before the offset reached
 abbrev pub refuse : {A : Type 0} → Refusal → ℕ → Decoder A
 refuse k back s = Fault k (s.place - back)
 
@@ -79,7 +79,7 @@ pub record Reaches (s t : State) : Type 0 where
   pub text : List ℕ
   pub taken : Takes s text t
 
--- it has gone on beyond a place
+-- it has gone on beyond an offset
 abbrev pub IsBeyond : {A : Type 0} → ℕ → Outcome A → Type 0
 IsBeyond p (Done x s) = p < s.place
 IsBeyond p (Short q h) = p < q
@@ -136,8 +136,8 @@ Many g (suc n) (x ∷ xs) text = (front : List ℕ) × (back : List ℕ) × g x 
 
 -- ---- parts and looks ahead
 
--- What was said of a part of its own, and the reader stands behind the part. Where it ended too early that is a fault,
--- and so it is where bytes of the part are left.
+-- The outcome of reading a part, with the reader behind the part. A part that ends too early is a fault, and so is one of
+-- which bytes are left.
 abbrev pub ended : {A : Type 0} → Refusal → Refusal → State → Outcome A → Outcome A
 ended early late t (Done x u) = if length u.rest == 0 then Done x t else Fault late u.place
 ended early late t (Short p h) = Fault early p

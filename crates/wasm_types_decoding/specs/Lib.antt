@@ -3,7 +3,7 @@ pub mod Decoder
 pub mod Leb
 pub mod Lists
 pub mod Text
--- what a refusal's place is
+-- what a refusal's offset is
 pub mod Places
 -- worked bytes
 pub mod Rows

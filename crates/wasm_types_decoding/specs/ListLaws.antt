@@ -12,7 +12,7 @@ use Rattle.wasm_types_decoding.specs.Leb.{IsUnsigned, u32}
 use Rattle.wasm_types_decoding.specs.LebLaws.{lawful-unsigned, decides-u32}
 use Rattle.wasm_types_decoding.specs.Lists.{refuse_at, at_most_or, size_within, listed_within, IsSizeWithin, IsListedWithin}
 
--- ---- a decoder that knows the place where it begins
+-- ---- a decoder that knows the offset where it begins
 
 module _ {A : Type 0} (d : ℕ → Decoder A) where
   pub lawful-from_place : ((p : ℕ) → IsLawful (d p)) → IsLawful (λ s. d s.place s)

@@ -5,15 +5,15 @@ use Rattle.wasm_types_decoding.specs.declared.Refusal.TheVariants.{Other}
 use Rattle.wasm_types_decoding.specs.Decoder.{Decoder, Fault, Grammar, ◌>>=◌, pure, repeated}
 use Rattle.wasm_types_decoding.specs.Leb.{u32, IsUnsigned, IsListed}
 
--- a fault at a place
+-- a fault at an offset
 abbrev pub refuse_at : {A : Type 0} → Refusal → ℕ → Decoder A
 refuse_at k place s = Fault k place
 
--- a number of at most this much, or else it is refused at this place
+-- a number of at most this much, or else it is refused at this offset
 abbrev pub at_most_or : ℕ → ℕ → ℕ → Decoder ℕ
 at_most_or limit place n = if nat_lt limit n then refuse_at Other place else pure n
 
--- a number of 32 bits that is at most limit; where it is more, its own place is refused
+-- a number of 32 bits that is at most limit; where it is more, it is refused at its own offset
 unfoldable pub size_within : ℕ → Decoder ℕ
 size_within limit s = (u32 >>= at_most_or limit s.place) s
 

@@ -1,4 +1,4 @@
--- The places of refusals: each is among the bytes at hand, no earlier than where the reader stands and no later than their end.
+-- The offsets of refusals: each is among the bytes at hand, no earlier than where the reader stands and no later than their end.
 use Rattle.std.proofs.Common.{◌≡◌, ℕ, zero, suc, ◌+◌, ◌-◌, ◌*◌, ◌≤◌, ◌^◌, List, [], ◌∷◌, length, refl, arith, Bool, true, false}
 use Rattle.std.specs.Prelude.{if◌then◌else◌, ◌==◌, pos, ◌+ℤ◌, ◌-ℤ◌, ◌*ℤ◌, nat_lt}
 use Rattle.wasm_types_decoding.specs.declared.Refusal.{Refusal}
@@ -10,13 +10,13 @@ use Rattle.wasm_types_decoding.specs.Leb.{unsigned, signed, last_bits, seven_bit
 abbrev pub end_of : State → ℕ
 end_of s = s.place + length s.rest
 
--- a value leaves the reader in the same bytes, further on; whatever else is said is said of a place from low to high
+-- a value leaves the reader in the same bytes, further on; any other outcome is at an offset from low to high
 abbrev pub StaysIn : {A : Type 0} → ℕ → ℕ → Outcome A → Type 0
 StaysIn low high (Done x t) = (low ≤ t.place) × (end_of t ≡ high)
 StaysIn low high (Short p h) = (low ≤ p) × (p ≤ high)
 StaysIn low high (Fault k p) = (low ≤ p) × (p ≤ high)
 
--- each refusal is at a place of the bytes that were left
+-- each refusal is at an offset among the bytes that were left, or at their end
 pub record RefusesWithin {A : Type 0} (d : Decoder A) : Type 0 where
   pub stays : (s : State) → StaysIn s.place (end_of s) (d s)
 

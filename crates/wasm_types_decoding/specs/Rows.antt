@@ -7,7 +7,7 @@ use Rattle.wasm_types_decoding.specs.Leb.{u32, u64, s32, s33, s64, listed}
 use Rattle.wasm_types_decoding.specs.Lists.{size_within, listed_within}
 use Rattle.wasm_types_decoding.specs.Text.{word, any_name, name, skipped_name, sized}
 
--- a reader that stands at the place 7 of its input, before these bytes
+-- a reader that stands at offset 7 of its input, before these bytes
 abbrev pub start_of : List ℕ → State
 start_of text = record { rest = text; place = 7; features = 3; start = 5 }
 

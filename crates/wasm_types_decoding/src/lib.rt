@@ -1,6 +1,9 @@
-//! Decoders of bytes as definitions: what a reader answers, the laws that it keeps (a value and a fault stay whatever
-//! bytes follow, the hint of an end of data is exact), and when it reads exactly what a grammar spells. Readers of other crates
-//! state their contracts by these definitions; `docs/decoding.md` explains them in plain words.
+//! Decoders of bytes, as definitions.
+//!
+//! A decoder is a function from where a reader stands to what it answers. The laws of decoders are that a value and a
+//! fault stay whatever bytes follow, that the hint of an end of data is exact, and that a value is read exactly where a
+//! grammar spells it. Readers of other crates state their contracts by these definitions; `docs/decoding.md` explains
+//! them in plain words.
 #![tactic(auto)]
 
 ghost use Rattle.wasm_types_decoding.specs.Rows.{UnsignedRows, SignedRows, ByteRows, WordRows, ListRows, NameRows, PartRows};

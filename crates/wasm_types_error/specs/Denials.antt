@@ -17,7 +17,7 @@ abbrev pub Tells : {X : Type 0} → Result X ErrorValue → Type 0 → Type 0
 Tells (Ok x) P = P
 Tells (Err e) P = Denies e.kind P
 
--- the fact holds of a refusal; of one for memory nothing is said
+-- the fact holds of a refusal; out of memory promises nothing
 abbrev pub UnlessMemory : ErrorKind → Type 0 → Type 0
 UnlessMemory (EndOfData h) P = P
 UnlessMemory (MissingFeature f) P = P

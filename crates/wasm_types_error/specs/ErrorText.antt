@@ -45,6 +45,6 @@ feature_of OutOfMemory = None
 feature_of Failed = None
 feature_of Other = None
 
--- what an error writes: its message, and its place in lower-case hexadecimal
+-- what an error writes: its message, and its offset in lower-case hexadecimal
 abbrev pub shown : List ℕ → ℕ → List ℕ
 shown message offset = message ++ (codes " (at offset 0x" ++ (digits 16 false offset ++ codes ")"))

@@ -15,8 +15,8 @@ use wasm_types_features::WasmFeatures;
 /// What kind of fault an error is.
 #[derive(Clone, Copy, Debug, PartialEq, Eq)]
 pub enum ErrorKind {
-    /// The data end too early. With fewer than this many bytes more they still do, at the same place, and with as many no
-    /// longer there.
+    /// The data end too early. With fewer than this many bytes more they still do, at the same offset; with as many they
+    /// end there no longer.
     EndOfData { needed_hint: usize },
     /// These features would allow it.
     MissingFeature(WasmFeatures),
@@ -43,7 +43,7 @@ impl ErrorKind {
     }
 }
 
-/// Why a call was refused: a kind, a place in the input in bytes, and a message for people.
+/// Why a call was refused: a kind, an offset in the input, and a message for people.
 #[derive(Debug, Drop)]
 pub struct Error {
     kind: ErrorKind,
@@ -149,7 +149,7 @@ impl Error {
         self.message.as_str()
     }
 
-    /// The place in the input, in bytes.
+    /// The offset in the input, in bytes.
     pub fn offset(&self) -> u64
         ensures { result ≡ self.now.offset }
     {
@@ -163,7 +163,7 @@ impl Error {
         self.kind
     }
 
-    /// At kind 1, how many bytes more keep the data from ending at this place; fewer don't.
+    /// At kind 1, how many bytes more keep the data from ending at this offset; fewer don't.
     pub fn needed_hint(&self) -> Option<usize>
         ensures { result ≡ hint_of self.now.kind }
     {

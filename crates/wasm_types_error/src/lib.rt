@@ -1,4 +1,9 @@
-//! Why bytes are refused: the error of every layer, which is made without memory.
+//! Why bytes are refused: the error of every layer.
+//!
+//! An [`Error`] has a kind (one of five, [`ErrorKind`]), the offset in the input at which something is wrong, and a
+//! message for people. Making one takes no memory: the message has a fixed room, and a longer text is cut.
+//! `specs/ErrorText.antt` defines what an error tells, and `specs/Denials.antt` what a refusal denies: nothing where
+//! memory ran out, and otherwise the fact that was asked for.
 #![tactic(auto)]
 
 ghost use Rattle.wasm_types_error.specs.Rows.{KindRows, TextRows};

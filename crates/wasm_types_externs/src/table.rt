@@ -10,7 +10,7 @@ use wasm_types_values::{RefType, ValType};
 pub struct TableType {
     /// The type of its elements.
     pub element_type: RefType,
-    /// Whether its places are numbers of 64 bits.
+    /// Whether its indices are numbers of 64 bits.
     pub table64: bool,
     /// How many elements it has at first.
     pub initial: u64,
@@ -21,7 +21,7 @@ pub struct TableType {
 }
 
 impl TableType {
-    /// The type of its places.
+    /// The type of its indices.
     pub const fn index_type(&self) -> ValType
         ensures { result ≡ address_type self.now.table64 }
     {

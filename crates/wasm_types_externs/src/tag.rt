@@ -12,6 +12,6 @@ pub enum TagKind {
 pub struct TagType {
     /// What it is for.
     pub kind: TagKind,
-    /// The place of its function type among the types of the module.
+    /// The index of its function type among the types of the module.
     pub func_type_idx: u32,
 }

@@ -11,7 +11,7 @@ use bitflags::{Flag, Flags, bitflag_items};
 /// Each feature has a bit of its own, from bit 0 upwards in the order of the constants. The names
 /// `REFERENCE_TYPES` and `BULK_MEMORY` stand for two bits each, so that a part of what they allow
 /// can be allowed alone. The operations of a set are those of `bitflags::Flags`, as `contains`, `insert` and
-/// `union`; the operators, as `|`, say nothing of their result in a contract.
+/// `union`; the operators, as `|`, have no contract that promises their result.
 #[derive(Clone, Copy, PartialEq, Eq, Hash, Debug)]
 pub struct WasmFeatures(u32);
 

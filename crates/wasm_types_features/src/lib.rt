@@ -1,7 +1,8 @@
 //! The features of WebAssembly that a validator may allow.
 //!
-//! [`WasmFeatures`] is a set of them, [`WasmFeaturesInflated`] the same as one `bool` for each.
-//! `specs/Features.antt` names each feature by its bits, once: rules speak of `has Gc bits`.
+//! [`WasmFeatures`] is a set of features, and [`WasmFeaturesInflated`] is the same set as one `bool` for each.
+//! `specs/Features.antt` has the bits of each feature, once: rules speak of `has Gc bits`. `specs/Sets.antt` has the
+//! named sets, such as the features of a release.
 #![tactic(auto)]
 
 mod accessors;

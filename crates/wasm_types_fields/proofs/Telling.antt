@@ -1,4 +1,4 @@
--- What `==` says of types: that their plain trees are equal.
+-- What `==` of types promises: that their plain trees are equal.
 use Rattle.std.proofs.Common.{◌≡◌, ◌∙◌, Bool, true, false, ◌&&◌, List, [], ◌∷◌, refl, ap, sym, map, Option, Some, None}
 use mathlib.Core.Bool.{beq}
 use lib.Pointwise.{pointwise}

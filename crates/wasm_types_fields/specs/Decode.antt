@@ -25,7 +25,7 @@ fields = listed_within 10000 field_type
 unfoldable pub signature : Decoder Signature
 signature = listed_within 1000 value_type >>= λ ps. listed_within 1000 value_type >>= λ rs. pure (record { params = ps; results = rs })
 
--- an index that begins at this place
+-- an index that begins at this offset
 abbrev pub index_from : ℕ → ℕ → Decoder UnpackedIndex
 index_from place n = if nat_lt n 0x10_0000 then pure (Module n) else refuse_at Other place
 

@@ -1,4 +1,4 @@
--- The bytes of fields, signatures and indices (WebAssembly 3.0, binary format, types), over the values that they spell.
+-- The bytes of fields, signatures and indices (WebAssembly 3.0, binary format, types), as grammars over the values that contracts see.
 use Rattle.std.specs.Prelude.{◌≡◌, ℕ, List, [], ◌∷◌, ◌++◌, Bool, true, false}
 use Rattle.wasm_types_decoding.specs.Decoder.{Grammar}
 use Rattle.wasm_types_decoding.specs.Lists.{IsListedWithin}

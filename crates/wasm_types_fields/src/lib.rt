@@ -1,6 +1,8 @@
 //! Fields, and the types that are made of them: arrays, structs, functions and continuations.
 //!
-//! `specs/Spells.antt` says which bytes spell each, and `specs/Text.antt` how each is written.
+//! `specs/Fields.antt` gives each the plain tree that the rules of types speak of. `specs/Spells.antt` defines which
+//! bytes spell each, `specs/Text.antt` how each is written, and `specs/Remap.antt` what it means to replace its
+//! indices. A type is read exactly where the bytes spell it, within the limits of this implementation.
 #![tactic(auto)]
 
 mod cont;

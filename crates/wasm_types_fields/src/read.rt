@@ -149,7 +149,7 @@ impl<'a> FromReader<'a> for FuncType {
 }
 
 /// A type of the module by its index, which is below 2^20 (WebAssembly 3.0, binary format, indices). A larger one is refused
-/// at its place.
+/// at its offset.
 #[tactic(auto, using(wasm_types_decoding::specs::Laws::reaches_self, wasm_types_decoding::specs::Laws::reaches_then), unfolding(crate::specs::Decode::module_index))]
 pub fn read_index<'a>(reader: &mut BinaryReader<'a>) -> Result<PackedIndex>
     ensures answer { Gives (λ i. i) result reader.new (module_index reader.old) }

@@ -1,4 +1,4 @@
--- How composite types and subtypes are read: by the first byte, which was read, and what follows it.
+-- How composite types and subtypes are read: a decoder for what follows the first byte, by that byte.
 use Rattle.std.specs.Prelude.{ℕ, ◌==◌, List, [], ◌∷◌, Bool, true, false, Option, Some, None, if◌then◌else◌}
 use Rattle.wasm_types_decoding.specs.declared.Refusal.TheVariants.{Other}
 use Rattle.wasm_types_decoding.specs.Decoder.{Decoder, ◌>>=◌, pure, refuse, byte, choice}

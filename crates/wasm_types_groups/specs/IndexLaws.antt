@@ -1,4 +1,5 @@
--- Laws: a subtype is its shape and its indices in order. Where these are those of another, mapped, it is the other mapped.
+-- Laws: a subtype is determined by its shape and its indices in order. Where it has the shape of another and the other's
+-- indices, each mapped, it is the other subtype, mapped.
 use Rattle.std.proofs.Common.{◌≡◌, suc, List, [], ◌∷◌, ◌++◌, refl, sym, ap, ◌∙◌, length, map, Bool, Option, Some, None}
 use Rattle.std.specs.List.{flat_map}
 use Rattle.std.specs.Option.{option_map}

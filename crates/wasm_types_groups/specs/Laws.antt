@@ -23,7 +23,7 @@ use Rattle.wasm_types_groups.specs.Rows.{Declared, subtypes, declared_of, declar
 abbrev pub SubTypesAreToldApart : Type 0
 SubTypesAreToldApart = (x y : SubType) → IsTrue (subtype.ghosts.eq x y) ↔ (declared_of x ≡ declared_of y)
 
--- and of groups whose types do, in order: neither places nor the form of writing count
+-- and of groups whose types do, in order: neither offsets nor the form of writing count
 abbrev pub GroupsAreToldApart : Type 0
 GroupsAreToldApart = (g h : RecGroup) → IsTrue (group.ghosts.eq g h) ↔ (declared_types g ≡ declared_types h)
 

@@ -4,7 +4,7 @@ use Rattle.wasm_types_decoding.specs.Decoder.{Decoder, ◌>>=◌, pure, byte}
 use Rattle.wasm_types_decoding.specs.Lists.{listed_within}
 use Rattle.wasm_types_groups.specs.DecodeTypes.{sub_after, sub_type}
 
--- the place at which d begins to read
+-- the offset at which d begins to read
 abbrev pub place_of : {A : Type 0} → Decoder A → Decoder ℕ
 place_of d s = (d >>= λ x. pure s.place) s
 
@@ -12,7 +12,7 @@ place_of d s = (d >>= λ x. pure s.place) s
 unfoldable pub places : Decoder (List ℕ)
 places = listed_within 1000000 (place_of sub_type)
 
--- by the byte that stands at this place: a list of types, or one type, which begins with the byte
+-- by the byte that stands at this offset: a list of types, or one type, which begins with the byte
 abbrev pub places_after : ℕ → ℕ → Decoder (List ℕ)
 places_after place b = if b == 0x4e then places else (sub_after b >>= λ x. pure (place ∷ []))
 

@@ -1,4 +1,4 @@
--- Laws: the values that are read are spelled as the trees that they declare.
+-- Laws: bytes spell a value exactly where they spell the tree that it declares.
 use Rattle.std.proofs.Common.{◌≡◌, ℕ, zero, suc, ◌≤◌, List, [], ◌∷◌, ◌++◌, refl, sym, ap, ◌∙◌, subst, length, map, Bool, true, false, Option, Some, None, inl, inr}
 use Rattle.std.specs.Option.{is_some}
 use Rattle.wasm_types_decoding.specs.Decoder.{Grammar, Many}

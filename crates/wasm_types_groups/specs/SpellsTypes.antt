@@ -1,5 +1,5 @@
 -- The bytes of composite types, subtypes and groups (WebAssembly 3.0, binary format, types; the prefixes of a composite type
--- and its continuations by their proposals), over values that forget where a type lies in memory.
+-- and its continuations by their proposals), as grammars over values that do not show where a type lies in memory.
 use Rattle.std.specs.Prelude.{◌≡◌, ◌⊎◌, ℕ, List, [], ◌∷◌, ◌++◌, Bool, true, false, Option, Some, None, map}
 use Rattle.std.specs.Option.{is_some}
 use Rattle.wasm_types_decoding.specs.Decoder.{Grammar}

@@ -67,7 +67,7 @@ sub_bytes = (refl, refl, refl, refl, refl)
 abbrev one_type : List SubValue
 one_type = sub_with true [] no_fields ∷ []
 
--- the same group, written as one and alone; places; and the limit of a million types
+-- the same group, written as one and alone; offsets; and the limit of a million types
 abbrev pub GroupsAreRead : Type 0
 GroupsAreRead = (rec_group (start_of (0x4e ∷ 0x01 ∷ 0x5f ∷ 0x00 ∷ [])) ≡ Done (group_with true one_type) (behind 4)) × (rec_group (start_of (0x5f ∷ 0x00 ∷ [])) ≡ Done (group_with false one_type) (behind 2))
     × (rec_group (start_of (0x4e ∷ 0x00 ∷ [])) ≡ Done (group_with true []) (behind 2)) × (rec_group (start_of (0x4b ∷ 0x00 ∷ [])) ≡ Fault Other 0)

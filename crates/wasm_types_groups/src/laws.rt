@@ -22,7 +22,7 @@ pub fn order_is_of_types()
     equality_is_of_declarations();
 }
 
-/// What a clone of a subtype or of a group keeps: all that it declares, and of a group its places and form.
+/// What a clone of a subtype or of a group keeps: all that it declares, and of a group its offsets and form.
 pub fn clones_declare_the_same()
     ensures subtypes { SubTypesAreCloned }
     ensures groups { GroupsAreCloned }

@@ -13,7 +13,7 @@ use std::alloc::Global;
 use wasm_types_reader::limits::MAX_WASM_TYPES;
 use wasm_types_reader::{BinaryReader, FromReader, Result};
 
-// As many subtypes as are asked for, and their places. The lists grow as they are read.
+// As many subtypes as are asked for, and their offsets. The lists grow as they are read.
 #[tactic(auto, using(wasm_types_decoding::specs::Laws::reaches_self, wasm_types_decoding::specs::Laws::reaches_then))]
 fn read_subtypes<'a>(
     alloc: Global,

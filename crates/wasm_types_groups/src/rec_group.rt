@@ -10,12 +10,12 @@ use std::vec::IntoIter;
 use wasm_types_reader::Result as Reading;
 use wasm_types_values::PackedIndex;
 
-/// The types of a group, in order, each with its place.
+/// The types of a group, in order, each with its offset.
 pub type TypesAndOffsets = Zip<IntoIter<u64>, IntoIter<SubType>>;
 
-/// Types that may refer to one another (WebAssembly 3.0, structure, recursive types), each with its place in the input.
+/// Types that may refer to one another (WebAssembly 3.0, structure, recursive types), each with its offset in the input.
 ///
-/// Groups are equal, ordered and hashed as the lists of their types: neither the places nor whether the group was written
+/// Groups are equal, ordered and hashed as the lists of their types: neither the offsets nor whether the group was written
 /// as one count.
 #[derive(Debug, Drop)]
 #[derive_where(PartialEq, Eq, PartialOrd, Ord, Hash)]
@@ -53,7 +53,7 @@ impl RecGroup {
     ghost use Rattle.wasm_types_groups.specs.Rows.{subtypes, declared_types};
     ghost use Rattle.std.specs.Vec.Iter.{into_iter_items, into_iter_len};
 
-    /// A group that was written as one, of these types and their places.
+    /// A group that was written as one, of these types and their offsets.
     pub fn explicit(types: Vec<SubType>, offsets: Vec<u64>) -> RecGroup
         requires { length types.items ≡ length offsets.items }
         ensures types { subtypes result ≡ types.items }
@@ -105,7 +105,7 @@ impl RecGroup {
         self.types
     }
 
-    /// The types, in order, each with its place in the input.
+    /// The types, in order, each with its offset in the input.
     pub fn into_types_and_offsets(self) -> TypesAndOffsets
         ensures offsets { into_iter_items (zip_first result) ≡ self.offsets.items }
         ensures types { into_iter_items (zip_second result) ≡ subtypes self }

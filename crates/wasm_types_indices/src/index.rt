@@ -28,9 +28,9 @@ impl CoreTypeId {
 /// How a type is named. The order is that of the variants, and then that of the numbers.
 #[derive(Clone, Copy, Debug, PartialEq, Eq, PartialOrd, Ord, Hash)]
 pub enum UnpackedIndex {
-    /// By its place in its module's index space of types.
+    /// By its index in its module's index space of types.
     Module(u32),
-    /// By its place in the recursion group that it stands in.
+    /// By its index in the recursion group that it stands in.
     RecGroup(u32),
     /// By its identity.
     Id(CoreTypeId),
@@ -49,7 +49,7 @@ impl UnpackedIndex {
         }
     }
 
-    /// Whether it is an identity or a place in a group, and so says the same in every module.
+    /// Whether it is an identity or an index in a group, and so names the same type in every module.
     pub const fn is_canonical(&self) -> bool
         ensures { result ≡ is_canonical_index self.now }
     {
@@ -60,7 +60,7 @@ impl UnpackedIndex {
         }
     }
 
-    /// The place in the module, if it is one.
+    /// The index in the module, if it is one.
     pub const fn as_module_index(&self) -> Option<u32>
         ensures { result ≡ module_index_of self.now }
     {
@@ -71,7 +71,7 @@ impl UnpackedIndex {
         }
     }
 
-    /// The place in the group, if it is one.
+    /// The index in the group, if it is one.
     pub const fn as_rec_group_index(&self) -> Option<u32>
         ensures { result ≡ rec_group_index_of self.now }
     {

@@ -38,7 +38,7 @@ impl PackedIndex {
     ghost use Rattle.wasm_types_indices.specs.Bits.{unpacked, packed};
     ghost use Rattle.wasm_types_indices.specs.Indices.{number_of, is_canonical_index, module_index_of, rec_group_index_of, type_id_of};
 
-    /// The place in a module, where it is below 2^20.
+    /// The index in a module, where it is below 2^20.
     pub const fn from_module_index(index: u32) -> Option<Self>
         ensures fits { IsSome result ↔ (index < 2 ^ 20) }
         ensures value { IfSome result (λ p. p ≡ UnpackedIndex.Module index) }
@@ -50,7 +50,7 @@ impl PackedIndex {
         }
     }
 
-    /// The place in a group, where it is below 2^20.
+    /// The index in a group, where it is below 2^20.
     pub const fn from_rec_group_index(index: u32) -> Option<Self>
         ensures fits { IsSome result ↔ (index < 2 ^ 20) }
         ensures value { IfSome result (λ p. p ≡ UnpackedIndex.RecGroup index) }
@@ -107,21 +107,21 @@ impl PackedIndex {
         PackedIndex { bits }
     }
 
-    /// Whether it is an identity or a place in a group, and so says the same in every module.
+    /// Whether it is an identity or an index in a group, and so names the same type in every module.
     pub const fn is_canonical(&self) -> bool
         ensures { result ≡ is_canonical_index self.now }
     {
         self.bits >= REC_GROUP
     }
 
-    /// The place in the module, if it is one.
+    /// The index in the module, if it is one.
     pub const fn as_module_index(&self) -> Option<u32>
         ensures { result ≡ module_index_of self.now }
     {
         self.unpack().as_module_index()
     }
 
-    /// The place in the group, if it is one.
+    /// The index in the group, if it is one.
     pub const fn as_rec_group_index(&self) -> Option<u32>
         ensures { result ≡ rec_group_index_of self.now }
     {

@@ -1,4 +1,4 @@
--- What both loops over the groups of a number take from a byte and a place.
+-- What both loops over the groups of a number take from a byte and its offset.
 use Rattle.std.proofs.Common.{◌≡◌, ℕ, suc, ◌+◌, ◌*◌, ◌%◌, ◌^◌, ◌<◌, ◌≤◌, List, [], ◌∷◌, length, take, drop, get_or, refl, sym, ap, arith, pow-add, pow_mono, mul-le-mul_right, suc-mul, add-one}
 use Rattle.std.specs.Prelude.{bit_and, bit_or}
 use Rattle.std.specs.Int.Bits.{or_shifted_r}
@@ -10,7 +10,7 @@ use Rattle.wasm_types_decoding.specs.Decoder.{State, Done, Short, byte, Reaches}
 use Rattle.wasm_types_decoding.specs.Exact.{same_state}
 use Rattle.wasm_types_reader.specs.Numbers.{behind}
 
--- ---- places
+-- ---- offsets
 
 pub behind_none : (s : State) → behind 0 s ≡ s
 behind_none s = same_state (behind 0 s) s refl (omega arith) refl refl

@@ -1,4 +1,4 @@
--- A part of its own is lawful.
+-- The decoder of a part, as a reader of its own, is lawful.
 use Rattle.std.specs.Prelude.{ℕ}
 use Rattle.wasm_types_decoding.specs.Decoder.{State, ◌>>=◌, pure, bytes, IsLawful}
 use Rattle.wasm_types_decoding.specs.Laws.{lawful-bytes, lawful->>=, lawful-pure}

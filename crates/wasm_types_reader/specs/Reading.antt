@@ -6,7 +6,7 @@ use Rattle.wasm_types_error.specs.declared.error.ErrorKind.{ErrorKind}
 use Rattle.wasm_types_error.specs.declared.error.ErrorKind.TheVariants.{EndOfData, MissingFeature, OutOfMemory, Failed, Other}
 use Rattle.wasm_types_error.specs.ErrorValue.{ErrorValue}
 
--- an error of this kind at this place is the outcome, unless memory ran out
+-- an error of this kind at this offset is the outcome, unless memory ran out
 abbrev pub FailsAt : {Y : Type 0} → ErrorKind → ℕ → Outcome Y → Type 0
 FailsAt (EndOfData h) p o = o ≡ Short p h
 FailsAt (MissingFeature f) p o = o ≡ Fault (refusals.MissingFeature f.0) p
@@ -33,7 +33,7 @@ NextItem view d n before None m after = (n ≡ 0) × (m ≡ 0) × (after ≡ bef
 NextItem view d n before (Some (Ok x)) m after = (n ≡ m + 1) × (d before ≡ Done (view x) after)
 NextItem view d n before (Some (Err e)) m after = (0 < n) × (m ≡ 0) × Fails e (d before) × (after ≡ before)
 
--- What was read, and where it is not said the reader stands.
+-- What was read. Where the reader stands then is not promised.
 abbrev pub Collects : {X Y : Type 0} → (X → Y) → Result X ErrorValue → Outcome Y → Type 0
 Collects view (Ok x) o = (t : State) × (o ≡ Done (view x) t)
 Collects view (Err e) o = Fails e o

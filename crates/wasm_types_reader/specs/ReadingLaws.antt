@@ -1,4 +1,4 @@
--- How an error of a part is one of the whole.
+-- Where reading a part fails, reading the whole fails with the same error.
 use Rattle.std.proofs.Common.{ℕ, refl}
 use Rattle.wasm_types_decoding.specs.Decoder.{Outcome, Decoder, continue_with}
 use Rattle.wasm_types_error.specs.declared.error.ErrorKind.{ErrorKind}

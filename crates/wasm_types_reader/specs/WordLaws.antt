@@ -1,4 +1,4 @@
--- Bytes below 128 are lawful, and read what they are.
+-- The decoder of a byte below 128 is lawful, and reads exactly such bytes.
 use Rattle.std.proofs.Common.{◌≡◌, ℕ, ◌<◌, ◌≤◌, ◌∷◌, refl, arith, ltb}
 use Rattle.std.specs.Prelude.{nat_lt}
 use Rattle.std.proofs.lemmas.Bool.{ltb-true, ltb-false}

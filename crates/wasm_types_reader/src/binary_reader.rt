@@ -18,7 +18,7 @@ use std::marker::Model;
 use std::ops::Range;
 use wasm_types_features::WasmFeatures;
 
-/// A reader over bytes, which knows their place in the input and the features that are allowed.
+/// A reader over bytes, which knows their offset in the input and the features that are allowed.
 #[derive(Debug, Drop)]
 pub struct BinaryReader<'a> {
     buffer: &'a [u8],
@@ -79,7 +79,7 @@ impl<'a> BinaryReader<'a> {
         }
     }
 
-    /// How many bytes a reader may have that begins at `original_offset`: each place in it, its end too, is below 2^64.
+    /// How many bytes a reader may have that begins at `original_offset`: each offset in it, its end too, is below 2^64.
     #[inline]
     pub fn max_data_len(original_offset: u64) -> usize
         ensures { original_offset + result + 1 ≡ 2 ^ 64 }
@@ -87,7 +87,7 @@ impl<'a> BinaryReader<'a> {
         (u64::MAX - original_offset) as usize
     }
 
-    /// A second reader at the same place, over the same bytes.
+    /// A second reader at the same offset, over the same bytes.
     #[inline]
     pub fn clone(&self) -> BinaryReader<'a>
         ensures { result ≡ self.now }
@@ -148,7 +148,7 @@ impl<'a> BinaryReader<'a> {
         self.features = features;
     }
 
-    /// The places of all of the reader's bytes, those that were read too.
+    /// The offsets of all of the reader's bytes, those that were read too.
     #[inline]
     pub fn range(&self) -> Range<u64>
         ensures { result ≡ record { start = self.now.start; end = self.now.place + length self.now.rest } }
@@ -159,7 +159,7 @@ impl<'a> BinaryReader<'a> {
         }
     }
 
-    /// The places of the bytes that are left.
+    /// The offsets of the bytes that are left.
     #[inline]
     pub fn remaining_range(&self) -> Range<u64>
         ensures { result ≡ record { start = self.now.place; end = self.now.place + length self.now.rest } }
@@ -178,7 +178,7 @@ impl<'a> BinaryReader<'a> {
         self.buffer.len() - self.position == 1 && self.buffer[self.position] == 0x0b
     }
 
-    /// A reader over what is left, which begins at this place.
+    /// A reader over what is left, which begins at this offset.
     #[inline]
     pub fn shrink(&self) -> BinaryReader<'a>
         ensures { result ≡ record { rest = self.now.rest; place = self.now.place; features = self.now.features; start = self.now.place } }
@@ -264,7 +264,7 @@ impl<'a> BinaryReader<'a> {
     }
 
     /// A number in LEB128 of at most `limit`, where 2^32 - 1 is the most that is read. A larger one is refused at its own
-    /// place, as `desc`.
+    /// offset, as `desc`.
     #[inline]
     pub fn read_size(&mut self, limit: usize, desc: &str) -> Result<usize>
         ensures answer { Answers (λ n. n) result self.old self.new (size_within limit self.old) }
@@ -281,7 +281,7 @@ impl<'a> BinaryReader<'a> {
         Ok(size)
     }
 
-    /// A count in LEB128, and a reader over as many bytes, which begins at its own place.
+    /// A count in LEB128, and a reader over as many bytes, which begins at its own offset.
     #[inline]
     #[tactic(auto, using(wasm_types_decoding::specs::Laws::reaches_self, wasm_types_decoding::specs::Laws::reaches_then))]
     pub fn read_reader(&mut self) -> Result<BinaryReader<'a>>

@@ -41,7 +41,7 @@ impl<'a, 'me, T: FromReader<'a>> BinaryReaderIter<'a, 'me, T> {
 
 impl<'a> BinaryReader<'a> {
     /// A count in LEB128 of at most `limit`, and an iterator over as many values, which are read as it goes. A larger count
-    /// is refused at its own place, as `desc`.
+    /// is refused at its own offset, as `desc`.
     pub fn read_iter<T: FromReader<'a>>(
         &mut self,
         alloc: Global,

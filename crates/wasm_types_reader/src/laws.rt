@@ -12,7 +12,7 @@ ghost use Rattle.wasm_types_reader.specs.Rows.{PartRows, AnswerRows, ItemRows};
 use crate::FromReader;
 
 /// What holds of each type that is read, by its decoder. A value and a fault stay, whatever bytes follow. Where the bytes
-/// end too early, they still do at this place with fewer bytes than were wanted, and no longer with as many. A value is
+/// end too early, they still do at this offset with fewer bytes than were wanted, and no longer with as many. A value is
 /// read exactly where a front of the bytes is one of its spellings.
 pub fn reading_is_lawful<'a, T: FromReader<'a>>()
     ensures value { (s t : State) (more : List ℕ) (x : T.Value) → T.decoder s ≡ Done x t → T.decoder (extended s more) ≡ Done x (extended t more) }

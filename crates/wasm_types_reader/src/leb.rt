@@ -13,7 +13,7 @@ ghost use Rattle.wasm_types_reader.specs.Numbers.{unsigned_of, signed_of, ReadsN
 
 use crate::{BinaryReader, Error, Result};
 
-/// Why the bytes at hand spell no number, and the place that shows it.
+/// Why the bytes at hand spell no number, and the offset that shows it.
 #[derive(Clone, Copy)]
 pub(crate) enum Flaw {
     /// The bytes end there, before the number does.

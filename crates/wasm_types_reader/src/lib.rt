@@ -1,8 +1,8 @@
 //! Bytes, numbers and texts of a WebAssembly binary, the faults that they may have, and the trait of all that is read.
 //!
-//! A [`BinaryReader`] is seen by contracts as the state of a decoder: the bytes that are left, the place of the first of
-//! them, the allowed features, and where its bytes begin. What each `read` answers is what a decoder of
-//! `wasm_types_decoding` says of the state before it. A refused `read` leaves its reader where it was.
+//! Contracts see a [`BinaryReader`] as the state of a decoder: the bytes that are left, the offset of the first of
+//! them, the allowed features, and the offset where its bytes begin. Each `read` promises the outcome that a decoder of
+//! `wasm_types_decoding` has for the state before the call. A refused `read` leaves its reader where it was.
 #![tactic(auto)]
 
 mod binary_reader;

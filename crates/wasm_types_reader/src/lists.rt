@@ -9,7 +9,7 @@ use crate::{BinaryReader, FromReader, Result};
 use std::alloc::Global;
 
 /// The values that follow, as many as are counted before them, which are at most `limit`; a larger count is refused at
-/// its own place, as `desc`. The list grows as it is read.
+/// its own offset, as `desc`. The list grows as it is read.
 #[tactic(auto, using(wasm_types_decoding::specs::Laws::reaches_self))]
 pub fn read_list<'a, T: FromReader<'a>>(
     alloc: Global,

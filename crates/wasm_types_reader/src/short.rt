@@ -1,6 +1,6 @@
-//! Numbers in LEB128 as hot code reads them: a value, or none where the bytes at hand spell none, and then the reader stands
-//! where it was and the public readers say why. Short forms are taken at once; the longer ones are functions over the
-//! bytes, so that where a reader stands may stay in a register.
+//! Numbers in LEB128 as hot code reads them: a value, or none where the bytes at hand spell none. The reader then stands
+//! where it was, and the public readers give the reason. Short forms are taken at once. The longer ones are functions over
+//! the bytes, so that the reader's position may stay in a register.
 
 ghost use Rattle.std.specs.Prelude.{◌≡◌, ◌<◌, ◌≤◌, length, IfSome, IfNone};
 ghost use Rattle.wasm_types_decoding.specs.Decoder.{State, Done, Reaches, byte as byte_decoder};

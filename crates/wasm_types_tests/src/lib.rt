@@ -1,5 +1,7 @@
-//! Texts of types and of their refusals, worked values from outside, and each generic function of readers once. It has no code of its
-//! own.
+//! Tests of texts of types and of their refusals, of worked values from outside, and of each generic function of
+//! readers once.
+//!
+//! The crate has no code of its own.
 #![tactic(auto)]
 
 #[cfg(test)]

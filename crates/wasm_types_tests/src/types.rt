@@ -1,4 +1,4 @@
-//! Types from bytes that others wrote down, and what no clause says of them: texts, messages and counts at their limits.
+//! Types from bytes that others wrote down, and what no contract promises of them: texts, messages and counts at their limits.
 
 use crate::expect::same;
 use std::alloc::{AllocError, Global};
@@ -325,7 +325,7 @@ fn malformed_types(rt: HostRuntime) -> std::result::Result<(), Fail> {
     Ok(())
 }
 
-// Where an allocation is refused each call says so, and tells nothing else; else the clone is equal.
+// Where an allocation is refused, each call answers out of memory and nothing else; where none is, the clone is equal.
 #[test]
 fn ten_types_and_their_clone(rt: HostRuntime) -> std::result::Result<(), Fail> {
     let group = match read_group(rt.alloc(), &TEN_TYPES) {

@@ -1,4 +1,4 @@
-//! What no clause says: the messages of refused types. The bytes are those of the standard's rules and their edges.
+//! The messages of refused types, which no contract promises. The bytes are those of the standard's rules and their edges.
 use crate::expect::same;
 use std::test::Fail;
 use wasm_types::{

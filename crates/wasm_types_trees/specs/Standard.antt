@@ -1,5 +1,5 @@
--- Subtyping by the rules of the standard as they are written (WebAssembly 3.0, validation, matching): no other rule speaks of
--- it, and a law says that it is `Below` on valid types. V says which types are valid.
+-- Subtyping by the rules of the standard as they are written (WebAssembly 3.0, validation, matching). No other rule cites it;
+-- a law promises that it is `Below` on valid types. The parameter V is which types are valid.
 use Rattle.std.specs.Prelude.{◌≡◌, Bool, Some}
 use Rattle.wasm_types_trees.specs.Rows.{func, extern, any, none, noextern, nofunc, eq, struct, array, i31, exn, noexn, cont, nocont, HeapOf, abstract, concrete, exact, ValueOf, number, ref}
 use Rattle.wasm_types_trees.specs.Each.{EachHeap}

@@ -1,4 +1,4 @@
-//! Worked types, each on the contract of a function that does nothing: a definition of the rules that turns breaks one.
+//! Worked types, each on the contract of a function that does nothing: a changed definition of the rules breaks one.
 
 ghost use Rattle.wasm_types_trees.specs.worked.Gates.{Gated};
 ghost use Rattle.wasm_types_trees.specs.worked.Subtypes.{SubtypesWorked};

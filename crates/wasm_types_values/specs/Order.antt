@@ -1,5 +1,5 @@
--- The answers of `is_subtype_of` as a table: a law says that they are the order of abstract heap types, which is defined in
--- `wasm_types_trees`.
+-- The answers of `is_subtype_of` as a table. A law promises that they are the order of abstract heap types, which is defined
+-- in `wasm_types_trees`.
 use Rattle.std.specs.Prelude.{Bool, true, false}
 use Rattle.wasm_types_trees.specs.Rows.{Abstract, func, extern, any, none, noextern, nofunc, eq, struct, array, i31, exn, noexn, cont, nocont}
 

@@ -1,4 +1,4 @@
--- Laws of what is remapped: a type with one index, and parts one after the other.
+-- Laws of remapping: for a type with one index, and for parts one after the other.
 use Rattle.std.proofs.Common.{List, [], ◌∷◌, ◌++◌, refl, sym, ap, ◌∙◌}
 use Rattle.std.proofs.lemmas.List.{append_assoc}
 use Rattle.std.specs.Prelude.{Result, Ok, Err}

@@ -1,4 +1,4 @@
--- References that `cmp` does not tell apart are those that `==` holds of.
+-- `cmp` answers that two references are equal exactly where `==` holds of them.
 use Rattle.std.proofs.Common.{◌≡◌, ◌∙◌, ℕ, refl, sym, ap, Bool, ◌&&◌}
 use Rattle.std.specs.Cmp.{unsigned_ties}
 use Rattle.std.specs.Ordering.{is_eq, nat_cmp, ordering_then}

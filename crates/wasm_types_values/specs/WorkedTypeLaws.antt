@@ -1,4 +1,4 @@
--- Laws: worked types. What these bytes are read as, what is said of these types, and how they are written.
+-- Laws: worked types. What these bytes are read as, what the functions answer of these types, and how they are written.
 use Rattle.std.proofs.Common.{◌≡◌, ℕ, ◌++◌, List, [], ◌∷◌, refl, Bool, true, false, Some, None, lit<, arith}
 use Rattle.std.specs.Prelude.{codes}
 use Rattle.std.specs.Fmt.{decimal}
@@ -96,7 +96,7 @@ pub value_bytes : ValuesAreRead
 unfolding value_type value_type_after storage_type storage_type_after reference_after heap_type heap_type_after abstract_heap_type exact_heap_type concrete_heap_type
 value_bytes = (refl, refl, refl, refl, refl, refl, refl, refl, refl, refl, refl, refl, refl, refl)
 
--- ---- what is said of them
+-- ---- what the functions answer of them
 
 abbrev some_func : Reference
 some_func = reference true (Abstract false heap.Func)

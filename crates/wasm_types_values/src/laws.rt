@@ -79,7 +79,7 @@ pub const fn non_null_constants() -> [RefType; 14]
     ]
 }
 
-/// Worked types: what their bytes are read as, what is said of them, and how they are written.
+/// Worked types: what their bytes are read as, what the functions answer of them, and how they are written.
 pub const fn types_are_worked()
     ensures abstract_types { AbstractBytesAreRead }
     ensures indices { IndicesAreRead }

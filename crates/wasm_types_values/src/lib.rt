@@ -1,7 +1,8 @@
 //! The value types of WebAssembly's core: numbers, vectors and references, and what fields store.
 //!
-//! A contract sees a [`RefType`] as what it says (`specs/Reference.antt`), whatever its bits are, and the other types as
-//! their variants. `specs/Trees.antt` and `specs/Values.antt` give each the plain tree that the rules of types speak of.
+//! A contract sees a [`RefType`] as what it means (`specs/Reference.antt`): whether it may be null, and what it refers
+//! to, whatever its bits are. It sees the other types as their variants. `specs/Trees.antt` and `specs/Values.antt`
+//! give each the plain tree that the rules of types speak of, and `specs/Spells.antt` the bytes that spell it.
 #![tactic(auto)]
 
 mod heap;

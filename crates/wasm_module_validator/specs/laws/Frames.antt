@@ -9,7 +9,7 @@ use Rattle.wasm_types.specs.reader.Parts.{counted_part}
 use Rattle.wasm_module_validator_operands.specs.Syntax.{FunctionType}
 use Rattle.wasm_module_validator.specs.laws.Types.{function_type}
 
--- the magic number and version 1, each of four bytes; else the place where they begin is refused
+-- the magic number and version 1, each of four bytes; else they are refused at the offset where they begin
 abbrev pub magic_or : ℕ → Decoder (Unit {0}) → List ℕ → Decoder (Unit {0})
 magic_or place next text = if bytes_eq text (0x00 ∷ 0x61 ∷ 0x73 ∷ 0x6d ∷ []) then next else refuse_at Other place
 
@@ -52,14 +52,14 @@ contents d = entered >>= λ part. finished (d part)
 unfoldable pub section : {A : Type 0} → ℕ → Decoder A → Decoder A → Decoder A
 section id d none s = if begins id s.rest then contents d s else none s
 
--- a count of at most limit, else its own place is refused, and as many values
+-- a count of at most limit, and as many values; a larger count is refused at its own offset
 abbrev pub at_most_or : {A : Type 0} → ℕ → ℕ → Decoder A → ℕ → Decoder (List A)
 at_most_or limit place d n = if nat_lt limit n then refuse_at Other place else repeated n d
 
 unfoldable pub items : {A : Type 0} → ℕ → Decoder A → Decoder (List A)
 items limit d s = (u32 >>= at_most_or limit s.place d) s
 
--- the place of a type among so many
+-- the index of a type among so many
 abbrev pub below_or : ℕ → ℕ → ℕ → Decoder ℕ
 below_or types place x = if nat_lt x types then pure x else refuse_at Other place
 
@@ -73,7 +73,7 @@ pub record IsCounted (limit : ℕ) (content : List ℕ) (text : List ℕ) : Type
   pub few : length content ≤ limit
   pub whole : text ≡ count ++ content
 
--- at most so many bytes, else this place is refused
+-- at most so many bytes; more are refused at this offset
 abbrev pub few_or : ℕ → List ℕ → Decoder (List ℕ)
 few_or place text = if nat_lt 7654321 (length text) then refuse_at Other place else pure text
 

@@ -482,9 +482,9 @@ few_frames s t f e =
     let h = done_then (preamble s) (λ _. frames) f t e in
     few_sections f h.1.rest (frames_spelled f h.1 t h.3)
 
--- ---- the functions, by their places
+-- ---- the functions, by their indices
 
--- the function at this place has a type, and its bytes are accepted
+-- the function at this index has a type, and its bytes are accepted
 abbrev pub AcceptsAt : List FunctionType → List ℕ → List (List ℕ) → ℕ → Type 0
 AcceptsAt types xs es i = (x : ℕ) × (type : FunctionType) × (e : List ℕ) × (slice_get xs i ≡ Some x) × (slice_get types x ≡ Some type) × (slice_get es i ≡ Some e) × AcceptsBody type e
 

@@ -57,7 +57,7 @@ module _ {A : Type 0} (limit : ℕ) (d : Decoder A) (g : Grammar A) (dg : Decide
       (λ place. decides->>= u32 (at_most_or limit place d) (IsUnsigned 32) Counted decides-u32 (λ n. decides-at_most_or n place)))
       items_to items_from
 
--- the place of a type among so many
+-- the index of a type among so many
 abbrev pub IsTypeIndex : ℕ → Grammar ℕ
 IsTypeIndex types x text = IsUnsigned 32 x text × (x < types)
 

@@ -107,6 +107,6 @@ place_in e (Done f t) h = place_read e.kind
 place_in e (Short p n) h = place_at {A = Frames} e.kind e.offset (Short p n) h
 place_in e (Fault k p) h = place_at {A = Frames} e.kind e.offset (Fault k p) h
 
--- an error's place, by what is said of the error
+-- an error's offset, by how the error came about
 pub refused_at : (e : ErrorValue) (bytes : List ℕ) → FailsFrames e (module_frames (at_begin bytes)) → UnlessMemory e.kind (IsRefusedAt e.offset bytes)
 refused_at e bytes h = place_in e (module_frames (at_begin bytes)) h

@@ -13,7 +13,7 @@ use Rattle.wasm_module_validator_bodies.specs.laws.Types.{is_number}
 abbrev pub are_numbers : List ValType → Bool
 are_numbers = list_all is_number
 
--- a function type over number types; another is refused at this place
+-- a function type over number types; another is refused at this offset
 abbrev pub numbers_alone : ℕ → Signature → Decoder FunctionType
 numbers_alone place f = if are_numbers f.params && are_numbers f.results then pure (record { params = f.params; results = f.results }) else refuse_at Other place
 

@@ -1,4 +1,4 @@
--- Each function is accepted by its place; where one isn't, not all are.
+-- Each function is accepted by its index; where one isn't, not all are.
 use Rattle.std.proofs.Common.{◌≡◌, ◌<◌, ◌≤◌, length, arith, ap, below_more}
 use Rattle.std.proofs.lemmas.List.{length-map}
 use Rattle.std.proofs.lemmas.Result.{err_from_is_err_and}

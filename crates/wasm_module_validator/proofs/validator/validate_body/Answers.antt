@@ -1,4 +1,4 @@
--- The index, the type and the body are those at the function's place.
+-- The type's index, the type and the body are those at the function's index.
 use Rattle.std.proofs.Common.{◌≡◌, List, ℕ, Some, ap, ◌∙◌, option_map, subst}
 use Rattle.std.specs.Prelude.{slice_get}
 use Rattle.std.proofs.lemmas.Option.{slice_get-map}

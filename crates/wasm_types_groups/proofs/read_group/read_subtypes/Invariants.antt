@@ -6,7 +6,7 @@ use Rattle.wasm_types_groups.specs.DecodeTypes.{sub_type}
 use Rattle.wasm_types_groups.specs.Places.{place_of}
 use Rattle.wasm_types_groups.proofs.read_group.read_subtypes.Given as goal
 
--- what was read, and what is still read, is what all of it is read as; and so for the places
+-- what was read, and what is still read, is what all of it is read as; and so for the offsets
 abbrev pub invariant-loop : goal.invariant-loop
 invariant-loop l = record {
   read : with_front (map sub_value l.types.items) (repeated (l.count - l.counter) sub_type l.reader) ≡ repeated l.count sub_type l.fn.reader;
