@@ -4,7 +4,7 @@ use Rattle.std.specs.Prelude.{◌≡◌, true, false, Some, None}
 use Rattle.wasm_operators_immediates.specs.declared.frames.FrameKind.TheVariants.{Block, If, Else, Loop, TryTable, LegacyTry, LegacyCatch, LegacyCatchAll}
 use Rattle.wasm_operators_control.specs.declared.control.ControlOperator.TheVariants as control
 use Rattle.wasm_operators_operator.specs.Op as op
-use Rattle.wasm_operators_operator.specs.Frames.{fits}
+use Rattle.wasm_operators_operator.specs.Roles.{fits}
 
 pub record FrameRows : Type 0 where
   pub else_in_if : fits (op.Control control.Else) (Some If) ≡ true

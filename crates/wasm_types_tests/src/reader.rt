@@ -4,6 +4,7 @@ use crate::expect::same;
 use bitflags::Flags;
 use std::test::Fail;
 use wasm_types::*;
+use wasm_types_reader::{lists_are_lawful, reading_is_lawful, texts_and_words_are_lawful};
 
 #[test]
 fn numbers_of_32_bits(rt: HostRuntime) -> std::result::Result<(), Fail> {
