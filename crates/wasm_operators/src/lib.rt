@@ -8,9 +8,9 @@
 //! the relation that its `Visitor` states. With all of them but those of vectors it is a `VisitOperator`. With `VisitSimd`,
 //! `VisitSimdNarrow`, `VisitSimdWide` and `VisitSimdFloats` too it is a `VisitSimdOperator`, which has every visit.
 //!
-//! This crate has no code of its own. The rules stand in the crates whose names it gives: the tables of opcodes and of
-//! immediates in `wasm_operators_operator`, which bytes spell an operator in `wasm_operators_decode_encoding`, and which spell
-//! an expression in `wasm_operators_expression`.
+//! This crate has no code of its own. The rules stand in the crates below: the tables of opcodes and of immediates in
+//! `wasm_operators_operator`, which bytes spell an operator in `wasm_operators_decode_encoding`, and which spell an
+//! expression in `wasm_operators_expression`.
 #![tactic(auto)]
 
 pub use wasm_operators_control::{
