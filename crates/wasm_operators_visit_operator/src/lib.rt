@@ -87,7 +87,9 @@ where
     }
 
     fn visit_operator(&mut self, op: &Operator<'a>) -> Result<Self::Output, AllocError> {
-        let op = copy(op)?;
+        let Ok(op) = copy(op) else {
+            return Err(AllocError);
+        };
         Ok(self.visit_owned(op))
     }
 }

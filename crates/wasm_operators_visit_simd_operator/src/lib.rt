@@ -74,7 +74,9 @@ where
     }
 
     fn visit_simd_operator(&mut self, op: &Operator<'a>) -> Result<Self::Output, AllocError> {
-        let op = copy(op)?;
+        let Ok(op) = copy(op) else {
+            return Err(AllocError);
+        };
         Ok(self.visit_simd_owned(op))
     }
 }
