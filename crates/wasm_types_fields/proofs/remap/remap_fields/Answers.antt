@@ -1,3 +1,4 @@
+use Rattle.std.proofs.Common.{rules}
 -- One more is replaced; one is refused; all are replaced.
 use Rattle.std.proofs.Common.{◌∙◌, arith}
 use Rattle.std.proofs.lemmas.List.{length-set}
@@ -26,3 +27,6 @@ pub returns : goal.returns
 returns g c = record {
   remapped = whole field_of field_shape field_indices _ c.args.fields.now c.loop-place.fields c.loop-place.place (omega (arith, c.loop-place-test.false, c.loop-place.invariant.len)) c.loop-place.invariant.so_far;
 }
+
+pub loop-place-init : goal.loop-place-init
+loop-place-init c = search rules

@@ -1,3 +1,4 @@
+use Rattle.std.proofs.Common.{rules}
 -- Arrays and continuations.
 use Rattle.wasm_types_groups.proofs.composite.CompositeInnerType.remap_indices.Goals as goal
 
@@ -6,3 +7,6 @@ returns-in-Array g c = record { remapped = rw c.in-Array.is c.remap_indices-in-A
 
 pub returns-in-Cont : goal.returns-in-Cont
 returns-in-Cont g c = record { remapped = rw c.in-Cont.is c.remap_indices-in-Cont.ensures.remapped }
+
+pub returns-in-Struct : goal.returns-in-Struct
+returns-in-Struct c = search rules
