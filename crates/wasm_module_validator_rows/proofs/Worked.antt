@@ -10,6 +10,8 @@ use Rattle.wasm_types.specs.values.DecodeValues.{value_type_after, value_type}
 use Rattle.wasm_types.specs.fields.Decode.{signature}
 use Rattle.wasm_types.specs.values.declared.value.ValType.{ValType}
 use Rattle.wasm_types.specs.values.declared.value.ValType.TheVariants.{I32, I64}
+use Rattle.wasm_types.specs.limits.Limits.{default_limits}
+use Rattle.wasm_module_validator_operands.specs.Defaults.{default_settings}
 use Rattle.wasm_module_validator_operands.specs.Syntax.{FunctionType, Code, Function, plain, done, unreachable, nop, drop, local_get, i32_const, i64_const, i32_add}
 use Rattle.wasm_module_validator_operands.specs.Validation.{OperandType, value, AllMatch, locals_of, IsValidFunction}
 use Rattle.wasm_module_validator_bodies.specs.Bodies.{AcceptsBody}
@@ -33,35 +35,35 @@ two_to_i32 = record { params = I32 ∷ I32 ∷ []; results = I32 ∷ [] }
 -- ---- modules whose sections can't be read
 
 seven_bytes_unread : frames_at seven_bytes ≡ None
-unfolding frames_at at_begin module_frames preamble frames type_section function_section code_section section contents items type_index body entries function_type signature listed_within size_within repeated unsigned counted_part value_type value_type_after
+unfolding default_limits frames_at at_begin module_frames preamble frames type_section function_section code_section section contents items type_index body entries function_type signature listed_within size_within repeated unsigned counted_part value_type value_type_after
 seven_bytes_unread = refl
 
 version_two_unread : frames_at version_two ≡ None
-unfolding frames_at at_begin module_frames preamble frames type_section function_section code_section section contents items type_index body entries function_type signature listed_within size_within repeated unsigned counted_part value_type value_type_after
+unfolding default_limits frames_at at_begin module_frames preamble frames type_section function_section code_section section contents items type_index body entries function_type signature listed_within size_within repeated unsigned counted_part value_type value_type_after
 version_two_unread = refl
 
 size_of_six_bytes_unread : frames_at size_of_six_bytes ≡ None
-unfolding frames_at at_begin module_frames preamble frames type_section function_section code_section section contents items type_index body entries function_type signature listed_within size_within repeated unsigned counted_part value_type value_type_after
+unfolding default_limits frames_at at_begin module_frames preamble frames type_section function_section code_section section contents items type_index body entries function_type signature listed_within size_within repeated unsigned counted_part value_type value_type_after
 size_of_six_bytes_unread = refl
 
 byte_behind_types_unread : frames_at byte_behind_types ≡ None
-unfolding frames_at at_begin module_frames preamble frames type_section function_section code_section section contents items type_index body entries function_type signature listed_within size_within repeated unsigned counted_part value_type value_type_after
+unfolding default_limits frames_at at_begin module_frames preamble frames type_section function_section code_section section contents items type_index body entries function_type signature listed_within size_within repeated unsigned counted_part value_type value_type_after
 byte_behind_types_unread = refl
 
 types_behind_functions_unread : frames_at types_behind_functions ≡ None
-unfolding frames_at at_begin module_frames preamble frames type_section function_section code_section section contents items type_index body entries function_type signature listed_within size_within repeated unsigned counted_part value_type value_type_after
+unfolding default_limits frames_at at_begin module_frames preamble frames type_section function_section code_section section contents items type_index body entries function_type signature listed_within size_within repeated unsigned counted_part value_type value_type_after
 types_behind_functions_unread = refl
 
 missing_code_unread : frames_at missing_code ≡ None
-unfolding frames_at at_begin module_frames preamble frames type_section function_section code_section section contents items type_index body entries function_type signature listed_within size_within repeated unsigned counted_part value_type value_type_after
+unfolding default_limits frames_at at_begin module_frames preamble frames type_section function_section code_section section contents items type_index body entries function_type signature listed_within size_within repeated unsigned counted_part value_type value_type_after
 missing_code_unread = refl
 
 unknown_type_unread : frames_at unknown_type ≡ None
-unfolding frames_at at_begin module_frames preamble frames type_section function_section code_section section contents items type_index body entries function_type signature listed_within size_within repeated unsigned counted_part value_type value_type_after
+unfolding default_limits frames_at at_begin module_frames preamble frames type_section function_section code_section section contents items type_index body entries function_type signature listed_within size_within repeated unsigned counted_part value_type value_type_after
 unknown_type_unread = refl
 
 too_many_types_unread : frames_at too_many_types ≡ None
-unfolding frames_at at_begin module_frames preamble frames type_section function_section code_section section contents items type_index body entries function_type signature listed_within size_within repeated unsigned counted_part value_type value_type_after
+unfolding default_limits frames_at at_begin module_frames preamble frames type_section function_section code_section section contents items type_index body entries function_type signature listed_within size_within repeated unsigned counted_part value_type value_type_after
 too_many_types_unread = refl
 
 -- ---- the sections of the others
@@ -70,112 +72,112 @@ abbrev header_frames : Frames
 header_frames = record { types = []; functions = []; entries = [] }
 
 header_read : frames_at header ≡ Some header_frames
-unfolding frames_at at_begin module_frames preamble frames type_section function_section code_section section contents items type_index body entries function_type signature listed_within size_within repeated unsigned counted_part value_type value_type_after
+unfolding default_limits frames_at at_begin module_frames preamble frames type_section function_section code_section section contents items type_index body entries function_type signature listed_within size_within repeated unsigned counted_part value_type value_type_after
 header_read = refl
 
 abbrev padded_size_frames : Frames
 padded_size_frames = record { types = (nothing_to_nothing ∷ []); functions = []; entries = [] }
 
 padded_size_read : frames_at padded_size ≡ Some padded_size_frames
-unfolding frames_at at_begin module_frames preamble frames type_section function_section code_section section contents items type_index body entries function_type signature listed_within size_within repeated unsigned counted_part value_type value_type_after
+unfolding default_limits frames_at at_begin module_frames preamble frames type_section function_section code_section section contents items type_index body entries function_type signature listed_within size_within repeated unsigned counted_part value_type value_type_after
 padded_size_read = refl
 
 abbrev const_42_frames : Frames
 const_42_frames = record { types = (nothing_to_i32 ∷ []); functions = (0 ∷ []); entries = ((0x00 ∷ 0x41 ∷ 0x2a ∷ 0x0b ∷ []) ∷ []) }
 
 const_42_read : frames_at const_42 ≡ Some const_42_frames
-unfolding frames_at at_begin module_frames preamble frames type_section function_section code_section section contents items type_index body entries function_type signature listed_within size_within repeated unsigned counted_part value_type value_type_after
+unfolding default_limits frames_at at_begin module_frames preamble frames type_section function_section code_section section contents items type_index body entries function_type signature listed_within size_within repeated unsigned counted_part value_type value_type_after
 const_42_read = refl
 
 abbrev empty_body_frames : Frames
 empty_body_frames = record { types = (nothing_to_i32 ∷ []); functions = (0 ∷ []); entries = ((0x00 ∷ 0x0b ∷ []) ∷ []) }
 
 empty_body_read : frames_at empty_body ≡ Some empty_body_frames
-unfolding frames_at at_begin module_frames preamble frames type_section function_section code_section section contents items type_index body entries function_type signature listed_within size_within repeated unsigned counted_part value_type value_type_after
+unfolding default_limits frames_at at_begin module_frames preamble frames type_section function_section code_section section contents items type_index body entries function_type signature listed_within size_within repeated unsigned counted_part value_type value_type_after
 empty_body_read = refl
 
 abbrev const_i64_frames : Frames
 const_i64_frames = record { types = (nothing_to_i32 ∷ []); functions = (0 ∷ []); entries = ((0x00 ∷ 0x42 ∷ 0x2a ∷ 0x0b ∷ []) ∷ []) }
 
 const_i64_read : frames_at const_i64 ≡ Some const_i64_frames
-unfolding frames_at at_begin module_frames preamble frames type_section function_section code_section section contents items type_index body entries function_type signature listed_within size_within repeated unsigned counted_part value_type value_type_after
+unfolding default_limits frames_at at_begin module_frames preamble frames type_section function_section code_section section contents items type_index body entries function_type signature listed_within size_within repeated unsigned counted_part value_type value_type_after
 const_i64_read = refl
 
 abbrev value_left_frames : Frames
 value_left_frames = record { types = (nothing_to_nothing ∷ []); functions = (0 ∷ []); entries = ((0x00 ∷ 0x41 ∷ 0x2a ∷ 0x0b ∷ []) ∷ []) }
 
 value_left_read : frames_at value_left ≡ Some value_left_frames
-unfolding frames_at at_begin module_frames preamble frames type_section function_section code_section section contents items type_index body entries function_type signature listed_within size_within repeated unsigned counted_part value_type value_type_after
+unfolding default_limits frames_at at_begin module_frames preamble frames type_section function_section code_section section contents items type_index body entries function_type signature listed_within size_within repeated unsigned counted_part value_type value_type_after
 value_left_read = refl
 
 abbrev no_end_frames : Frames
 no_end_frames = record { types = (nothing_to_nothing ∷ []); functions = (0 ∷ []); entries = ((0x00 ∷ 0x01 ∷ []) ∷ []) }
 
 no_end_read : frames_at no_end ≡ Some no_end_frames
-unfolding frames_at at_begin module_frames preamble frames type_section function_section code_section section contents items type_index body entries function_type signature listed_within size_within repeated unsigned counted_part value_type value_type_after
+unfolding default_limits frames_at at_begin module_frames preamble frames type_section function_section code_section section contents items type_index body entries function_type signature listed_within size_within repeated unsigned counted_part value_type value_type_after
 no_end_read = refl
 
 abbrev code_behind_end_frames : Frames
 code_behind_end_frames = record { types = (nothing_to_nothing ∷ []); functions = (0 ∷ []); entries = ((0x00 ∷ 0x0b ∷ 0x01 ∷ []) ∷ []) }
 
 code_behind_end_read : frames_at code_behind_end ≡ Some code_behind_end_frames
-unfolding frames_at at_begin module_frames preamble frames type_section function_section code_section section contents items type_index body entries function_type signature listed_within size_within repeated unsigned counted_part value_type value_type_after
+unfolding default_limits frames_at at_begin module_frames preamble frames type_section function_section code_section section contents items type_index body entries function_type signature listed_within size_within repeated unsigned counted_part value_type value_type_after
 code_behind_end_read = refl
 
 abbrev unreachable_add_frames : Frames
 unreachable_add_frames = record { types = (nothing_to_nothing ∷ []); functions = (0 ∷ []); entries = ((0x00 ∷ 0x00 ∷ 0x6a ∷ 0x1a ∷ 0x0b ∷ []) ∷ []) }
 
 unreachable_add_read : frames_at unreachable_add ≡ Some unreachable_add_frames
-unfolding frames_at at_begin module_frames preamble frames type_section function_section code_section section contents items type_index body entries function_type signature listed_within size_within repeated unsigned counted_part value_type value_type_after
+unfolding default_limits frames_at at_begin module_frames preamble frames type_section function_section code_section section contents items type_index body entries function_type signature listed_within size_within repeated unsigned counted_part value_type value_type_after
 unreachable_add_read = refl
 
 abbrev reachable_add_frames : Frames
 reachable_add_frames = record { types = (nothing_to_nothing ∷ []); functions = (0 ∷ []); entries = ((0x00 ∷ 0x6a ∷ 0x1a ∷ 0x0b ∷ []) ∷ []) }
 
 reachable_add_read : frames_at reachable_add ≡ Some reachable_add_frames
-unfolding frames_at at_begin module_frames preamble frames type_section function_section code_section section contents items type_index body entries function_type signature listed_within size_within repeated unsigned counted_part value_type value_type_after
+unfolding default_limits frames_at at_begin module_frames preamble frames type_section function_section code_section section contents items type_index body entries function_type signature listed_within size_within repeated unsigned counted_part value_type value_type_after
 reachable_add_read = refl
 
 abbrev many_locals_frames : Frames
 many_locals_frames = record { types = (nothing_to_nothing ∷ []); functions = (0 ∷ []); entries = ((0x01 ∷ 0xd0 ∷ 0x86 ∷ 0x03 ∷ 0x7f ∷ 0x0b ∷ []) ∷ []) }
 
 many_locals_read : frames_at many_locals ≡ Some many_locals_frames
-unfolding frames_at at_begin module_frames preamble frames type_section function_section code_section section contents items type_index body entries function_type signature listed_within size_within repeated unsigned counted_part value_type value_type_after
+unfolding default_limits frames_at at_begin module_frames preamble frames type_section function_section code_section section contents items type_index body entries function_type signature listed_within size_within repeated unsigned counted_part value_type value_type_after
 many_locals_read = refl
 
 abbrev too_many_locals_frames : Frames
 too_many_locals_frames = record { types = (nothing_to_nothing ∷ []); functions = (0 ∷ []); entries = ((0x01 ∷ 0xd1 ∷ 0x86 ∷ 0x03 ∷ 0x7f ∷ 0x0b ∷ []) ∷ []) }
 
 too_many_locals_read : frames_at too_many_locals ≡ Some too_many_locals_frames
-unfolding frames_at at_begin module_frames preamble frames type_section function_section code_section section contents items type_index body entries function_type signature listed_within size_within repeated unsigned counted_part value_type value_type_after
+unfolding default_limits frames_at at_begin module_frames preamble frames type_section function_section code_section section contents items type_index body entries function_type signature listed_within size_within repeated unsigned counted_part value_type value_type_after
 too_many_locals_read = refl
 
 abbrev parameters_frames : Frames
 parameters_frames = record { types = (two_to_i32 ∷ []); functions = (0 ∷ []); entries = ((0x00 ∷ 0x20 ∷ 0x00 ∷ 0x20 ∷ 0x01 ∷ 0x6a ∷ 0x0b ∷ []) ∷ []) }
 
 parameters_read : frames_at parameters ≡ Some parameters_frames
-unfolding frames_at at_begin module_frames preamble frames type_section function_section code_section section contents items type_index body entries function_type signature listed_within size_within repeated unsigned counted_part value_type value_type_after
+unfolding default_limits frames_at at_begin module_frames preamble frames type_section function_section code_section section contents items type_index body entries function_type signature listed_within size_within repeated unsigned counted_part value_type value_type_after
 parameters_read = refl
 
 abbrev unknown_local_frames : Frames
 unknown_local_frames = record { types = (two_to_i32 ∷ []); functions = (0 ∷ []); entries = ((0x00 ∷ 0x20 ∷ 0x02 ∷ 0x0b ∷ []) ∷ []) }
 
 unknown_local_read : frames_at unknown_local ≡ Some unknown_local_frames
-unfolding frames_at at_begin module_frames preamble frames type_section function_section code_section section contents items type_index body entries function_type signature listed_within size_within repeated unsigned counted_part value_type value_type_after
+unfolding default_limits frames_at at_begin module_frames preamble frames type_section function_section code_section section contents items type_index body entries function_type signature listed_within size_within repeated unsigned counted_part value_type value_type_after
 unknown_local_read = refl
 
 abbrev two_functions_frames : Frames
 two_functions_frames = record { types = (nothing_to_nothing ∷ []); functions = (0 ∷ 0 ∷ []); entries = ((0x00 ∷ 0x0b ∷ []) ∷ (0x00 ∷ 0x01 ∷ 0x0b ∷ []) ∷ []) }
 
 two_functions_read : frames_at two_functions ≡ Some two_functions_frames
-unfolding frames_at at_begin module_frames preamble frames type_section function_section code_section section contents items type_index body entries function_type signature listed_within size_within repeated unsigned counted_part value_type value_type_after
+unfolding default_limits frames_at at_begin module_frames preamble frames type_section function_section code_section section contents items type_index body entries function_type signature listed_within size_within repeated unsigned counted_part value_type value_type_after
 two_functions_read = refl
 
 abbrev second_function_wrong_frames : Frames
 second_function_wrong_frames = record { types = (nothing_to_nothing ∷ []); functions = (0 ∷ 0 ∷ []); entries = ((0x00 ∷ 0x0b ∷ []) ∷ (0x00 ∷ 0x41 ∷ 0x2a ∷ 0x0b ∷ []) ∷ []) }
 
 second_function_wrong_read : frames_at second_function_wrong ≡ Some second_function_wrong_frames
-unfolding frames_at at_begin module_frames preamble frames type_section function_section code_section section contents items type_index body entries function_type signature listed_within size_within repeated unsigned counted_part value_type value_type_after
+unfolding default_limits frames_at at_begin module_frames preamble frames type_section function_section code_section section contents items type_index body entries function_type signature listed_within size_within repeated unsigned counted_part value_type value_type_after
 second_function_wrong_read = refl
 
 -- ---- functions, as trees
@@ -260,19 +262,23 @@ end_early_unspelled = refl
 
 -- ---- which of them are valid
 
-ends_valid : IsValidFunction nothing_to_nothing ends
+ends_valid : IsValidFunction default_settings nothing_to_nothing ends
+unfolding default_limits
 ends_valid = record { within = omega arith; typed = tt }
 
-nops_valid : IsValidFunction nothing_to_nothing nops
+nops_valid : IsValidFunction default_settings nothing_to_nothing nops
+unfolding default_limits
 nops_valid = record { within = omega arith; typed = ([], record { popped = []; pushed = []; rest = []; row = (refl, refl); taken = tt; given = refl }, tt) }
 
-gives_i32_42_valid : IsValidFunction nothing_to_i32 gives_i32_42
+gives_i32_42_valid : IsValidFunction default_settings nothing_to_i32 gives_i32_42
+unfolding default_limits
 gives_i32_42_valid = record {
   within = omega arith;
   typed = (value I32 ∷ [], record { popped = []; pushed = value I32 ∷ []; rest = []; row = (refl, refl); taken = tt; given = refl }, (refl, tt));
 }
 
-adds_unreached_valid : IsValidFunction nothing_to_nothing adds_unreached
+adds_unreached_valid : IsValidFunction default_settings nothing_to_nothing adds_unreached
+unfolding default_limits
 adds_unreached_valid = record {
   within = omega arith;
   typed = (
@@ -286,7 +292,8 @@ adds_unreached_valid = record {
   );
 }
 
-adds_params_valid : IsValidFunction two_to_i32 adds_params
+adds_params_valid : IsValidFunction default_settings two_to_i32 adds_params
+unfolding default_limits
 adds_params_valid = record {
   within = omega arith;
   typed = (
@@ -308,7 +315,8 @@ adds_params_valid = record {
 one_group : (n : ℕ) (type : ValType) (code : Code) → length (locals_of nothing_to_nothing (record { locals = record { count = n; type = type } ∷ []; body = code })) ≡ n
 one_group n type code = ap (λ (ts : List ValType). length ts) (append-nil (replicate n type)) ∙ length-replicate n type
 
-has_many_valid : IsValidFunction nothing_to_nothing has_many
+has_many_valid : IsValidFunction default_settings nothing_to_nothing has_many
+unfolding default_limits
 has_many_valid = record { within = omega (arith, one_group 50000 I32 done); typed = tt }
 
 -- ---- and which are not
@@ -319,10 +327,10 @@ one_operand [] pushed [] after type p q taken given = rw q at given
 one_operand [] pushed (r ∷ rest) after type p q taken given = absurd taken
 one_operand (x ∷ popped) pushed rest after type p q taken given = absurd cc
 
-ends_invalid : IsValidFunction nothing_to_i32 ends → ⊥
+ends_invalid : IsValidFunction default_settings nothing_to_i32 ends → ⊥
 ends_invalid v = v.typed
 
-gives_i64_42_invalid : IsValidFunction nothing_to_i32 gives_i64_42 → ⊥
+gives_i64_42_invalid : IsValidFunction default_settings nothing_to_i32 gives_i64_42 → ⊥
 gives_i64_42_invalid v =
     let s = v.typed.1 in
     let all = one_operand s.popped s.pushed s.rest v.typed.0 I64 s.row.0 s.row.1 s.taken s.given in
@@ -330,19 +338,20 @@ gives_i64_42_invalid v =
     let same = m.0 in
     absurd cc
 
-gives_i32_42_invalid : IsValidFunction nothing_to_nothing gives_i32_42 → ⊥
+gives_i32_42_invalid : IsValidFunction default_settings nothing_to_nothing gives_i32_42 → ⊥
 gives_i32_42_invalid v =
     let s = v.typed.1 in
     let all = one_operand s.popped s.pushed s.rest v.typed.0 I32 s.row.0 s.row.1 s.taken s.given in
     subst (λ (o : List OperandType). AllMatch o []) all v.typed.2
 
-adds_nothing_invalid : IsValidFunction nothing_to_nothing adds_nothing → ⊥
+adds_nothing_invalid : IsValidFunction default_settings nothing_to_nothing adds_nothing → ⊥
 adds_nothing_invalid v = let s = v.typed.1 in subst (λ (o : List OperandType). AllMatch [] (reverse o ++ s.rest)) s.row.0 s.taken
 
-has_too_many_invalid : IsValidFunction nothing_to_nothing has_too_many → ⊥
+has_too_many_invalid : IsValidFunction default_settings nothing_to_nothing has_too_many → ⊥
+unfolding default_limits
 has_too_many_invalid v = let few = v.within in absurd (omega (arith, few, one_group 50001 I32 done))
 
-gets_third_invalid : IsValidFunction two_to_i32 gets_third → ⊥
+gets_third_invalid : IsValidFunction default_settings two_to_i32 gets_third → ⊥
 gets_third_invalid v = let there = v.typed.1.row.1 in absurd cc
 
 -- a type that was found is the one that stands there
