@@ -4,15 +4,15 @@ use Rattle.wasm_types.specs.decoding.Decoder.{State, Outcome, Done, Short, Fault
 use Rattle.wasm_types.specs.error.declared.error.ErrorKind.{ErrorKind}
 use Rattle.wasm_types.specs.error.declared.error.ErrorKind.TheVariants as kinds
 use Rattle.wasm_types.specs.error.ErrorValue.{ErrorValue}
-use Rattle.wasm_types.specs.features.Sets.{bits_of, default_features}
 use Rattle.wasm_types.specs.reader.Reading.{Fails}
+use Rattle.wasm_module_validator_operands.specs.Defaults.{default_settings}
 use Rattle.wasm_module_validator.specs.declared.validator.State.{State as Progress}
 use Rattle.wasm_module_validator.specs.declared.validator.State.TheVariants as states
 use Rattle.wasm_module_validator.specs.laws.Frames.{Frames, module_frames}
 
 -- a reader before the first byte of a module
 unfoldable pub at_begin : List ℕ → State
-at_begin bytes = record { rest = bytes; place = 0; features = bits_of default_features; start = 0 }
+at_begin bytes = record { rest = bytes; place = 0; settings = default_settings; start = 0 }
 
 -- A function is refused with kind 5, or with kind 1 where its bytes end too early and one byte more is needed; or memory ran out.
 abbrev pub IsFunctionRefusal : ErrorKind → Type 0
@@ -37,7 +37,7 @@ FailsFrames e (Fault k p) = let o : Outcome Frames = Fault k p in Fails e o
 -- what is refused of these bytes is refused as their readers say
 abbrev pub RefusedAsRead : {X : Type 0} → Result X ErrorValue → List ℕ → Type 0
 RefusedAsRead (Ok x) bytes = Unit {0}
-RefusedAsRead (Err e) bytes = FailsFrames e (module_frames (at_begin bytes))
+RefusedAsRead (Err e) bytes = FailsFrames e (module_frames default_settings (at_begin bytes))
 
 -- a function's refusal ends the validation, but where memory ran out it has failed
 abbrev pub after_function : ErrorKind → Progress
@@ -62,7 +62,7 @@ after_frames k (Fault r p) = states.Failed
 -- where the header or a section was refused, or memory ran out, it has failed.
 abbrev pub progress_after : {X : Type 0} → Result X ErrorValue → List ℕ → Progress
 progress_after (Ok x) bytes = states.Ended
-progress_after (Err e) bytes = after_frames e.kind (module_frames (at_begin bytes))
+progress_after (Err e) bytes = after_frames e.kind (module_frames default_settings (at_begin bytes))
 
 -- this is the offset at which a reading was refused; where all was read, any offset will do
 abbrev pub IsPlaceOf : {A : Type 0} → ℕ → Outcome A → Type 0
@@ -72,4 +72,4 @@ IsPlaceOf place (Fault k p) = place ≡ p
 
 -- where the header or a section of these bytes is refused, it is refused at this offset
 abbrev pub IsRefusedAt : ℕ → List ℕ → Type 0
-IsRefusedAt place bytes = IsPlaceOf place (module_frames (at_begin bytes))
+IsRefusedAt place bytes = IsPlaceOf place (module_frames default_settings (at_begin bytes))

@@ -1,6 +1,6 @@
 //! The sections of a module, in their order.
 
-ghost use Rattle.std.specs.Prelude.{◌≡◌, ◌∷◌, map, length};
+ghost use Rattle.std.specs.Prelude.{◌≡◌, ◌∷◌, map, length, IfOk};
 ghost use Rattle.wasm_types.specs.decoding.Decoder.{Reaches, repeated};
 ghost use Rattle.wasm_types.specs.reader.Reading.{Gives};
 ghost use Rattle.wasm_module_validator.specs.laws.Frames.{IsCounted, begins, entered, ended, items, type_index, entries, type_section, function_section, code_section, preamble, module_frames};
@@ -10,14 +10,7 @@ ghost use Rattle.wasm_types.specs.error.declared.error.ErrorKind.TheVariants.{Ot
 
 use crate::types::TypeEntry;
 use std::alloc::Global;
-use wasm_types::limits::MAX_WASM_TYPES;
 use wasm_types::{BinaryReader, Error, FromReader, Result, read_many};
-
-/// How many functions a module has at the most.
-pub const MAX_WASM_FUNCTIONS: usize = 1_000_000;
-
-/// How many bytes an entry of the code section has at the most.
-pub const MAX_WASM_FUNCTION_SIZE: usize = 7_654_321;
 
 const TYPE_SECTION: u8 = 1;
 
@@ -45,7 +38,7 @@ impl<'a> FromReader<'a> for FunctionBody<'a> {
 
     ghost decoder = { body };
 
-    ghost grammar = { IsCounted 7654321 };
+    ghost grammar = { λ z. IsCounted z.limits.body_bytes };
 
     ghost takes_memory = { false };
 
@@ -55,21 +48,22 @@ impl<'a> FromReader<'a> for FunctionBody<'a> {
 
     #[tactic(auto, using(wasm_types::specs::Laws::reaches_self, wasm_types::specs::Laws::reaches_then), unfolding(crate::specs::laws::Frames::body))]
     fn from_reader(_alloc: Global, reader: &mut BinaryReader<'a>) -> Result<FunctionBody<'a>> {
+        let limit = reader.limits().body_bytes as usize;
         let reader = reader.read_reader()?;
-        if reader.bytes_remaining() > MAX_WASM_FUNCTION_SIZE {
-            return Err(body_error(reader.original_position()));
+        if reader.bytes_remaining() > limit {
+            return Err(body_error(limit, reader.original_position()));
         }
         Ok(FunctionBody { reader })
     }
 }
 
 #[cold]
-fn body_error(place: u64) -> Error
+fn body_error(limit: usize, place: u64) -> Error
     ensures kind { result.kind ≡ Other }
     ensures offset { result.offset ≡ place }
 {
     Error::fmt(
-        format_args!("function body size count exceeds limit of {MAX_WASM_FUNCTION_SIZE}"),
+        format_args!("function body size count exceeds limit of {limit}"),
         place,
     )
 }
@@ -86,7 +80,7 @@ pub struct ModuleFrames<'a> {
 /// refused the reader may have gone on.
 #[tactic(auto, using(wasm_types::specs::Laws::reaches_self, wasm_types::specs::Laws::reaches_then), unfolding(crate::specs::laws::Frames::module_frames, crate::specs::laws::Frames::frames))]
 pub fn read_module<'a>(alloc: Global, reader: &mut BinaryReader<'a>) -> Result<ModuleFrames<'a>>
-    ensures { Gives frames_of result reader.new (module_frames reader.old) }
+    ensures { Gives frames_of result reader.new (module_frames reader.old.settings reader.old) }
 {
     read_header(reader)?;
     let types = read_type_section(alloc, reader)?;
@@ -124,7 +118,8 @@ fn section_error(reader: &BinaryReader<'_>) -> Error
 /// The magic number and the version.
 #[tactic(auto, using(wasm_types::specs::Laws::reaches_self, wasm_types::specs::Laws::reaches_then), unfolding(crate::specs::laws::Frames::preamble))]
 fn read_header(reader: &mut BinaryReader<'_>) -> Result<()>
-    ensures { Gives (λ u. u) result reader.new (preamble reader.old) }
+    ensures answer { Gives (λ u. u) result reader.new (preamble reader.old) }
+    ensures forward { Reaches reader.old reader.new }
 {
     let place = reader.original_position();
     let magic = reader.read_bytes(4)?;
@@ -167,9 +162,10 @@ fn next_is(reader: &BinaryReader<'_>, id: u8) -> bool
 }
 
 /// The id of a section and its size: a reader over its contents.
-#[tactic(auto, using(wasm_types::specs::Laws::reaches_self, wasm_types::specs::Laws::reaches_then))]
+#[tactic(auto, using(wasm_types::specs::Laws::reaches_self, wasm_types::specs::Laws::reaches_then, crate::proofs::Parts::part_settings))]
 fn enter<'a>(reader: &mut BinaryReader<'a>) -> Result<BinaryReader<'a>>
     ensures answer { Gives (λ r. r) result reader.new (entered reader.old) }
+    ensures settings { IfOk result (λ contents. contents.settings ≡ reader.old.settings) }
     ensures forward { Reaches reader.old reader.new }
 {
     reader.read_u8()?;
@@ -200,7 +196,7 @@ fn count_error(desc: &str, limit: usize, place: u64) -> Error
 /// The function types of a module; none where there is no type section. Where it is refused the reader may have gone on.
 #[tactic(auto, using(wasm_types::specs::Laws::reaches_self, wasm_types::specs::Laws::reaches_then), unfolding(crate::specs::laws::Frames::section, crate::specs::laws::Frames::contents, crate::specs::laws::Frames::type_section))]
 pub fn read_type_section<'a>(alloc: Global, reader: &mut BinaryReader<'a>) -> Result<Vec<TypeEntry>>
-    ensures answer { Gives (λ v. v.items) result reader.new (type_section reader.old) }
+    ensures answer { Gives (λ v. v.items) result reader.new (type_section reader.old.settings reader.old) }
     ensures forward { Reaches reader.old reader.new }
 {
     if !next_is(reader, TYPE_SECTION) {
@@ -214,12 +210,13 @@ pub fn read_type_section<'a>(alloc: Global, reader: &mut BinaryReader<'a>) -> Re
 
 #[tactic(auto, using(wasm_types::specs::Laws::reaches_self, wasm_types::specs::Laws::reaches_then), unfolding(crate::specs::laws::Frames::items))]
 fn read_types<'a>(alloc: Global, contents: &mut BinaryReader<'a>) -> Result<Vec<TypeEntry>>
-    ensures { Gives (λ v. v.items) result contents.new (items 1000000 function_type contents.old) }
+    ensures { Gives (λ v. v.items) result contents.new (items contents.old.settings.limits.types (function_type contents.old.settings) contents.old) }
 {
+    let limit = contents.limits().types as usize;
     let place = contents.original_position();
     let count = contents.read_var_u32()? as usize;
-    if count > MAX_WASM_TYPES {
-        return Err(count_error("types", MAX_WASM_TYPES, place));
+    if count > limit {
+        return Err(count_error("types", limit, place));
     }
     read_many(alloc, count, contents)
 }
@@ -232,7 +229,7 @@ pub fn read_function_section<'a>(
     types: usize,
     reader: &mut BinaryReader<'a>,
 ) -> Result<Vec<u32>>
-    ensures answer { Gives (λ v. v.items) result reader.new (function_section types reader.old) }
+    ensures answer { Gives (λ v. v.items) result reader.new (function_section reader.old.settings types reader.old) }
     ensures forward { Reaches reader.old reader.new }
 {
     if !next_is(reader, FUNCTION_SECTION) {
@@ -250,12 +247,13 @@ fn read_functions<'a>(
     types: usize,
     contents: &mut BinaryReader<'a>,
 ) -> Result<Vec<u32>>
-    ensures { Gives (λ v. v.items) result contents.new (items 1000000 (type_index types) contents.old) }
+    ensures { Gives (λ v. v.items) result contents.new (items contents.old.settings.limits.functions (type_index types) contents.old) }
 {
+    let limit = contents.limits().functions as usize;
     let place = contents.original_position();
     let count = contents.read_var_u32()? as usize;
-    if count > MAX_WASM_FUNCTIONS {
-        return Err(count_error("functions", MAX_WASM_FUNCTIONS, place));
+    if count > limit {
+        return Err(count_error("functions", limit, place));
     }
     read_type_indices(alloc, types, count, contents)
 }
@@ -307,7 +305,7 @@ pub fn read_code_section<'a>(
     functions: usize,
     reader: &mut BinaryReader<'a>,
 ) -> Result<Vec<FunctionBody<'a>>>
-    ensures answer { Gives (λ v. bodies v.items) result reader.new (code_section functions reader.old) }
+    ensures answer { Gives (λ v. bodies v.items) result reader.new (code_section reader.old.settings functions reader.old) }
     ensures forward { Reaches reader.old reader.new }
 {
     if !next_is(reader, CODE_SECTION) {
@@ -328,7 +326,7 @@ fn read_entries<'a>(
     functions: usize,
     contents: &mut BinaryReader<'a>,
 ) -> Result<Vec<FunctionBody<'a>>>
-    ensures { Gives (λ v. bodies v.items) result contents.new (entries functions contents.old) }
+    ensures { Gives (λ v. bodies v.items) result contents.new (entries contents.old.settings functions contents.old) }
 {
     let place = contents.original_position();
     let count = contents.read_var_u32()? as usize;

@@ -4,6 +4,7 @@ ghost use Rattle.std.specs.Prelude.{◌≡◌, ◌↔◌, ◌≤◌, length, IsT
 ghost use Rattle.wasm_module_validator.specs.declared.validator.State.TheVariants as states;
 ghost use Rattle.wasm_module_validator.specs.Accepts.{Accepts, Judges};
 ghost use Rattle.wasm_module_validator_operands.specs.Answers.{Tells};
+ghost use Rattle.wasm_module_validator_operands.specs.Defaults.{default_settings};
 ghost use Rattle.wasm_module_validator.specs.Answers.{Counts, Shows};
 ghost use Rattle.wasm_module_validator.specs.Refusals.{at_begin, RefusedAsRead, RefusesFunction, progress_after, progress_of};
 ghost use Rattle.wasm_types.specs.reader.Reading.{Collects};
@@ -84,7 +85,7 @@ impl Validator {
     pub fn validate_all(&mut self, bytes: &[u8]) -> Result<Types, Error>
         requires { self.old ≡ states.Unparsed }
         ensures verdict { Tells result (Accepts bytes.now) }
-        ensures shown { IfOk result (λ types. (m : Module) × Judges bytes.now m × Shows types m) }
+        ensures shown { IfOk result (λ types. (m : Module) × Judges default_settings bytes.now m × Shows types m) }
         ensures refused { RefusedAsRead result bytes.now }
         ensures progress { self.new ≡ progress_after result bytes.now }
     {
@@ -115,7 +116,7 @@ fn state_after(judged: &Result<Types, Error>) -> State
 /// where its bytes end too early.
 pub fn validate(alloc: Global, id: ValidatorId, bytes: &[u8]) -> Result<Types, Error>
     ensures verdict { Tells result (Accepts bytes.now) }
-    ensures shown { IfOk result (λ types. (m : Module) × Judges bytes.now m × Shows types m) }
+    ensures shown { IfOk result (λ types. (m : Module) × Judges default_settings bytes.now m × Shows types m) }
     ensures refused { RefusedAsRead result bytes.now }
 {
     Validator::new(alloc, id).validate_all(bytes)
@@ -179,7 +180,7 @@ impl<'a> TypesRef<'a> {
 
 /// Reads all of the bytes as a module, whose functions stay as they are.
 fn read_all(alloc: Global, bytes: &[u8]) -> Result<ModuleFrames<'_>, Error>
-    ensures { Collects frames_of result (module_frames (at_begin bytes.now)) }
+    ensures { Collects frames_of result (module_frames default_settings (at_begin bytes.now)) }
 {
     let mut reader = BinaryReader::new(bytes, 0);
     read_module(alloc, &mut reader)
@@ -189,7 +190,7 @@ fn read_all(alloc: Global, bytes: &[u8]) -> Result<ModuleFrames<'_>, Error>
 fn judge(alloc: Global, module: &ModuleFrames<'_>) -> Result<Types, Error>
     requires types { length «module».now.types.items ≤ 1000000 }
     requires functions { length «module».now.functions.items ≤ 1000000 }
-    ensures verdict { Tells result (AreAccepted «module».now.types.items «module».now.functions.items (bodies «module».now.bodies.items)) }
+    ensures verdict { Tells result (AreAccepted default_settings «module».now.types.items «module».now.functions.items (bodies «module».now.bodies.items)) }
     ensures types { IfOk result (λ t. t.types ≡ length «module».now.types.items) }
     ensures functions { IfOk result (λ t. t.functions ≡ length «module».now.functions.items) }
     ensures kind { RefusesFunction result }
@@ -205,7 +206,7 @@ fn judge(alloc: Global, module: &ModuleFrames<'_>) -> Result<Types, Error>
 
 /// Judges each function by its type.
 fn validate_bodies(alloc: Global, module: &ModuleFrames<'_>) -> Result<(), Error>
-    ensures verdict { Tells result (AreAccepted «module».now.types.items «module».now.functions.items (bodies «module».now.bodies.items)) }
+    ensures verdict { Tells result (AreAccepted default_settings «module».now.types.items «module».now.functions.items (bodies «module».now.bodies.items)) }
     ensures kind { RefusesFunction result }
 {
     let functions = module.functions.as_slice();
@@ -226,7 +227,7 @@ fn validate_body(
     module: &ModuleFrames<'_>,
     place: usize,
 ) -> Result<(), Error>
-    ensures verdict { Tells result (AcceptsAt «module».now.types.items «module».now.functions.items (bodies «module».now.bodies.items) place) }
+    ensures verdict { Tells result (AcceptsAt default_settings «module».now.types.items «module».now.functions.items (bodies «module».now.bodies.items) place) }
     ensures kind { RefusesFunction result }
 {
     let Some(index) = module.functions.get(place) else {

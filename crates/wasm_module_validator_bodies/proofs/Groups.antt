@@ -5,6 +5,7 @@ use Rattle.wasm_types.specs.decoding.Decoder.{State, Done, Many}
 use Rattle.wasm_types.specs.decoding.Leb.{IsUnsigned, u32}
 use Rattle.wasm_types.specs.decoding.LebLaws.{decides-u32}
 use Rattle.wasm_types.specs.error.declared.error.ErrorKind.{ErrorKind}
+use Rattle.wasm_types.specs.limits.RowLaws.{default_rows}
 use Rattle.wasm_types.specs.reader.Reading.{FailsAt}
 use Rattle.wasm_types.specs.values.declared.value.ValType.{ValType}
 use Rattle.wasm_module_validator_operands.specs.Syntax.{LocalGroup, Code}
@@ -115,7 +116,7 @@ counted params results s t n e = (ahead, back)
     ahead : AcceptsBody (function_type params results) s.rest → GroupsLeft results n params t.rest
     ahead (f, p, v) =
         let same = read_is u32 (IsUnsigned 32) decides-u32 s t n e (entry_begins params results s.rest (f, p, v)) in
-        let left = groups_left results (length f.locals) params f.locals p.grouped.values p.body f.body p.grouped.each p.expressed v.within v.typed in
+        let left = groups_left results (length f.locals) params f.locals p.grouped.values p.body f.body p.grouped.each p.expressed (omega (arith, v.within, default_rows.locals)) v.typed in
         subst (λ (x : List ℕ). GroupsLeft results n params x) same.1 (subst (λ (m : ℕ). GroupsLeft results m params (p.grouped.values ++ p.body)) same.0 left)
 
     back : GroupsLeft results n params t.rest → AcceptsBody (function_type params results) s.rest
@@ -137,12 +138,12 @@ counted params results s t n e = (ahead, back)
             expressed = q.expressed;
             whole = w ∙ ap (λ (x : List ℕ). front ++ x) q.whole ∙ sym (append_assoc front q.values q.body);
           },
-          record { within = q.within; typed = q.typed },
+          record { within = omega (arith, q.within, default_rows.locals); typed = q.typed },
         )
 
 -- parameters alone are within the limit
 pub params_within : (params results : List ValType) (bytes : List ℕ) → AcceptsBody (function_type params results) bytes → length params ≤ 50000
-params_within params results bytes (f, s, v) = omega (arith, v.within, length-append params (expanded f.locals))
+params_within params results bytes (f, s, v) = omega (arith, v.within, default_rows.locals, length-append params (expanded f.locals))
 
 -- ---- the next group
 

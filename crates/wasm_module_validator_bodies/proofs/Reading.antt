@@ -17,11 +17,11 @@ pub record Begins {A : Type 0} (g : Grammar A) (bytes : List ℕ) : Type 0 where
 
 -- where a reader stands behind the front
 abbrev pub behind : State → List ℕ → List ℕ → State
-behind s front rest = record { rest = rest; place = s.place + length front; features = s.features; start = s.start }
+behind s front rest = record { rest = rest; place = s.place + length front; settings = s.settings; start = s.start }
 
 module _ {A : Type 0} (d : Decoder A) (g : Grammar A) (dg : Decides d g) where
   pub reads : (s : State) (b : Begins g s.rest) → d s ≡ Done b.value (behind s b.front b.rest)
-  reads s b = dg.complete s (behind s b.front b.rest) b.value b.front (record { parts = b.whole; place = refl; features = refl; start = refl }) b.spelled
+  reads s b = dg.complete s (behind s b.front b.rest) b.value b.front (record { parts = b.whole; place = refl; settings = refl; start = refl }) b.spelled
 
   -- what was read is what the bytes begin with
   pub read_is : (s t : State) (x : A) → d s ≡ Done x t → (b : Begins g s.rest) → (b.value ≡ x) × (b.rest ≡ t.rest)

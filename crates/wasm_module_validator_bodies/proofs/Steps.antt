@@ -6,6 +6,7 @@ use Rattle.wasm_types.specs.decoding.Decoder.{State, Done}
 use Rattle.wasm_types.specs.error.ErrorValue.{ErrorValue}
 use Rattle.wasm_types.specs.error.declared.error.ErrorKind.{ErrorKind}
 use Rattle.wasm_types.specs.error.declared.error.ErrorKind.TheVariants.{Other}
+use Rattle.wasm_types.specs.limits.Settings.{no_features}
 use Rattle.wasm_types.specs.reader.Reading.{FailsAt}
 use Rattle.wasm_types.specs.values.declared.value.ValType.{ValType}
 use Rattle.wasm_module_validator_bodies.specs.declared.operators.Operator.{Operator}
@@ -89,17 +90,17 @@ AfterFirst o done rest = (End ≡ o) × ([] ≡ rest)
 AfterFirst o (plain i more) rest = (op_of i ≡ o) × SpellsExpression more rest
 
 some_state : List ℕ → State
-some_state bytes = record { rest = bytes; place = 0; features = 0; start = 0 }
+some_state bytes = record { rest = bytes; place = 0; settings = no_features; start = 0 }
 
 after_first : (o : Operator) (text rest : List ℕ) (code : Code) → SpellsOperator o text → SpellsExpression code (text ++ rest) → AfterFirst o code rest
 unfolding first_begins
 after_first o text rest done s h =
     let b : Begins SpellsOperator (text ++ rest) = record { value = o; front = text; rest = rest; spelled = s; whole = refl } in
-    let start : State = record { rest = text ++ rest; place = 0; features = 0; start = 0 } in
+    let start : State = record { rest = text ++ rest; place = 0; settings = no_features; start = 0 } in
     read_is operator SpellsOperator decides-operator start _ o (reads operator SpellsOperator decides-operator start b) (first_begins done (text ++ rest) h)
 after_first o text rest (plain i more) s h =
     let b : Begins SpellsOperator (text ++ rest) = record { value = o; front = text; rest = rest; spelled = s; whole = refl } in
-    let start : State = record { rest = text ++ rest; place = 0; features = 0; start = 0 } in
+    let start : State = record { rest = text ++ rest; place = 0; settings = no_features; start = 0 } in
     let same = read_is operator SpellsOperator decides-operator start _ o (reads operator SpellsOperator decides-operator start b) (first_begins (plain i more) (text ++ rest) h) in
     (same.0, subst (λ (x : List ℕ). SpellsExpression more x) same.1 h.3)
 

@@ -32,15 +32,15 @@ impl<'a> FromReader<'a> for Operator {
 
     ghost view = { λ o. o };
 
-    ghost decoder = { operator };
+    ghost decoder = { λ z. operator };
 
-    ghost grammar = { SpellsOperator };
+    ghost grammar = { λ z. SpellsOperator };
 
     ghost takes_memory = { false };
 
-    ghost lawful = { lawful-operator };
+    ghost lawful = { λ z. lawful-operator };
 
-    ghost exact = { decides-operator };
+    ghost exact = { λ z. decides-operator };
 
     #[inline]
     #[tactic(auto, using(wasm_types::specs::Laws::reaches_self, wasm_types::specs::Laws::reaches_then), unfolding(crate::specs::laws::Operators::operator))]
@@ -111,15 +111,15 @@ impl<'a> FromReader<'a> for LocalGroup {
 
     ghost view = { λ g. record { count = g.count; type = g.ty } };
 
-    ghost decoder = { local_group };
+    ghost decoder = { λ z. local_group };
 
-    ghost grammar = { SpellsLocalGroup };
+    ghost grammar = { λ z. SpellsLocalGroup };
 
     ghost takes_memory = { false };
 
-    ghost lawful = { lawful-local_group };
+    ghost lawful = { λ z. lawful-local_group };
 
-    ghost exact = { decides-local_group };
+    ghost exact = { λ z. decides-local_group };
 
     #[tactic(auto, using(wasm_types::specs::Laws::reaches_self, wasm_types::specs::Laws::reaches_then), unfolding(crate::specs::laws::Operators::local_group))]
     fn from_reader(_alloc: Global, reader: &mut BinaryReader<'a>) -> Result<LocalGroup> {

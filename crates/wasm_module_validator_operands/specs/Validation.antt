@@ -1,5 +1,6 @@
 -- Which functions are valid (WebAssembly 3.0, validation).
 use Rattle.std.specs.Prelude.{◌≡◌, ◌≤◌, List, [], ◌∷◌, ◌++◌, length, map, reverse, replicate, slice_get, Some}
+use Rattle.wasm_types.specs.limits.Settings.{Settings}
 use Rattle.wasm_types.specs.values.declared.value.ValType.{ValType}
 use Rattle.wasm_types.specs.values.declared.value.ValType.TheVariants.{I32, I64}
 use Rattle.wasm_module_validator_operands.specs.Syntax.{FunctionType, Instruction, unreachable, nop, drop, local_get, i32_const, i64_const, i32_add, i64_add, Code, done, plain, LocalGroup, Function}
@@ -71,7 +72,7 @@ expanded (g ∷ gs) = replicate g.count g.type ++ expanded gs
 abbrev pub locals_of : FunctionType → Function → List ValType
 locals_of type f = type.params ++ expanded f.locals
 
--- A function of this type is valid (validation, modules, functions): it has at most 50,000 locals, and its body gives its results.
-pub record IsValidFunction (type : FunctionType) (f : Function) : Type 0 where
-  pub within : length (locals_of type f) ≤ 50000
+-- A function of this type is valid (validation, modules, functions): its locals are within their limit, and its body gives its results.
+pub record IsValidFunction (z : Settings) (type : FunctionType) (f : Function) : Type 0 where
+  pub within : length (locals_of type f) ≤ z.limits.locals
   pub typed : Typed (locals_of type f) f.body [] (stack type.results)

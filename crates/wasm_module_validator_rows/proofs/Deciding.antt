@@ -6,15 +6,16 @@ use Rattle.std.proofs.lemmas.List.{append-nil, length-append}
 use Rattle.wasm_types.specs.decoding.Decoder.{State, Outcome, Done, Short, Fault, Takes}
 use Rattle.wasm_types.specs.decoding.Leb.{listed}
 use Rattle.wasm_types.specs.decoding.LebLaws.{decides-listed}
+use Rattle.wasm_types.specs.limits.Settings.{Settings, no_features}
 use Rattle.wasm_module_validator_operands.specs.Syntax.{FunctionType, Instruction, unreachable, nop, drop, local_get, i32_const, i64_const, i32_add, i64_add, Code, done, plain, LocalGroup, Function}
 use Rattle.wasm_module_validator_operands.specs.Validation.{IsValidFunction}
 use Rattle.wasm_module_validator_bodies.specs.Binary.{SpellsInstruction, SpellsExpression, SpellsLocalGroup, SpellsFunction}
-use Rattle.wasm_module_validator_bodies.specs.Bodies.{AcceptsBody}
+use Rattle.wasm_module_validator_bodies.specs.Bodies.{AcceptsBodyUnder}
 use Rattle.wasm_module_validator_bodies.specs.declared.operators.Operator.{Operator}
 use Rattle.wasm_module_validator_bodies.specs.declared.operators.Operator.TheVariants.{Unreachable, Nop, End, Drop, LocalGet, I32Const, I64Const, I32Add, I64Add}
 use Rattle.wasm_module_validator_bodies.specs.laws.Operators.{SpellsOperator, operator, local_group}
 use Rattle.wasm_module_validator_bodies.specs.laws.OperatorLaws.{decides-operator, decides-local_group}
-use Rattle.wasm_module_validator.specs.Accepts.{Accepts}
+use Rattle.wasm_module_validator.specs.Accepts.{AcceptsUnder}
 use Rattle.wasm_module_validator.specs.Refusals.{at_begin}
 use Rattle.wasm_module_validator.specs.laws.Frames.{Frames, module_frames}
 use Rattle.wasm_module_validator.specs.laws.Judged.{AreAccepted, accepted_at, at_accepted}
@@ -90,10 +91,10 @@ some_bytes i64_add text h = rw h (omega arith)
 
 -- a state further on
 abbrev behind : State → ℕ → List ℕ → State
-behind s n rest = record { rest = rest; place = s.place + n; features = s.features; start = s.start }
+behind s n rest = record { rest = rest; place = s.place + n; settings = s.settings; start = s.start }
 
 reads_operator : (o : Operator) (front rest : List ℕ) (s : State) → SpellsOperator o front → s.rest ≡ front ++ rest → operator s ≡ Done o (behind s (length front) rest)
-reads_operator o front rest s h e = decides-operator.complete s (behind s (length front) rest) o front (record { parts = e; place = refl; features = refl; start = refl }) h
+reads_operator o front rest s h e = decides-operator.complete s (behind s (length front) rest) o front (record { parts = e; place = refl; settings = refl; start = refl }) h
 
 -- what is spelled is read
 pub code_read : (n : ℕ) (c : Code) (text : List ℕ) (s : State) → SpellsExpression c text → s.rest ≡ text → length text ≤ n → code_at n s ≡ Some c
@@ -189,7 +190,7 @@ function_behind (Fault k p) = None
 
 -- the bytes of a function, where they stand
 abbrev pub at_function : List ℕ → State
-at_function bytes = record { rest = bytes; place = 0; features = 0; start = 0 }
+at_function bytes = record { rest = bytes; place = 0; settings = no_features; start = 0 }
 
 -- the function that all of these bytes spell
 unfoldable pub function_at : List ℕ → Option Function
@@ -200,7 +201,7 @@ unfolding function_at
 function_read f bytes h =
     let s = at_function bytes in
     let t = behind s (length h.locals) h.body in
-    let r : listed local_group s ≡ Done f.locals t = (decides-listed SpellsLocalGroup local_group decides-local_group).complete s t f.locals h.locals (record { parts = h.whole; place = refl; features = refl; start = refl }) h.grouped in
+    let r : listed local_group s ≡ Done f.locals t = (decides-listed SpellsLocalGroup local_group decides-local_group).complete s t f.locals h.locals (record { parts = h.whole; place = refl; settings = refl; start = refl }) h.grouped in
     let c = code_read (length h.body) f.body h.body t h.expressed refl (omega arith) in
     rw (r, c) refl
 
@@ -218,20 +219,20 @@ function_spelled bytes f e = go (listed local_group (at_function bytes)) refl e
     go (Fault k p) q e = absurd cc
 
 -- a body is accepted where the function that it spells is valid
-pub body_accepted : (type : FunctionType) (bytes : List ℕ) (f : Function) → function_at bytes ≡ Some f → IsValidFunction type f → AcceptsBody type bytes
-body_accepted type bytes f e v = (f, function_spelled bytes f e, v)
+pub body_accepted : (z : Settings) (type : FunctionType) (bytes : List ℕ) (f : Function) → function_at bytes ≡ Some f → IsValidFunction z type f → AcceptsBodyUnder z type bytes
+body_accepted z type bytes f e v = (f, function_spelled bytes f e, v)
 
-pub body_refused : (type : FunctionType) (bytes : List ℕ) (f : Function) → function_at bytes ≡ Some f → (IsValidFunction type f → ⊥) → AcceptsBody type bytes → ⊥
-body_refused type bytes f e n (g, s, v) =
+pub body_refused : (z : Settings) (type : FunctionType) (bytes : List ℕ) (f : Function) → function_at bytes ≡ Some f → (IsValidFunction z type f → ⊥) → AcceptsBodyUnder z type bytes → ⊥
+body_refused z type bytes f e n (g, s, v) =
     let r = function_read g bytes s in
     let same : g ≡ f = some_is g f (sym r ∙ e) in
-    n (subst (λ (h : Function). IsValidFunction type h) same v)
+    n (subst (λ (h : Function). IsValidFunction z type h) same v)
   where
     some_is : (x y : Function) → ◌≡◌ {A = Option Function} (Some x) (Some y) → x ≡ y
     some_is x y q = cc
 
-pub body_unread : (type : FunctionType) (bytes : List ℕ) → function_at bytes ≡ None → AcceptsBody type bytes → ⊥
-body_unread type bytes e (g, s, v) = let r = function_read g bytes s in let q = sym r ∙ e in absurd cc
+pub body_unread : (z : Settings) (type : FunctionType) (bytes : List ℕ) → function_at bytes ≡ None → AcceptsBodyUnder z type bytes → ⊥
+body_unread z type bytes e (g, s, v) = let r = function_read g bytes s in let q = sym r ∙ e in absurd cc
 
 -- ---- a module
 
@@ -241,34 +242,34 @@ frames_in (Short p h) = None
 frames_in (Fault k p) = None
 
 -- the frames of these bytes
-unfoldable pub frames_at : List ℕ → Option Frames
-frames_at bytes = frames_in (module_frames (at_begin bytes))
+unfoldable pub frames_at : Settings → List ℕ → Option Frames
+frames_at z bytes = frames_in (module_frames z (at_begin bytes))
 
 -- the functions in them are accepted
-abbrev pub HasFunctions : Frames → Type 0
-HasFunctions f = AreAccepted f.types f.functions f.entries
+abbrev pub HasFunctions : Settings → Frames → Type 0
+HasFunctions z f = AreAccepted z f.types f.functions f.entries
 
-pub accepts : (bytes : List ℕ) (f : Frames) → frames_at bytes ≡ Some f → HasFunctions f → Accepts bytes
+pub accepts : (z : Settings) (bytes : List ℕ) (f : Frames) → frames_at z bytes ≡ Some f → HasFunctions z f → AcceptsUnder z bytes
 unfolding frames_at at_begin
-accepts bytes f e a = go (module_frames (at_begin bytes)) refl e
+accepts z bytes f e a = go (module_frames z (at_begin bytes)) refl e
   where
-    go : (o : Outcome Frames) → module_frames (at_begin bytes) ≡ o → frames_in o ≡ Some f → Accepts bytes
-    go (Done g t) q e = let same : g ≡ f = cc in accepted_at (at_begin bytes) (g, t, q, subst HasFunctions (sym same) a)
+    go : (o : Outcome Frames) → module_frames z (at_begin bytes) ≡ o → frames_in o ≡ Some f → AcceptsUnder z bytes
+    go (Done g t) q e = let same : g ≡ f = cc in accepted_at z (at_begin bytes) (g, t, q, subst (HasFunctions z) (sym same) a)
     go (Short p h) q e = absurd cc
     go (Fault k p) q e = absurd cc
 
-pub frames_of : (bytes : List ℕ) → Accepts bytes → (f : Frames) × (frames_at bytes ≡ Some f) × HasFunctions f
+pub frames_of : (z : Settings) (bytes : List ℕ) → AcceptsUnder z bytes → (f : Frames) × (frames_at z bytes ≡ Some f) × HasFunctions z f
 unfolding frames_at at_begin
-frames_of bytes a = let r = at_accepted (at_begin bytes) a in (r.0, ap frames_in r.2, r.3)
+frames_of z bytes a = let r = at_accepted z (at_begin bytes) a in (r.0, ap frames_in r.2, r.3)
 
-pub refuses_frames : (bytes : List ℕ) → frames_at bytes ≡ None → ¬ Accepts bytes
-refuses_frames bytes e = λ a. let r = frames_of bytes a in let q = sym r.1 ∙ e in absurd cc
+pub refuses_frames : (z : Settings) (bytes : List ℕ) → frames_at z bytes ≡ None → ¬ AcceptsUnder z bytes
+refuses_frames z bytes e = λ a. let r = frames_of z bytes a in let q = sym r.1 ∙ e in absurd cc
 
-pub refuses_functions : (bytes : List ℕ) (f : Frames) → frames_at bytes ≡ Some f → (HasFunctions f → ⊥) → ¬ Accepts bytes
-refuses_functions bytes f e n = λ a.
-    let r = frames_of bytes a in
+pub refuses_functions : (z : Settings) (bytes : List ℕ) (f : Frames) → frames_at z bytes ≡ Some f → (HasFunctions z f → ⊥) → ¬ AcceptsUnder z bytes
+refuses_functions z bytes f e n = λ a.
+    let r = frames_of z bytes a in
     let same : r.0 ≡ f = some_is r.0 f (sym r.1 ∙ e) in
-    n (subst HasFunctions same r.2)
+    n (subst (HasFunctions z) same r.2)
   where
     some_is : (x y : Frames) → ◌≡◌ {A = Option Frames} (Some x) (Some y) → x ≡ y
     some_is x y q = cc

@@ -1,6 +1,10 @@
 -- Modules in bytes, and whether they are accepted. A name says what the module shows; a section stands on a line of its own.
 use Rattle.std.specs.Prelude.{ℕ, List, [], ◌∷◌, ◌++◌}
-use Rattle.wasm_module_validator.specs.Accepts.{Accepts}
+use Rattle.wasm_types.specs.limits.declared.Limits.{Limits}
+use Rattle.wasm_types.specs.limits.Limits.{default_limits}
+use Rattle.wasm_types.specs.limits.Settings.{Settings}
+use Rattle.wasm_module_validator_operands.specs.Defaults.{default_settings}
+use Rattle.wasm_module_validator.specs.Accepts.{AcceptsUnder, Accepts}
 
 abbrev Bytes : Type 0
 Bytes = List ℕ
@@ -111,6 +115,10 @@ two_functions = header ++ nothing ++ (0x03 ∷ 0x03 ∷ 0x02 ∷ 0x00 ∷ 0x00 �
 abbrev pub second_function_wrong : Bytes
 second_function_wrong = header ++ nothing ++ (0x03 ∷ 0x03 ∷ 0x02 ∷ 0x00 ∷ 0x00 ∷ []) ++ (0x0a ∷ 0x09 ∷ 0x02 ∷ 0x02 ∷ 0x00 ∷ 0x0b ∷ 0x04 ∷ 0x00 ∷ 0x41 ∷ 0x2a ∷ 0x0b ∷ [])
 
+-- the features by default, within these limits
+abbrev pub within : Limits → Settings
+within limits = record { features = default_settings.features; limits = limits }
+
 -- ---- the rows
 
 pub record AreJudged : Type 0 where
@@ -138,3 +146,11 @@ pub record AreJudged : Type 0 where
   pub local_is_there : ¬ Accepts unknown_local
   pub two : Accepts two_functions
   pub second : ¬ Accepts second_function_wrong
+  -- at each limit that it meets, and past each
+  pub at_limits : AcceptsUnder (within (record default_limits { types = 1; functions = 2; body_bytes = 3; params = 0; results = 0; locals = 0 })) two_functions
+  pub past_types : ¬ AcceptsUnder (within (record default_limits { types = 0 })) two_functions
+  pub past_functions : ¬ AcceptsUnder (within (record default_limits { functions = 1 })) two_functions
+  pub past_body_bytes : ¬ AcceptsUnder (within (record default_limits { body_bytes = 2 })) two_functions
+  pub past_params : ¬ AcceptsUnder (within (record default_limits { params = 1 })) parameters
+  pub past_results : ¬ AcceptsUnder (within (record default_limits { results = 0 })) const_42
+  pub past_locals : ¬ AcceptsUnder (within (record default_limits { locals = 49999 })) many_locals

@@ -168,7 +168,7 @@ pub fn read_continuation<'a>(
     reader: &mut BinaryReader<'a>,
 ) -> Result<ContinuationOperator>
     requires { continuation_kinds code ≡ Some (continuation_shape_kinds shape) }
-    ensures answer { Gives (λ o. continuation_immediates (continuation_of o)) result reader.new (immediates reader.old.features (continuation_shape_kinds shape) reader.old) }
+    ensures answer { Gives (λ o. continuation_immediates (continuation_of o)) result reader.new (immediates reader.old.settings (continuation_shape_kinds shape) reader.old) }
     ensures code { IfOk result (λ o. (continuation_info (continuation_of o)).code ≡ code) }
     ensures prefix { IfOk result (λ o. (continuation_info (continuation_of o)).prefix ≡ None) }
     ensures no_memory { shape ≢ ContinuationShape.TypeHandlers → shape ≢ ContinuationShape.TypeTagHandlers → NeedsNoMemory result }

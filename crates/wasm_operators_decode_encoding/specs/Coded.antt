@@ -4,6 +4,7 @@ use Rattle.std.specs.Prelude.{◌≡◌, ◌==◌, if◌then◌else◌, ℕ, Lis
 use Rattle.wasm_types.specs.decoding.declared.Refusal.TheVariants.{Other}
 use Rattle.wasm_types.specs.decoding.Decoder.{Decoder, ◌>>=◌, pure}
 use Rattle.wasm_types.specs.decoding.Lists.{refuse_at}
+use Rattle.wasm_types.specs.limits.Settings.{Settings}
 use Rattle.wasm_operators_immediates.specs.Kinds.{Kind}
 use Rattle.wasm_operators_immediates.specs.Immediates.{Immediate, kind_of}
 use Rattle.wasm_operators_decode_encoding.specs.Opcodes.{Opcode, opcode, SpelledOpcode}
@@ -62,23 +63,23 @@ abbrev pub coded : Opcode → List Immediate → Coded
 coded o is = record { opcode = o; carried = is }
 
 -- immediates of these kinds, if the opcode has any; one that no operator has is refused at its own offset
-abbrev pub carried_by : ℕ → ℕ → Opcode → Option (List Kind) → Decoder Coded
-carried_by features place o None = refuse_at Other place
-carried_by features place o (Some ks) = immediates features ks >>= λ is. pure (coded o is)
+abbrev pub carried_by : Settings → ℕ → Opcode → Option (List Kind) → Decoder Coded
+carried_by settings place o None = refuse_at Other place
+carried_by settings place o (Some ks) = immediates settings ks >>= λ is. pure (coded o is)
 
 -- what stands behind an opcode that begins at this offset
-abbrev pub behind : ℕ → ℕ → Opcode → Decoder Coded
-behind features place o = carried_by features place o (kinds_at o)
+abbrev pub behind : Settings → ℕ → Opcode → Decoder Coded
+behind settings place o = carried_by settings place o (kinds_at o)
 
 -- an opcode, and what stands behind it
-unfoldable pub operator : ℕ → Decoder Coded
-operator features s = (opcode >>= behind features s.place) s
+unfoldable pub operator : Settings → Decoder Coded
+operator settings s = (opcode >>= behind settings s.place) s
 
 -- an opcode's bytes, and those of immediates of exactly the kinds that belong to it
-pub record SpelledCoded (features : ℕ) (c : Coded) (text : List ℕ) : Type 0 where
+pub record SpelledCoded (settings : Settings) (c : Coded) (text : List ℕ) : Type 0 where
   pub front : List ℕ
   pub back : List ℕ
   pub opcode : SpelledOpcode c.opcode front
   pub kinds : kinds_at c.opcode ≡ Some (map kind_of c.carried)
-  pub carried : SpelledImmediates features c.carried back
+  pub carried : SpelledImmediates settings c.carried back
   pub whole : text ≡ front ++ back

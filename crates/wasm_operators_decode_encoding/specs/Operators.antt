@@ -1,5 +1,6 @@
 -- Operators and the bytes that spell them (WebAssembly 3.0, binary format, instructions).
 use Rattle.std.specs.Prelude.{◌≡◌, IsTrue, ℕ, List, ◌++◌}
+use Rattle.wasm_types.specs.limits.Settings.{Settings}
 use Rattle.wasm_operators_operator.specs.Op.{Op}
 use Rattle.wasm_operators_operator.specs.Table.{info_of}
 use Rattle.wasm_operators_operator.specs.Immediates.{immediates_of, is_canonical}
@@ -16,10 +17,10 @@ abbrev pub coded_of : Op → Coded
 coded_of o = record { opcode = opcode_of o; carried = immediates_of o }
 
 -- an operator in the form that bytes give it, its opcode's bytes, and those of its immediates
-pub record SpelledOperator (features : ℕ) (o : Op) (text : List ℕ) : Type 0 where
+pub record SpelledOperator (settings : Settings) (o : Op) (text : List ℕ) : Type 0 where
   pub canonical : IsTrue (is_canonical o)
   pub front : List ℕ
   pub back : List ℕ
   pub opcode : SpelledOpcode (opcode_of o) front
-  pub carried : SpelledImmediates features (immediates_of o) back
+  pub carried : SpelledImmediates settings (immediates_of o) back
   pub whole : text ≡ front ++ back

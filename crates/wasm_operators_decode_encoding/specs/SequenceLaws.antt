@@ -3,37 +3,38 @@ use Rattle.std.proofs.Common.{◌≡◌, ℕ, List, [], ◌∷◌, map, refl, sy
 use Rattle.wasm_types.specs.decoding.Decoder.{Grammar, IsLawful, Decides, Then}
 use Rattle.wasm_types.specs.decoding.Laws.{lawful->>=, lawful-pure}
 use Rattle.wasm_types.specs.decoding.Exact.{decides->>=, decides-same, decides-map, decides-pure, Mapped}
+use Rattle.wasm_types.specs.limits.Settings.{Settings}
 use Rattle.wasm_operators_immediates.specs.Kinds.{Kind}
 use Rattle.wasm_operators_immediates.specs.Immediates.{Immediate, kind_of}
 use Rattle.wasm_operators_decode_immediates.specs.Immediates.{immediate, OfKind}
 use Rattle.wasm_operators_decode_immediates.specs.ImmediateLaws.{lawful-immediate, decides-immediate}
 use Rattle.wasm_operators_decode_encoding.specs.Sequences.{immediates, OfKinds}
 
-module _ (features : ℕ) where
-  pub lawful-immediates : (ks : List Kind) → IsLawful (immediates features ks)
+module _ (settings : Settings) where
+  pub lawful-immediates : (ks : List Kind) → IsLawful (immediates settings ks)
   lawful-immediates [] = lawful-pure []
-  lawful-immediates (k ∷ ks) = lawful->>= (immediate features k) _ (lawful-immediate features k)
-      (λ i. lawful->>= (immediates features ks) _ (lawful-immediates ks) (λ is. lawful-pure (i ∷ is)))
+  lawful-immediates (k ∷ ks) = lawful->>= (immediate settings k) _ (lawful-immediate settings k)
+      (λ i. lawful->>= (immediates settings ks) _ (lawful-immediates ks) (λ is. lawful-pure (i ∷ is)))
 
   -- none but the empty list has no kinds
-  none_to : (is : List Immediate) (text : List ℕ) → OfKinds features [] is text → (is ≡ []) × (text ≡ [])
+  none_to : (is : List Immediate) (text : List ℕ) → OfKinds settings [] is text → (is ≡ []) × (text ≡ [])
   none_to [] text h = (refl, h.spelled)
   none_to (i ∷ is) text h = let e : kind_of i ∷ map kind_of is ≡ [] = h.kinds in absurd cc
 
   module _ (k : Kind) (ks : List Kind) where
     -- the rest behind the first
     abbrev behind : Immediate → Grammar (List Immediate)
-    behind i = Mapped (λ (is : List Immediate). i ∷ is) (OfKinds features ks)
+    behind i = Mapped (λ (is : List Immediate). i ∷ is) (OfKinds settings ks)
 
-    several_to : (is : List Immediate) (text : List ℕ) → Then (OfKind features k) behind is text → OfKinds features (k ∷ ks) is text
+    several_to : (is : List Immediate) (text : List ℕ) → Then (OfKind settings k) behind is text → OfKinds settings (k ∷ ks) is text
     several_to is text h =
         let rest = h.second.1 in
-        subst (λ (js : List Immediate). OfKinds features (k ∷ ks) js text) (sym h.second.2) (record {
+        subst (λ (js : List Immediate). OfKinds settings (k ∷ ks) js text) (sym h.second.2) (record {
           kinds = ap (λ (l : Kind). l ∷ map kind_of h.second.0) h.first.kind ∙ ap (λ (ls : List Kind). k ∷ ls) rest.kinds;
           spelled = (h.front, h.back, h.first.spelled, rest.spelled, h.whole);
         })
 
-    several_from : (is : List Immediate) (text : List ℕ) → OfKinds features (k ∷ ks) is text → Then (OfKind features k) behind is text
+    several_from : (is : List Immediate) (text : List ℕ) → OfKinds settings (k ∷ ks) is text → Then (OfKind settings k) behind is text
     several_from [] text h = let e : [] ≡ k ∷ ks = h.kinds in absurd cc
     several_from (i ∷ is) text h =
         let e : kind_of i ∷ map kind_of is ≡ k ∷ ks = h.kinds in
@@ -47,9 +48,9 @@ module _ (features : ℕ) where
           whole = parts.4;
         }
 
-  pub decides-immediates : (ks : List Kind) → Decides (immediates features ks) (OfKinds features ks)
-  decides-immediates [] = decides-pure [] (OfKinds features []) (record { kinds = refl; spelled = refl }) none_to
-  decides-immediates (k ∷ ks) = decides-same (immediates features (k ∷ ks)) (Then (OfKind features k) (behind k ks)) (OfKinds features (k ∷ ks))
-      (decides->>= (immediate features k) _ (OfKind features k) (behind k ks) (decides-immediate features k)
-      (λ i. decides-map (immediates features ks) (λ (is : List Immediate). i ∷ is) (OfKinds features ks) (decides-immediates ks)))
+  pub decides-immediates : (ks : List Kind) → Decides (immediates settings ks) (OfKinds settings ks)
+  decides-immediates [] = decides-pure [] (OfKinds settings []) (record { kinds = refl; spelled = refl }) none_to
+  decides-immediates (k ∷ ks) = decides-same (immediates settings (k ∷ ks)) (Then (OfKind settings k) (behind k ks)) (OfKinds settings (k ∷ ks))
+      (decides->>= (immediate settings k) _ (OfKind settings k) (behind k ks) (decides-immediate settings k)
+      (λ i. decides-map (immediates settings ks) (λ (is : List Immediate). i ∷ is) (OfKinds settings ks) (decides-immediates ks)))
       (several_to k ks) (several_from k ks)

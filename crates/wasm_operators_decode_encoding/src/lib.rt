@@ -8,6 +8,7 @@
 #![tactic(auto)]
 
 ghost use Rattle.std.specs.Prelude.{◌≡◌, IsTrue, ℕ, List, Some};
+ghost use Rattle.wasm_types.specs.limits.Settings.{Settings};
 ghost use Rattle.wasm_types.specs.decoding.Decoder.{IsLawful, Decides};
 ghost use Rattle.wasm_operators_immediates.specs.Kinds.{Kind};
 ghost use Rattle.wasm_operators_operator.specs.Op.{Op};
@@ -17,27 +18,27 @@ ghost use Rattle.wasm_operators_decode_encoding.specs.Opcodes.{opcode, SpelledOp
 ghost use Rattle.wasm_operators_decode_encoding.specs.Coded.{operator, kinds_at, SpelledCoded};
 ghost use Rattle.wasm_operators_decode_encoding.specs.Operators.{opcode_of, coded_of, SpelledOperator};
 
-/// Opcodes, and immediates one after the other, whatever features are allowed: a value and a fault stay whatever bytes
+/// Opcodes, and immediates one after the other, whatever features are allowed and limits hold: a value and a fault stay whatever bytes
 /// follow, the hint of an end of data is exact, and a value is read exactly where a front of the bytes spells it.
 pub const fn opcodes_and_immediates_are_lawful()
     ensures opcodes { IsLawful opcode }
     ensures opcodes_exact { Decides opcode SpelledOpcode }
-    ensures immediates { (features : ℕ) (ks : List Kind) → IsLawful (immediates features ks) }
-    ensures immediates_exact { (features : ℕ) (ks : List Kind) → Decides (immediates features ks) (OfKinds features ks) }
+    ensures immediates { (settings : Settings) (ks : List Kind) → IsLawful (immediates settings ks) }
+    ensures immediates_exact { (settings : Settings) (ks : List Kind) → Decides (immediates settings ks) (OfKinds settings ks) }
 {}
 
-/// Operators, each an opcode with the immediates that belong to it, whatever features are allowed: a value and a fault stay
+/// Operators, each an opcode with the immediates that belong to it, whatever features are allowed and limits hold: a value and a fault stay
 /// whatever bytes follow, the hint of an end of data is exact, and a value is read exactly where a front of the bytes spells it.
 pub const fn operators_are_lawful()
-    ensures lawful { (features : ℕ) → IsLawful (operator features) }
-    ensures exact { (features : ℕ) → Decides (operator features) (SpelledCoded features) }
+    ensures lawful { (settings : Settings) → IsLawful (operator settings) }
+    ensures exact { (settings : Settings) → Decides (operator settings) (SpelledCoded settings) }
 {}
 
 /// How bytes spell operators. Behind its opcode stand immediates of an operator's own kinds. A canonical operator is spelled
 /// exactly where its opcode and its immediates are; another is never spelled. No two canonical operators share both.
 pub const fn operators_are_spelled()
     ensures kinds { (o : Op) → kinds_at (opcode_of o) ≡ Some (kinds_of o) }
-    ensures spelled { (features : ℕ) (o : Op) (text : List ℕ) → SpelledOperator features o text → IsTrue (is_canonical o) × SpelledCoded features (coded_of o) text }
-    ensures spells { (features : ℕ) (o : Op) (text : List ℕ) → IsTrue (is_canonical o) × SpelledCoded features (coded_of o) text → SpelledOperator features o text }
+    ensures spelled { (settings : Settings) (o : Op) (text : List ℕ) → SpelledOperator settings o text → IsTrue (is_canonical o) × SpelledCoded settings (coded_of o) text }
+    ensures spells { (settings : Settings) (o : Op) (text : List ℕ) → IsTrue (is_canonical o) × SpelledCoded settings (coded_of o) text → SpelledOperator settings o text }
     ensures apart { (a b : Op) → IsTrue (is_canonical a) → IsTrue (is_canonical b) → coded_of a ≡ coded_of b → a ≡ b }
 {}

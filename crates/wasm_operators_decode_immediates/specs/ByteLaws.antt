@@ -8,6 +8,7 @@ use Rattle.wasm_types.specs.decoding.Laws.{lawful-byte, lawful->>=, lawful-pure,
 use Rattle.wasm_types.specs.decoding.Exact.{Exactly, Mapped, ReadsTagged, decides-same, decides-pure, decides-refuse, decides-if, decides-map, decides-byte, decides-bytes, decides-repeated, decides-table, sound-pure, reads-pure}
 use Rattle.wasm_types.specs.decoding.LebLaws.{lawful-unsigned, decides-u32}
 use Rattle.wasm_types.specs.decoding.ListLaws.{lawful-listed_within, decides-listed_within}
+use Rattle.wasm_types.specs.limits.Settings.{Settings}
 use Rattle.wasm_types.specs.values.DecodeValues.{value_type}
 use Rattle.wasm_types.specs.values.DecodeLaws.{lawful-value_type}
 use Rattle.wasm_types.specs.values.HeapExact.{heads, tails}
@@ -15,7 +16,7 @@ use Rattle.wasm_types.specs.values.ValueExact.{SpelledValue, decides-value_type}
 use Rattle.wasm_operators_immediates.specs.declared.memory.Ordering.{Ordering}
 use Rattle.wasm_operators_immediates.specs.declared.memory.Ordering.TheVariants.{AcqRel, SeqCst}
 use Rattle.wasm_operators_immediates.specs.declared.vector.V128.{V128}
-use Rattle.wasm_operators_decode_immediates.specs.Bytes.{zero_after, zero_byte, index_or_zero, orderings, ordering_by, lane_after, lane, shuffle, vector_of, vector, most_types, select_types, IsZero, IsIndexOrZero, SpelledOrdering, IsLane, IsShuffle, SpelledVector, SpelledTypes}
+use Rattle.wasm_operators_decode_immediates.specs.Bytes.{zero_after, zero_byte, index_or_zero, orderings, ordering_by, lane_after, lane, shuffle, vector_of, vector, select_types, IsZero, IsIndexOrZero, SpelledOrdering, IsLane, IsShuffle, SpelledVector, SpelledTypes}
 
 -- ---- zero, or an index
 
@@ -96,10 +97,11 @@ decides-vector = decides-same _ (Mapped vector_of (Exactly 16)) SpelledVector (d
 
 -- ---- the types of a select
 
-pub lawful-select_types : IsLawful select_types
-unfolding select_types
-lawful-select_types = lawful-listed_within most_types value_type lawful-value_type
+module _ (settings : Settings) where
+  pub lawful-select_types : IsLawful (select_types settings)
+  unfolding select_types
+  lawful-select_types = lawful-listed_within settings.limits.select_types value_type lawful-value_type
 
-pub decides-select_types : Decides select_types SpelledTypes
-unfolding select_types
-decides-select_types = decides-listed_within most_types value_type SpelledValue decides-value_type
+  pub decides-select_types : Decides (select_types settings) (SpelledTypes settings)
+  unfolding select_types
+  decides-select_types = decides-listed_within settings.limits.select_types value_type SpelledValue decides-value_type

@@ -5,6 +5,7 @@ use Rattle.wasm_types.specs.decoding.declared.Refusal.TheVariants.{Other}
 use Rattle.wasm_types.specs.decoding.Decoder.{Decoder, Grammar, ◌>>=◌, pure, refuse, byte, bytes, repeated, choice, Many}
 use Rattle.wasm_types.specs.decoding.Leb.{u32, IsUnsigned}
 use Rattle.wasm_types.specs.decoding.Lists.{listed_within, IsListedWithin}
+use Rattle.wasm_types.specs.limits.Settings.{Settings}
 use Rattle.wasm_types.specs.values.declared.value.ValType.{ValType}
 use Rattle.wasm_types.specs.values.DecodeValues.{value_type}
 use Rattle.wasm_types.specs.values.ValueExact.{SpelledValue}
@@ -54,13 +55,9 @@ vector_of text = record { 0 = text }
 unfoldable pub vector : Decoder V128
 vector = bytes 16 >>= λ text. pure (vector_of text)
 
--- the most types that a select names
-abbrev pub most_types : ℕ
-most_types = 10
-
--- the types of a `select`, counted
-unfoldable pub select_types : Decoder (List ValType)
-select_types = listed_within most_types value_type
+-- the types of a `select`, counted, within their limit
+unfoldable pub select_types : Settings → Decoder (List ValType)
+select_types z = listed_within z.limits.select_types value_type
 
 -- ---- grammars
 
@@ -95,5 +92,5 @@ pub record SpelledVector (v : V128) (text : List ℕ) : Type 0 where
   pub whole : text ≡ v.0
 
 -- t*:list(valtype) => t*
-abbrev pub SpelledTypes : Grammar (List ValType)
-SpelledTypes = IsListedWithin most_types SpelledValue
+abbrev pub SpelledTypes : Settings → Grammar (List ValType)
+SpelledTypes z = IsListedWithin z.limits.select_types SpelledValue

@@ -8,6 +8,7 @@ use Rattle.wasm_types.specs.decoding.LebLaws.{lawful-unsigned, decides-u32}
 use Rattle.wasm_types.specs.decoding.SignedLaws.{lawful-signed, decides-s32, decides-s64}
 use Rattle.wasm_types.specs.decoding.Text.{word, IsWord}
 use Rattle.wasm_types.specs.decoding.TextLaws.{lawful-word, decides-word}
+use Rattle.wasm_types.specs.limits.Settings.{Settings}
 use Rattle.wasm_types.specs.values.Decode.{heap_type}
 use Rattle.wasm_types.specs.values.DecodeLaws.{lawful-heap_type}
 use Rattle.wasm_types.specs.values.HeapExact.{Spelled, decides-heap_type}
@@ -33,49 +34,49 @@ use Rattle.wasm_operators_decode_immediates.specs.Immediates.{may_index, read_as
 lawful-as : {A : Type 0} (d : Decoder A) (f : A → Immediate) → IsLawful d → IsLawful (read_as d f)
 lawful-as d f l = lawful->>= d (λ x. pure (f x)) l (λ x. lawful-pure (f x))
 
-pub lawful-immediate : (features : ℕ) (k : Kind) → IsLawful (immediate features k)
+pub lawful-immediate : (settings : Settings) (k : Kind) → IsLawful (immediate settings k)
 unfolding immediate
-lawful-immediate features (kind.Index space) = lawful-as u32 (Index space) (lawful-unsigned 4 4)
-lawful-immediate features (kind.IndexOrZero space) = lawful-as (index_or_zero (may_index features space)) (IndexOrZero space) (lawful-index_or_zero (may_index features space))
-lawful-immediate features kind.Label = lawful-as u32 Label (lawful-unsigned 4 4)
-lawful-immediate features kind.Block = lawful-as block_type Block lawful-block_type
-lawful-immediate features kind.BranchTable = lawful-as labels BranchTable lawful-labels
-lawful-immediate features (kind.MemoryArgument access natural) = lawful-as (memory_argument features access natural) (MemoryArgument access natural) (lawful-memory_argument features access natural)
-lawful-immediate features kind.MemoryOrdering = lawful-as (ordering_by 0x01) MemoryOrdering (lawful-ordering_by 0x01)
-lawful-immediate features kind.Heap = lawful-as heap_type Heap lawful-heap_type
-lawful-immediate features kind.CastBranch = lawful-as cast_branch of_branch lawful-cast_branch
-lawful-immediate features kind.ValueTypes = lawful-as select_types ValueTypes lawful-select_types
-lawful-immediate features kind.I32Constant = lawful-as s32 I32Constant (lawful-signed 4 4)
-lawful-immediate features kind.I64Constant = lawful-as s64 I64Constant (lawful-signed 9 1)
-lawful-immediate features kind.F32Constant = lawful-as (word 4) of_bits32 (lawful-word 4)
-lawful-immediate features kind.F64Constant = lawful-as (word 8) of_bits64 (lawful-word 8)
-lawful-immediate features kind.V128Constant = lawful-as vector V128Constant lawful-vector
-lawful-immediate features (kind.Lane lanes) = lawful-as (lane lanes) (Lane lanes) (lawful-lane lanes)
-lawful-immediate features kind.Lanes = lawful-as shuffle Lanes lawful-shuffle
-lawful-immediate features kind.Count = lawful-as u32 Count (lawful-unsigned 4 4)
-lawful-immediate features kind.TryTable = lawful-as try_table TryTable lawful-try_table
-lawful-immediate features kind.Handlers = lawful-as handlers Handlers lawful-handlers
-lawful-immediate features kind.ZeroByte = lawful-as zero_byte of_zero lawful-zero_byte
+lawful-immediate settings (kind.Index space) = lawful-as u32 (Index space) (lawful-unsigned 4 4)
+lawful-immediate settings (kind.IndexOrZero space) = lawful-as (index_or_zero (may_index settings.features space)) (IndexOrZero space) (lawful-index_or_zero (may_index settings.features space))
+lawful-immediate settings kind.Label = lawful-as u32 Label (lawful-unsigned 4 4)
+lawful-immediate settings kind.Block = lawful-as block_type Block lawful-block_type
+lawful-immediate settings kind.BranchTable = lawful-as (labels settings) BranchTable (lawful-labels settings)
+lawful-immediate settings (kind.MemoryArgument access natural) = lawful-as (memory_argument settings.features access natural) (MemoryArgument access natural) (lawful-memory_argument settings.features access natural)
+lawful-immediate settings kind.MemoryOrdering = lawful-as (ordering_by 0x01) MemoryOrdering (lawful-ordering_by 0x01)
+lawful-immediate settings kind.Heap = lawful-as heap_type Heap lawful-heap_type
+lawful-immediate settings kind.CastBranch = lawful-as cast_branch of_branch lawful-cast_branch
+lawful-immediate settings kind.ValueTypes = lawful-as (select_types settings) ValueTypes (lawful-select_types settings)
+lawful-immediate settings kind.I32Constant = lawful-as s32 I32Constant (lawful-signed 4 4)
+lawful-immediate settings kind.I64Constant = lawful-as s64 I64Constant (lawful-signed 9 1)
+lawful-immediate settings kind.F32Constant = lawful-as (word 4) of_bits32 (lawful-word 4)
+lawful-immediate settings kind.F64Constant = lawful-as (word 8) of_bits64 (lawful-word 8)
+lawful-immediate settings kind.V128Constant = lawful-as vector V128Constant lawful-vector
+lawful-immediate settings (kind.Lane lanes) = lawful-as (lane lanes) (Lane lanes) (lawful-lane lanes)
+lawful-immediate settings kind.Lanes = lawful-as shuffle Lanes lawful-shuffle
+lawful-immediate settings kind.Count = lawful-as u32 Count (lawful-unsigned 4 4)
+lawful-immediate settings kind.TryTable = lawful-as (try_table settings) TryTable (lawful-try_table settings)
+lawful-immediate settings kind.Handlers = lawful-as (handlers settings) Handlers (lawful-handlers settings)
+lawful-immediate settings kind.ZeroByte = lawful-as zero_byte of_zero lawful-zero_byte
 
 -- ---- what is read is spelled
 
-module _ (features : ℕ) where
+module _ (settings : Settings) where
   -- d reads what g spells, of one kind
-  sound-as : {A : Type 0} (k : Kind) (d : Decoder A) (f : A → Immediate) (g : Grammar A) → Decides d g → ((x : A) → kind_of (f x) ≡ k) → ((x : A) (text : List ℕ) → g x text → SpelledImmediate features (f x) text) → Sound (read_as d f) (OfKind features k)
-  sound-as k d f g dg of to = sound-map d f g (OfKind features k) dg (λ x text h. record { kind = of x; spelled = to x text h })
+  sound-as : {A : Type 0} (k : Kind) (d : Decoder A) (f : A → Immediate) (g : Grammar A) → Decides d g → ((x : A) → kind_of (f x) ≡ k) → ((x : A) (text : List ℕ) → g x text → SpelledImmediate settings (f x) text) → Sound (read_as d f) (OfKind settings k)
+  sound-as k d f g dg of to = sound-map d f g (OfKind settings k) dg (λ x text h. record { kind = of x; spelled = to x text h })
 
-  sound_immediate : (k : Kind) → Sound (immediate features k) (OfKind features k)
+  sound_immediate : (k : Kind) → Sound (immediate settings k) (OfKind settings k)
   unfolding immediate
   sound_immediate (kind.Index space) = sound-as _ u32 (Index space) (IsUnsigned 32) decides-u32 (λ n. refl) (λ n text h. h)
-  sound_immediate (kind.IndexOrZero space) = sound-as _ (index_or_zero (may_index features space)) (IndexOrZero space) (IsIndexOrZero (may_index features space)) (decides-index_or_zero (may_index features space)) (λ n. refl) (λ n text h. h)
+  sound_immediate (kind.IndexOrZero space) = sound-as _ (index_or_zero (may_index settings.features space)) (IndexOrZero space) (IsIndexOrZero (may_index settings.features space)) (decides-index_or_zero (may_index settings.features space)) (λ n. refl) (λ n text h. h)
   sound_immediate kind.Label = sound-as _ u32 Label (IsUnsigned 32) decides-u32 (λ n. refl) (λ n text h. h)
   sound_immediate kind.Block = sound-as _ block_type Block SpelledBlock decides-block_type (λ ty. refl) (λ ty text h. h)
-  sound_immediate kind.BranchTable = sound-as _ labels BranchTable SpelledLabels decides-labels (λ l. refl) (λ l text h. h)
-  sound_immediate (kind.MemoryArgument access natural) = sound-as _ (memory_argument features access natural) (MemoryArgument access natural) (SpelledMemArg features access natural) (decides-memory_argument features access natural) (λ m. refl) (λ m text h. h)
+  sound_immediate kind.BranchTable = sound-as _ (labels settings) BranchTable (SpelledLabels settings) (decides-labels settings) (λ l. refl) (λ l text h. h)
+  sound_immediate (kind.MemoryArgument access natural) = sound-as _ (memory_argument settings.features access natural) (MemoryArgument access natural) (SpelledMemArg settings.features access natural) (decides-memory_argument settings.features access natural) (λ m. refl) (λ m text h. h)
   sound_immediate kind.MemoryOrdering = sound-as _ (ordering_by 0x01) MemoryOrdering (SpelledOrdering 0x01) (decides-ordering_by 0x01 refl refl) (λ o. refl) (λ o text h. h)
   sound_immediate kind.Heap = sound-as _ heap_type Heap Spelled decides-heap_type (λ ty. refl) (λ ty text h. h)
   sound_immediate kind.CastBranch = sound-as _ cast_branch of_branch SpelledCast decides-cast_branch (λ c. refl) (λ c text h. h)
-  sound_immediate kind.ValueTypes = sound-as _ select_types ValueTypes SpelledTypes decides-select_types (λ tys. refl) (λ tys text h. h)
+  sound_immediate kind.ValueTypes = sound-as _ (select_types settings) ValueTypes (SpelledTypes settings) (decides-select_types settings) (λ tys. refl) (λ tys text h. h)
   sound_immediate kind.I32Constant = sound-as _ s32 I32Constant (IsSigned 32) decides-s32 (λ n. refl) (λ n text h. h)
   sound_immediate kind.I64Constant = sound-as _ s64 I64Constant (IsSigned 64) decides-s64 (λ n. refl) (λ n text h. h)
   sound_immediate kind.F32Constant = sound-as _ (word 4) of_bits32 (IsWord 4) (decides-word 4) (λ n. refl) (λ n text h. h)
@@ -84,24 +85,24 @@ module _ (features : ℕ) where
   sound_immediate (kind.Lane lanes) = sound-as _ (lane lanes) (Lane lanes) (IsLane lanes) (decides-lane lanes) (λ l. refl) (λ l text h. h)
   sound_immediate kind.Lanes = sound-as _ shuffle Lanes IsShuffle decides-shuffle (λ l. refl) (λ l text h. h)
   sound_immediate kind.Count = sound-as _ u32 Count (IsUnsigned 32) decides-u32 (λ n. refl) (λ n text h. h)
-  sound_immediate kind.TryTable = sound-as _ try_table TryTable SpelledTryTable decides-try_table (λ t. refl) (λ t text h. h)
-  sound_immediate kind.Handlers = sound-as _ handlers Handlers SpelledHandlers decides-handlers (λ h. refl) (λ x text h. h)
+  sound_immediate kind.TryTable = sound-as _ (try_table settings) TryTable (SpelledTryTable settings) (decides-try_table settings) (λ t. refl) (λ t text h. h)
+  sound_immediate kind.Handlers = sound-as _ (handlers settings) Handlers (SpelledHandlers settings) (decides-handlers settings) (λ h. refl) (λ x text h. h)
   sound_immediate kind.ZeroByte = sound-as _ zero_byte of_zero IsZero decides-zero_byte (λ n. refl) (λ n text h. record { value = refl; whole = h.whole })
 
   -- ---- what is spelled is read
 
-  reads_immediate : (i : Immediate) (text : List ℕ) → SpelledImmediate features i text → Reads (immediate features (kind_of i)) i text
+  reads_immediate : (i : Immediate) (text : List ℕ) → SpelledImmediate settings i text → Reads (immediate settings (kind_of i)) i text
   unfolding immediate
   reads_immediate (Index space n) text h = reads-map u32 (Index space) (IsUnsigned 32) decides-u32 n text h
-  reads_immediate (IndexOrZero space n) text h = reads-map (index_or_zero (may_index features space)) (IndexOrZero space) (IsIndexOrZero (may_index features space)) (decides-index_or_zero (may_index features space)) n text h
+  reads_immediate (IndexOrZero space n) text h = reads-map (index_or_zero (may_index settings.features space)) (IndexOrZero space) (IsIndexOrZero (may_index settings.features space)) (decides-index_or_zero (may_index settings.features space)) n text h
   reads_immediate (Label depth) text h = reads-map u32 Label (IsUnsigned 32) decides-u32 depth text h
   reads_immediate (Block ty) text h = reads-map block_type Block SpelledBlock decides-block_type ty text h
-  reads_immediate (BranchTable l) text h = reads-map labels BranchTable SpelledLabels decides-labels l text h
-  reads_immediate (MemoryArgument access natural m) text h = reads-map (memory_argument features access natural) (MemoryArgument access natural) (SpelledMemArg features access natural) (decides-memory_argument features access natural) m text h
+  reads_immediate (BranchTable l) text h = reads-map (labels settings) BranchTable (SpelledLabels settings) (decides-labels settings) l text h
+  reads_immediate (MemoryArgument access natural m) text h = reads-map (memory_argument settings.features access natural) (MemoryArgument access natural) (SpelledMemArg settings.features access natural) (decides-memory_argument settings.features access natural) m text h
   reads_immediate (MemoryOrdering o) text h = reads-map (ordering_by 0x01) MemoryOrdering (SpelledOrdering 0x01) (decides-ordering_by 0x01 refl refl) o text h
   reads_immediate (Heap ty) text h = reads-map heap_type Heap Spelled decides-heap_type ty text h
   reads_immediate (CastBranch depth from to) text h = reads-map cast_branch of_branch SpelledCast decides-cast_branch (branch depth from to) text h
-  reads_immediate (ValueTypes tys) text h = reads-map select_types ValueTypes SpelledTypes decides-select_types tys text h
+  reads_immediate (ValueTypes tys) text h = reads-map (select_types settings) ValueTypes (SpelledTypes settings) (decides-select_types settings) tys text h
   reads_immediate (I32Constant value) text h = reads-map s32 I32Constant (IsSigned 32) decides-s32 value text h
   reads_immediate (I64Constant value) text h = reads-map s64 I64Constant (IsSigned 64) decides-s64 value text h
   reads_immediate (F32Constant bits) text h = reads-map (word 4) of_bits32 (IsWord 4) (decides-word 4) bits.0 text h
@@ -110,12 +111,12 @@ module _ (features : ℕ) where
   reads_immediate (Lane lanes l) text h = reads-map (lane lanes) (Lane lanes) (IsLane lanes) (decides-lane lanes) l text h
   reads_immediate (Lanes l) text h = reads-map shuffle Lanes IsShuffle decides-shuffle l text h
   reads_immediate (Count number) text h = reads-map u32 Count (IsUnsigned 32) decides-u32 number text h
-  reads_immediate (TryTable t) text h = reads-map try_table TryTable SpelledTryTable decides-try_table t text h
-  reads_immediate (Handlers x) text h = reads-map handlers Handlers SpelledHandlers decides-handlers x text h
+  reads_immediate (TryTable t) text h = reads-map (try_table settings) TryTable (SpelledTryTable settings) (decides-try_table settings) t text h
+  reads_immediate (Handlers x) text h = reads-map (handlers settings) Handlers (SpelledHandlers settings) (decides-handlers settings) x text h
   reads_immediate ZeroByte text h = reads-map zero_byte of_zero IsZero decides-zero_byte 0 text h
 
-  pub decides-immediate : (k : Kind) → Decides (immediate features k) (OfKind features k)
+  pub decides-immediate : (k : Kind) → Decides (immediate settings k) (OfKind settings k)
   decides-immediate k = record {
     sound = λ s t i e. sound_immediate k s t i e;
-    complete = λ s t i text p h. subst (λ (c : Kind). immediate features c s ≡ Done i t) h.kind (reads_immediate i text h.spelled s t p);
+    complete = λ s t i text p h. subst (λ (c : Kind). immediate settings c s ≡ Done i t) h.kind (reads_immediate i text h.spelled s t p);
   }

@@ -4,6 +4,7 @@ use Rattle.std.specs.Prelude.{◌≡◌, ℕ, List, Bool, false}
 use Rattle.wasm_types.specs.decoding.Decoder.{Decoder, Grammar, ◌>>=◌, pure}
 use Rattle.wasm_types.specs.decoding.Leb.{u32, s32, s64, IsUnsigned, IsSigned}
 use Rattle.wasm_types.specs.decoding.Text.{word, IsWord}
+use Rattle.wasm_types.specs.limits.Settings.{Settings}
 use Rattle.wasm_types.specs.features.Features.{has, MultiMemory, CallIndirectOverlong}
 use Rattle.wasm_types.specs.values.Decode.{heap_type}
 use Rattle.wasm_types.specs.values.HeapExact.{Spelled}
@@ -47,78 +48,78 @@ of_bits64 n = F64Constant (record { 0 = n })
 abbrev pub of_zero : ℕ → Immediate
 of_zero n = ZeroByte
 
--- how each kind is read, where these features are allowed
-unfoldable pub immediate : ℕ → Kind → Decoder Immediate
-immediate features (kind.Index space) = read_as u32 (Index space)
-immediate features (kind.IndexOrZero space) = read_as (index_or_zero (may_index features space)) (IndexOrZero space)
-immediate features kind.Label = read_as u32 Label
-immediate features kind.Block = read_as block_type Block
-immediate features kind.BranchTable = read_as labels BranchTable
-immediate features (kind.MemoryArgument access natural) = read_as (memory_argument features access natural) (MemoryArgument access natural)
-immediate features kind.MemoryOrdering = read_as (ordering_by 0x01) MemoryOrdering
-immediate features kind.Heap = read_as heap_type Heap
-immediate features kind.CastBranch = read_as cast_branch of_branch
-immediate features kind.ValueTypes = read_as select_types ValueTypes
-immediate features kind.I32Constant = read_as s32 I32Constant
-immediate features kind.I64Constant = read_as s64 I64Constant
-immediate features kind.F32Constant = read_as (word 4) of_bits32
-immediate features kind.F64Constant = read_as (word 8) of_bits64
-immediate features kind.V128Constant = read_as vector V128Constant
-immediate features (kind.Lane lanes) = read_as (lane lanes) (Lane lanes)
-immediate features kind.Lanes = read_as shuffle Lanes
-immediate features kind.Count = read_as u32 Count
-immediate features kind.TryTable = read_as try_table TryTable
-immediate features kind.Handlers = read_as handlers Handlers
-immediate features kind.ZeroByte = read_as zero_byte of_zero
+-- how each kind is read, where these features are allowed and these limits hold
+unfoldable pub immediate : Settings → Kind → Decoder Immediate
+immediate settings (kind.Index space) = read_as u32 (Index space)
+immediate settings (kind.IndexOrZero space) = read_as (index_or_zero (may_index settings.features space)) (IndexOrZero space)
+immediate settings kind.Label = read_as u32 Label
+immediate settings kind.Block = read_as block_type Block
+immediate settings kind.BranchTable = read_as (labels settings) BranchTable
+immediate settings (kind.MemoryArgument access natural) = read_as (memory_argument settings.features access natural) (MemoryArgument access natural)
+immediate settings kind.MemoryOrdering = read_as (ordering_by 0x01) MemoryOrdering
+immediate settings kind.Heap = read_as heap_type Heap
+immediate settings kind.CastBranch = read_as cast_branch of_branch
+immediate settings kind.ValueTypes = read_as (select_types settings) ValueTypes
+immediate settings kind.I32Constant = read_as s32 I32Constant
+immediate settings kind.I64Constant = read_as s64 I64Constant
+immediate settings kind.F32Constant = read_as (word 4) of_bits32
+immediate settings kind.F64Constant = read_as (word 8) of_bits64
+immediate settings kind.V128Constant = read_as vector V128Constant
+immediate settings (kind.Lane lanes) = read_as (lane lanes) (Lane lanes)
+immediate settings kind.Lanes = read_as shuffle Lanes
+immediate settings kind.Count = read_as u32 Count
+immediate settings kind.TryTable = read_as (try_table settings) TryTable
+immediate settings kind.Handlers = read_as (handlers settings) Handlers
+immediate settings kind.ZeroByte = read_as zero_byte of_zero
 
 -- ---- grammars
 
--- which bytes spell each immediate, where these features are allowed
-abbrev pub SpelledImmediate : ℕ → Grammar Immediate
+-- which bytes spell each immediate, where these features are allowed and these limits hold
+abbrev pub SpelledImmediate : Settings → Grammar Immediate
 -- x:idx
-SpelledImmediate features (Index space n) text = IsUnsigned 32 n text
+SpelledImmediate settings (Index space n) text = IsUnsigned 32 n text
 -- x:idx, or 0x00 where the feature is not allowed
-SpelledImmediate features (IndexOrZero space n) text = IsIndexOrZero (may_index features space) n text
+SpelledImmediate settings (IndexOrZero space n) text = IsIndexOrZero (may_index settings.features space) n text
 -- l:labelidx
-SpelledImmediate features (Label depth) text = IsUnsigned 32 depth text
+SpelledImmediate settings (Label depth) text = IsUnsigned 32 depth text
 -- bt:blocktype
-SpelledImmediate features (Block ty) text = SpelledBlock ty text
+SpelledImmediate settings (Block ty) text = SpelledBlock ty text
 -- l*:list(labelidx) l_N:labelidx
-SpelledImmediate features (BranchTable l) text = SpelledLabels l text
+SpelledImmediate settings (BranchTable l) text = SpelledLabels settings l text
 -- m:memarg
-SpelledImmediate features (MemoryArgument access natural m) text = SpelledMemArg features access natural m text
+SpelledImmediate settings (MemoryArgument access natural m) text = SpelledMemArg settings.features access natural m text
 -- an ordering
-SpelledImmediate features (MemoryOrdering o) text = SpelledOrdering 0x01 o text
+SpelledImmediate settings (MemoryOrdering o) text = SpelledOrdering 0x01 o text
 -- ht:heaptype
-SpelledImmediate features (Heap ty) text = Spelled ty text
+SpelledImmediate settings (Heap ty) text = Spelled ty text
 -- castop l:labelidx ht_1:heaptype ht_2:heaptype
-SpelledImmediate features (CastBranch depth from to) text = SpelledCast (branch depth from to) text
+SpelledImmediate settings (CastBranch depth from to) text = SpelledCast (branch depth from to) text
 -- t*:list(valtype)
-SpelledImmediate features (ValueTypes tys) text = SpelledTypes tys text
+SpelledImmediate settings (ValueTypes tys) text = SpelledTypes settings tys text
 -- n:i32
-SpelledImmediate features (I32Constant value) text = IsSigned 32 value text
+SpelledImmediate settings (I32Constant value) text = IsSigned 32 value text
 -- n:i64
-SpelledImmediate features (I64Constant value) text = IsSigned 64 value text
+SpelledImmediate settings (I64Constant value) text = IsSigned 64 value text
 -- p:f32
-SpelledImmediate features (F32Constant bits) text = IsWord 4 bits.0 text
+SpelledImmediate settings (F32Constant bits) text = IsWord 4 bits.0 text
 -- p:f64
-SpelledImmediate features (F64Constant bits) text = IsWord 8 bits.0 text
+SpelledImmediate settings (F64Constant bits) text = IsWord 8 bits.0 text
 -- b*:byte^16
-SpelledImmediate features (V128Constant value) text = SpelledVector value text
+SpelledImmediate settings (V128Constant value) text = SpelledVector value text
 -- l:laneidx
-SpelledImmediate features (Lane lanes l) text = IsLane lanes l text
+SpelledImmediate settings (Lane lanes l) text = IsLane lanes l text
 -- l*:laneidx^16
-SpelledImmediate features (Lanes l) text = IsShuffle l text
+SpelledImmediate settings (Lanes l) text = IsShuffle l text
 -- n:u32
-SpelledImmediate features (Count number) text = IsUnsigned 32 number text
+SpelledImmediate settings (Count number) text = IsUnsigned 32 number text
 -- bt:blocktype c*:list(catch)
-SpelledImmediate features (TryTable t) text = SpelledTryTable t text
+SpelledImmediate settings (TryTable t) text = SpelledTryTable settings t text
 -- hdl*:list(hdl)
-SpelledImmediate features (Handlers h) text = SpelledHandlers h text
+SpelledImmediate settings (Handlers h) text = SpelledHandlers settings h text
 -- 0x00
-SpelledImmediate features ZeroByte text = IsZero 0 text
+SpelledImmediate settings ZeroByte text = IsZero 0 text
 
 -- an immediate of this kind, and its bytes
-pub record OfKind (features : ℕ) (k : Kind) (i : Immediate) (text : List ℕ) : Type 0 where
+pub record OfKind (settings : Settings) (k : Kind) (i : Immediate) (text : List ℕ) : Type 0 where
   pub kind : kind_of i ≡ k
-  pub spelled : SpelledImmediate features i text
+  pub spelled : SpelledImmediate settings i text

@@ -11,9 +11,6 @@ use std::alloc::Global;
 use wasm_operators_immediates::{Ordering, V128};
 use wasm_types::{BinaryReader, Error, Result, ValType, read_list};
 
-/// The most types that a `select` names.
-pub const MAX_WASM_SELECT_TYPES: usize = 10;
-
 // A byte that is zero. Another is refused with this message.
 #[tactic(auto, using(wasm_types::specs::Laws::reaches_self, wasm_types::specs::Laws::reaches_then), unfolding(crate::specs::Bytes::zero_byte))]
 fn read_zero<'a>(message: &str, reader: &mut BinaryReader<'a>) -> Result<()>
@@ -55,7 +52,7 @@ fn read_index_or_zero<'a>(allowed: bool, reader: &mut BinaryReader<'a>) -> Resul
 /// The memory of `memory.size` and the like: an index where several memories are allowed, else a byte that is zero
 /// (WebAssembly 3.0, binary format, memory instructions). Another byte is refused at its offset.
 pub fn read_memory_or_zero<'a>(reader: &mut BinaryReader<'a>) -> Result<u32>
-    ensures answer { Gives (λ n. n) result reader.new (index_or_zero (has MultiMemory reader.old.features) reader.old) }
+    ensures answer { Gives (λ n. n) result reader.new (index_or_zero (has MultiMemory reader.old.settings.features) reader.old) }
     ensures no_memory { NeedsNoMemory result }
     ensures forward { Reaches reader.old reader.new }
 {
@@ -66,7 +63,7 @@ pub fn read_memory_or_zero<'a>(reader: &mut BinaryReader<'a>) -> Result<u32>
 /// The table of `call_indirect`: an index where that is allowed, else a byte that is zero (WebAssembly 3.0, binary
 /// format, control instructions). Another byte is refused at its offset.
 pub fn read_table_or_zero<'a>(reader: &mut BinaryReader<'a>) -> Result<u32>
-    ensures answer { Gives (λ n. n) result reader.new (index_or_zero (has CallIndirectOverlong reader.old.features) reader.old) }
+    ensures answer { Gives (λ n. n) result reader.new (index_or_zero (has CallIndirectOverlong reader.old.settings.features) reader.old) }
     ensures no_memory { NeedsNoMemory result }
     ensures forward { Reaches reader.old reader.new }
 {
@@ -162,12 +159,13 @@ pub fn read_vector<'a>(reader: &mut BinaryReader<'a>) -> Result<V128>
     Ok(V128(bytes))
 }
 
-/// The types that a `select` names, at most [`MAX_WASM_SELECT_TYPES`] (WebAssembly 3.0, binary format, parametric
-/// instructions). A larger count is refused at its offset.
+/// The types that a `select` names, within their limit (WebAssembly 3.0, binary format, parametric instructions).
+/// A larger count is refused at its offset.
 #[tactic(auto, using(wasm_types::specs::Laws::reaches_self, wasm_types::specs::Laws::reaches_then), unfolding(crate::specs::Bytes::select_types))]
 pub fn read_select_types<'a>(alloc: Global, reader: &mut BinaryReader<'a>) -> Result<Vec<ValType>>
-    ensures answer { Gives (λ v. v.items) result reader.new (select_types reader.old) }
+    ensures answer { Gives (λ v. v.items) result reader.new (select_types reader.old.settings reader.old) }
     ensures forward { Reaches reader.old reader.new }
 {
-    read_list(alloc, MAX_WASM_SELECT_TYPES, "select types", reader)
+    let limit = reader.limits().select_types as usize;
+    read_list(alloc, limit, "select types", reader)
 }

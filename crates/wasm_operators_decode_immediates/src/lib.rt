@@ -11,8 +11,8 @@ pub mod laws;
 mod memory_argument;
 
 pub use bytes::{
-    MAX_WASM_SELECT_TYPES, read_lane, read_memory_or_zero, read_ordering, read_select_types,
-    read_shuffle, read_table_or_zero, read_vector, read_zero_byte,
+    read_lane, read_memory_or_zero, read_ordering, read_select_types, read_shuffle,
+    read_table_or_zero, read_vector, read_zero_byte,
 };
 pub use cast::{CastBranch, read_cast_branch};
 pub use memory_argument::{Access, read_memarg};

@@ -186,7 +186,7 @@ pub fn read_memarg<'a>(
     access: Access,
     max_align: u8,
 ) -> Result<MemArg>
-    ensures answer { Gives (λ m. m) result reader.new (memory_argument reader.old.features (access_of access) max_align reader.old) }
+    ensures answer { Gives (λ m. m) result reader.new (memory_argument reader.old.settings.features (access_of access) max_align reader.old) }
     ensures no_memory { NeedsNoMemory result }
     ensures forward { Reaches reader.old reader.new }
 {

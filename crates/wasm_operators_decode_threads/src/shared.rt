@@ -377,7 +377,7 @@ pub fn read_shared<'a>(
     reader: &mut BinaryReader<'a>,
 ) -> Result<SharedOperator>
     requires { shared_kinds code ≡ Some (shared_shape_kinds shape) }
-    ensures answer { Gives shared_immediates result reader.new (immediates reader.old.features (shared_shape_kinds shape) reader.old) }
+    ensures answer { Gives shared_immediates result reader.new (immediates reader.old.settings (shared_shape_kinds shape) reader.old) }
     ensures code { IfOk result (λ o. (shared_info o).code ≡ code) }
     ensures prefix { IfOk result (λ o. (shared_info o).prefix ≡ Some 0xfe) }
     ensures no_memory { NeedsNoMemory result }

@@ -1,5 +1,6 @@
 -- What is left to read where frames are open.
 use Rattle.std.specs.Prelude.{◌≡◌, ℕ, List, [], ◌∷◌, ◌++◌, Option, Some, None}
+use Rattle.wasm_types.specs.limits.Settings.{Settings}
 use Rattle.wasm_operators_immediates.specs.declared.frames.FrameKind.{FrameKind}
 use Rattle.wasm_operators_operator.specs.Op.{Op}
 use Rattle.wasm_operators_operator.specs.declared.role.Role.{Role}
@@ -32,5 +33,5 @@ abbrev pub after : Op → List FrameKind → Option (List FrameKind)
 after o ks = behind (role_of o) ks
 
 -- these bytes are operators that close these frames
-abbrev pub BytesClose : ℕ → List FrameKind → List ℕ → Type 0
-BytesClose features ks text = (os : List Op) × Closes ks os × SpelledOperators features os text
+abbrev pub BytesClose : Settings → List FrameKind → List ℕ → Type 0
+BytesClose settings ks text = (os : List Op) × Closes ks os × SpelledOperators settings os text

@@ -1,15 +1,16 @@
 -- Expressions and the bytes that spell them (WebAssembly 3.0, binary format, expressions).
 use Rattle.std.specs.Prelude.{◌≡◌, ℕ, List, [], ◌∷◌, ◌++◌}
+use Rattle.wasm_types.specs.limits.Settings.{Settings}
 use Rattle.wasm_operators_operator.specs.Op.{Op}
 use Rattle.wasm_operators_decode_encoding.specs.Operators.{SpelledOperator}
 use Rattle.wasm_operators_expression.specs.Code.{Code, walk, IsExpression}
 
 -- these operators, one after the other
-abbrev pub SpelledOperators : ℕ → List Op → List ℕ → Type 0
-SpelledOperators features [] text = text ≡ []
-SpelledOperators features (o ∷ os) text = (front : List ℕ) × (back : List ℕ) × SpelledOperator features o front × SpelledOperators features os back × (text ≡ front ++ back)
+abbrev pub SpelledOperators : Settings → List Op → List ℕ → Type 0
+SpelledOperators settings [] text = text ≡ []
+SpelledOperators settings (o ∷ os) text = (front : List ℕ) × (back : List ℕ) × SpelledOperator settings o front × SpelledOperators settings os back × (text ≡ front ++ back)
 
 -- an expression's tree, and the bytes of its walk
-pub record SpelledExpression (features : ℕ) (c : Code) (text : List ℕ) : Type 0 where
+pub record SpelledExpression (settings : Settings) (c : Code) (text : List ℕ) : Type 0 where
   pub expression : IsExpression c
-  pub spelled : SpelledOperators features (walk c) text
+  pub spelled : SpelledOperators settings (walk c) text

@@ -1,6 +1,7 @@
 //! Laws of expressions and of frames, each the contract of a function that does nothing.
 
 ghost use Rattle.std.specs.Prelude.{◌≡◌, ◌↔◌, ◌+◌, ◌≤◌, ◌<◌, IsTrue, ℕ, List, [], ◌∷◌, length, Some};
+ghost use Rattle.wasm_types.specs.limits.Settings.{Settings};
 ghost use Rattle.wasm_operators_immediates.specs.declared.frames.FrameKind.{FrameKind as Kind};
 ghost use Rattle.wasm_operators_immediates.specs.declared.frames.FrameKind.TheVariants.{Block};
 ghost use Rattle.wasm_types.specs.decoding.Decoder.{State, Done};
@@ -14,9 +15,9 @@ ghost use Rattle.wasm_operators_expression.specs.Code.{Code};
 ghost use Rattle.wasm_operators_expression.specs.Spelling.{SpelledExpression};
 ghost use Rattle.wasm_operators_expression.specs.Frames.{Closes, after, BytesClose};
 
-/// Bytes spell one expression at most, whatever features are allowed.
+/// Bytes spell one expression at most, whatever features are allowed and limits hold.
 pub const fn expressions_have_one_tree()
-    ensures { (features : ℕ) (c d : Code) (text : List ℕ) → SpelledExpression features c text → SpelledExpression features d text → c ≡ d }
+    ensures { (settings : Settings) (c d : Code) (text : List ℕ) → SpelledExpression settings c text → SpelledExpression settings d text → c ≡ d }
 {}
 
 /// The open frames determine which operator fits: the structural order allows one exactly where there are frames behind it.
@@ -35,11 +36,11 @@ pub const fn frames_close_step_by_step()
     ensures ended { (os : List Op) → Closes [] os ↔ (os ≡ []) }
 {}
 
-/// The same of bytes, whatever features are allowed. Where the frame of an expression is open, bytes close it exactly where
+/// The same of bytes, whatever features are allowed and limits hold. Where the frame of an expression is open, bytes close it exactly where
 /// they spell an expression. An operator that was read is a step. Where none can be read, the bytes close no frame.
 pub const fn bytes_close_step_by_step()
-    ensures whole { (features : ℕ) (text : List ℕ) → BytesClose features (Block ∷ []) text ↔ ((c : Code) × SpelledExpression features c text) }
-    ensures step { (features : ℕ) (s t : State) (o : Op) → operator features s ≡ Done (coded_of o) t → IsTrue (is_canonical o) → (k : Kind) (ks : List Kind) → BytesClose features (k ∷ ks) s.rest ↔ ((js : List Kind) × (after o (k ∷ ks) ≡ Some js) × BytesClose features js t.rest) }
-    ensures stuck { (features : ℕ) (s : State) → ((c : Coded) (t : State) → operator features s ≡ Done c t → ⊥) → (k : Kind) (ks : List Kind) → BytesClose features (k ∷ ks) s.rest → ⊥ }
-    ensures ended { (features : ℕ) (text : List ℕ) → BytesClose features [] text ↔ (text ≡ []) }
+    ensures whole { (settings : Settings) (text : List ℕ) → BytesClose settings (Block ∷ []) text ↔ ((c : Code) × SpelledExpression settings c text) }
+    ensures step { (settings : Settings) (s t : State) (o : Op) → operator settings s ≡ Done (coded_of o) t → IsTrue (is_canonical o) → (k : Kind) (ks : List Kind) → BytesClose settings (k ∷ ks) s.rest ↔ ((js : List Kind) × (after o (k ∷ ks) ≡ Some js) × BytesClose settings js t.rest) }
+    ensures stuck { (settings : Settings) (s : State) → ((c : Coded) (t : State) → operator settings s ≡ Done c t → ⊥) → (k : Kind) (ks : List Kind) → BytesClose settings (k ∷ ks) s.rest → ⊥ }
+    ensures ended { (settings : Settings) (text : List ℕ) → BytesClose settings [] text ↔ (text ≡ []) }
 {}

@@ -7,11 +7,11 @@ use Rattle.wasm_types.specs.decoding.Leb.{u32, IsUnsigned}
 use Rattle.wasm_types.specs.decoding.LebLaws.{decides-u32}
 use Rattle.wasm_types.specs.decoding.Lists.{size_within}
 use Rattle.wasm_types.specs.decoding.ListLaws.{decides-size_within}
+use Rattle.wasm_types.specs.limits.Settings.{no_features}
 use Rattle.wasm_operators_immediates.specs.Numbers.{numbers_at, numbers_in, values, is_whole}
-use Rattle.wasm_operators_immediates.specs.Labels.{most_targets}
 
-pub size_is_small : (n : ℕ) (s t : State) → size_within most_targets s ≡ Done n t → n < 2 ^ 32
-size_is_small n s t e = let p = (decides-size_within most_targets).sound s t n e in omega (arith, p.2.within)
+pub size_is_small : (limit n : ℕ) (s t : State) → limit < 2 ^ 32 → size_within limit s ≡ Done n t → n < 2 ^ 32
+size_is_small limit n s t small e = let p = (decides-size_within limit).sound s t n e in omega (arith, small, p.2.within)
 
 pub record IsPart (n : ℕ) (xs text : List ℕ) : Type 0 where
   pub read : IsTrue (is_whole (numbers_in n text))
@@ -27,8 +27,8 @@ part_is n s t u xs text e b =
     let lp : length p.0 ≡ k = omega (arith, ap length p.1.parts, length-append p.0 t.rest) in
     let lq : length q.0 ≡ k = ap length q.2.1 ∙ q.2.0 in
     let same : p.0 ≡ text = sym (take_at p.0 t.rest k lp) ∙ ap (λ (r : List ℕ). take k r) (sym p.1.parts ∙ q.1.parts) ∙ take_at q.0 u.rest k lq ∙ q.2.1 in
-    let z : State = record { rest = text; place = 0; features = 0; start = 0 } in
-    let w : State = record { rest = []; place = 0 + length p.0; features = 0; start = 0 } in
-    let taken : Takes z p.0 w = record { parts = sym same ∙ sym (append-nil p.0); place = refl; features = refl; start = refl } in
+    let z : State = record { rest = text; place = 0; settings = no_features; start = 0 } in
+    let w : State = record { rest = []; place = 0 + length p.0; settings = no_features; start = 0 } in
+    let taken : Takes z p.0 w = record { parts = sym same ∙ sym (append-nil p.0); place = refl; settings = refl; start = refl } in
     let d : repeated n u32 z ≡ Done xs w = all.complete z w xs p.0 taken p.2 in
     record { read = rw d refl; same = ap values d }

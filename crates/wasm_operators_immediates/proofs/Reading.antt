@@ -52,8 +52,8 @@ again n s t e h =
     let all = decides-repeated u32 (IsUnsigned 32) decides-u32 n in
     let xs = values (repeated n u32 s) in
     let p = all.sound s w.behind xs w.done in
-    let u : State = record { rest = []; place = t.place + length p.0; features = t.features; start = t.start } in
-    let k : Takes t p.0 u = record { parts = e ∙ p.1.parts ∙ ap (λ (r : List ℕ). p.0 ++ r) w.ended; place = refl; features = refl; start = refl } in
+    let u : State = record { rest = []; place = t.place + length p.0; settings = t.settings; start = t.start } in
+    let k : Takes t p.0 u = record { parts = e ∙ p.1.parts ∙ ap (λ (r : List ℕ). p.0 ++ r) w.ended; place = refl; settings = refl; start = refl } in
     let d : repeated n u32 t ≡ Done xs u = all.complete t u xs p.0 k p.2 in
     record { same = ap values d; read = rw d refl }
 

@@ -8,6 +8,7 @@ use Rattle.wasm_types.specs.decoding.Leb.{u32, IsUnsigned}
 use Rattle.wasm_types.specs.decoding.LebLaws.{lawful-unsigned, decides-u32}
 use Rattle.wasm_types.specs.decoding.Lists.{listed_within, IsListedWithin}
 use Rattle.wasm_types.specs.decoding.ListLaws.{lawful-listed_within, decides-listed_within}
+use Rattle.wasm_types.specs.limits.Settings.{Settings}
 use Rattle.wasm_operators_immediates.specs.declared.handlers.Catch.{Catch}
 use Rattle.wasm_operators_immediates.specs.declared.handlers.Catch.TheVariants.{One, OneRef, All, AllRef}
 use Rattle.wasm_operators_immediates.specs.declared.handlers.Handle.{Handle}
@@ -16,7 +17,7 @@ use Rattle.wasm_operators_immediates.specs.declared.block.BlockType.{BlockType}
 use Rattle.wasm_operators_immediates.specs.Tables.{CatchTable}
 use Rattle.wasm_operators_immediates.specs.Blocks.{block_type, SpelledBlock}
 use Rattle.wasm_operators_immediates.specs.BlockLaws.{lawful-block_type, decides-block_type}
-use Rattle.wasm_operators_immediates.specs.Handlers.{most_handlers, one_index, two_indices, clauses, clause_after, clause, catch_table, try_table, handles, handle_after, handle, handlers, TagAndLabel, Behind, SpelledCatch, SpelledTryTable, SpelledHandle, SpelledHandlers}
+use Rattle.wasm_operators_immediates.specs.Handlers.{one_index, two_indices, clauses, clause_after, clause, catch_table, try_table, handles, handle_after, handle, handlers, TagAndLabel, Behind, SpelledCatch, SpelledTryTable, SpelledHandle, SpelledHandlers}
 
 -- ---- indices
 
@@ -87,35 +88,36 @@ decides-clause = decides-table Other SpelledCatch clauses (
 
 -- ---- the type and the clauses
 
-pub lawful-try_table : IsLawful try_table
-unfolding try_table
-lawful-try_table = lawful->>= block_type _ lawful-block_type (λ ty. lawful->>= (listed_within most_handlers clause) _ (lawful-listed_within most_handlers clause lawful-clause) (λ catches. lawful-pure (catch_table ty catches)))
+module _ (settings : Settings) where
+  pub lawful-try_table : IsLawful (try_table settings)
+  unfolding try_table
+  lawful-try_table = lawful->>= block_type _ lawful-block_type (λ ty. lawful->>= (listed_within settings.limits.catches clause) _ (lawful-listed_within settings.limits.catches clause lawful-clause) (λ catches. lawful-pure (catch_table ty catches)))
 
-abbrev IsClauses : Grammar (List Catch)
-IsClauses = IsListedWithin most_handlers SpelledCatch
+  abbrev IsClauses : Grammar (List Catch)
+  IsClauses = IsListedWithin settings.limits.catches SpelledCatch
 
--- clauses behind this type
-abbrev clauses_behind : BlockType → Grammar CatchTable
-clauses_behind ty = Mapped (catch_table ty) IsClauses
+  -- clauses behind this type
+  abbrev clauses_behind : BlockType → Grammar CatchTable
+  clauses_behind ty = Mapped (catch_table ty) IsClauses
 
-table_to : (t : CatchTable) (text : List ℕ) → Then SpelledBlock clauses_behind t text → SpelledTryTable t text
-table_to t text h = record {
-  front = h.front;
-  back = h.back;
-  ty = subst (λ (ty : BlockType). SpelledBlock ty h.front) (sym (ap (λ (k : CatchTable). k.ty) h.second.2)) h.first;
-  catches = subst (λ (xs : List Catch). IsClauses xs h.back) (sym (ap (λ (k : CatchTable). k.catches) h.second.2)) h.second.1;
-  whole = h.whole;
-}
+  table_to : (t : CatchTable) (text : List ℕ) → Then SpelledBlock clauses_behind t text → SpelledTryTable settings t text
+  table_to t text h = record {
+    front = h.front;
+    back = h.back;
+    ty = subst (λ (ty : BlockType). SpelledBlock ty h.front) (sym (ap (λ (k : CatchTable). k.ty) h.second.2)) h.first;
+    catches = subst (λ (xs : List Catch). IsClauses xs h.back) (sym (ap (λ (k : CatchTable). k.catches) h.second.2)) h.second.1;
+    whole = h.whole;
+  }
 
-table_from : (t : CatchTable) (text : List ℕ) → SpelledTryTable t text → Then SpelledBlock clauses_behind t text
-table_from t text h = record { value = t.ty; front = h.front; back = h.back; first = h.ty; second = (t.catches, h.catches, refl); whole = h.whole }
+  table_from : (t : CatchTable) (text : List ℕ) → SpelledTryTable settings t text → Then SpelledBlock clauses_behind t text
+  table_from t text h = record { value = t.ty; front = h.front; back = h.back; first = h.ty; second = (t.catches, h.catches, refl); whole = h.whole }
 
-pub decides-try_table : Decides try_table SpelledTryTable
-unfolding try_table
-decides-try_table = decides-same try_table (Then SpelledBlock clauses_behind) SpelledTryTable
-    (decides->>= block_type (λ ty. listed_within most_handlers clause >>= λ catches. pure (catch_table ty catches)) SpelledBlock clauses_behind decides-block_type
-    (λ ty. decides-map (listed_within most_handlers clause) (catch_table ty) IsClauses (decides-listed_within most_handlers clause SpelledCatch decides-clause)))
-    table_to table_from
+  pub decides-try_table : Decides (try_table settings) (SpelledTryTable settings)
+  unfolding try_table
+  decides-try_table = decides-same (try_table settings) (Then SpelledBlock clauses_behind) (SpelledTryTable settings)
+      (decides->>= block_type (λ ty. listed_within settings.limits.catches clause >>= λ catches. pure (catch_table ty catches)) SpelledBlock clauses_behind decides-block_type
+      (λ ty. decides-map (listed_within settings.limits.catches clause) (catch_table ty) IsClauses (decides-listed_within settings.limits.catches clause SpelledCatch decides-clause)))
+      table_to table_from
 
 -- ---- handlers
 
@@ -139,10 +141,11 @@ decides-handle = decides-table Other SpelledHandle handles (
 )
     handle_reads
 
-pub lawful-handlers : IsLawful handlers
-unfolding handlers
-lawful-handlers = lawful-listed_within most_handlers handle lawful-handle
+module _ (settings : Settings) where
+  pub lawful-handlers : IsLawful (handlers settings)
+  unfolding handlers
+  lawful-handlers = lawful-listed_within settings.limits.catches handle lawful-handle
 
-pub decides-handlers : Decides handlers SpelledHandlers
-unfolding handlers
-decides-handlers = decides-listed_within most_handlers handle SpelledHandle decides-handle
+  pub decides-handlers : Decides (handlers settings) (SpelledHandlers settings)
+  unfolding handlers
+  decides-handlers = decides-listed_within settings.limits.catches handle SpelledHandle decides-handle

@@ -5,6 +5,7 @@ use Rattle.wasm_types.specs.decoding.declared.Refusal.TheVariants.{Other}
 use Rattle.wasm_types.specs.decoding.Decoder.{Decoder, Grammar, ◌>>=◌, pure, refuse, byte, choice}
 use Rattle.wasm_types.specs.decoding.Leb.{u32, IsUnsigned}
 use Rattle.wasm_types.specs.decoding.Lists.{listed_within, IsListedWithin}
+use Rattle.wasm_types.specs.limits.Settings.{Settings}
 use Rattle.wasm_operators_immediates.specs.declared.handlers.Catch.{Catch}
 use Rattle.wasm_operators_immediates.specs.declared.handlers.Catch.TheVariants.{One, OneRef, All, AllRef}
 use Rattle.wasm_operators_immediates.specs.declared.handlers.Handle.{Handle}
@@ -12,10 +13,6 @@ use Rattle.wasm_operators_immediates.specs.declared.handlers.Handle.TheVariants.
 use Rattle.wasm_operators_immediates.specs.declared.block.BlockType.{BlockType}
 use Rattle.wasm_operators_immediates.specs.Blocks.{block_type, SpelledBlock}
 use Rattle.wasm_operators_immediates.specs.Tables.{CatchTable}
-
--- the most clauses of a try_table, and the most handlers of a resume
-abbrev pub most_handlers : ℕ
-most_handlers = 10000
 
 -- ---- decoders
 
@@ -43,9 +40,9 @@ clause = byte >>= clause_after
 abbrev pub catch_table : BlockType → List Catch → CatchTable
 catch_table ty catches = record { ty = ty; catches = catches }
 
--- a block type, and clauses that are counted
-unfoldable pub try_table : Decoder CatchTable
-try_table = block_type >>= λ ty. listed_within most_handlers clause >>= λ catches. pure (catch_table ty catches)
+-- a block type, and clauses that are counted, within their limit
+unfoldable pub try_table : Settings → Decoder CatchTable
+try_table z = block_type >>= λ ty. listed_within z.limits.catches clause >>= λ catches. pure (catch_table ty catches)
 
 -- each form of a handler by its byte
 abbrev pub handles : List (ℕ × Decoder Handle)
@@ -59,9 +56,9 @@ handle_after = choice handles (refuse Other 1)
 unfoldable pub handle : Decoder Handle
 handle = byte >>= handle_after
 
--- handlers that are counted
-unfoldable pub handlers : Decoder (List Handle)
-handlers = listed_within most_handlers handle
+-- handlers that are counted, within the limit of clauses
+unfoldable pub handlers : Settings → Decoder (List Handle)
+handlers z = listed_within z.limits.catches handle
 
 -- ---- grammars
 
@@ -90,11 +87,11 @@ SpelledCatch (All label) = Behind 0x02 (IsUnsigned 32 label)
 SpelledCatch (AllRef label) = Behind 0x03 (IsUnsigned 32 label)
 
 -- a block type and a list of clauses
-pub record SpelledTryTable (t : CatchTable) (text : List ℕ) : Type 0 where
+pub record SpelledTryTable (z : Settings) (t : CatchTable) (text : List ℕ) : Type 0 where
   pub front : List ℕ
   pub back : List ℕ
   pub ty : SpelledBlock t.ty front
-  pub catches : IsListedWithin most_handlers SpelledCatch t.catches back
+  pub catches : IsListedWithin z.limits.catches SpelledCatch t.catches back
   pub whole : text ≡ front ++ back
 
 -- hdl ::= 0x00 x:tagidx l:labelidx => on x l
@@ -104,5 +101,5 @@ SpelledHandle (OnLabel tag label) = Behind 0x00 (TagAndLabel tag label)
 SpelledHandle (OnSwitch tag) = Behind 0x01 (IsUnsigned 32 tag)
 
 -- a list of handlers
-abbrev pub SpelledHandlers : Grammar (List Handle)
-SpelledHandlers = IsListedWithin most_handlers SpelledHandle
+abbrev pub SpelledHandlers : Settings → Grammar (List Handle)
+SpelledHandlers z = IsListedWithin z.limits.catches SpelledHandle

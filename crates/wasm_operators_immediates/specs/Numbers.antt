@@ -2,6 +2,7 @@
 use Rattle.std.specs.Prelude.{◌≡◌, ℕ, Bool, false, List, [], length, ◌==◌, Result, Ok, Err}
 use Rattle.wasm_types.specs.decoding.Decoder.{State, Outcome, Done, Short, Fault, repeated}
 use Rattle.wasm_types.specs.decoding.Leb.{u32}
+use Rattle.wasm_types.specs.limits.Settings.{no_features}
 use Rattle.wasm_types.specs.error.ErrorValue.{ErrorValue}
 use Rattle.wasm_types.specs.reader.Reading.{Fails}
 
@@ -11,7 +12,7 @@ numbers_at n s = repeated n u32 s
 
 -- n numbers of 32 bits at the front of these bytes
 abbrev pub numbers_in : ℕ → List ℕ → Outcome (List ℕ)
-numbers_in n text = numbers_at n (record { rest = text; place = 0; features = 0; start = 0 })
+numbers_in n text = numbers_at n (record { rest = text; place = 0; settings = no_features; start = 0 })
 
 -- what was read, or nothing
 abbrev pub values : Outcome (List ℕ) → List ℕ

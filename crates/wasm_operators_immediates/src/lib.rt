@@ -22,6 +22,4 @@ pub use br_table::{BrTable, BrTableTargets};
 pub use frames::{FrameKind, FrameStack};
 pub use handlers::{Catch, Handle, ResumeTable, TryTable};
 pub use memory::{MemArg, MemArgOrdering, MemArgTarget, Ordering};
-pub use read_br_table::MAX_WASM_BR_TABLE_SIZE;
-pub use read_handlers::{MAX_WASM_CATCHES, MAX_WASM_HANDLERS};
 pub use vector::V128;

@@ -89,15 +89,15 @@ impl<'a> FromReader<'a> for BlockType {
 
     ghost view = { λ ty. ty };
 
-    ghost decoder = { block_type };
+    ghost decoder = { λ z. block_type };
 
-    ghost grammar = { SpelledBlock };
+    ghost grammar = { λ z. SpelledBlock };
 
     ghost takes_memory = { false };
 
-    ghost lawful = { lawful-block_type };
+    ghost lawful = { λ z. lawful-block_type };
 
-    ghost exact = { decides-block_type };
+    ghost exact = { λ z. decides-block_type };
 
     #[tactic(auto, using(wasm_types::specs::Laws::reaches_self, wasm_types::specs::Laws::reaches_then), unfolding(crate::specs::Blocks::block_type))]
     fn from_reader(alloc: Global, reader: &mut BinaryReader<'a>) -> Result<BlockType>

@@ -10,9 +10,6 @@ use crate::BrTable;
 use std::alloc::Global;
 use wasm_types::{BinaryReader, FromReader, Result};
 
-/// The most targets that a `br_table` has: as many as a body has bytes.
-pub const MAX_WASM_BR_TABLE_SIZE: usize = 7_654_321;
-
 /// Goes past `count` numbers of 32 bits.
 #[tactic(auto, using(wasm_types::specs::Laws::reaches_self, wasm_types::specs::Laws::reaches_then))]
 fn pass_numbers<'a>(count: u32, reader: &mut BinaryReader<'a>) -> Result<()>
@@ -48,11 +45,12 @@ impl<'a> FromReader<'a> for BrTable<'a> {
 
     #[tactic(auto, using(wasm_types::specs::Laws::reaches_self, wasm_types::specs::Laws::reaches_then, crate::proofs::Passing::size_is_small), unfolding(crate::specs::Labels::labels, wasm_types::specs::Laws::listed_within))]
     fn from_reader(_alloc: Global, reader: &mut BinaryReader<'a>) -> Result<BrTable<'a>>
-        ensures answer { Gives (λ t. t) result reader.new (labels reader.old) }
+        ensures answer { Gives (λ t. t) result reader.new (labels reader.old.settings reader.old) }
         ensures forward { Reaches reader.old reader.new }
         ensures no_memory { NeedsNoMemory result }
     {
-        let count = reader.read_size(MAX_WASM_BR_TABLE_SIZE, "br_table")? as u32;
+        let limit = reader.limits().body_bytes;
+        let count = reader.read_size(limit as usize, "br_table")? as u32;
         let mut start = reader.clone();
         pass_numbers(count, reader)?;
         let length = start.bytes_remaining() - reader.bytes_remaining();

@@ -10,12 +10,6 @@ use crate::{BlockType, Catch, Handle, ResumeTable, TryTable};
 use std::alloc::Global;
 use wasm_types::{BinaryReader, Error, FromReader, Result, read_list};
 
-/// The most clauses of a `try_table`.
-pub const MAX_WASM_CATCHES: usize = 10_000;
-
-/// The most handlers of a `resume`.
-pub const MAX_WASM_HANDLERS: usize = 10_000;
-
 // The error of a byte that begins no clause or handler.
 #[cold]
 fn leading_byte_error(byte: u8, desc: &str, offset: u64) -> Error
@@ -38,15 +32,15 @@ impl<'a> FromReader<'a> for Catch {
 
     ghost view = { λ c. c };
 
-    ghost decoder = { clause };
+    ghost decoder = { λ z. clause };
 
-    ghost grammar = { SpelledCatch };
+    ghost grammar = { λ z. SpelledCatch };
 
     ghost takes_memory = { false };
 
-    ghost lawful = { lawful-clause };
+    ghost lawful = { λ z. lawful-clause };
 
-    ghost exact = { decides-clause };
+    ghost exact = { λ z. decides-clause };
 
     #[tactic(auto, using(wasm_types::specs::Laws::reaches_self, wasm_types::specs::Laws::reaches_then), unfolding(crate::specs::Handlers::clause, crate::specs::Handlers::clause_after))]
     fn from_reader(_alloc: Global, reader: &mut BinaryReader<'a>) -> Result<Catch>
@@ -102,8 +96,9 @@ impl<'a> FromReader<'a> for TryTable {
 
     #[tactic(auto, using(wasm_types::specs::Laws::reaches_self, wasm_types::specs::Laws::reaches_then), unfolding(crate::specs::Handlers::try_table))]
     fn from_reader(alloc: Global, reader: &mut BinaryReader<'a>) -> Result<TryTable> {
+        let limit = reader.limits().catches as usize;
         let ty = BlockType::from_reader(alloc, reader)?;
-        let catches = read_list(alloc, MAX_WASM_CATCHES, "catches", reader)?;
+        let catches = read_list(alloc, limit, "catches", reader)?;
         Ok(TryTable { ty, catches })
     }
 }
@@ -118,15 +113,15 @@ impl<'a> FromReader<'a> for Handle {
 
     ghost view = { λ h. h };
 
-    ghost decoder = { handle };
+    ghost decoder = { λ z. handle };
 
-    ghost grammar = { SpelledHandle };
+    ghost grammar = { λ z. SpelledHandle };
 
     ghost takes_memory = { false };
 
-    ghost lawful = { lawful-handle };
+    ghost lawful = { λ z. lawful-handle };
 
-    ghost exact = { decides-handle };
+    ghost exact = { λ z. decides-handle };
 
     #[tactic(auto, using(wasm_types::specs::Laws::reaches_self, wasm_types::specs::Laws::reaches_then), unfolding(crate::specs::Handlers::handle, crate::specs::Handlers::handle_after))]
     fn from_reader(_alloc: Global, reader: &mut BinaryReader<'a>) -> Result<Handle>
@@ -173,7 +168,8 @@ impl<'a> FromReader<'a> for ResumeTable {
 
     #[tactic(auto, using(wasm_types::specs::Laws::reaches_self, wasm_types::specs::Laws::reaches_then), unfolding(crate::specs::Handlers::handlers))]
     fn from_reader(alloc: Global, reader: &mut BinaryReader<'a>) -> Result<ResumeTable> {
-        let handlers = read_list(alloc, MAX_WASM_HANDLERS, "resume table", reader)?;
+        let limit = reader.limits().catches as usize;
+        let handlers = read_list(alloc, limit, "resume table", reader)?;
         Ok(ResumeTable { handlers })
     }
 }

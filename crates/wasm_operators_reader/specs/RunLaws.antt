@@ -2,6 +2,7 @@
 use Rattle.std.proofs.Common.{◌≡◌, inl, inr, ℕ, ◌+◌, List, [], ◌∷◌, ◌++◌, length, Some, None, refl, sym, ◌∙◌, ap, subst, append-nil, map, arith}
 use Rattle.std.proofs.lemmas.List.{map-append}
 use Rattle.wasm_types.specs.decoding.Decoder.{State, Done}
+use Rattle.wasm_types.specs.limits.Settings.{Settings}
 use Rattle.wasm_types.specs.error.ErrorValue.{ErrorValue}
 use Rattle.wasm_types.specs.reader.Reading.{IsNotMemory}
 use Rattle.wasm_operators_immediates.specs.declared.frames.FrameKind.{FrameKind}
@@ -32,23 +33,23 @@ closes_at o os [] js e c = absurd cc
 closes_at o os (k ∷ ks) js e c = (closes_step o k ks os).1 (js, e, c)
 
 -- the operators of a run to the end close the frames, and are spelled by the bytes
-run_spelled : (os : List Op) (s t : Standing) → Runs s os t → IsFinished t → Closes s.frames os × SpelledOperators s.bytes.features os s.bytes.rest
+run_spelled : (os : List Op) (s t : Standing) → Runs s os t → IsFinished t → Closes s.frames os × SpelledOperators s.bytes.settings os s.bytes.rest
 run_spelled [] s t e f =
     let frames : s.frames ≡ [] = ap (λ (u : Standing). u.frames) (sym e) ∙ f.frames in
     (rw frames refl, ap (λ (u : Standing). u.bytes.rest) (sym e) ∙ f.bytes)
 run_spelled (o ∷ os) s t (m, r, more) f =
     let rest = run_spelled os m t more f in
-    let found = read_spelled s.bytes.features s.bytes m.bytes o r.read r.canonical in (
+    let found = read_spelled s.bytes.settings s.bytes m.bytes o r.read r.canonical in (
       closes_at o os s.frames m.frames r.fits rest.0,
-      (found.0, m.bytes.rest, found.2, subst (λ (n : ℕ). SpelledOperators n os m.bytes.rest) found.1.features rest.1, found.1.parts),
+      (found.0, m.bytes.rest, found.2, subst (λ (n : Settings). SpelledOperators n os m.bytes.rest) found.1.settings rest.1, found.1.parts),
     )
 
-pub run_expression : (s : State) (os : List Op) (t : Standing) → Runs (at_start s) os t → IsFinished t → (c : Code) × (walk c ≡ os) × SpelledExpression s.features c s.rest
+pub run_expression : (s : State) (os : List Op) (t : Standing) → Runs (at_start s) os t → IsFinished t → (c : Code) × (walk c ≡ os) × SpelledExpression s.settings c s.rest
 run_expression s os t run f =
     let spelled = run_spelled os (at_start s) t run f in
     let (c, rest, i, e, g) = spelled.0 in
     let whole : os ≡ walk c = e ∙ ap (λ (xs : List Op). walk c ++ xs) g ∙ append-nil (walk c) in
-    (c, sym whole, record { expression = i; spelled = subst (λ (xs : List Op). SpelledOperators s.features xs s.rest) whole spelled.1 })
+    (c, sym whole, record { expression = i; spelled = subst (λ (xs : List Op). SpelledOperators s.settings xs s.rest) whole spelled.1 })
 
 -- ---- from an expression to a run
 
@@ -56,51 +57,51 @@ run_expression s os t run f =
 abbrev EndsBy : List Op → List FrameKind → State → Type 0
 EndsBy os ks b = (t : Standing) × Runs (record { bytes = b; frames = ks }) os t × IsFinished t
 
-spelled_run : (os : List Op) (ks : List FrameKind) (b : State) → Closes ks os → SpelledOperators b.features os b.rest → EndsBy os ks b
+spelled_run : (os : List Op) (ks : List FrameKind) (b : State) → Closes ks os → SpelledOperators b.settings os b.rest → EndsBy os ks b
 spelled_run [] [] b c h = (record { bytes = b; frames = [] }, refl, record { frames = refl; bytes = h })
 spelled_run [] (k ∷ ks) b c h = absurd (closes_more k ks c)
 spelled_run (o ∷ os) [] b c h = absurd cc
 spelled_run (o ∷ os) (k ∷ ks) b c (front, back, h, more, e) =
     let step = (closes_step o k ks os).0 c in
-    let next : State = record { rest = back; place = b.place + length front; features = b.features; start = b.start } in
+    let next : State = record { rest = back; place = b.place + length front; settings = b.settings; start = b.start } in
     let rest = spelled_run os step.0 next step.2 more in
     let m : Standing = record { bytes = next; frames = step.0 } in
-    (rest.0, (m, record { canonical = h.canonical; read = spelled_read b.features b o front back h e; fits = step.1 }, rest.1), rest.2)
+    (rest.0, (m, record { canonical = h.canonical; read = spelled_read b.settings b o front back h e; fits = step.1 }, rest.1), rest.2)
 
-pub expression_run : (s : State) (c : Code) → SpelledExpression s.features c s.rest → (t : Standing) × Runs (at_start s) (walk c) t × IsFinished t
+pub expression_run : (s : State) (c : Code) → SpelledExpression s.settings c s.rest → (t : Standing) × Runs (at_start s) (walk c) t × IsFinished t
 expression_run s c h = spelled_run (walk c) (Block ∷ []) s (c, [], h.expression, sym (append-nil (walk c)), refl) h.spelled
 
 -- ---- where there is none
 
 -- what is left after a run closes the frames that are open then, if all closed those before
-run_left : (os : List Op) (s t : Standing) → Runs s os t → BytesClose s.bytes.features s.frames s.bytes.rest → BytesClose t.bytes.features t.frames t.bytes.rest
-run_left [] s t e h = subst (λ (u : Standing). BytesClose u.bytes.features u.frames u.bytes.rest) (sym e) h
+run_left : (os : List Op) (s t : Standing) → Runs s os t → BytesClose s.bytes.settings s.frames s.bytes.rest → BytesClose t.bytes.settings t.frames t.bytes.rest
+run_left [] s t e h = subst (λ (u : Standing). BytesClose u.bytes.settings u.frames u.bytes.rest) (sym e) h
 run_left (o ∷ os) s t (m, r, more) h =
-    let found = read_spelled s.bytes.features s.bytes m.bytes o r.read r.canonical in
-    let next = (bytes_go_on s.bytes.features s.bytes m.bytes o r.read r.canonical s.frames m.frames r.fits).0 h in
-    run_left os m t more (subst (λ (n : ℕ). BytesClose n m.frames m.bytes.rest) (sym found.1.features) next)
+    let found = read_spelled s.bytes.settings s.bytes m.bytes o r.read r.canonical in
+    let next = (bytes_go_on s.bytes.settings s.bytes m.bytes o r.read r.canonical s.frames m.frames r.fits).0 h in
+    run_left os m t more (subst (λ (n : Settings). BytesClose n m.frames m.bytes.rest) (sym found.1.settings) next)
 
-module _ (s : State) (os : List Op) (t : Standing) (run : Runs (at_start s) os t) (unfinished : IsFinished t → ⊥) (c : Code) (h : SpelledExpression s.features c s.rest) where
-  left : BytesClose t.bytes.features t.frames t.bytes.rest
-  left = run_left os (at_start s) t run ((bytes_expression s.features s.rest).1 (c, h))
+module _ (s : State) (os : List Op) (t : Standing) (run : Runs (at_start s) os t) (unfinished : IsFinished t → ⊥) (c : Code) (h : SpelledExpression s.settings c s.rest) where
+  left : BytesClose t.bytes.settings t.frames t.bytes.rest
+  left = run_left os (at_start s) t run ((bytes_expression s.settings s.rest).1 (c, h))
 
-  refused_left : (e : ErrorValue) (ks : List FrameKind) → t.frames ≡ ks → RefusesIn ks t e → IsNotMemory e.kind → BytesClose t.bytes.features ks t.bytes.rest → ⊥
-  refused_left e [] f r n b = unfinished (record { frames = f; bytes = (bytes_end t.bytes.features t.bytes.rest).0 b })
-  refused_left e (k ∷ ks) f (inl fails) n b = bytes_stuck t.bytes.features t.bytes (unread e t.bytes.features t.bytes fails n) k ks b
+  refused_left : (e : ErrorValue) (ks : List FrameKind) → t.frames ≡ ks → RefusesIn ks t e → IsNotMemory e.kind → BytesClose t.bytes.settings ks t.bytes.rest → ⊥
+  refused_left e [] f r n b = unfinished (record { frames = f; bytes = (bytes_end t.bytes.settings t.bytes.rest).0 b })
+  refused_left e (k ∷ ks) f (inl fails) n b = bytes_stuck t.bytes.settings t.bytes (unread e t.bytes.settings t.bytes fails n) k ks b
   refused_left e (k ∷ ks) f (inr (u, kind, place)) n b =
-      bytes_refused t.bytes.features t.bytes u.behind u.op u.read u.canonical k ks (subst (λ (js : List FrameKind). after u.op js ≡ None) f u.unfit) b
+      bytes_refused t.bytes.settings t.bytes u.behind u.op u.read u.canonical k ks (subst (λ (js : List FrameKind). after u.op js ≡ None) f u.unfit) b
 
   -- where there is a refusal before the end, there is no expression
   pub refused_run : (e : ErrorValue) → Refuses t e → IsNotMemory e.kind → ⊥
   refused_run e r n = refused_left e t.frames refl r n left
 
   module _ (none : t.bytes.rest ≡ []) where
-    unread_at_end : (d : Coded) (u : State) → operator t.bytes.features t.bytes ≡ Done d u → ⊥
-    unread_at_end d u read = absurd (omega (arith, some_left t.bytes.features t.bytes u d read, ap length none))
+    unread_at_end : (d : Coded) (u : State) → operator t.bytes.settings t.bytes ≡ Done d u → ⊥
+    unread_at_end d u read = absurd (omega (arith, some_left t.bytes.settings t.bytes u d read, ap length none))
 
-    ended_left : (ks : List FrameKind) → t.frames ≡ ks → BytesClose t.bytes.features ks t.bytes.rest → ⊥
+    ended_left : (ks : List FrameKind) → t.frames ≡ ks → BytesClose t.bytes.settings ks t.bytes.rest → ⊥
     ended_left [] f b = unfinished (record { frames = f; bytes = none })
-    ended_left (k ∷ ks) f b = bytes_stuck t.bytes.features t.bytes unread_at_end k ks b
+    ended_left (k ∷ ks) f b = bytes_stuck t.bytes.settings t.bytes unread_at_end k ks b
 
     -- and so does an end of the bytes before
     pub ended_run : ⊥

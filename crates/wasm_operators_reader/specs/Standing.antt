@@ -30,7 +30,7 @@ pub record IsFinished (s : Standing) : Type 0 where
 -- it reads this operator, which may come next, and stands there behind it
 pub record Reads (s : Standing) (o : Op) (t : Standing) : Type 0 where
   pub canonical : IsTrue (is_canonical o)
-  pub read : operator s.bytes.features s.bytes ≡ Done (coded_of o) t.bytes
+  pub read : operator s.bytes.settings s.bytes ≡ Done (coded_of o) t.bytes
   pub fits : after o s.frames ≡ Some t.frames
 
 -- an operator begins here that may not come next
@@ -38,14 +38,14 @@ pub record IsUnfit (s : Standing) : Type 0 where
   pub op : Op
   pub behind : State
   pub canonical : IsTrue (is_canonical op)
-  pub read : operator s.bytes.features s.bytes ≡ Done (coded_of op) behind
+  pub read : operator s.bytes.settings s.bytes ≡ Done (coded_of op) behind
   pub unfit : after op s.frames ≡ None
 
 -- Why nothing is read. With no frame open the reader is refused where it stands, before a byte is read. With one open,
 -- no operator begins here; or one does that may not come next, which is refused behind its first byte.
 abbrev pub RefusesIn : List FrameKind → Standing → ErrorValue → Type 0
 RefusesIn [] s e = (e.kind ≡ Other) × (e.offset ≡ s.bytes.place)
-RefusesIn (k ∷ ks) s e = Fails e (operator s.bytes.features s.bytes) ⊎ (IsUnfit s × (e.kind ≡ Other) × (e.offset ≡ s.bytes.place + 1))
+RefusesIn (k ∷ ks) s e = Fails e (operator s.bytes.settings s.bytes) ⊎ (IsUnfit s × (e.kind ≡ Other) × (e.offset ≡ s.bytes.place + 1))
 
 -- the same, by the frames of the standing
 abbrev pub Refuses : Standing → ErrorValue → Type 0
@@ -57,7 +57,7 @@ pub record IsOpening (s : Standing) : Type 0 where
   pub behind : State
   pub frame : FrameKind
   pub canonical : IsTrue (is_canonical op)
-  pub read : operator s.bytes.features s.bytes ≡ Done (coded_of op) behind
+  pub read : operator s.bytes.settings s.bytes ≡ Done (coded_of op) behind
   pub opens : after op s.frames ≡ Some (frame ∷ s.frames)
 
 -- memory is taken for a list that the operator keeps, or for a frame

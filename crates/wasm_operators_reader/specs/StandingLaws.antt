@@ -1,6 +1,7 @@
 -- From one standing there is at most one step, and none where the reader refuses.
 use Rattle.std.proofs.Common.{nat_eq, Bool, true, false, IsTrue, ◌≡◌, inl, inr, ℕ, ◌+◌, ◌<◌, List, [], ◌∷◌, length, Option, Some, None, refl, sym, ◌∙◌, ap, subst, length-append, arith}
 use Rattle.wasm_types.specs.decoding.Decoder.{State, Outcome, Done}
+use Rattle.wasm_types.specs.limits.Settings.{Settings}
 use Rattle.wasm_types.specs.error.declared.error.ErrorKind.{ErrorKind}
 use Rattle.wasm_types.specs.error.declared.error.ErrorKind.TheVariants.{EndOfData, MissingFeature, OutOfMemory, Failed, Other}
 use Rattle.wasm_types.specs.error.ErrorValue.{ErrorValue}
@@ -23,11 +24,11 @@ opcode_some : (prefix : Option ℕ) (code : ℕ) (text : List ℕ) → Spells pr
 opcode_some None code text (p, e) = rw e (omega arith)
 opcode_some (Some b) code text (rest, p, u, e) = rw e (omega arith)
 
-module _ (features : ℕ) (s t : State) (c : Coded) (read : operator features s ≡ Done c t) where
+module _ (settings : Settings) (s t : State) (c : Coded) (read : operator settings s ≡ Done c t) where
   -- fewer are left behind an operator
   pub fewer_left : length t.rest < length s.rest
   fewer_left =
-      let found = (decides-operator features).sound s t c read in
+      let found = (decides-operator settings).sound s t c read in
       let some = opcode_some c.opcode.prefix c.opcode.code found.2.front found.2.opcode in
       omega (arith, ap length found.1.parts, ap length found.2.whole, length-append found.0 t.rest, length-append found.2.front found.2.back)
 
@@ -36,7 +37,7 @@ module _ (features : ℕ) (s t : State) (c : Coded) (read : operator features s 
   some_left = omega (arith, fewer_left)
 
 pub reads_fewer : (s : Standing) (o : Op) (t : Standing) → Reads s o t → length t.bytes.rest < length s.bytes.rest
-reads_fewer s o t h = fewer_left s.bytes.features s.bytes t.bytes (coded_of o) h.read
+reads_fewer s o t h = fewer_left s.bytes.settings s.bytes t.bytes (coded_of o) h.read
 
 -- and an iterator has fewer items left
 pub fewer_items : (failed : Bool) (s : Standing) (o : Op) (t : Standing) → failed ≡ false → Reads s o t → items_left failed t < items_left failed s
@@ -81,8 +82,8 @@ done_fails Failed p c t e n = e
 done_fails Other p c t e n = absurd cc
 
 -- where a decoder fails there is no value
-pub unread : (e : ErrorValue) (features : ℕ) (s : State) → Fails e (operator features s) → IsNotMemory e.kind → (c : Coded) (t : State) → operator features s ≡ Done c t → ⊥
-unread e features s fails n c t read =
+pub unread : (e : ErrorValue) (settings : Settings) (s : State) → Fails e (operator settings s) → IsNotMemory e.kind → (c : Coded) (t : State) → operator settings s ≡ Done c t → ⊥
+unread e settings s fails n c t read =
     done_fails e.kind e.offset c t (subst (λ (o : Outcome Coded). FailsAt e.kind e.offset o) read fails) n
 
 nothing_follows : (s : Standing) (o : Op) (t : Standing) → s.frames ≡ [] → Reads s o t → ⊥
@@ -90,17 +91,17 @@ nothing_follows s o t f h = let g : after o [] ≡ Some t.frames = subst (λ (ks
 
 refused_at : (s : Standing) (e : ErrorValue) (ks : List FrameKind) → s.frames ≡ ks → RefusesIn ks s e → IsNotMemory e.kind → (o : Op) (t : Standing) → Reads s o t → ⊥
 refused_at s e [] f r n o t h = nothing_follows s o t f h
-refused_at s e (k ∷ ks) f (inl fails) n o t h = unread e s.bytes.features s.bytes fails n (coded_of o) t.bytes h.read
+refused_at s e (k ∷ ks) f (inl fails) n o t h = unread e s.bytes.settings s.bytes fails n (coded_of o) t.bytes h.read
 refused_at s e (k ∷ ks) f (inr (u, kind, place)) n o t h =
     let same = coded_apart o u.op h.canonical u.canonical (same_coded (coded_of o) (coded_of u.op) t.bytes u.behind (sym h.read ∙ u.read)) in
     none_some (after u.op s.frames) t.frames u.unfit (subst (λ (q : Op). after q s.frames ≡ Some t.frames) same h.fits)
 
-refuses_in : (s : Standing) (e : ErrorValue) (ks : List FrameKind) → nat_eq (length ks) 0 ≡ false → Fails e (operator s.bytes.features s.bytes) → RefusesIn ks s e
+refuses_in : (s : Standing) (e : ErrorValue) (ks : List FrameKind) → nat_eq (length ks) 0 ≡ false → Fails e (operator s.bytes.settings s.bytes) → RefusesIn ks s e
 refuses_in s e [] o f = absurd cc
 refuses_in s e (k ∷ ks) o f = inl f
 
 -- with a frame open it refuses what no operator begins
-pub refuses_fault : (s : Standing) (e : ErrorValue) → nat_eq (length s.frames) 0 ≡ false → Fails e (operator s.bytes.features s.bytes) → Refuses s e
+pub refuses_fault : (s : Standing) (e : ErrorValue) → nat_eq (length s.frames) 0 ≡ false → Fails e (operator s.bytes.settings s.bytes) → Refuses s e
 refuses_fault s e o f = refuses_in s e s.frames o f
 
 unfit_in : (s : Standing) (e : ErrorValue) (ks : List FrameKind) → nat_eq (length ks) 0 ≡ false → IsUnfit s → e.kind ≡ Other → e.offset ≡ s.bytes.place + 1 → RefusesIn ks s e

@@ -19,8 +19,8 @@ use wasm_types::{BinaryReader, Result};
 /// The bytes spell no expression, or there is no memory. Operators are read in order, and the first that is refused gives kind
 /// and offset; where the bytes end while a frame is open, that is refused at their end.
 pub fn read_expression<'a>(alloc: Global, reader: BinaryReader<'a>) -> Result<Vec<Operator<'a>>>
-    ensures spelled { IfOk result (λ ops. (c : Code) × (walk c ≡ map op_of ops.items) × SpelledExpression reader.entry.features c reader.entry.rest) }
-    ensures refused { IfErr result (λ e. IsNotMemory e.kind → (c : Code) → SpelledExpression reader.entry.features c reader.entry.rest → ⊥) }
+    ensures spelled { IfOk result (λ ops. (c : Code) × (walk c ≡ map op_of ops.items) × SpelledExpression reader.entry.settings c reader.entry.rest) }
+    ensures refused { IfErr result (λ e. IsNotMemory e.kind → (c : Code) → SpelledExpression reader.entry.settings c reader.entry.rest → ⊥) }
     ensures stops { IfErr result (λ e. IsNotMemory e.kind → StopsAfter (at_start reader.entry) e) }
 {
     let mut operators = OperatorsReader::new(alloc, reader);

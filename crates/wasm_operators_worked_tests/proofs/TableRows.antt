@@ -4,6 +4,7 @@ use Rattle.wasm_types.specs.decoding.Leb.{unsigned}
 use Rattle.wasm_types.specs.decoding.Decoder.{repeated}
 use Rattle.wasm_types.specs.decoding.Lists.{size_within, listed_within}
 use Rattle.wasm_types.specs.values.DecodeValues.{value_type, value_type_after}
+use Rattle.wasm_types.specs.limits.Limits.{default_limits}
 use Rattle.wasm_operators_immediates.specs.Blocks.{block_type, value_block, empty_block}
 use Rattle.wasm_operators_immediates.specs.Labels.{labels}
 use Rattle.wasm_operators_immediates.specs.Handlers.{clause, clause_after, try_table, handle, handle_after, handlers}
@@ -11,7 +12,7 @@ use Rattle.wasm_operators_decode_immediates.specs.Immediates.{immediate}
 use Rattle.wasm_operators_worked_tests.specs.TableRows.{TableRows}
 
 pub tables : TableRows
-unfolding unsigned repeated size_within listed_within value_type value_type_after block_type value_block empty_block labels clause clause_after try_table handle handle_after handlers immediate
+unfolding default_limits unsigned repeated size_within listed_within value_type value_type_after block_type value_block empty_block labels clause clause_after try_table handle handle_after handlers immediate
 tables = record {
   labels = refl;
   default_alone = refl;
@@ -28,4 +29,12 @@ tables = record {
   most_handlers = refl;
   too_many_handlers = refl;
   short_handler = refl;
+  one_label = refl;
+  a_label_too_many = refl;
+  one_clause = refl;
+  a_clause_too_many = refl;
+  one_handler = refl;
+  a_handler_too_many = refl;
+  one_type = refl;
+  a_type_too_many = refl;
 }

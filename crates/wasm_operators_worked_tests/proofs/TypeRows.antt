@@ -5,6 +5,7 @@ use Rattle.wasm_types.specs.decoding.Decoder.{repeated}
 use Rattle.wasm_types.specs.decoding.Lists.{size_within, listed_within}
 use Rattle.wasm_types.specs.values.Decode.{heap_type, heap_type_after, concrete_heap_type, exact_heap_type, abstract_heap_type, reference_after}
 use Rattle.wasm_types.specs.values.DecodeValues.{value_type, value_type_after}
+use Rattle.wasm_types.specs.limits.Limits.{default_limits}
 use Rattle.wasm_operators_immediates.specs.Blocks.{block_type, function_block, value_block, empty_block}
 use Rattle.wasm_operators_decode_immediates.specs.Bytes.{select_types}
 use Rattle.wasm_operators_decode_immediates.specs.Casts.{cast_branch, cast_after}
@@ -12,7 +13,7 @@ use Rattle.wasm_operators_decode_immediates.specs.Immediates.{immediate}
 use Rattle.wasm_operators_worked_tests.specs.TypeRows.{TypeRows}
 
 pub types : TypeRows
-unfolding unsigned signed last_bits repeated size_within listed_within heap_type heap_type_after concrete_heap_type exact_heap_type abstract_heap_type reference_after value_type value_type_after block_type function_block value_block empty_block select_types cast_branch cast_after immediate
+unfolding default_limits unsigned signed last_bits repeated size_within listed_within heap_type heap_type_after concrete_heap_type exact_heap_type abstract_heap_type reference_after value_type value_type_after block_type function_block value_block empty_block select_types cast_branch cast_after immediate
 types = record {
   no_type = refl;
   vector = refl;

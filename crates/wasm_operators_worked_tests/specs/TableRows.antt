@@ -8,7 +8,7 @@ use Rattle.wasm_operators_immediates.specs.declared.handlers.Handle.TheVariants.
 use Rattle.wasm_operators_immediates.specs.Handlers.{catch_table}
 use Rattle.wasm_operators_immediates.specs.Kinds as kind
 use Rattle.wasm_operators_immediates.specs.Immediates as value
-use Rattle.wasm_operators_worked_tests.specs.Worked.{none, reads, refuses, ends}
+use Rattle.wasm_operators_worked_tests.specs.Worked.{none, reads, refuses, ends, refuses_narrowly, ends_narrowly}
 
 pub record TableRows : Type 0 where
   pub labels : reads none kind.BranchTable (0x02 ∷ 0x00 ∷ 0x01 ∷ 0x02 ∷ []) (value.BranchTable (record { targets = 0 ∷ 1 ∷ []; default = 2 }))
@@ -26,3 +26,11 @@ pub record TableRows : Type 0 where
   pub most_handlers : ends none kind.Handlers (0x90 ∷ 0x4e ∷ []) 2 1
   pub too_many_handlers : refuses none kind.Handlers (0x91 ∷ 0x4e ∷ []) 0
   pub short_handler : ends none kind.Handlers (0x01 ∷ 0x01 ∷ []) 2 1
+  pub one_label : ends_narrowly kind.BranchTable (0x01 ∷ []) 1 1
+  pub a_label_too_many : refuses_narrowly kind.BranchTable (0x02 ∷ []) 0
+  pub one_clause : ends_narrowly kind.TryTable (0x40 ∷ 0x01 ∷ []) 2 1
+  pub a_clause_too_many : refuses_narrowly kind.TryTable (0x40 ∷ 0x02 ∷ []) 1
+  pub one_handler : ends_narrowly kind.Handlers (0x01 ∷ []) 1 1
+  pub a_handler_too_many : refuses_narrowly kind.Handlers (0x02 ∷ []) 0
+  pub one_type : ends_narrowly kind.ValueTypes (0x01 ∷ []) 1 1
+  pub a_type_too_many : refuses_narrowly kind.ValueTypes (0x02 ∷ []) 0

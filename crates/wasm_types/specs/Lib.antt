@@ -1,4 +1,5 @@
 -- The rules, decoders and laws of the parts, each under the part's name: crates of other layers cite them here.
+pub use Rattle.wasm_types_limits.specs as limits
 pub use Rattle.wasm_types_decoding.specs as decoding
 pub use Rattle.wasm_types_features.specs as features
 pub use Rattle.wasm_types_error.specs as error

@@ -3,7 +3,7 @@
 //! This crate has no code of its own. It has its parts under one name, and their rules too (`specs/Lib.antt`):
 //!
 //! - `wasm_types_reader` and `wasm_types_error`: the reader of bytes, errors, and the trait of all that is read;
-//! - `wasm_types_features`: the features and their sets;
+//! - `wasm_types_features` and `wasm_types_limits`: the features and their sets; the limits, and both as settings;
 //! - `wasm_types_indices` and `wasm_types_values`: indices of types, heap types, reference types, value types and what
 //!   fields store;
 //! - `wasm_types_externs`: the types of tables, memories, globals and tags;
@@ -19,6 +19,7 @@ pub use wasm_types_groups::{
     CompositeInnerType, CompositeType, RecGroup, SubType, TypesAndOffsets,
 };
 pub use wasm_types_indices::{CoreTypeId, PackedIndex, UnpackedIndex};
+pub use wasm_types_limits::Limits;
 pub use wasm_types_reader::{
     BinaryReader, BinaryReaderError, BinaryReaderIter, Error, ErrorKind, FromReader, Ieee32,
     Ieee64, Result, limits, read_list, read_many,

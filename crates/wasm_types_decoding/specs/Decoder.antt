@@ -1,18 +1,19 @@
 -- Decoders of bytes: what they answer, how they are put together, and their laws.
 use Rattle.std.specs.Prelude.{◌≡◌, ℕ, zero, suc, ◌+◌, ◌-◌, ◌<◌, ◌≤◌, List, [], ◌∷◌, ◌++◌, length, take, drop, nat_lt, ◌==◌, if◌then◌else◌}
+use Rattle.wasm_types_limits.specs.Settings.{Settings}
 use Rattle.wasm_types_decoding.specs.declared.Refusal.{Refusal}
 
--- Where a reader stands: the bytes that are left, the offset of the first of them, the features that are allowed, as the
--- number of their bits, and the offset where its data began.
+-- Where a reader stands: the bytes that are left, the offset of the first of them, the features that are allowed and
+-- the limits that hold, and the offset where its data began.
 pub record State : Type 0 where
   pub rest : List ℕ
   pub place : ℕ
-  pub features : ℕ
+  pub settings : Settings
   pub start : ℕ
 
 -- the same, with more bytes at the end of the buffer
 abbrev pub extended : State → List ℕ → State
-extended s more = record { rest = s.rest ++ more; place = s.place; features = s.features; start = s.start }
+extended s more = record { rest = s.rest ++ more; place = s.place; settings = s.settings; start = s.start }
 
 -- what a decoder answers
 pub data Outcome (A : Type 0) : Type 0 where
@@ -51,7 +52,7 @@ refuse k back s = Fault k (s.place - back)
 -- the first of these bytes, if there is one
 abbrev pub first_of_rest : List ℕ → State → Outcome ℕ
 first_of_rest [] s = Short s.place 1
-first_of_rest (b ∷ rest) s = Done b (record { rest = rest; place = s.place + 1; features = s.features; start = s.start })
+first_of_rest (b ∷ rest) s = Done b (record { rest = rest; place = s.place + 1; settings = s.settings; start = s.start })
 
 -- the next byte
 abbrev pub byte : Decoder ℕ
@@ -59,7 +60,7 @@ byte s = first_of_rest s.rest s
 
 -- n bytes as they stand
 abbrev pub bytes : ℕ → Decoder (List ℕ)
-bytes n s = if nat_lt (length s.rest) n then Short s.place (n - length s.rest) else Done (take n s.rest) (record { rest = drop n s.rest; place = s.place + n; features = s.features; start = s.start })
+bytes n s = if nat_lt (length s.rest) n then Short s.place (n - length s.rest) else Done (take n s.rest) (record { rest = drop n s.rest; place = s.place + n; settings = s.settings; start = s.start })
 
 -- n values, one after the other
 unfoldable pub repeated : {A : Type 0} → ℕ → Decoder A → Decoder (List A)
@@ -77,7 +78,7 @@ choice (c ∷ cs) other b = if b == c.0 then c.1 else choice cs other b
 pub record Takes (s : State) (text : List ℕ) (t : State) : Type 0 where
   pub parts : s.rest ≡ text ++ t.rest
   pub place : t.place ≡ s.place + length text
-  pub features : t.features ≡ s.features
+  pub settings : t.settings ≡ s.settings
   pub start : t.start ≡ s.start
 
 -- t stands at s or further on, in the same bytes
@@ -155,7 +156,7 @@ ended early late t (Fault k p) = Fault k p
 
 -- the next n bytes, all of them, by d
 abbrev pub inside : {A : Type 0} → Refusal → Refusal → ℕ → Decoder A → List ℕ → Decoder A
-inside early late n d part t = ended early late t (d (record { rest = part; place = t.place - n; features = t.features; start = t.place - n }))
+inside early late n d part t = ended early late t (d (record { rest = part; place = t.place - n; settings = t.settings; start = t.place - n }))
 
 -- the same; where fewer than n bytes are left, that is an end of data
 unfoldable pub within : {A : Type 0} → Refusal → Refusal → ℕ → Decoder A → Decoder A

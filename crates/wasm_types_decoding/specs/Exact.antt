@@ -3,6 +3,7 @@ use Rattle.std.proofs.Common.{◌≡◌, ℕ, zero, suc, ◌+◌, ◌≤◌, Lis
 use Rattle.std.specs.Prelude.{if◌then◌else◌, ◌==◌}
 use Rattle.std.proofs.lemmas.List.{length-append, append-nil, take-append-drop, length-take, take_at, drop_at}
 use Rattle.std.proofs.lemmas.Bool.{cases_lt, eqb-true}
+use Rattle.wasm_types_limits.specs.Settings.{Settings}
 use Rattle.wasm_types_decoding.specs.declared.Refusal.{Refusal}
 use Rattle.wasm_types_decoding.specs.Decoder.{State, Outcome, Done, Short, Fault, Decoder, continue_with, ◌>>=◌, pure, refuse, first_of_rest, byte, bytes, repeated, Takes, Grammar, Decides, Then, Many, choice, choice_or, look_first, look}
 use Rattle.wasm_types_decoding.specs.Laws.{takes_none, Takes-then, bytes-enough, bytes-short}
@@ -33,9 +34,9 @@ decides->>= {A} {B} d f g h dg fh = record {
       let q = (fh m.0).sound m.1 t y m.3 in
       (p.0 ++ q.0, Takes-then s m.1 t p.0 q.0 p.1 q.1, record { value = m.0; front = p.0; back = q.0; first = p.2; second = q.2; whole = refl });
   complete = λ s t y text p g.
-      let m : State = record { rest = g.back ++ t.rest; place = s.place + length g.front; features = s.features; start = s.start } in
-      let a : Takes s g.front m = record { parts = p.parts ∙ ap (λ (x : List ℕ). x ++ t.rest) g.whole ∙ append_assoc g.front g.back t.rest; place = refl; features = refl; start = refl } in
-      let b : Takes m g.back t = record { parts = refl; place = omega (arith, p.place, ap length g.whole, length-append g.front g.back); features = p.features; start = p.start } in
+      let m : State = record { rest = g.back ++ t.rest; place = s.place + length g.front; settings = s.settings; start = s.start } in
+      let a : Takes s g.front m = record { parts = p.parts ∙ ap (λ (x : List ℕ). x ++ t.rest) g.whole ∙ append_assoc g.front g.back t.rest; place = refl; settings = refl; start = refl } in
+      let b : Takes m g.back t = record { parts = refl; place = omega (arith, p.place, ap length g.whole, length-append g.front g.back); settings = p.settings; start = p.start } in
       ap (λ (o : Outcome A). continue_with o f) (dg.complete s m g.value g.front a g.first) ∙ (fh g.value).complete m t y g.back b g.second;
 }
 
@@ -48,11 +49,11 @@ decides-same d g h dg to from = record {
 
 -- ---- where a decoder ends
 
-pub same_state : (s t : State) → s.rest ≡ t.rest → s.place ≡ t.place → s.features ≡ t.features → s.start ≡ t.start → s ≡ t
+pub same_state : (s t : State) → s.rest ≡ t.rest → s.place ≡ t.place → s.settings ≡ t.settings → s.start ≡ t.start → s ≡ t
 same_state s t p q f a =
-    ap (λ (r : List ℕ). record s { rest = r }) p ∙ ap (λ (l : ℕ). record { rest = t.rest; place = l; features = s.features; start = s.start }) q
-    ∙ ap (λ (l : ℕ). record { rest = t.rest; place = t.place; features = l; start = s.start }) f
-    ∙ ap (λ (l : ℕ). record { rest = t.rest; place = t.place; features = t.features; start = l }) a
+    ap (λ (r : List ℕ). record s { rest = r }) p ∙ ap (λ (l : ℕ). record { rest = t.rest; place = l; settings = s.settings; start = s.start }) q
+    ∙ ap (λ (z : Settings). record { rest = t.rest; place = t.place; settings = z; start = s.start }) f
+    ∙ ap (λ (l : ℕ). record { rest = t.rest; place = t.place; settings = t.settings; start = l }) a
 
 pub decides-pure : {A : Type 0} (x : A) (g : Grammar A) → g x [] → ((y : A) (text : List ℕ) → g y text → (y ≡ x) × (text ≡ [])) → Decides (pure x) g
 decides-pure {A} x g here only = record {
@@ -61,7 +62,7 @@ decides-pure {A} x g here only = record {
       let o = only y text q in
       let r : s.rest ≡ t.rest = p.parts ∙ ap (λ (z : List ℕ). z ++ t.rest) o.1 in
       let l : s.place ≡ t.place = omega (arith, p.place, ap length o.1) in
-      let e : s ≡ t = same_state s t r l (sym p.features) (sym p.start) in
+      let e : s ≡ t = same_state s t r l (sym p.settings) (sym p.start) in
       rw (e, o.0) refl;
 }
 
@@ -96,10 +97,10 @@ module _ {A B : Type 0} (d : Decoder A) (f : A → B) (g : Grammar A) where
 byte_done : (rest : List ℕ) (s : State) (b : ℕ) (t : State) → s.rest ≡ rest → first_of_rest rest s ≡ Done b t → Takes s (b ∷ []) t
 byte_done [] s b t q e = absurd cc
 byte_done (c ∷ rest) s b t q e =
-    let behind : State = record { rest = rest; place = s.place + 1; features = s.features; start = s.start } in
+    let behind : State = record { rest = rest; place = s.place + 1; settings = s.settings; start = s.start } in
     let x : c ≡ b = value_is c b behind t e in
     let y : behind ≡ t = state_is c b behind t e in
-    subst (λ (z : State). Takes s (b ∷ []) z) y (record { parts = q ∙ ap (λ (h : ℕ). h ∷ rest) x; place = refl; features = refl; start = refl })
+    subst (λ (z : State). Takes s (b ∷ []) z) y (record { parts = q ∙ ap (λ (h : ℕ). h ∷ rest) x; place = refl; settings = refl; start = refl })
 
 -- A grammar that begins with a byte: what follows the byte is decided apart, for each byte.
 pub decides-byte : {A : Type 0} (f : ℕ → Decoder A) (g : Grammar A) → ((x : A) → g x [] → ⊥) → ((b : ℕ) → Decides (f b) (λ x text. g x (b ∷ text))) → Decides (byte >>= f) g
@@ -114,10 +115,10 @@ decides-byte {A} f g some fg = record {
   byte_complete : (s t : State) (y : A) (text : List ℕ) → Takes s text t → g y text → (byte >>= f) s ≡ Done y t
   byte_complete s t y [] p q = absurd (some y q)
   byte_complete s t y (b ∷ text) p q =
-      let m : State = record { rest = text ++ t.rest; place = s.place + 1; features = s.features; start = s.start } in
+      let m : State = record { rest = text ++ t.rest; place = s.place + 1; settings = s.settings; start = s.start } in
       let e : byte s ≡ Done b m = rw p.parts refl in
-      let one : Takes s (b ∷ []) m = record { parts = p.parts; place = refl; features = refl; start = refl } in
-      let left : Takes m text t = record { parts = refl; place = omega (arith, p.place); features = p.features; start = p.start } in
+      let one : Takes s (b ∷ []) m = record { parts = p.parts; place = refl; settings = refl; start = refl } in
+      let left : Takes m text t = record { parts = refl; place = omega (arith, p.place); settings = p.settings; start = p.start } in
       ap (λ (o : Outcome ℕ). continue_with o f) e ∙ (fg b).complete m t y text left q
 
 -- ---- n bytes
@@ -131,11 +132,11 @@ decides-bytes n = record {
   sound = λ s t x e. elim (cases_lt (length s.rest) n) [
     | inl short ↦ absurd (let no = bytes-short n s short in cc)
     | inr enough ↦
-        let is : done (take n s.rest) (record { rest = drop n s.rest; place = s.place + n; features = s.features; start = s.start }) ≡ Done x t = sym (bytes-enough n s enough) ∙ e in
+        let is : done (take n s.rest) (record { rest = drop n s.rest; place = s.place + n; settings = s.settings; start = s.start }) ≡ Done x t = sym (bytes-enough n s enough) ∙ e in
         let v : take n s.rest ≡ x = value_is _ x _ t is in
-        let u : record { rest = drop n s.rest; place = s.place + n; features = s.features; start = s.start } ≡ t = state_is _ x _ t is in
+        let u : record { rest = drop n s.rest; place = s.place + n; settings = s.settings; start = s.start } ≡ t = state_is _ x _ t is in
         let k : length (take n s.rest) ≡ n = omega (arith, length-take n s.rest) in
-        (x, subst (λ (z : List ℕ). Takes s z t) v (subst (λ (z : State). Takes s (take n s.rest) z) u (record { parts = sym (take-append-drop n s.rest); place = omega arith; features = refl; start = refl })), (subst (λ (z : List ℕ). length z ≡ n) v k, refl))
+        (x, subst (λ (z : List ℕ). Takes s z t) v (subst (λ (z : State). Takes s (take n s.rest) z) u (record { parts = sym (take-append-drop n s.rest); place = omega arith; settings = refl; start = refl })), (subst (λ (z : List ℕ). length z ≡ n) v k, refl))
   ];
   complete = λ s t x text p q.
       let r : s.rest ≡ x ++ t.rest = rw q.1 at p.parts in
@@ -143,7 +144,7 @@ decides-bytes n = record {
       let front : take n s.rest ≡ x = rw r (take_at x t.rest n q.0) in
       let back : drop n s.rest ≡ t.rest = rw r (drop_at x t.rest n q.0) in
       let l : s.place + n ≡ t.place = omega (arith, p.place, q.0, ap length q.1) in
-      bytes-enough n s enough ∙ rw (front, back, l, p.features, p.start) refl;
+      bytes-enough n s enough ∙ rw (front, back, l, p.settings, p.start) refl;
 }
 
 -- ---- values in a row
@@ -223,10 +224,10 @@ module _ {A : Type 0} (k : Refusal) (g : Grammar A) where
 reads_first : {A : Type 0} (f : ℕ → Decoder A) (s t : State) (x : A) (text : List ℕ) → Takes s text t → ReadsTagged f x text → (byte >>= f) s ≡ Done x t
 reads_first f s t x [] p h = absurd h
 reads_first f s t x (b ∷ text) p h =
-    let m : State = record { rest = text ++ t.rest; place = s.place + 1; features = s.features; start = s.start } in
+    let m : State = record { rest = text ++ t.rest; place = s.place + 1; settings = s.settings; start = s.start } in
     let e : byte s ≡ Done b m = rw p.parts refl in
-    let one : Takes s (b ∷ []) m = record { parts = p.parts; place = refl; features = refl; start = refl } in
-    let left : Takes m text t = record { parts = refl; place = omega (arith, p.place); features = p.features; start = p.start } in
+    let one : Takes s (b ∷ []) m = record { parts = p.parts; place = refl; settings = refl; start = refl } in
+    let left : Takes m text t = record { parts = refl; place = omega (arith, p.place); settings = p.settings; start = p.start } in
     ap (λ (o : Outcome ℕ). continue_with o f) e ∙ h m t left
 
 pub decides-table : {A : Type 0} (k : Refusal) (g : Grammar A) (cs : List (ℕ × Decoder A)) → AllSound g cs → ((x : A) (text : List ℕ) → g x text → ReadsTagged (choice cs (refuse k 1)) x text) → Decides (byte >>= choice cs (refuse k 1)) g
@@ -244,7 +245,7 @@ pub sound-pure : {A : Type 0} (x : A) (g : Grammar A) → g x [] → Sound (pure
 sound-pure {A} x g h s t y e = ([], subst (λ (u : State). Takes s [] u) (state_is x y s t e) (takes_none s), subst (λ (z : A). g z []) (value_is x y s t e) h)
 
 pub reads-pure : {A : Type 0} (x : A) → Reads (pure x) x []
-reads-pure x s t p = let e : s ≡ t = same_state s t p.parts (omega (arith, p.place)) (sym p.features) (sym p.start) in rw e refl
+reads-pure x s t p = let e : s ≡ t = same_state s t p.parts (omega (arith, p.place)) (sym p.settings) (sym p.start) in rw e refl
 
 -- an alternative with a part behind its byte
 pub sound-map : {A B : Type 0} (d : Decoder A) (f : A → B) (g : Grammar A) (h : Grammar B) → Decides d g → ((x : A) (text : List ℕ) → g x text → h (f x) text) → Sound (d >>= λ x. pure (f x)) h

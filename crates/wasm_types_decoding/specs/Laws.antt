@@ -9,13 +9,13 @@ use Rattle.std.proofs.lemmas.Bool.{cases_lt, le-ltb, lt-ltb}
 -- ---- what is taken
 
 pub takes_none : (s : State) → Takes s [] s
-takes_none s = record { parts = refl; place = omega arith; features = refl; start = refl }
+takes_none s = record { parts = refl; place = omega arith; settings = refl; start = refl }
 
 pub Takes-then : (s t u : State) (a b : List ℕ) → Takes s a t → Takes t b u → Takes s (a ++ b) u
 Takes-then s t u a b p q = record {
   parts = p.parts ∙ ap (λ (r : List ℕ). a ++ r) q.parts ∙ sym (append_assoc a b u.rest);
   place = omega (arith, p.place, q.place, length-append a b);
-  features = q.features ∙ p.features;
+  settings = q.settings ∙ p.settings;
   start = q.start ∙ p.start;
 }
 
@@ -70,7 +70,7 @@ lawful-refuse k back = record { forward = λ s. tt; steady = λ s more. refl }
 
 byte_forward : (rest : List ℕ) (s : State) → s.rest ≡ rest → GoesForward s (first_of_rest rest s)
 byte_forward [] s e = (omega arith, omega arith)
-byte_forward (b ∷ rest) s e = (b ∷ [], record { parts = e; place = refl; features = refl; start = refl })
+byte_forward (b ∷ rest) s e = (b ∷ [], record { parts = e; place = refl; settings = refl; start = refl })
 
 byte_beyond : (s : State) (rest : List ℕ) → 1 ≤ length rest → IsBeyond s.place (first_of_rest rest s)
 byte_beyond s [] h = absurd (omega arith)
@@ -116,7 +116,7 @@ lawful-choice_or (c ∷ cs) next b l o = lawful-if (b == c.0) c.1 (choice_or cs 
 -- ---- bytes as they stand
 
 module _ (n : ℕ) (s : State) where
-  pub bytes-enough : n ≤ length s.rest → bytes n s ≡ Done (take n s.rest) (record { rest = drop n s.rest; place = s.place + n; features = s.features; start = s.start })
+  pub bytes-enough : n ≤ length s.rest → bytes n s ≡ Done (take n s.rest) (record { rest = drop n s.rest; place = s.place + n; settings = s.settings; start = s.start })
   bytes-enough h = let e : ltb (length s.rest) n ≡ false = le-ltb _ _ h in rw e refl
 
   pub bytes-short : length s.rest < n → bytes n s ≡ Short s.place (n - length s.rest)
@@ -125,7 +125,7 @@ module _ (n : ℕ) (s : State) where
 bytes_forward : (n : ℕ) (s : State) → GoesForward s (bytes n s)
 bytes_forward n s = elim (cases_lt (length s.rest) n) [
   | inl short ↦ rw (bytes-short n s short) (omega arith, omega arith)
-  | inr enough ↦ rw (bytes-enough n s enough) (take n s.rest, record { parts = sym (take-append-drop n s.rest); place = omega (arith, length-take n s.rest); features = refl; start = refl })
+  | inr enough ↦ rw (bytes-enough n s enough) (take n s.rest, record { parts = sym (take-append-drop n s.rest); place = omega (arith, length-take n s.rest); settings = refl; start = refl })
 ]
 
 bytes_beyond : (n : ℕ) (s : State) (more : List ℕ) → length s.rest < n → n - length s.rest ≤ length more → IsBeyond s.place (bytes n (extended s more))
@@ -166,8 +166,8 @@ module _ {A : Type 0} (early late : Refusal) where
   pub lawful-within : (n : ℕ) (d : Decoder A) → IsLawful (within early late n d)
   unfolding within
   lawful-within n d = lawful->>= (bytes n) _ (lawful-bytes n) (λ part. record {
-    forward = λ t. ended_forward t (d (record { rest = part; place = t.place - n; features = t.features; start = t.place - n }));
-    steady = λ t more. ended_steady t more (d (record { rest = part; place = t.place - n; features = t.features; start = t.place - n }));
+    forward = λ t. ended_forward t (d (record { rest = part; place = t.place - n; settings = t.settings; start = t.place - n }));
+    steady = λ t more. ended_steady t more (d (record { rest = part; place = t.place - n; settings = t.settings; start = t.place - n }));
   })
 
 module _ {A : Type 0} (f : ℕ → Decoder A) (lawful : (b : ℕ) → IsLawful (f b)) (takes : (b : ℕ) → TakesOne (f b)) where
@@ -194,7 +194,7 @@ module _ {A : Type 0} (f : ℕ → Decoder A) (lawful : (b : ℕ) → IsLawful (
 takes_byte : {A : Type 0} (f : ℕ → Decoder A) (lawful : (b : ℕ) → IsLawful (f b)) (rest : List ℕ) (s : State) → 0 < length rest → IsBeyond s.place (continue_with (first_of_rest rest s) f)
 takes_byte f lawful [] s h = absurd (omega arith)
 takes_byte f lawful (b ∷ rest) s h =
-    let behind : State = record { rest = rest; place = s.place + 1; features = s.features; start = s.start } in
+    let behind : State = record { rest = rest; place = s.place + 1; settings = s.settings; start = s.start } in
     still_beyond s.place behind (f b behind) (omega arith) ((lawful b).forward behind)
 
 pub TakesOne-byte : {A : Type 0} (f : ℕ → Decoder A) → ((b : ℕ) → IsLawful (f b)) → TakesOne (byte >>= f)

@@ -52,7 +52,7 @@ stays_until low high end (Fault k p) e g = (g.0, omega (arith, e, g.1))
 after_first : {A : Type 0} (f : ℕ → Decoder A) → ((b : ℕ) → RefusesFromByte (f b)) → (rest : List ℕ) (s : State) → s.rest ≡ rest → StaysIn s.place (s.place + length rest) (continue_with (first_of_rest rest s) f)
 after_first f w [] s e = (omega arith, omega arith)
 after_first f w (b ∷ rest) s e =
-    let t : State = record { rest = rest; place = s.place + 1; features = s.features; start = s.start } in
+    let t : State = record { rest = rest; place = s.place + 1; settings = s.settings; start = s.start } in
     stays_until s.place (end_of t) (s.place + length (b ∷ rest)) (f b t) (omega arith) ((w b).stays s.place t refl)
 
 pub within-byte>>= : {A : Type 0} (f : ℕ → Decoder A) → ((b : ℕ) → RefusesFromByte (f b)) → RefusesWithin (byte >>= f)

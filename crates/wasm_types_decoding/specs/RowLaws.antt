@@ -27,7 +27,7 @@ list_rows = record { two = refl; one_of_two = refl; counted = refl; counted_too_
 
 pub name_rows : NameRows
 unfolding unsigned counted_within text_of skipped any_name
-name_rows = record { euro = λ e. rw e refl; overlong = λ e. rw e refl; too_few = refl; longest = refl; too_long = refl; any = λ e. rw e refl; any_malformed = λ e. rw e refl; any_length = refl; skipped = refl; skipped_too_long = refl }
+name_rows = record { euro = λ e. rw e refl; overlong = λ e. rw e refl; too_few = refl; longest = refl; too_long = refl; any = λ e. rw e refl; any_malformed = λ e. rw e refl; any_length = refl; limited = λ e. rw e refl; limited_too_long = refl; skipped = refl; skipped_too_long = refl }
 
 pub part_rows : PartRows
 unfolding unsigned within sized

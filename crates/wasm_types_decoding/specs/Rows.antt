@@ -1,19 +1,25 @@
 -- Worked bytes: what each decoder answers, by hand. A changed decoder breaks a row.
 use Rattle.std.specs.Prelude.{◌≡◌, ℕ, ◌+◌, pos, negsuc, List, [], ◌∷◌, true, false}
 use Rattle.std.specs.Str.{is_utf8}
+use Rattle.wasm_types_limits.specs.Limits.{default_limits}
+use Rattle.wasm_types_limits.specs.Settings.{Settings}
 use Rattle.wasm_types_decoding.specs.declared.Refusal.TheVariants.{MissingFeature, Other}
 use Rattle.wasm_types_decoding.specs.Decoder.{State, Done, Short, Fault, pure, refuse, byte, bytes, repeated, choice, choice_or, within, look}
 use Rattle.wasm_types_decoding.specs.Leb.{u32, u64, s32, s33, s64, listed}
 use Rattle.wasm_types_decoding.specs.Lists.{size_within, listed_within}
 use Rattle.wasm_types_decoding.specs.Text.{word, any_name, name, skipped_name, sized}
 
+-- two features, and names of one byte
+abbrev pub worked : Settings
+worked = record { features = 3; limits = record default_limits { string_bytes = 1 } }
+
 -- a reader that stands at offset 7 of its input, before these bytes
 abbrev pub start_of : List ℕ → State
-start_of text = record { rest = text; place = 7; features = 3; start = 5 }
+start_of text = record { rest = text; place = 7; settings = worked; start = 5 }
 
 -- the same reader behind so many bytes, before those that are left
 abbrev pub behind : ℕ → List ℕ → State
-behind n text = record { rest = text; place = 7 + n; features = 3; start = 5 }
+behind n text = record { rest = text; place = 7 + n; settings = worked; start = 5 }
 
 -- numbers without a sign: one byte, the largest, padded to all bytes, one too large, too long, cut short
 pub record UnsignedRows : Type 0 where
@@ -90,6 +96,8 @@ pub record NameRows : Type 0 where
   pub any : is_utf8 (0x61 ∷ []) ≡ true → any_name (start_of (0x01 ∷ 0x61 ∷ [])) ≡ Done (0x61 ∷ []) (behind 2 [])
   pub any_malformed : is_utf8 (0x80 ∷ []) ≡ false → any_name (start_of (0x01 ∷ 0x80 ∷ [])) ≡ Fault Other 8
   pub any_length : any_name (start_of (0xa1 ∷ 0x8d ∷ 0x06 ∷ [])) ≡ Short 10 100001
+  pub limited : is_utf8 (0x61 ∷ []) ≡ true → name worked.limits.string_bytes (start_of (0x01 ∷ 0x61 ∷ [])) ≡ Done (0x61 ∷ []) (behind 2 [])
+  pub limited_too_long : name worked.limits.string_bytes (start_of (0x02 ∷ 0x61 ∷ 0x61 ∷ [])) ≡ Fault Other 7
   pub skipped : skipped_name 100000 (start_of (0x02 ∷ 0xc0 ∷ 0x80 ∷ 0x0b ∷ [])) ≡ Done tt (behind 3 (0x0b ∷ []))
   pub skipped_too_long : skipped_name 100000 (start_of (0xa1 ∷ 0x8d ∷ 0x06 ∷ [])) ≡ Fault Other 9
 

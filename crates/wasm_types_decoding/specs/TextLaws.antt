@@ -168,7 +168,7 @@ module _ {A : Type 0} (early late : Refusal) where
 
   module _ (d : Decoder A) (g : Grammar A) (dg : Decides d g) where
     abbrev part_of : ℕ → List ℕ → State → State
-    part_of n part t = record { rest = part; place = t.place - n; features = t.features; start = t.place - n }
+    part_of n part t = record { rest = part; place = t.place - n; settings = t.settings; start = t.place - n }
 
     no_bytes : (xs : List ℕ) → length xs ≡ 0 → xs ≡ []
     no_bytes [] e = refl
@@ -188,8 +188,8 @@ module _ {A : Type 0} (early late : Refusal) where
     unfolding within
     within_complete n s t x text p h =
         let front = (decides-bytes n).complete s t text text p (h.0, refl) in
-        let behind : State = record { rest = []; place = t.place - n + length text; features = t.features; start = t.place - n } in
-        let read = dg.complete (part_of n text t) behind x text (record { parts = sym (append-nil text); place = refl; features = refl; start = refl }) h.1 in
+        let behind : State = record { rest = []; place = t.place - n + length text; settings = t.settings; start = t.place - n } in
+        let read = dg.complete (part_of n text t) behind x text (record { parts = sym (append-nil text); place = refl; settings = refl; start = refl }) h.1 in
         rw (front, read) refl
 
     pub decides-within : (n : ℕ) → Decides (within early late n d) (Within n g)

@@ -4,6 +4,7 @@ use Rattle.wasm_types_decoding.specs.declared.Refusal.TheVariants.{Other}
 use Rattle.wasm_types_decoding.specs.Decoder.{Decoder, ◌>>=◌, pure, refuse, byte, choice}
 use Rattle.wasm_types_decoding.specs.Leb.{u32}
 use Rattle.wasm_types_decoding.specs.Lists.{refuse_at, listed_within}
+use Rattle.wasm_types_limits.specs.Settings.{Settings}
 use Rattle.wasm_types_indices.specs.declared.index.UnpackedIndex.{UnpackedIndex}
 use Rattle.wasm_types_indices.specs.declared.index.UnpackedIndex.TheVariants.{Module}
 use Rattle.wasm_types_values.specs.DecodeValues.{value_type, storage_type}
@@ -22,13 +23,13 @@ mutability = byte >>= choice mutabilities (refuse Other 1)
 unfoldable pub field_type : Decoder FieldType
 field_type = storage_type >>= λ s. mutability >>= λ m. pure (record { element_type = s; mutable = m })
 
--- the fields of a struct, 10,000 at most
-unfoldable pub fields : Decoder (List FieldType)
-fields = listed_within 10000 field_type
+-- the fields of a struct, within their limit
+unfoldable pub fields : Settings → Decoder (List FieldType)
+fields z = listed_within z.limits.fields field_type
 
--- parameters and results, a thousand of each at most
-unfoldable pub signature : Decoder Signature
-signature = listed_within 1000 value_type >>= λ ps. listed_within 1000 value_type >>= λ rs. pure (record { params = ps; results = rs })
+-- parameters and results, each within their limit
+unfoldable pub signature : Settings → Decoder Signature
+signature z = listed_within z.limits.params value_type >>= λ ps. listed_within z.limits.results value_type >>= λ rs. pure (record { params = ps; results = rs })
 
 -- an index that begins at this offset
 abbrev pub index_from : ℕ → ℕ → Decoder UnpackedIndex

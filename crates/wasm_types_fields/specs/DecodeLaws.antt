@@ -11,6 +11,7 @@ use Rattle.wasm_types_decoding.specs.Leb.{u32, IsUnsigned}
 use Rattle.wasm_types_decoding.specs.LebLaws.{lawful-unsigned, decides-u32}
 use Rattle.wasm_types_decoding.specs.Lists.{refuse_at, listed_within, IsListedWithin}
 use Rattle.wasm_types_decoding.specs.ListLaws.{lawful-from_place, decides-from_place, lawful-refuse_at, decides-refuse_at, lawful-listed_within, decides-listed_within}
+use Rattle.wasm_types_limits.specs.Settings.{Settings}
 use Rattle.wasm_types_indices.specs.declared.index.UnpackedIndex.{UnpackedIndex}
 use Rattle.wasm_types_indices.specs.declared.index.UnpackedIndex.TheVariants.{Module, RecGroup, Id}
 use Rattle.wasm_types_values.specs.declared.value.ValType.{ValType}
@@ -78,47 +79,50 @@ pub decides-field_type : Decides field_type SpelledField
 unfolding field_type
 decides-field_type = decides-same _ field_parts SpelledField (decides->>= storage_type _ SpelledStorage _ decides-storage_type (λ s. decides-map mutability (field_with s) IsMutability decides-mutability)) field_to field_from
 
-pub lawful-fields : IsLawful fields
-unfolding fields
-lawful-fields = lawful-listed_within 10000 field_type lawful-field_type
+module _ (z : Settings) where
+  pub lawful-fields : IsLawful (fields z)
+  unfolding fields
+  lawful-fields = lawful-listed_within z.limits.fields field_type lawful-field_type
 
-pub decides-fields : Decides fields SpelledFields
-unfolding fields
-decides-fields = decides-listed_within 10000 field_type SpelledField decides-field_type
+  pub decides-fields : Decides (fields z) (SpelledFields z)
+  unfolding fields
+  decides-fields = decides-listed_within z.limits.fields field_type SpelledField decides-field_type
 
 -- ---- signatures
 
-abbrev values : Decoder (List ValType)
-values = listed_within 1000 value_type
+module _ (limit : ℕ) where
+  abbrev values : Decoder (List ValType)
+  values = listed_within limit value_type
 
-abbrev SpelledValues : Grammar (List ValType)
-SpelledValues = IsListedWithin 1000 SpelledValue
+  abbrev SpelledValues : Grammar (List ValType)
+  SpelledValues = IsListedWithin limit SpelledValue
 
-lawful-values : IsLawful values
-lawful-values = lawful-listed_within 1000 value_type lawful-value_type
+  lawful-values : IsLawful values
+  lawful-values = lawful-listed_within limit value_type lawful-value_type
 
-decides-values : Decides values SpelledValues
-decides-values = decides-listed_within 1000 value_type SpelledValue decides-value_type
+  decides-values : Decides values SpelledValues
+  decides-values = decides-listed_within limit value_type SpelledValue decides-value_type
 
-pub lawful-signature : IsLawful signature
-unfolding signature
-lawful-signature = lawful->>= values _ lawful-values (λ ps. lawful->>= values _ lawful-values (λ rs. lawful-pure (record { params = ps; results = rs })))
+module _ (z : Settings) where
+  pub lawful-signature : IsLawful (signature z)
+  unfolding signature
+  lawful-signature = lawful->>= (values z.limits.params) _ (lawful-values z.limits.params) (λ ps. lawful->>= (values z.limits.results) _ (lawful-values z.limits.results) (λ rs. lawful-pure (record { params = ps; results = rs })))
 
-abbrev signature_with : List ValType → List ValType → Signature
-signature_with ps rs = record { params = ps; results = rs }
+  abbrev signature_with : List ValType → List ValType → Signature
+  signature_with ps rs = record { params = ps; results = rs }
 
-abbrev signature_parts : Grammar Signature
-signature_parts = Then SpelledValues (λ ps. Mapped (signature_with ps) SpelledValues)
+  abbrev signature_parts : Grammar Signature
+  signature_parts = Then (SpelledValues z.limits.params) (λ ps. Mapped (signature_with ps) (SpelledValues z.limits.results))
 
-signature_to : (f : Signature) (text : List ℕ) → signature_parts f text → SpelledSignature f text
-signature_to f text h = subst (λ (y : Signature). SpelledSignature y text) (sym h.second.2) (record { params = h.front; results = h.back; taken = h.first; given = h.second.1; whole = h.whole })
+  signature_to : (f : Signature) (text : List ℕ) → signature_parts f text → SpelledSignature z f text
+  signature_to f text h = subst (λ (y : Signature). SpelledSignature z y text) (sym h.second.2) (record { params = h.front; results = h.back; taken = h.first; given = h.second.1; whole = h.whole })
 
-signature_from : (f : Signature) (text : List ℕ) → SpelledSignature f text → signature_parts f text
-signature_from f text h = record { value = f.params; front = h.params; back = h.results; first = h.taken; second = (f.results, h.given, refl); whole = h.whole }
+  signature_from : (f : Signature) (text : List ℕ) → SpelledSignature z f text → signature_parts f text
+  signature_from f text h = record { value = f.params; front = h.params; back = h.results; first = h.taken; second = (f.results, h.given, refl); whole = h.whole }
 
-pub decides-signature : Decides signature SpelledSignature
-unfolding signature
-decides-signature = decides-same _ signature_parts SpelledSignature (decides->>= values _ SpelledValues _ decides-values (λ ps. decides-map values (signature_with ps) SpelledValues decides-values)) signature_to signature_from
+  pub decides-signature : Decides (signature z) (SpelledSignature z)
+  unfolding signature
+  decides-signature = decides-same _ signature_parts (SpelledSignature z) (decides->>= (values z.limits.params) _ (SpelledValues z.limits.params) _ (decides-values z.limits.params) (λ ps. decides-map (values z.limits.results) (signature_with ps) (SpelledValues z.limits.results) (decides-values z.limits.results))) signature_to signature_from
 
 -- ---- indices
 

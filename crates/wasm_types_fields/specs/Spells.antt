@@ -2,6 +2,7 @@
 use Rattle.std.specs.Prelude.{◌≡◌, ℕ, List, [], ◌∷◌, ◌++◌, Bool, true, false}
 use Rattle.wasm_types_decoding.specs.Decoder.{Grammar}
 use Rattle.wasm_types_decoding.specs.Lists.{IsListedWithin}
+use Rattle.wasm_types_limits.specs.Settings.{Settings}
 use Rattle.wasm_types_indices.specs.declared.index.UnpackedIndex.{UnpackedIndex}
 use Rattle.wasm_types_values.specs.declared.value.ValType.{ValType}
 use Rattle.wasm_types_values.specs.Spells.{SpellsExactIndex}
@@ -21,21 +22,21 @@ pub record SpelledField (x : FieldType) (text : List ℕ) : Type 0 where
   pub writable : IsMutability x.mutable mutability
   pub whole : text ≡ storage ++ mutability
 
--- the fields of a struct, which are 10,000 at most
-abbrev pub SpelledFields : Grammar (List FieldType)
-SpelledFields = IsListedWithin 10000 SpelledField
+-- the fields of a struct, within their limit
+abbrev pub SpelledFields : Settings → Grammar (List FieldType)
+SpelledFields z = IsListedWithin z.limits.fields SpelledField
 
 -- the parameters and the results of a function
 pub record Signature : Type 0 where
   pub params : List ValType
   pub results : List ValType
 
--- a thousand of each at most
-pub record SpelledSignature (f : Signature) (text : List ℕ) : Type 0 where
+-- each within their limit
+pub record SpelledSignature (z : Settings) (f : Signature) (text : List ℕ) : Type 0 where
   pub params : List ℕ
   pub results : List ℕ
-  pub taken : IsListedWithin 1000 SpelledValue f.params params
-  pub given : IsListedWithin 1000 SpelledValue f.results results
+  pub taken : IsListedWithin z.limits.params SpelledValue f.params params
+  pub given : IsListedWithin z.limits.results SpelledValue f.results results
   pub whole : text ≡ params ++ results
 
 -- a type of the module by its index, which is below 2^20

@@ -15,6 +15,8 @@ use Rattle.wasm_types_values.specs.declared.value.StorageType.{StorageType}
 use Rattle.wasm_types_values.specs.declared.value.StorageType.TheVariants.{I8, I16, Val}
 use Rattle.wasm_types_values.specs.Decode.{reference, reference_after}
 use Rattle.wasm_types_values.specs.DecodeValues.{value_type_after, value_type, storage_type_after, storage_type}
+use Rattle.wasm_types_limits.specs.Limits.{default_limits}
+use Rattle.wasm_types_limits.specs.Settings.{Settings, no_features}
 use Rattle.wasm_types_values.specs.WorkedTypeLaws.{start_of, behind}
 use Rattle.wasm_types_fields.specs.declared.field.FieldType.{FieldType}
 use Rattle.wasm_types_fields.specs.Spells.{Signature}
@@ -27,28 +29,34 @@ field s m = record { element_type = s; mutable = m }
 abbrev function : List ValType → List ValType → Signature
 function params results = record { params = params; results = results }
 
+-- one field, one parameter, and two results at most
+abbrev narrow : Settings
+narrow = record { features = 0; limits = record default_limits { fields = 1; params = 1; results = 2 } }
+
 -- ---- fields
 
 abbrev pub FieldsAreRead : Type 0
 FieldsAreRead = (field_type (start_of (0x7f ∷ 0x00 ∷ [])) ≡ Done (field (Val I32) false) (behind 2)) × (field_type (start_of (0x78 ∷ 0x01 ∷ [])) ≡ Done (field I8 true) (behind 2))
     × (field_type (start_of (0x7f ∷ 0x02 ∷ [])) ≡ Fault Other 1) × (field_type (start_of (0x76 ∷ 0x00 ∷ [])) ≡ Fault Other 0) × (field_type (start_of (0x7f ∷ [])) ≡ Short 1 1)
-    × (fields (start_of (0x00 ∷ [])) ≡ Done [] (behind 1)) × (fields (start_of (0x02 ∷ 0x7f ∷ 0x00 ∷ 0x77 ∷ 0x01 ∷ [])) ≡ Done (field (Val I32) false ∷ field I16 true ∷ []) (behind 5))
-    × (fields (start_of (0x90 ∷ 0x4e ∷ [])) ≡ Short 2 1) × (fields (start_of (0x91 ∷ 0x4e ∷ [])) ≡ Fault Other 0)
+    × (fields no_features (start_of (0x00 ∷ [])) ≡ Done [] (behind 1)) × (fields no_features (start_of (0x02 ∷ 0x7f ∷ 0x00 ∷ 0x77 ∷ 0x01 ∷ [])) ≡ Done (field (Val I32) false ∷ field I16 true ∷ []) (behind 5))
+    × (fields no_features (start_of (0x90 ∷ 0x4e ∷ [])) ≡ Short 2 1) × (fields no_features (start_of (0x91 ∷ 0x4e ∷ [])) ≡ Fault Other 0)
+    × (fields narrow (start_of (0x01 ∷ [])) ≡ Short 1 1) × (fields narrow (start_of (0x02 ∷ [])) ≡ Fault Other 0)
 
 pub field_bytes : FieldsAreRead
-unfolding field_type fields mutability listed_within size_within unsigned repeated storage_type storage_type_after value_type_after reference_after
-field_bytes = (refl, refl, refl, refl, refl, refl, refl, refl, refl)
+unfolding default_limits field_type fields mutability listed_within size_within unsigned repeated storage_type storage_type_after value_type_after reference_after
+field_bytes = (refl, refl, refl, refl, refl, refl, refl, refl, refl, refl, refl)
 
 -- ---- functions
 
 abbrev pub FunctionsAreRead : Type 0
-FunctionsAreRead = (signature (start_of (0x00 ∷ 0x00 ∷ [])) ≡ Done (function [] []) (behind 2)) × (signature (start_of (0x01 ∷ 0x7f ∷ 0x02 ∷ 0x7e ∷ 0x7d ∷ [])) ≡ Done (function (I32 ∷ []) (I64 ∷ F32 ∷ [])) (behind 5))
-    × (signature (start_of (0xe8 ∷ 0x07 ∷ [])) ≡ Short 2 1) × (signature (start_of (0xe9 ∷ 0x07 ∷ [])) ≡ Fault Other 0)
-    × (signature (start_of (0x00 ∷ 0xe8 ∷ 0x07 ∷ [])) ≡ Short 3 1) × (signature (start_of (0x00 ∷ 0xe9 ∷ 0x07 ∷ [])) ≡ Fault Other 1) × (signature (start_of (0x01 ∷ 0x78 ∷ [])) ≡ Fault Other 1)
+FunctionsAreRead = (signature no_features (start_of (0x00 ∷ 0x00 ∷ [])) ≡ Done (function [] []) (behind 2)) × (signature no_features (start_of (0x01 ∷ 0x7f ∷ 0x02 ∷ 0x7e ∷ 0x7d ∷ [])) ≡ Done (function (I32 ∷ []) (I64 ∷ F32 ∷ [])) (behind 5))
+    × (signature no_features (start_of (0xe8 ∷ 0x07 ∷ [])) ≡ Short 2 1) × (signature no_features (start_of (0xe9 ∷ 0x07 ∷ [])) ≡ Fault Other 0)
+    × (signature no_features (start_of (0x00 ∷ 0xe8 ∷ 0x07 ∷ [])) ≡ Short 3 1) × (signature no_features (start_of (0x00 ∷ 0xe9 ∷ 0x07 ∷ [])) ≡ Fault Other 1) × (signature no_features (start_of (0x01 ∷ 0x78 ∷ [])) ≡ Fault Other 1)
+    × (signature narrow (start_of (0x02 ∷ [])) ≡ Fault Other 0) × (signature narrow (start_of (0x00 ∷ 0x02 ∷ [])) ≡ Short 2 1) × (signature narrow (start_of (0x00 ∷ 0x03 ∷ [])) ≡ Fault Other 1)
 
 pub function_bytes : FunctionsAreRead
-unfolding signature listed_within size_within unsigned repeated value_type value_type_after reference_after
-function_bytes = (refl, refl, refl, refl, refl, refl, refl)
+unfolding default_limits signature listed_within size_within unsigned repeated value_type value_type_after reference_after
+function_bytes = (refl, refl, refl, refl, refl, refl, refl, refl, refl, refl)
 
 -- ---- indices
 

@@ -6,9 +6,6 @@ ghost use Rattle.wasm_types_fields.specs.Decode.{field_type, mutability, module_
 
 use crate::{ArrayType, ContType, FieldType, FuncType, StructType};
 use std::alloc::Global;
-use wasm_types_reader::limits::{
-    MAX_WASM_FUNCTION_PARAMS, MAX_WASM_FUNCTION_RETURNS, MAX_WASM_STRUCT_FIELDS,
-};
 use wasm_types_reader::{BinaryReader, Error, FromReader, Result, read_list};
 use wasm_types_values::{PackedIndex, StorageType, index_error};
 
@@ -37,15 +34,15 @@ impl<'a> FromReader<'a> for FieldType {
 
     ghost view = { λ x. x };
 
-    ghost decoder = { field_type };
+    ghost decoder = { λ z. field_type };
 
-    ghost grammar = { SpelledField };
+    ghost grammar = { λ z. SpelledField };
 
     ghost takes_memory = { false };
 
-    ghost lawful = { lawful-field_type };
+    ghost lawful = { λ z. lawful-field_type };
 
-    ghost exact = { decides-field_type };
+    ghost exact = { λ z. decides-field_type };
 
     #[tactic(auto, using(wasm_types_decoding::specs::Laws::reaches_self, wasm_types_decoding::specs::Laws::reaches_then), unfolding(crate::specs::Decode::field_type))]
     fn from_reader(alloc: Global, reader: &mut BinaryReader<'a>) -> Result<FieldType>
@@ -72,15 +69,15 @@ impl<'a> FromReader<'a> for ArrayType {
 
     ghost view = { λ a. a.0 };
 
-    ghost decoder = { field_type };
+    ghost decoder = { λ z. field_type };
 
-    ghost grammar = { SpelledField };
+    ghost grammar = { λ z. SpelledField };
 
     ghost takes_memory = { false };
 
-    ghost lawful = { lawful-field_type };
+    ghost lawful = { λ z. lawful-field_type };
 
-    ghost exact = { decides-field_type };
+    ghost exact = { λ z. decides-field_type };
 
     fn from_reader(alloc: Global, reader: &mut BinaryReader<'a>) -> Result<ArrayType>
         ensures answer { Gives (λ a. a.0) result reader.new (field_type reader.old) }
@@ -115,7 +112,8 @@ impl<'a> FromReader<'a> for StructType {
 
     #[tactic(auto, using(wasm_types_decoding::specs::Laws::reaches_self, wasm_types_decoding::specs::Laws::reaches_then), unfolding(crate::specs::Decode::fields))]
     fn from_reader(alloc: Global, reader: &mut BinaryReader<'a>) -> Result<StructType> {
-        let fields = read_list(alloc, MAX_WASM_STRUCT_FIELDS, "struct fields", reader)?;
+        let limit = reader.limits().fields as usize;
+        let fields = read_list(alloc, limit, "struct fields", reader)?;
         Ok(StructType { fields })
     }
 }
@@ -142,8 +140,9 @@ impl<'a> FromReader<'a> for FuncType {
 
     #[tactic(auto, using(wasm_types_decoding::specs::Laws::reaches_self, wasm_types_decoding::specs::Laws::reaches_then), unfolding(crate::specs::Decode::signature))]
     fn from_reader(alloc: Global, reader: &mut BinaryReader<'a>) -> Result<FuncType> {
-        let params = read_list(alloc, MAX_WASM_FUNCTION_PARAMS, "function params", reader)?;
-        let results = read_list(alloc, MAX_WASM_FUNCTION_RETURNS, "function returns", reader)?;
+        let limits = reader.limits();
+        let params = read_list(alloc, limits.params as usize, "function params", reader)?;
+        let results = read_list(alloc, limits.results as usize, "function returns", reader)?;
         Ok(FuncType::of_lists(params, results))
     }
 }
@@ -174,15 +173,15 @@ impl<'a> FromReader<'a> for ContType {
 
     ghost view = { λ c. c.0 };
 
-    ghost decoder = { module_index };
+    ghost decoder = { λ z. module_index };
 
-    ghost grammar = { SpelledIndex };
+    ghost grammar = { λ z. SpelledIndex };
 
     ghost takes_memory = { false };
 
-    ghost lawful = { lawful-module_index };
+    ghost lawful = { λ z. lawful-module_index };
 
-    ghost exact = { decides-module_index };
+    ghost exact = { λ z. decides-module_index };
 
     fn from_reader(_alloc: Global, reader: &mut BinaryReader<'a>) -> Result<ContType>
         ensures answer { Gives (λ c. c.0) result reader.new (module_index reader.old) }

@@ -3,6 +3,7 @@ use Rattle.std.specs.Prelude.{◌≡◌, ◌↔◌, IsTrue, Bool, ℕ, List, map
 use Rattle.std.specs.Cmp.Lexicographic.{slice_cmp}
 use Rattle.std.specs.Hash.{slice}
 use Rattle.std.specs.declared.cmp.Ordering.TheVariants.{Equal}
+use Rattle.wasm_types_limits.specs.Settings.{Settings}
 use Rattle.wasm_types_groups.specs.declared.sub_type.SubType.{SubType}
 use Rattle.wasm_types_groups.specs.declared.rec_group.RecGroup.{RecGroup}
 use Rattle.wasm_types_groups.specs.contracts.sub_type.SubTypePartialEq.TheImpl as subtype
@@ -55,17 +56,17 @@ GroupValuesDeclareTheSame = (g : RecGroup) → map declared_by (group_value g).t
 
 -- the values that bytes are read as are spelled as the trees that they declare
 abbrev pub CompositeTypesAreSpelledAsTrees : Type 0
-CompositeTypesAreSpelledAsTrees = (c : CompositeValue) (text : List ℕ) → SpelledComposite c text ↔ SpellsParts c.shared c.describes c.descriptor (inner_tree c.inner) text
+CompositeTypesAreSpelledAsTrees = (z : Settings) (c : CompositeValue) (text : List ℕ) → SpelledComposite z c text ↔ SpellsParts z c.shared c.describes c.descriptor (inner_tree c.inner) text
 
 abbrev pub SubTypesAreSpelledAsTrees : Type 0
-SubTypesAreSpelledAsTrees = (x : SubValue) (text : List ℕ) → SpelledSub x text ↔ SpellsSub (declared_by x) text
+SubTypesAreSpelledAsTrees = (z : Settings) (x : SubValue) (text : List ℕ) → SpelledSub z x text ↔ SpellsSub z (declared_by x) text
 
 abbrev pub GroupsAreSpelledAsTrees : Type 0
-GroupsAreSpelledAsTrees = (g : GroupValue) (text : List ℕ) → SpelledGroup g text ↔ SpellsGroup g.is_explicit (map declared_by g.types) text
+GroupsAreSpelledAsTrees = (z : Settings) (g : GroupValue) (text : List ℕ) → SpelledGroup z g text ↔ SpellsGroup z g.is_explicit (map declared_by g.types) text
 
 -- and each tree that bytes spell is declared by a value
 abbrev pub GroupTreesAreRead : Type 0
-GroupTreesAreRead = (b : Bool) (ds : List Declared) (text : List ℕ) → SpellsGroup b ds text → (g : GroupValue) × (g.is_explicit ≡ b) × (map declared_by g.types ≡ ds)
+GroupTreesAreRead = (z : Settings) (b : Bool) (ds : List Declared) (text : List ℕ) → SpellsGroup z b ds text → (g : GroupValue) × (g.is_explicit ≡ b) × (map declared_by g.types ≡ ds)
 
 -- a subtype is its shape and its indices: where those are another's, mapped by m, it declares what the other does, mapped
 abbrev pub ShapesAndIndicesAreAll : Type 0

@@ -2,6 +2,7 @@
 -- types; what stands before a composite type, and continuations, by their proposals). An index is one of the module.
 use Rattle.std.specs.Prelude.{◌≡◌, ◌⊎◌, ℕ, List, [], ◌∷◌, ◌++◌, Bool, true, false, Option, Some, None}
 use Rattle.wasm_types_decoding.specs.Lists.{IsListedWithin}
+use Rattle.wasm_types_limits.specs.Settings.{Settings}
 use Rattle.wasm_types_indices.specs.declared.index.UnpackedIndex.{UnpackedIndex}
 use Rattle.wasm_types_trees.specs.Rows as tree
 use Rattle.wasm_types_trees.specs.Rows.{ValueOf, FieldOf, InnerOf, RowOf}
@@ -19,24 +20,24 @@ pub record SpellsField (x : FieldOf UnpackedIndex) (text : List ℕ) : Type 0 wh
   pub writable : IsMutability x.mutable mutability
   pub whole : text ≡ storage ++ mutability
 
--- parameters and results, a thousand of each at most
-pub record SpellsSignature (ps rs : List (ValueOf UnpackedIndex)) (text : List ℕ) : Type 0 where
+-- parameters and results, each within their limit
+pub record SpellsSignature (z : Settings) (ps rs : List (ValueOf UnpackedIndex)) (text : List ℕ) : Type 0 where
   pub params : List ℕ
   pub results : List ℕ
-  pub taken : IsListedWithin 1000 SpellsValue ps params
-  pub given : IsListedWithin 1000 SpellsValue rs results
+  pub taken : IsListedWithin z.limits.params SpellsValue ps params
+  pub given : IsListedWithin z.limits.results SpellsValue rs results
   pub whole : text ≡ params ++ results
 
 -- a byte, and what follows it
 abbrev pub Follows : ℕ → (List ℕ → Type 0) → List ℕ → Type 0
 Follows tag P text = (rest : List ℕ) × (text ≡ tag ∷ rest) × P rest
 
--- a function, an array, a struct of 10,000 fields at most, a continuation
-abbrev pub SpellsInner : InnerOf UnpackedIndex → List ℕ → Type 0
-SpellsInner (tree.function ps rs) text = Follows 0x60 (SpellsSignature ps rs) text
-SpellsInner (tree.array_of x) text = Follows 0x5e (SpellsField x) text
-SpellsInner (tree.struct_of xs) text = Follows 0x5f (IsListedWithin 10000 SpellsField xs) text
-SpellsInner (tree.continuation i) text = Follows 0x5d (SpellsExactIndex i) text
+-- a function, an array, a struct of fields within their limit, a continuation
+abbrev pub SpellsInner : Settings → InnerOf UnpackedIndex → List ℕ → Type 0
+SpellsInner z (tree.function ps rs) text = Follows 0x60 (SpellsSignature z ps rs) text
+SpellsInner z (tree.array_of x) text = Follows 0x5e (SpellsField x) text
+SpellsInner z (tree.struct_of xs) text = Follows 0x5f (IsListedWithin z.limits.fields SpellsField xs) text
+SpellsInner z (tree.continuation i) text = Follows 0x5d (SpellsExactIndex i) text
 
 -- the mark of a shared type, or nothing (the proposal on shared everything)
 abbrev pub SpellsShared : Bool → List ℕ → Type 0
@@ -49,7 +50,7 @@ SpellsOption tag (Some i) text = Follows tag (SpellsExactIndex i) text
 SpellsOption tag None text = text ≡ []
 
 -- whether it is shared (s), the type that it describes (e), its descriptor (d), and the type itself
-pub record SpellsParts (s : Bool) (e d : Option UnpackedIndex) (x : InnerOf UnpackedIndex) (text : List ℕ) : Type 0 where
+pub record SpellsParts (z : Settings) (s : Bool) (e d : Option UnpackedIndex) (x : InnerOf UnpackedIndex) (text : List ℕ) : Type 0 where
   pub shared : List ℕ
   pub describes : List ℕ
   pub descriptor : List ℕ
@@ -57,12 +58,12 @@ pub record SpellsParts (s : Bool) (e d : Option UnpackedIndex) (x : InnerOf Unpa
   pub marked : SpellsShared s shared
   pub describing : SpellsOption 0x4c e describes
   pub described : SpellsOption 0x4d d descriptor
-  pub itself : SpellsInner x inner
+  pub itself : SpellsInner z x inner
   pub whole : text ≡ shared ++ (describes ++ (descriptor ++ inner))
 
 -- comptype with what may stand before it (binary format, types, composite types)
-abbrev pub SpellsComposite : RowOf UnpackedIndex → List ℕ → Type 0
-SpellsComposite x text = SpellsParts x.shared x.describes x.descriptor x.inner text
+abbrev pub SpellsComposite : Settings → RowOf UnpackedIndex → List ℕ → Type 0
+SpellsComposite z x text = SpellsParts z x.shared x.describes x.descriptor x.inner text
 
 -- ---- subtypes and groups
 
@@ -72,26 +73,26 @@ final_byte true = 0x4f
 final_byte false = 0x50
 
 -- finality, at most one supertype, and the composite type
-pub record SpellsLong (x : Declared) (text : List ℕ) : Type 0 where
+pub record SpellsLong (z : Settings) (x : Declared) (text : List ℕ) : Type 0 where
   pub supertypes : List ℕ
   pub composite : List ℕ
   pub first : x.row.supertype ≡ first_of x.supertypes
   pub above : IsListedWithin 1 SpellsExactIndex x.supertypes supertypes
-  pub itself : SpellsComposite x.row composite
+  pub itself : SpellsComposite z x.row composite
   pub whole : text ≡ final_byte x.row.is_final ∷ (supertypes ++ composite)
 
 -- a composite type alone: final, and without a supertype
-pub record SpellsShort (x : Declared) (text : List ℕ) : Type 0 where
+pub record SpellsShort (z : Settings) (x : Declared) (text : List ℕ) : Type 0 where
   pub is_final : x.row.is_final ≡ true
   pub alone : x.supertypes ≡ []
   pub none : x.row.supertype ≡ None
-  pub itself : SpellsComposite x.row text
+  pub itself : SpellsComposite z x.row text
 
 -- subtype: the short form or the full one (binary format, types, recursive types)
-abbrev pub SpellsSub : Declared → List ℕ → Type 0
-SpellsSub x text = SpellsShort x text ⊎ SpellsLong x text
+abbrev pub SpellsSub : Settings → Declared → List ℕ → Type 0
+SpellsSub z x text = SpellsShort z x text ⊎ SpellsLong z x text
 
--- one subtype alone, or a list of a million at most
-abbrev pub SpellsGroup : Bool → List Declared → List ℕ → Type 0
-SpellsGroup false xs text = (x : Declared) × (xs ≡ x ∷ []) × SpellsSub x text
-SpellsGroup true xs text = Follows 0x4e (IsListedWithin 1000000 SpellsSub xs) text
+-- one subtype alone, or a list within the limit of types
+abbrev pub SpellsGroup : Settings → Bool → List Declared → List ℕ → Type 0
+SpellsGroup z false xs text = (x : Declared) × (xs ≡ x ∷ []) × SpellsSub z x text
+SpellsGroup z true xs text = Follows 0x4e (IsListedWithin z.limits.types (SpellsSub z) xs) text

@@ -5,6 +5,7 @@ use Rattle.std.specs.Option.{is_some}
 use Rattle.wasm_types_decoding.specs.Decoder.{Grammar}
 use Rattle.wasm_types_decoding.specs.Exact.{Mapped}
 use Rattle.wasm_types_decoding.specs.Lists.{IsListedWithin}
+use Rattle.wasm_types_limits.specs.Settings.{Settings}
 use Rattle.wasm_types_indices.specs.declared.index.UnpackedIndex.{UnpackedIndex}
 use Rattle.wasm_types_trees.specs.Rows as tree
 use Rattle.wasm_types_trees.specs.Rows.{InnerOf}
@@ -81,11 +82,11 @@ declared_by x = record {
 -- ---- composite types
 
 -- a composite type by its first byte (binary format, types, composite types)
-abbrev pub SpelledInner : Grammar InnerValue
-SpelledInner (function f) text = (rest : List ℕ) × (text ≡ 0x60 ∷ rest) × SpelledSignature f rest
-SpelledInner (array_of x) text = (rest : List ℕ) × (text ≡ 0x5e ∷ rest) × SpelledField x rest
-SpelledInner (struct_of xs) text = (rest : List ℕ) × (text ≡ 0x5f ∷ rest) × SpelledFields xs rest
-SpelledInner (continuation i) text = (rest : List ℕ) × (text ≡ 0x5d ∷ rest) × SpelledIndex i rest
+abbrev pub SpelledInner : Settings → Grammar InnerValue
+SpelledInner z (function f) text = (rest : List ℕ) × (text ≡ 0x60 ∷ rest) × SpelledSignature z f rest
+SpelledInner z (array_of x) text = (rest : List ℕ) × (text ≡ 0x5e ∷ rest) × SpelledField x rest
+SpelledInner z (struct_of xs) text = (rest : List ℕ) × (text ≡ 0x5f ∷ rest) × SpelledFields z xs rest
+SpelledInner z (continuation i) text = (rest : List ℕ) × (text ≡ 0x5d ∷ rest) × SpelledIndex i rest
 
 -- this byte, x by g, and then what x asks for
 pub record Prefixed {A B : Type 0} (tag : ℕ) (g : Grammar A) (h : Option A → Grammar B) (y : B) (text : List ℕ) : Type 0 where
@@ -114,16 +115,16 @@ abbrev pub composite_with : Option (Unit {0}) → Option UnpackedIndex → Optio
 composite_with s e d x = record { inner = x; shared = is_some s; descriptor = d; describes = e }
 
 -- its descriptor, if it has one, and the type itself
-abbrev pub SpelledDescriptor : Option (Unit {0}) → Option UnpackedIndex → Grammar CompositeValue
-SpelledDescriptor s e = Optionally 0x4d SpelledIndex (λ d. Mapped (composite_with s e d) SpelledInner)
+abbrev pub SpelledDescriptor : Settings → Option (Unit {0}) → Option UnpackedIndex → Grammar CompositeValue
+SpelledDescriptor z s e = Optionally 0x4d SpelledIndex (λ d. Mapped (composite_with s e d) (SpelledInner z))
 
 -- the type that it describes, if it describes one, and what follows
-abbrev pub SpelledDescribes : Option (Unit {0}) → Grammar CompositeValue
-SpelledDescribes s = Optionally 0x4c SpelledIndex (SpelledDescriptor s)
+abbrev pub SpelledDescribes : Settings → Option (Unit {0}) → Grammar CompositeValue
+SpelledDescribes z s = Optionally 0x4c SpelledIndex (SpelledDescriptor z s)
 
 -- shared or not; the type that it describes; its descriptor; and the type itself
-abbrev pub SpelledComposite : Grammar CompositeValue
-SpelledComposite = Optionally 0x65 Nothing SpelledDescribes
+abbrev pub SpelledComposite : Settings → Grammar CompositeValue
+SpelledComposite z = Optionally 0x65 Nothing (SpelledDescribes z)
 
 -- ---- subtypes
 
@@ -132,16 +133,16 @@ abbrev pub sub_with : Bool → List UnpackedIndex → CompositeValue → SubValu
 sub_with f sups c = record { is_final = f; supertypes = sups; composite = c }
 
 -- a composite type with its finality and at most one supertype
-pub record SpelledDeclared (x : SubValue) (text : List ℕ) : Type 0 where
+pub record SpelledDeclared (z : Settings) (x : SubValue) (text : List ℕ) : Type 0 where
   pub supertypes : List ℕ
   pub composite : List ℕ
   pub above : IsListedWithin 1 SpelledIndex x.supertypes supertypes
-  pub itself : SpelledComposite x.composite composite
+  pub itself : SpelledComposite z x.composite composite
   pub whole : text ≡ final_byte x.is_final ∷ (supertypes ++ composite)
 
 -- the same, or a composite type alone, which is final and has no supertype
-abbrev pub SpelledSub : Grammar SubValue
-SpelledSub x text = Mapped (sub_with true []) SpelledComposite x text ⊎ SpelledDeclared x text
+abbrev pub SpelledSub : Settings → Grammar SubValue
+SpelledSub z x text = Mapped (sub_with true []) (SpelledComposite z) x text ⊎ SpelledDeclared z x text
 
 -- ---- groups
 
@@ -158,10 +159,10 @@ group_value g = record { is_explicit = g.is_explicit; types = map sub_value g.ty
 abbrev pub group_with : Bool → List SubValue → GroupValue
 group_with e xs = record { is_explicit = e; types = xs }
 
--- a million types at most
-abbrev pub SpelledTypes : Grammar (List SubValue)
-SpelledTypes = IsListedWithin 1000000 SpelledSub
+-- types within their limit
+abbrev pub SpelledTypes : Settings → Grammar (List SubValue)
+SpelledTypes z = IsListedWithin z.limits.types (SpelledSub z)
 
 -- a subtype alone, or a list of subtypes
-abbrev pub SpelledGroup : Grammar GroupValue
-SpelledGroup g text = Mapped (λ x. group_with false (x ∷ [])) SpelledSub g text ⊎ ((rest : List ℕ) × (text ≡ 0x4e ∷ rest) × Mapped (group_with true) SpelledTypes g rest)
+abbrev pub SpelledGroup : Settings → Grammar GroupValue
+SpelledGroup z g text = Mapped (λ x. group_with false (x ∷ [])) (SpelledSub z) g text ⊎ ((rest : List ℕ) × (text ≡ 0x4e ∷ rest) × Mapped (group_with true) (SpelledTypes z) g rest)

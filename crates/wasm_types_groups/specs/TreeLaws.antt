@@ -1,6 +1,7 @@
 -- Laws: each tree that bytes spell is declared by a value, and so is read.
 use Rattle.std.proofs.Common.{◌≡◌, ℕ, zero, suc, List, [], ◌∷◌, refl, sym, ap, map, Bool, true, false, inl, inr, ◌∙◌, length}
 use Rattle.wasm_types_decoding.specs.Decoder.{Many}
+use Rattle.wasm_types_limits.specs.Settings.{Settings}
 use Rattle.wasm_types_indices.specs.declared.index.UnpackedIndex.{UnpackedIndex}
 use Rattle.wasm_types_trees.specs.Rows as tree
 use Rattle.wasm_types_trees.specs.Rows.{Abstract, HeapOf, ValueOf, StorageOf, FieldOf, InnerOf}
@@ -131,23 +132,24 @@ declared d e =
       }),
     )
 
-sub_read : (d : Declared) (text : List ℕ) → SpellsSub d text → IsDeclared d
-sub_read d text (inl h) = declared d (h.none ∙ sym (ap first_of h.alone))
-sub_read d text (inr h) = declared d h.first
+module _ (settings : Settings) where
+  sub_read : (d : Declared) (text : List ℕ) → SpellsSub settings d text → IsDeclared d
+  sub_read d text (inl h) = declared d (h.none ∙ sym (ap first_of h.alone))
+  sub_read d text (inr h) = declared d h.first
 
-list_read : (n : ℕ) (ds : List Declared) (text : List ℕ) → Many SpellsSub n ds text → (xs : List SubValue) × (map declared_by xs ≡ ds)
-list_read zero [] text m = ([], refl)
-list_read zero (d ∷ ds) text m = absurd m
-list_read (suc n) [] text m = absurd m
-list_read (suc n) (d ∷ ds) text m =
-    let first = sub_read d m.0 m.2 in
-    let rest = list_read n ds m.1 m.3 in
-    (first.0 ∷ rest.0, (let a = first.1 in let b = rest.1 in cc))
+  list_read : (n : ℕ) (ds : List Declared) (text : List ℕ) → Many (SpellsSub settings) n ds text → (xs : List SubValue) × (map declared_by xs ≡ ds)
+  list_read zero [] text m = ([], refl)
+  list_read zero (d ∷ ds) text m = absurd m
+  list_read (suc n) [] text m = absurd m
+  list_read (suc n) (d ∷ ds) text m =
+      let first = sub_read d m.0 m.2 in
+      let rest = list_read n ds m.1 m.3 in
+      (first.0 ∷ rest.0, (let a = first.1 in let b = rest.1 in cc))
 
-pub group_read : (b : Bool) (ds : List Declared) (text : List ℕ) → SpellsGroup b ds text → (g : GroupValue) × (g.is_explicit ≡ b) × (map declared_by g.types ≡ ds)
-group_read false ds text h =
-    let one = sub_read h.0 text h.2 in
-    (record { is_explicit = false; types = one.0 ∷ [] }, refl, (let a = one.1 in let b = h.1 in cc))
-group_read true ds text h =
-    let all = list_read (length ds) ds h.2.listed.values h.2.listed.each in
-    (record { is_explicit = true; types = all.0 }, refl, all.1)
+  pub group_read : (b : Bool) (ds : List Declared) (text : List ℕ) → SpellsGroup settings b ds text → (g : GroupValue) × (g.is_explicit ≡ b) × (map declared_by g.types ≡ ds)
+  group_read false ds text h =
+      let one = sub_read h.0 text h.2 in
+      (record { is_explicit = false; types = one.0 ∷ [] }, refl, (let a = one.1 in let b = h.1 in cc))
+  group_read true ds text h =
+      let all = list_read (length ds) ds h.2.listed.values h.2.listed.each in
+      (record { is_explicit = true; types = all.0 }, refl, all.1)

@@ -6,6 +6,8 @@ use Rattle.wasm_types_decoding.specs.declared.Refusal.TheVariants.{Other}
 use Rattle.wasm_types_decoding.specs.Decoder.{Done, Short, Fault, repeated}
 use Rattle.wasm_types_decoding.specs.Leb.{unsigned}
 use Rattle.wasm_types_decoding.specs.Lists.{size_within, listed_within}
+use Rattle.wasm_types_limits.specs.Limits.{default_limits}
+use Rattle.wasm_types_limits.specs.Settings.{no_features}
 use Rattle.wasm_types_indices.specs.declared.index.UnpackedIndex.{UnpackedIndex}
 use Rattle.wasm_types_indices.specs.declared.index.UnpackedIndex.TheVariants.{Module}
 use Rattle.wasm_types_values.specs.declared.value.ValType.TheVariants.{I32}
@@ -36,7 +38,7 @@ abbrev no_fields : CompositeValue
 no_fields = plain None None (struct_of [])
 
 abbrev IsComposite : List ℕ → CompositeValue → ℕ → Type 0
-IsComposite bytes c n = composite (start_of bytes) ≡ Done c (behind n)
+IsComposite bytes c n = composite no_features (start_of bytes) ≡ Done c (behind n)
 
 abbrev pub CompositeTypesAreRead : Type 0
 CompositeTypesAreRead = IsComposite (0x60 ∷ 0x01 ∷ 0x7f ∷ 0x00 ∷ []) (plain None None (function (record { params = I32 ∷ []; results = [] }))) 4
@@ -45,21 +47,21 @@ CompositeTypesAreRead = IsComposite (0x60 ∷ 0x01 ∷ 0x7f ∷ 0x00 ∷ []) (pl
     × IsComposite (0x65 ∷ 0x5f ∷ 0x00 ∷ []) (record { inner = struct_of []; shared = true; descriptor = None; describes = None }) 3
     × IsComposite (0x4c ∷ 0x01 ∷ 0x4d ∷ 0x02 ∷ 0x5f ∷ 0x00 ∷ []) (plain (Some (Module 2)) (Some (Module 1)) (struct_of [])) 6
     × IsComposite (0x4d ∷ 0x02 ∷ 0x5f ∷ 0x00 ∷ []) (plain (Some (Module 2)) None (struct_of [])) 4
-    × (composite (start_of (0x4d ∷ 0x02 ∷ 0x4c ∷ 0x01 ∷ 0x5f ∷ 0x00 ∷ [])) ≡ Fault Other 2) × (composite (start_of (0x5c ∷ 0x00 ∷ [])) ≡ Fault Other 0) × (composite (start_of (0x65 ∷ [])) ≡ Short 1 1)
+    × (composite no_features (start_of (0x4d ∷ 0x02 ∷ 0x4c ∷ 0x01 ∷ 0x5f ∷ 0x00 ∷ [])) ≡ Fault Other 2) × (composite no_features (start_of (0x5c ∷ 0x00 ∷ [])) ≡ Fault Other 0) × (composite no_features (start_of (0x65 ∷ [])) ≡ Short 1 1)
 
 pub composite_bytes : CompositeTypesAreRead
-unfolding composite composite_after describes_after descriptor_after last_after inner_after signature field_type fields mutability module_index listed_within size_within unsigned repeated storage_type storage_type_after value_type_after reference_after value_type
+unfolding default_limits composite composite_after describes_after descriptor_after last_after inner_after signature field_type fields mutability module_index listed_within size_within unsigned repeated storage_type storage_type_after value_type_after reference_after value_type
 composite_bytes = (refl, refl, refl, refl, refl, refl, refl, refl, refl, refl)
 
 -- ---- subtypes
 
 abbrev pub SubTypesAreRead : Type 0
-SubTypesAreRead = (sub_type (start_of (0x5f ∷ 0x00 ∷ [])) ≡ Done (sub_with true [] no_fields) (behind 2)) × (sub_type (start_of (0x50 ∷ 0x00 ∷ 0x5f ∷ 0x00 ∷ [])) ≡ Done (sub_with false [] no_fields) (behind 4))
-    × (sub_type (start_of (0x4f ∷ 0x01 ∷ 0x03 ∷ 0x5f ∷ 0x00 ∷ [])) ≡ Done (sub_with true (Module 3 ∷ []) no_fields) (behind 5)) × (sub_type (start_of (0x50 ∷ 0x02 ∷ [])) ≡ Fault Other 1)
-    × (sub_type (start_of (0x4e ∷ 0x00 ∷ [])) ≡ Fault Other 0)
+SubTypesAreRead = (sub_type no_features (start_of (0x5f ∷ 0x00 ∷ [])) ≡ Done (sub_with true [] no_fields) (behind 2)) × (sub_type no_features (start_of (0x50 ∷ 0x00 ∷ 0x5f ∷ 0x00 ∷ [])) ≡ Done (sub_with false [] no_fields) (behind 4))
+    × (sub_type no_features (start_of (0x4f ∷ 0x01 ∷ 0x03 ∷ 0x5f ∷ 0x00 ∷ [])) ≡ Done (sub_with true (Module 3 ∷ []) no_fields) (behind 5)) × (sub_type no_features (start_of (0x50 ∷ 0x02 ∷ [])) ≡ Fault Other 1)
+    × (sub_type no_features (start_of (0x4e ∷ 0x00 ∷ [])) ≡ Fault Other 0)
 
 pub sub_bytes : SubTypesAreRead
-unfolding sub_type sub_after declared_sub supertypes composite composite_after describes_after descriptor_after last_after inner_after fields module_index listed_within size_within unsigned repeated
+unfolding default_limits sub_type sub_after declared_sub supertypes composite composite_after describes_after descriptor_after last_after inner_after fields module_index listed_within size_within unsigned repeated
 sub_bytes = (refl, refl, refl, refl, refl)
 
 -- ---- groups
@@ -69,13 +71,13 @@ one_type = sub_with true [] no_fields ∷ []
 
 -- the same group, written as one and alone; offsets; and the limit of a million types
 abbrev pub GroupsAreRead : Type 0
-GroupsAreRead = (rec_group (start_of (0x4e ∷ 0x01 ∷ 0x5f ∷ 0x00 ∷ [])) ≡ Done (group_with true one_type) (behind 4)) × (rec_group (start_of (0x5f ∷ 0x00 ∷ [])) ≡ Done (group_with false one_type) (behind 2))
-    × (rec_group (start_of (0x4e ∷ 0x00 ∷ [])) ≡ Done (group_with true []) (behind 2)) × (rec_group (start_of (0x4b ∷ 0x00 ∷ [])) ≡ Fault Other 0)
-    × (rec_group (start_of (0x4e ∷ 0xc0 ∷ 0x84 ∷ 0x3d ∷ [])) ≡ Short 4 1) × (rec_group (start_of (0x4e ∷ 0xc1 ∷ 0x84 ∷ 0x3d ∷ [])) ≡ Fault Other 1)
-    × (group_places (start_of (0x4e ∷ 0x02 ∷ 0x5f ∷ 0x00 ∷ 0x5f ∷ 0x00 ∷ [])) ≡ Done (2 ∷ 4 ∷ []) (behind 6)) × (group_places (start_of (0x5f ∷ 0x00 ∷ [])) ≡ Done (0 ∷ []) (behind 2))
+GroupsAreRead = (rec_group no_features (start_of (0x4e ∷ 0x01 ∷ 0x5f ∷ 0x00 ∷ [])) ≡ Done (group_with true one_type) (behind 4)) × (rec_group no_features (start_of (0x5f ∷ 0x00 ∷ [])) ≡ Done (group_with false one_type) (behind 2))
+    × (rec_group no_features (start_of (0x4e ∷ 0x00 ∷ [])) ≡ Done (group_with true []) (behind 2)) × (rec_group no_features (start_of (0x4b ∷ 0x00 ∷ [])) ≡ Fault Other 0)
+    × (rec_group no_features (start_of (0x4e ∷ 0xc0 ∷ 0x84 ∷ 0x3d ∷ [])) ≡ Short 4 1) × (rec_group no_features (start_of (0x4e ∷ 0xc1 ∷ 0x84 ∷ 0x3d ∷ [])) ≡ Fault Other 1)
+    × (group_places no_features (start_of (0x4e ∷ 0x02 ∷ 0x5f ∷ 0x00 ∷ 0x5f ∷ 0x00 ∷ [])) ≡ Done (2 ∷ 4 ∷ []) (behind 6)) × (group_places no_features (start_of (0x5f ∷ 0x00 ∷ [])) ≡ Done (0 ∷ []) (behind 2))
 
 pub group_bytes : GroupsAreRead
-unfolding rec_group group_after explicit_group group_places places sub_type sub_after declared_sub supertypes composite composite_after describes_after descriptor_after last_after inner_after fields module_index listed_within size_within unsigned repeated
+unfolding default_limits rec_group group_after explicit_group group_places places sub_type sub_after declared_sub supertypes composite composite_after describes_after descriptor_after last_after inner_after fields module_index listed_within size_within unsigned repeated
 group_bytes = (refl, refl, refl, refl, refl, refl, refl, refl)
 
 -- ---- what they are, and how they are written

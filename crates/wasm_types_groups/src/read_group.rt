@@ -10,7 +10,6 @@ ghost use Rattle.wasm_types_groups.specs.Places.{place_of, places};
 use crate::read_types::sub_after_byte;
 use crate::{RecGroup, SubType};
 use std::alloc::Global;
-use wasm_types_reader::limits::MAX_WASM_TYPES;
 use wasm_types_reader::{BinaryReader, FromReader, Result};
 
 // As many subtypes as are asked for, and their offsets. The lists grow as they are read.
@@ -20,8 +19,8 @@ fn read_subtypes<'a>(
     count: usize,
     reader: &mut BinaryReader<'a>,
 ) -> Result<(Vec<SubType>, Vec<u64>)>
-    ensures answer { Gives (λ p. map sub_value p.0.items) result reader.new (repeated count sub_type reader.old) }
-    ensures places { IfOk result (λ p. repeated count (place_of sub_type) reader.old ≡ Done p.1.items reader.new) }
+    ensures answer { Gives (λ p. map sub_value p.0.items) result reader.new (repeated count (sub_type reader.old.settings) reader.old) }
+    ensures places { IfOk result (λ p. repeated count (place_of (sub_type reader.old.settings)) reader.old ≡ Done p.1.items reader.new) }
     ensures even { IfOk result (λ p. length p.0.items ≡ length p.1.items) }
     ensures forward { Reaches reader.old reader.new }
 {
@@ -39,11 +38,11 @@ fn read_subtypes<'a>(
 // The subtypes of a group that was written as one.
 #[tactic(auto, using(wasm_types_decoding::specs::Laws::reaches_self, wasm_types_decoding::specs::Laws::reaches_then), unfolding(crate::specs::DecodeTypes::explicit_group, crate::specs::Places::places, wasm_types_decoding::specs::Lists::listed_within))]
 fn read_explicit<'a>(alloc: Global, reader: &mut BinaryReader<'a>) -> Result<RecGroup>
-    ensures answer { Gives group_value result reader.new (explicit_group reader.old) }
-    ensures places { IfOk result (λ g. places reader.old ≡ Done g.offsets.items reader.new) }
+    ensures answer { Gives group_value result reader.new (explicit_group reader.old.settings reader.old) }
+    ensures places { IfOk result (λ g. places reader.old.settings reader.old ≡ Done g.offsets.items reader.new) }
     ensures forward { Reaches reader.old reader.new }
 {
-    let count = reader.read_size(MAX_WASM_TYPES, "rec group types")?;
+    let count = reader.read_size(reader.limits().types as usize, "rec group types")?;
     let (types, offsets) = read_subtypes(alloc, count, reader)?;
     Ok(RecGroup::explicit(types, offsets))
 }
@@ -71,9 +70,9 @@ impl<'a> FromReader<'a> for RecGroup {
 
     #[tactic(auto, using(wasm_types_decoding::specs::Laws::reaches_self, wasm_types_decoding::specs::Laws::reaches_then, wasm_types_values::proofs::Places::beyond_0), unfolding(crate::specs::DecodeTypes::rec_group, crate::specs::DecodeTypes::group_after, crate::specs::Places::group_places))]
     fn from_reader(alloc: Global, reader: &mut BinaryReader<'a>) -> Result<RecGroup>
-        ensures answer { Gives group_value result reader.new (rec_group reader.old) }
+        ensures answer { Gives group_value result reader.new (rec_group reader.old.settings reader.old) }
         ensures forward { Reaches reader.old reader.new }
-        ensures places { IfOk result (λ g. group_places reader.old ≡ Done g.offsets.items reader.new) }
+        ensures places { IfOk result (λ g. group_places reader.old.settings reader.old ≡ Done g.offsets.items reader.new) }
     {
         let offset = reader.original_position();
         let byte = reader.read_u8()?;

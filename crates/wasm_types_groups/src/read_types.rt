@@ -38,7 +38,7 @@ fn inner_after_byte<'a>(
     reader: &mut BinaryReader<'a>,
 ) -> Result<CompositeInnerType>
     requires { 0 < reader.old.place }
-    ensures answer { Gives inner_value result reader.new (inner_after byte reader.old) }
+    ensures answer { Gives inner_value result reader.new (inner_after reader.old.settings byte reader.old) }
     ensures forward { Reaches reader.old reader.new }
 {
     match byte {
@@ -73,7 +73,7 @@ fn last_after_byte<'a>(
     reader: &mut BinaryReader<'a>,
 ) -> Result<CompositeType>
     requires { 0 < reader.old.place }
-    ensures answer { Gives composite_value result reader.new (last_after (marked shared) describes_idx descriptor_idx byte reader.old) }
+    ensures answer { Gives composite_value result reader.new (last_after reader.old.settings (marked shared) describes_idx descriptor_idx byte reader.old) }
     ensures forward { Reaches reader.old reader.new }
 {
     let inner = inner_after_byte(byte, alloc, reader)?;
@@ -95,7 +95,7 @@ fn descriptor_after_byte<'a>(
     reader: &mut BinaryReader<'a>,
 ) -> Result<CompositeType>
     requires { 0 < reader.old.place }
-    ensures answer { Gives composite_value result reader.new (descriptor_after (marked shared) describes_idx byte reader.old) }
+    ensures answer { Gives composite_value result reader.new (descriptor_after reader.old.settings (marked shared) describes_idx byte reader.old) }
     ensures forward { Reaches reader.old reader.new }
 {
     if byte == 0x4d {
@@ -115,7 +115,7 @@ fn describes_after_byte<'a>(
     reader: &mut BinaryReader<'a>,
 ) -> Result<CompositeType>
     requires { 0 < reader.old.place }
-    ensures answer { Gives composite_value result reader.new (describes_after (marked shared) byte reader.old) }
+    ensures answer { Gives composite_value result reader.new (describes_after reader.old.settings (marked shared) byte reader.old) }
     ensures forward { Reaches reader.old reader.new }
 {
     if byte == 0x4c {
@@ -134,7 +134,7 @@ fn composite_after_byte<'a>(
     reader: &mut BinaryReader<'a>,
 ) -> Result<CompositeType>
     requires { 0 < reader.old.place }
-    ensures answer { Gives composite_value result reader.new (composite_after byte reader.old) }
+    ensures answer { Gives composite_value result reader.new (composite_after reader.old.settings byte reader.old) }
     ensures forward { Reaches reader.old reader.new }
 {
     if byte == 0x65 {
@@ -203,7 +203,7 @@ fn read_declared<'a>(
     alloc: Global,
     reader: &mut BinaryReader<'a>,
 ) -> Result<SubType>
-    ensures answer { Gives sub_value result reader.new (declared_sub is_final reader.old) }
+    ensures answer { Gives sub_value result reader.new (declared_sub reader.old.settings is_final reader.old) }
     ensures forward { Reaches reader.old reader.new }
 {
     let supertype_idxs = read_supertypes(alloc, reader)?;
@@ -223,7 +223,7 @@ pub(crate) fn sub_after_byte<'a>(
     reader: &mut BinaryReader<'a>,
 ) -> Result<SubType>
     requires { 0 < reader.old.place }
-    ensures answer { Gives sub_value result reader.new (sub_after byte reader.old) }
+    ensures answer { Gives sub_value result reader.new (sub_after reader.old.settings byte reader.old) }
     ensures forward { Reaches reader.old reader.new }
 {
     if byte == 0x50 {

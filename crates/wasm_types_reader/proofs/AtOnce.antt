@@ -55,7 +55,7 @@ module _ {A : Type 0} (d : Decoder A) (g : Grammar A) (exact : Decides d g) (fro
       let parts : s.rest ≡ t.0 ++ to.rest = same ∙ t.1.parts in
       let left : drop n s.rest ≡ to.rest = ap (λ (i : ℕ). drop i s.rest) k ∙ ap (drop (length t.0)) parts ∙ drop-append_seam t.0 to.rest in (
         omega (arith, k, ap length parts, length-append t.0 to.rest),
-        exact.complete s (behind n s) x t.0 (record { parts = rw left parts; place = ap (λ (i : ℕ). s.place + i) k; features = refl; start = refl }) t.2,
+        exact.complete s (behind n s) x t.0 (record { parts = rw left parts; place = ap (λ (i : ℕ). s.place + i) k; settings = refl; start = refl }) t.2,
       )
 
   pub refused_there : IsRefused (d from) → IsRefused (d s)
@@ -66,8 +66,8 @@ module _ {A : Type 0} (d : Decoder A) (g : Grammar A) (exact : Decides d g) (fro
       go (Fault k p) e = tt
       go (Done x t) e =
           let w = exact.sound s t x e in
-          let there : State = record { rest = t.rest; place = from.place + length w.0; features = from.features; start = from.start } in
-          let read : d from ≡ Done x there = exact.complete from there x w.0 (record { parts = sym same ∙ w.1.parts; place = refl; features = refl; start = refl }) w.2 in
+          let there : State = record { rest = t.rest; place = from.place + length w.0; settings = from.settings; start = from.start } in
+          let read : d from ≡ Done x there = exact.complete from there x w.0 (record { parts = sym same ∙ w.1.parts; place = refl; settings = refl; start = refl }) w.2 in
           subst IsRefused read h
 
 -- a flaw is no value

@@ -18,7 +18,7 @@ behind_none s = same_state (behind 0 s) s refl (omega arith) refl refl
 pub goes_forward : (s t : State) (n : ℕ) → n ≤ length s.rest → t ≡ behind n s → Reaches s t
 goes_forward s t n le e = record {
   text = take n s.rest;
-  taken = rw e (record { parts = sym (take-append-drop n s.rest); place = omega (arith, length-take n s.rest); features = refl; start = refl });
+  taken = rw e (record { parts = sym (take-append-drop n s.rest); place = omega (arith, length-take n s.rest); settings = refl; start = refl });
 }
 
 pub one_forward : (s t : State) (rest : List ℕ) → rest ≡ s.rest → 0 < length rest → t ≡ behind 1 s → Reaches s t

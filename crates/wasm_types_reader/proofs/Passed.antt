@@ -1,8 +1,15 @@
 -- The bytes that were passed.
-use Rattle.std.proofs.Common.{◌≡◌, ℕ, ◌+◌, ◌-◌, ◌≤◌, length, take, ap, ◌∙◌, arith}
-use Rattle.std.proofs.lemmas.List.{length-append, take_at}
+use Rattle.std.proofs.Common.{◌≡◌, ℕ, ◌+◌, ◌-◌, ◌≤◌, length, take, refl, sym, ap, ◌∙◌, arith}
+use Rattle.std.proofs.lemmas.List.{length-append, length-take, take-append-drop, take_at}
 use Rattle.wasm_types_decoding.specs.Decoder.{State, Reaches}
+use Rattle.wasm_types_reader.specs.Numbers.{behind}
 use Rattle.wasm_types_reader.specs.Parts.{part_at, IsPassed}
+
+pub goes_by : (s t : State) (n : ℕ) → n ≤ length s.rest → t ≡ behind n s → Reaches s t
+goes_by s t n le e = record {
+  text = take n s.rest;
+  taken = rw e (record { parts = sym (take-append-drop n s.rest); place = omega (arith, length-take n s.rest); settings = refl; start = refl });
+}
 
 module _ (s t : State) (r : Reaches s t) where
   lengths : length s.rest ≡ length r.text + length t.rest

@@ -10,7 +10,7 @@ use Rattle.wasm_types_reader.specs.Reading.{FailsAt}
 
 -- the state behind n more bytes
 abbrev pub behind : ℕ → State → State
-behind n s = record { rest = drop n s.rest; place = s.place + n; features = s.features; start = s.start }
+behind n s = record { rest = drop n s.rest; place = s.place + n; settings = s.settings; start = s.start }
 
 -- a number of this many bits
 abbrev pub unsigned_of : ℕ → Decoder ℕ

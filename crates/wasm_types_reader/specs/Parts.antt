@@ -5,7 +5,7 @@ use Rattle.wasm_types_decoding.specs.Leb.{u32}
 
 -- a reader over these bytes, which begin where s stands
 abbrev pub part_at : State → List ℕ → State
-part_at s text = record { rest = text; place = s.place; features = s.features; start = s.place }
+part_at s text = record { rest = text; place = s.place; settings = s.settings; start = s.place }
 
 -- the next n bytes, as a reader of their own
 abbrev pub next_part : ℕ → Decoder State

@@ -21,7 +21,7 @@ part_rows = record {
   part = refl;
   cut_short = refl;
   no_count = refl;
-  passed = record { text = 0x61 ∷ []; taken = record { parts = refl; place = refl; features = refl; start = refl }; part = refl };
+  passed = record { text = 0x61 ∷ []; taken = record { parts = refl; place = refl; settings = refl; start = refl }; part = refl };
   passed_too_much = λ p.
       let whole = ap (λ (s : State). length s.rest) p.part in
       let front = ap length p.taken.parts ∙ length-append p.text (0x62 ∷ []) in

@@ -3,7 +3,7 @@
 use Rattle.std.specs.Prelude.{◌≡◌, ℕ, [], ◌∷◌, codes, true, false, Ok, Err, Some, None}
 use Rattle.wasm_types_decoding.specs.declared.Refusal.TheVariants as refusals
 use Rattle.wasm_types_decoding.specs.Decoder.{Done, Short, Fault, byte}
-use Rattle.wasm_types_decoding.specs.Rows.{start_of, behind}
+use Rattle.wasm_types_decoding.specs.Rows.{start_of, behind, worked}
 use Rattle.wasm_types_error.specs.declared.error.ErrorKind.TheVariants.{EndOfData, OutOfMemory, Failed, Other}
 use Rattle.wasm_types_error.specs.ErrorValue.{ErrorValue}
 use Rattle.wasm_types_reader.specs.Reading.{Answers, NextItem, MemoryOnlyIf}
@@ -29,11 +29,11 @@ pub record PartRows : Type 0 where
   pub small : u7 (start_of (0x7f ∷ 0x01 ∷ [])) ≡ Done 127 (behind 1 (0x01 ∷ []))
   pub large : u7 (start_of (0x80 ∷ [])) ≡ Fault refusals.Other 7
   pub none : u7 (start_of []) ≡ Short 7 1
-  pub part : counted_part (start_of (0x02 ∷ 0x61 ∷ 0x62 ∷ 0x01 ∷ [])) ≡ Done (record { rest = 0x61 ∷ 0x62 ∷ []; place = 8; features = 3; start = 8 }) (behind 3 (0x01 ∷ []))
+  pub part : counted_part (start_of (0x02 ∷ 0x61 ∷ 0x62 ∷ 0x01 ∷ [])) ≡ Done (record { rest = 0x61 ∷ 0x62 ∷ []; place = 8; settings = worked; start = 8 }) (behind 3 (0x01 ∷ []))
   pub cut_short : counted_part (start_of (0x03 ∷ 0x61 ∷ [])) ≡ Short 8 2
   pub no_count : counted_part (start_of (0x80 ∷ [])) ≡ Short 8 1
-  pub passed : IsPassed (start_of (0x61 ∷ 0x62 ∷ [])) (behind 1 (0x62 ∷ [])) (record { rest = 0x61 ∷ []; place = 7; features = 3; start = 7 })
-  pub passed_too_much : IsPassed (start_of (0x61 ∷ 0x62 ∷ [])) (behind 1 (0x62 ∷ [])) (record { rest = 0x61 ∷ 0x62 ∷ []; place = 7; features = 3; start = 7 }) → ⊥
+  pub passed : IsPassed (start_of (0x61 ∷ 0x62 ∷ [])) (behind 1 (0x62 ∷ [])) (record { rest = 0x61 ∷ []; place = 7; settings = worked; start = 7 })
+  pub passed_too_much : IsPassed (start_of (0x61 ∷ 0x62 ∷ [])) (behind 1 (0x62 ∷ [])) (record { rest = 0x61 ∷ 0x62 ∷ []; place = 7; settings = worked; start = 7 }) → ⊥
 
 -- what an answer tells: the value and where the reader stands, or why it is refused, and then the reader stays
 pub record AnswerRows : Type 0 where

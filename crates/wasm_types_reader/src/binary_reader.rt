@@ -8,6 +8,7 @@ ghost use Rattle.wasm_types_decoding.specs.Lists.{size_within};
 ghost use Rattle.wasm_types_error.specs.declared.error.ErrorKind.TheVariants.{EndOfData, Other};
 ghost use Rattle.wasm_types_error.specs.ErrorText.{IsWrittenMessage};
 ghost use Rattle.wasm_types_features.specs.Sets.{bits_of, default_features};
+ghost use Rattle.wasm_types_limits.specs.Limits.{default_limits, IsWithinCeilings};
 ghost use Rattle.wasm_types_reader.specs.Reading.{Answers, Gives, NeedsNoMemory, MemoryOnlyIf};
 ghost use Rattle.wasm_types_reader.specs.Parts.{part_at, counted_part, IsPassed};
 ghost use Rattle.wasm_types_reader.specs.Numbers.{behind};
@@ -17,25 +18,29 @@ use std::alloc::{AllocError, Global};
 use std::marker::Model;
 use std::ops::Range;
 use wasm_types_features::WasmFeatures;
+use wasm_types_limits::Limits;
 
-/// A reader over bytes, which knows their offset in the input and the features that are allowed.
+/// A reader over bytes, which knows their offset in the input, the features that are allowed and the limits that
+/// hold.
 #[derive(Debug, Drop)]
 pub struct BinaryReader<'a> {
     buffer: &'a [u8],
     position: usize,
     original_offset: u64,
     features: WasmFeatures,
+    limits: Limits,
 }
 
 impl<'a> Model for BinaryReader<'a> {
     ghost use Rattle.std.specs.Prelude.{◌+◌, ◌≤◌, ◌<◌, ◌^◌, length, drop};
     ghost use Rattle.wasm_types_decoding.specs.Decoder.{State};
+    ghost use Rattle.wasm_types_limits.specs.Limits.{IsWithinCeilings};
 
     ghost Value = { State };
 
-    ghost view = { λ r. record { rest = drop r.position r.buffer.now; place = r.original_offset + r.position; features = r.features.0; start = r.original_offset } };
+    ghost view = { λ r. record { rest = drop r.position r.buffer.now; place = r.original_offset + r.position; settings = record { features = r.features.0; limits = r.limits }; start = r.original_offset } };
 
-    ghost invariant = { λ r. (r.position ≤ length r.buffer.now) × (r.original_offset + length r.buffer.now < 2 ^ 64) };
+    ghost invariant = { λ r. (r.position ≤ length r.buffer.now) × (r.original_offset + length r.buffer.now < 2 ^ 64) × IsWithinCeilings r.limits };
 }
 
 impl<'a> Clone for BinaryReader<'a> {
@@ -49,33 +54,51 @@ impl<'a> Clone for BinaryReader<'a> {
 }
 
 impl<'a> BinaryReader<'a> {
-    /// A reader over `buffer`, the first byte of which stands at `original_offset` of the input, with the default features.
+    /// A reader over `buffer`, the first byte of which stands at `original_offset` of the input, with the default features
+    /// and the default limits.
     #[inline]
     pub fn new(buffer: &'a [u8], original_offset: u64) -> BinaryReader<'a>
         requires { original_offset + length buffer.now < 2 ^ 64 }
         ensures rest { result.rest ≡ buffer.now }
         ensures place { result.place ≡ original_offset }
         ensures start { result.start ≡ original_offset }
-        ensures features { result.features ≡ bits_of default_features }
+        ensures settings { result.settings ≡ record { features = bits_of default_features; limits = default_limits } }
     {
         BinaryReader::new_features(buffer, original_offset, WasmFeatures::default())
     }
 
-    /// A reader over `buffer`, the first byte of which stands at `original_offset` of the input.
+    /// A reader over `buffer`, the first byte of which stands at `original_offset` of the input, with the default limits.
     #[inline]
+    #[tactic(auto, using(wasm_types_limits::specs::RowLaws::default_within))]
     pub fn new_features(
         buffer: &'a [u8],
         original_offset: u64,
         features: WasmFeatures,
     ) -> BinaryReader<'a>
         requires { original_offset + length buffer.now < 2 ^ 64 }
-        ensures { result ≡ record { rest = buffer.now; place = original_offset; features = features.0; start = original_offset } }
+        ensures { result ≡ record { rest = buffer.now; place = original_offset; settings = record { features = features.0; limits = default_limits }; start = original_offset } }
+    {
+        BinaryReader::new_limited(buffer, original_offset, features, Limits::default())
+    }
+
+    /// A reader over `buffer`, the first byte of which stands at `original_offset` of the input, within these limits.
+    #[inline]
+    pub fn new_limited(
+        buffer: &'a [u8],
+        original_offset: u64,
+        features: WasmFeatures,
+        limits: Limits,
+    ) -> BinaryReader<'a>
+        requires places { original_offset + length buffer.now < 2 ^ 64 }
+        requires within { IsWithinCeilings limits }
+        ensures { result ≡ record { rest = buffer.now; place = original_offset; settings = record { features = features.0; limits = limits }; start = original_offset } }
     {
         BinaryReader {
             buffer,
             position: 0,
             original_offset,
             features,
+            limits,
         }
     }
 
@@ -97,6 +120,7 @@ impl<'a> BinaryReader<'a> {
             position: self.position,
             original_offset: self.original_offset,
             features: self.features,
+            limits: self.limits,
         }
     }
 
@@ -135,7 +159,7 @@ impl<'a> BinaryReader<'a> {
     /// The features that are allowed.
     #[inline]
     pub fn features(&self) -> WasmFeatures
-        ensures { result.0 ≡ self.now.features }
+        ensures { result.0 ≡ self.now.settings.features }
     {
         self.features
     }
@@ -143,9 +167,27 @@ impl<'a> BinaryReader<'a> {
     /// Allows these features from here on.
     #[inline]
     pub fn set_features(&mut self, features: WasmFeatures)
-        ensures { self.new ≡ record { rest = self.old.rest; place = self.old.place; features = features.0; start = self.old.start } }
+        ensures { self.new ≡ record { rest = self.old.rest; place = self.old.place; settings = record { features = features.0; limits = self.old.settings.limits }; start = self.old.start } }
     {
         self.features = features;
+    }
+
+    /// The limits that hold.
+    #[inline]
+    pub fn limits(&self) -> Limits
+        ensures value { result ≡ self.now.settings.limits }
+        ensures within { IsWithinCeilings result }
+    {
+        self.limits
+    }
+
+    /// Holds to these limits from here on.
+    #[inline]
+    pub fn set_limits(&mut self, limits: Limits)
+        requires within { IsWithinCeilings limits }
+        ensures { self.new ≡ record { rest = self.old.rest; place = self.old.place; settings = record { features = self.old.settings.features; limits = limits }; start = self.old.start } }
+    {
+        self.limits = limits;
     }
 
     /// The offsets of all of the reader's bytes, those that were read too.
@@ -181,13 +223,14 @@ impl<'a> BinaryReader<'a> {
     /// A reader over what is left, which begins at this offset.
     #[inline]
     pub fn shrink(&self) -> BinaryReader<'a>
-        ensures { result ≡ record { rest = self.now.rest; place = self.now.place; features = self.now.features; start = self.now.place } }
+        ensures { result ≡ record { rest = self.now.rest; place = self.now.place; settings = self.now.settings; start = self.now.place } }
     {
         BinaryReader {
             buffer: &self.buffer[self.position..],
             position: 0,
             original_offset: self.original_position(),
             features: self.features,
+            limits: self.limits,
         }
     }
 
@@ -236,18 +279,19 @@ impl<'a> BinaryReader<'a> {
 
     /// The next `n` bytes.
     #[inline]
+    #[tactic(auto, using(crate::proofs::Passed::goes_by))]
     pub fn read_bytes(&mut self, n: usize) -> Result<&'a [u8]>
         ensures answer { Answers (λ s. s.now) result self.old self.new (bytes n self.old) }
         ensures no_memory { NeedsNoMemory result }
         ensures forward { Reaches self.old self.new }
     {
-        let buffer = self.buffer;
-        let left = buffer.len() - self.position;
+        let rest = self.rest();
+        let left = rest.len();
         if left < n {
             return Err(self.eof_error(n - left));
         }
-        let text = &buffer[self.position..self.position + n];
-        self.position += n;
+        let text = &rest[..n];
+        self.advance(n);
         Ok(text)
     }
 
@@ -299,7 +343,7 @@ impl<'a> BinaryReader<'a> {
                 return Err(error);
             }
         };
-        Ok(BinaryReader::new_features(text, place, self.features))
+        Ok(BinaryReader::new_limited(text, place, self.features, self.limits))
     }
 
     /// Runs `f` on the reader, and gives a reader over the bytes that it passed, which begins where they do.
@@ -334,13 +378,14 @@ impl<'a> BinaryReader<'a> {
             position: 0,
             original_offset: self.original_position(),
             features: self.features,
+            limits: self.limits,
         }
     }
 
     /// The next value of a type.
     #[inline]
     pub fn read<T: FromReader<'a>>(&mut self, alloc: Global) -> Result<T>
-        ensures answer { Answers T.view result self.old self.new (T.decoder self.old) }
+        ensures answer { Answers T.view result self.old self.new (T.decoder self.old.settings self.old) }
         ensures memory { MemoryOnlyIf T.takes_memory result }
         ensures forward { Reaches self.old self.new }
     {

@@ -60,7 +60,7 @@ impl<'a> BinaryReader<'a> {
 impl<'a, 'me, T: FromReader<'a>> Iterator for BinaryReaderIter<'a, 'me, T> {
     type Item = Result<T>;
 
-    ghost next_gives = { λ s r t. NextItem T.view T.decoder s.remaining s.reader.now r t.remaining t.reader.now × (t.reader.ghost_name ≡ s.reader.ghost_name) × IfSome r (λ item. MemoryOnlyIf T.takes_memory item) };
+    ghost next_gives = { λ s r t. NextItem T.view (T.decoder s.reader.now.settings) s.remaining s.reader.now r t.remaining t.reader.now × (t.reader.ghost_name ≡ s.reader.ghost_name) × IfSome r (λ item. MemoryOnlyIf T.takes_memory item) };
 
     ghost remaining = { λ s. at_most s.remaining };
 
@@ -80,7 +80,7 @@ impl<'a, 'me, T: FromReader<'a>> Iterator for BinaryReaderIter<'a, 'me, T> {
 
 impl<'a, 'me, T: FromReader<'a>> Drop for BinaryReaderIter<'a, 'me, T> {
     fn drop(self)
-        ensures { Drains T.decoder T.takes_memory self.entry.remaining self.entry.reader.now self.exit.0.now }
+        ensures { Drains (T.decoder self.entry.reader.now.settings) T.takes_memory self.entry.remaining self.entry.reader.now self.exit.0.now }
     {
         let BinaryReaderIter {
             reader,
@@ -94,7 +94,7 @@ impl<'a, 'me, T: FromReader<'a>> Drop for BinaryReaderIter<'a, 'me, T> {
 
 /// Reads `count` values, or as many as come before a first error.
 fn read_rest<'a, T: FromReader<'a>>(alloc: Global, count: usize, reader: &mut BinaryReader<'a>)
-    ensures { Drains T.decoder T.takes_memory count reader.old reader.new }
+    ensures { Drains (T.decoder reader.old.settings) T.takes_memory count reader.old reader.new }
 {
     for _ in 0..count {
         let Ok(_) = reader.read::<T>(alloc) else {

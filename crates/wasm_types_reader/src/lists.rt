@@ -17,7 +17,7 @@ pub fn read_list<'a, T: FromReader<'a>>(
     desc: &str,
     reader: &mut BinaryReader<'a>,
 ) -> Result<Vec<T>>
-    ensures answer { Gives (λ v. map T.view v.items) result reader.new (listed_within limit T.decoder reader.old) }
+    ensures answer { Gives (λ v. map T.view v.items) result reader.new (listed_within limit (T.decoder reader.old.settings) reader.old) }
     ensures stays { IfErr result (λ e. reader.new ≡ reader.old) }
     ensures forward { Reaches reader.old reader.new }
 {
@@ -39,7 +39,7 @@ pub fn read_many<'a, T: FromReader<'a>>(
     count: usize,
     reader: &mut BinaryReader<'a>,
 ) -> Result<Vec<T>>
-    ensures answer { Gives (λ v. map T.view v.items) result reader.new (repeated count T.decoder reader.old) }
+    ensures answer { Gives (λ v. map T.view v.items) result reader.new (repeated count (T.decoder reader.old.settings) reader.old) }
     ensures stays { IfErr result (λ e. reader.new ≡ reader.old) }
     ensures forward { Reaches reader.old reader.new }
 {
@@ -62,7 +62,7 @@ fn counted_items<'a, T: FromReader<'a>>(
     desc: &str,
     reader: &mut BinaryReader<'a>,
 ) -> Result<Vec<T>>
-    ensures answer { Gives (λ v. map T.view v.items) result reader.new (listed_within limit T.decoder reader.old) }
+    ensures answer { Gives (λ v. map T.view v.items) result reader.new (listed_within limit (T.decoder reader.old.settings) reader.old) }
     ensures forward { Reaches reader.old reader.new }
 {
     let count = reader.read_size(limit, desc)?;
@@ -76,7 +76,7 @@ fn some_items<'a, T: FromReader<'a>>(
     count: usize,
     reader: &mut BinaryReader<'a>,
 ) -> Result<Vec<T>>
-    ensures answer { Gives (λ v. map T.view v.items) result reader.new (repeated count T.decoder reader.old) }
+    ensures answer { Gives (λ v. map T.view v.items) result reader.new (repeated count (T.decoder reader.old.settings) reader.old) }
     ensures forward { Reaches reader.old reader.new }
 {
     let mut items = Vec::new(alloc);

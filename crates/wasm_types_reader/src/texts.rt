@@ -6,16 +6,15 @@ ghost use Rattle.wasm_types_decoding.specs.Text.{counted_within, text_of, skippe
 ghost use Rattle.wasm_types_error.specs.declared.error.ErrorKind.TheVariants.{Other};
 ghost use Rattle.wasm_types_reader.specs.Reading.{Answers, Gives, NeedsNoMemory};
 
-use crate::limits::MAX_WASM_STRING_SIZE;
 use crate::{BinaryReader, Error, Result};
 use std::str;
 
 impl<'a> BinaryReader<'a> {
-    /// A count in LEB128 of at most 100,000, and as many bytes of UTF-8. A larger count is refused at its last byte, and other
+    /// A count in LEB128 of at most the limit of a string's bytes, and as many bytes of UTF-8. A larger count is refused at its last byte, and other
     /// bytes at the last of them.
     #[inline]
     pub fn read_string(&mut self) -> Result<&'a str>
-        ensures answer { Answers (λ s. s.now) result self.old self.new (name 100000 self.old) }
+        ensures answer { Answers (λ s. s.now) result self.old self.new (name self.old.settings.limits.string_bytes self.old) }
         ensures no_memory { NeedsNoMemory result }
         ensures forward { Reaches self.old self.new }
     {
@@ -48,10 +47,10 @@ impl<'a> BinaryReader<'a> {
         Ok(text)
     }
 
-    /// Goes on behind a count in LEB128 of at most 100,000 and as many bytes, whatever they are.
+    /// Goes on behind a count in LEB128 of at most the limit of a string's bytes and as many bytes, whatever they are.
     #[inline]
     pub fn skip_string(&mut self) -> Result<()>
-        ensures answer { Answers (λ u. u) result self.old self.new (skipped_name 100000 self.old) }
+        ensures answer { Answers (λ u. u) result self.old self.new (skipped_name self.old.settings.limits.string_bytes self.old) }
         ensures no_memory { NeedsNoMemory result }
         ensures forward { Reaches self.old self.new }
     {
@@ -65,12 +64,13 @@ impl<'a> BinaryReader<'a> {
 
     #[tactic(auto, using(wasm_types_decoding::specs::Laws::reaches_self, wasm_types_decoding::specs::Laws::reaches_then), unfolding(wasm_types_decoding::specs::Text::counted_within))]
     fn limited_text(&mut self) -> Result<&'a str>
-        ensures answer { Gives (λ s. s.now) result self.new (name 100000 self.old) }
+        ensures answer { Gives (λ s. s.now) result self.new (name self.old.settings.limits.string_bytes self.old) }
         ensures no_memory { NeedsNoMemory result }
         ensures forward { Reaches self.old self.new }
     {
+        let limit = self.limits().string_bytes as usize;
         let count = self.read_var_u32()? as usize;
-        if count > MAX_WASM_STRING_SIZE {
+        if count > limit {
             return Err(self.string_error("string size out of bounds"));
         }
         self.text(count)
@@ -88,12 +88,13 @@ impl<'a> BinaryReader<'a> {
 
     #[tactic(auto, using(wasm_types_decoding::specs::Laws::reaches_self, wasm_types_decoding::specs::Laws::reaches_then), unfolding(wasm_types_decoding::specs::Text::counted_within, wasm_types_decoding::specs::Text::skipped))]
     fn skip_text(&mut self) -> Result<()>
-        ensures answer { Gives (λ u. u) result self.new (skipped_name 100000 self.old) }
+        ensures answer { Gives (λ u. u) result self.new (skipped_name self.old.settings.limits.string_bytes self.old) }
         ensures no_memory { NeedsNoMemory result }
         ensures forward { Reaches self.old self.new }
     {
+        let limit = self.limits().string_bytes as usize;
         let count = self.read_var_u32()? as usize;
-        if count > MAX_WASM_STRING_SIZE {
+        if count > limit {
             return Err(self.string_error("string size out of bounds"));
         }
         let _ = self.read_bytes(count)?;

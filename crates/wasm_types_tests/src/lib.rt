@@ -9,6 +9,8 @@ mod expect;
 #[cfg(test)]
 mod features;
 #[cfg(test)]
+mod limits;
+#[cfg(test)]
 mod reader;
 #[cfg(test)]
 mod types;

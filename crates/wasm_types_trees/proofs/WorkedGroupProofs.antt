@@ -1,6 +1,8 @@
 -- The worked rows of groups.
 use Rattle.std.proofs.Common.{ℕ, ◌≤◌, List, [], ◌∷◌, refl, rules, arith}
 use Rattle.wasm_types_features.specs.Features.{has}
+use Rattle.wasm_types_limits.specs.Limits.{default_limits}
+use Rattle.wasm_types_limits.specs.Settings.{Settings}
 use Rattle.wasm_types_trees.specs.Trees.{TypeTree, opened}
 use Rattle.wasm_types_trees.specs.AbstractOrder.{eq_any}
 use Rattle.wasm_types_trees.specs.Below.{itself, declared}
@@ -8,15 +10,15 @@ use Rattle.wasm_types_trees.specs.ValidGroup.{Written, types_from, IsValidGroup,
 use Rattle.wasm_types_trees.specs.worked.Groups.{open_type, single, struct_type, nothing, integer, deep, IsRefused, GroupsWorked}
 
 -- of groups one after the other the first is valid
-first_is_valid : (bits : ℕ) (space after : List TypeTree) (g : Written) (gs : List Written) → AreValidGroups bits space (g ∷ gs) after → IsValidGroup bits space g
-first_is_valid bits space after g gs (next v vs) = v
+first_is_valid : (settings : Settings) (space after : List TypeTree) (g : Written) (gs : List Written) → AreValidGroups settings space (g ∷ gs) after → IsValidGroup settings space g
+first_is_valid settings space after g gs (next v vs) = v
 
 no_supertype_yet : IsRefused [] (single (open_type (0 ∷ []) (struct_type (integer ∷ []))))
-unfolding has opened types_from
+unfolding default_limits has opened types_from
 no_supertype_yet = search rules
 
 pub groups_worked : GroupsWorked
-unfolding has opened types_from deep
+unfolding default_limits has opened types_from deep
 groups_worked = record {
   empty_group = search rules;
   empty_group_needs = search rules;
@@ -121,6 +123,8 @@ groups_worked = record {
   describes_apart = search rules;
   depth_63 = search rules;
   depth_64 = search rules;
+  depth_1 = search rules;
+  depth_2 = search rules;
   in_turn = next (search rules) (next (search rules) done);
   out_of_turn = λ after v. no_supertype_yet (first_is_valid _ [] after _ _ v);
   equal_groups = search rules;

@@ -1,6 +1,7 @@
 -- Which groups of types are valid (WebAssembly 3.0, validation, types, recursive types), under a set of features by its
 -- bits. A group is judged as it is written, over the indices of its module, and then as what it unfolds to.
 use Rattle.std.specs.Prelude.{◌≡◌, ℕ, zero, suc, ◌+◌, ◌-◌, ◌<◌, ◌≤◌, nat_lt, if◌then◌else◌, Bool, true, false, IsTrue, List, [], ◌∷◌, ◌++◌, length, map, get_or, All, Option, Some, None, ◌⊎◌}
+use Rattle.wasm_types_limits.specs.Settings.{Settings}
 use Rattle.wasm_types_features.specs.Features.{MultiValue, SharedEverythingThreads, Gc, GcTypes, StackSwitching, CustomDescriptors}
 use Rattle.wasm_types_trees.specs.Rows.{ValueOf, StorageOf, i8, i16, value, FieldOf, InnerOf, function, array_of, struct_of, continuation, SubtypeOf, RowOf, row_of_subtype, row_map}
 use Rattle.wasm_types_trees.specs.Each.{EachOption, EachRow}
@@ -124,10 +125,6 @@ IsWithinDepth n None = Unit {0}
 IsWithinDepth zero (Some t) = ⊥
 IsWithinDepth (suc n) (Some t) = IsWithinDepth n (supertype t)
 
--- the most types that may be declared above one
-abbrev pub max_depth : ℕ
-max_depth = 63
-
 -- what is asked of a declared supertype: it is open, and the subtype matches it
 abbrev pub IsValidSupertype : RowOf TypeTree → Option TypeTree → Type 0
 IsValidSupertype x None = Unit {0}
@@ -168,31 +165,31 @@ IsJoined x = IsSome x.descriptor ⊎ IsSome x.describes
 
 -- ---- a group
 
--- a type is valid, by its tree alone
-pub record IsValidType (bits : ℕ) (t : TypeTree) : Type 0 where
-  pub subtyping : NeedsNoSubtyping (opened t) ⊎ Has bits Gc
-  pub composite : IsValidComposite bits (opened t)
+-- a type is valid, by its tree alone, where these features are allowed and these limits hold
+pub record IsValidType (z : Settings) (t : TypeTree) : Type 0 where
+  pub subtyping : NeedsNoSubtyping (opened t) ⊎ Has z.features Gc
+  pub composite : IsValidComposite z.features (opened t)
   pub above : IsValidSupertype (opened t) (supertype t)
-  pub depth : IsWithinDepth max_depth (supertype t)
-  pub descriptors : IsJoined (opened t) → Has bits CustomDescriptors × IsStruct (expanded t)
+  pub depth : IsWithinDepth z.limits.subtyping_depth (supertype t)
+  pub descriptors : IsJoined (opened t) → Has z.features CustomDescriptors × IsStruct (expanded t)
   pub along : DescriptorsGoAlong (opened t) (supertype t)
   pub described : IsDescribedBy t (opened t).descriptor
   pub describes : Describes t (opened t).describes
 
 -- the same of each type of a list
-abbrev pub AreValidTypes : ℕ → List TypeTree → Type 0
-AreValidTypes bits [] = Unit {0}
-AreValidTypes bits (t ∷ ts) = IsValidType bits t × AreValidTypes bits ts
+abbrev pub AreValidTypes : Settings → List TypeTree → Type 0
+AreValidTypes z [] = Unit {0}
+AreValidTypes z (t ∷ ts) = IsValidType z t × AreValidTypes z ts
 
 -- a group that is written behind the types of `space` is valid
-pub record IsValidGroup (bits : ℕ) (space : List TypeTree) (g : Written) : Type 0 where
-  pub explicit : IsTrue g.is_explicit → Has bits Gc
+pub record IsValidGroup (z : Settings) (space : List TypeTree) (g : Written) : Type 0 where
+  pub explicit : IsTrue g.is_explicit → Has z.features Gc
   pub supertypes : All IsWithinSupertypes g.types
-  pub references : AreWellReferenced bits (length space) (length space + length g.types) (length space) (written_rows g)
-  pub types : AreValidTypes bits (types_of space g)
+  pub references : AreWellReferenced z.features (length space) (length space + length g.types) (length space) (written_rows g)
+  pub types : AreValidTypes z (types_of space g)
 
 -- groups are valid one after the other, each behind the types of those before it, and leave these types
-pub data AreValidGroups : ℕ → List TypeTree → List Written → List TypeTree → Type 0 where
-  done : {bits : ℕ} {space : List TypeTree} → AreValidGroups bits space [] space
-  next : {bits : ℕ} {space after : List TypeTree} {g : Written} {gs : List Written}
-      → IsValidGroup bits space g → AreValidGroups bits (space ++ types_of space g) gs after → AreValidGroups bits space (g ∷ gs) after
+pub data AreValidGroups : Settings → List TypeTree → List Written → List TypeTree → Type 0 where
+  done : {z : Settings} {space : List TypeTree} → AreValidGroups z space [] space
+  next : {z : Settings} {space after : List TypeTree} {g : Written} {gs : List Written}
+      → IsValidGroup z space g → AreValidGroups z (space ++ types_of space g) gs after → AreValidGroups z space (g ∷ gs) after

@@ -6,6 +6,7 @@ use Rattle.std.specs.declared.cmp.Ordering.TheVariants.{Less, Greater}
 use Rattle.wasm_types_decoding.specs.declared.Refusal.TheVariants.{Other}
 use Rattle.wasm_types_decoding.specs.Decoder.{State, Done, Short, Fault}
 use Rattle.wasm_types_decoding.specs.Leb.{unsigned, signed, last_bits}
+use Rattle.wasm_types_limits.specs.Settings.{no_features}
 use Rattle.wasm_types_indices.specs.declared.index.UnpackedIndex.TheVariants.{Module, RecGroup}
 use Rattle.wasm_types_values.specs.declared.heap.AbstractHeapType.{AbstractHeapType}
 use Rattle.wasm_types_values.specs.declared.heap.AbstractHeapType.TheVariants as heap
@@ -26,11 +27,11 @@ use Rattle.wasm_types_values.specs.DecodeValues.{value_type_after, value_type, s
 
 -- a reader of these bytes
 abbrev pub start_of : List ℕ → State
-start_of bytes = record { rest = bytes; place = 0; features = 0; start = 0 }
+start_of bytes = record { rest = bytes; place = 0; settings = no_features; start = 0 }
 
 -- behind so many bytes, the last of them
 abbrev pub behind : ℕ → State
-behind n = record { rest = []; place = n; features = 0; start = 0 }
+behind n = record { rest = []; place = n; settings = no_features; start = 0 }
 
 -- ---- heap types
 

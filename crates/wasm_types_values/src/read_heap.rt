@@ -48,15 +48,15 @@ impl<'a> FromReader<'a> for AbstractHeapType {
 
     ghost view = { λ ty. ty };
 
-    ghost decoder = { abstract_heap_type };
+    ghost decoder = { λ z. abstract_heap_type };
 
-    ghost grammar = { SpellsAbstract };
+    ghost grammar = { λ z. SpellsAbstract };
 
     ghost takes_memory = { false };
 
-    ghost lawful = { lawful-abstract_heap_type };
+    ghost lawful = { λ z. lawful-abstract_heap_type };
 
-    ghost exact = { decides-abstract_heap_type };
+    ghost exact = { λ z. decides-abstract_heap_type };
 
     #[tactic(auto, using(wasm_types_decoding::specs::Laws::reaches_self, wasm_types_decoding::specs::Laws::reaches_then), unfolding(crate::specs::Decode::abstract_heap_type))]
     fn from_reader(_alloc: Global, reader: &mut BinaryReader<'a>) -> Result<AbstractHeapType>
@@ -125,15 +125,15 @@ impl<'a> FromReader<'a> for HeapType {
 
     ghost view = { λ ty. ty };
 
-    ghost decoder = { heap_type };
+    ghost decoder = { λ z. heap_type };
 
-    ghost grammar = { Spelled };
+    ghost grammar = { λ z. Spelled };
 
     ghost takes_memory = { false };
 
-    ghost lawful = { lawful-heap_type };
+    ghost lawful = { λ z. lawful-heap_type };
 
-    ghost exact = { decides-heap_type };
+    ghost exact = { λ z. decides-heap_type };
 
     #[tactic(auto, using(wasm_types_decoding::specs::Laws::reaches_self, wasm_types_decoding::specs::Laws::reaches_then), unfolding(crate::specs::Decode::heap_type, crate::specs::Decode::heap_type_after))]
     fn from_reader(alloc: Global, reader: &mut BinaryReader<'a>) -> Result<HeapType>

@@ -65,15 +65,15 @@ impl<'a> FromReader<'a> for RefType {
 
     ghost view = { λ ty. ty };
 
-    ghost decoder = { reference_type };
+    ghost decoder = { λ z. reference_type };
 
-    ghost grammar = { SpelledReference };
+    ghost grammar = { λ z. SpelledReference };
 
     ghost takes_memory = { false };
 
-    ghost lawful = { lawful-reference_type };
+    ghost lawful = { λ z. lawful-reference_type };
 
-    ghost exact = { decides-reference_type };
+    ghost exact = { λ z. decides-reference_type };
 
     #[tactic(auto, using(wasm_types_decoding::specs::Laws::reaches_self, wasm_types_decoding::specs::Laws::reaches_then, crate::proofs::Places::beyond_0), unfolding(crate::specs::Decode::reference_type))]
     fn from_reader(alloc: Global, reader: &mut BinaryReader<'a>) -> Result<RefType>
@@ -118,15 +118,15 @@ impl<'a> FromReader<'a> for ValType {
 
     ghost view = { λ ty. ty };
 
-    ghost decoder = { value_type };
+    ghost decoder = { λ z. value_type };
 
-    ghost grammar = { SpelledValue };
+    ghost grammar = { λ z. SpelledValue };
 
     ghost takes_memory = { false };
 
-    ghost lawful = { lawful-value_type };
+    ghost lawful = { λ z. lawful-value_type };
 
-    ghost exact = { decides-value_type };
+    ghost exact = { λ z. decides-value_type };
 
     #[tactic(auto, using(wasm_types_decoding::specs::Laws::reaches_self, wasm_types_decoding::specs::Laws::reaches_then, crate::proofs::Places::beyond_0), unfolding(crate::specs::DecodeValues::value_type))]
     fn from_reader(alloc: Global, reader: &mut BinaryReader<'a>) -> Result<ValType>
@@ -150,15 +150,15 @@ impl<'a> FromReader<'a> for StorageType {
 
     ghost view = { λ ty. ty };
 
-    ghost decoder = { storage_type };
+    ghost decoder = { λ z. storage_type };
 
-    ghost grammar = { SpelledStorage };
+    ghost grammar = { λ z. SpelledStorage };
 
     ghost takes_memory = { false };
 
-    ghost lawful = { lawful-storage_type };
+    ghost lawful = { λ z. lawful-storage_type };
 
-    ghost exact = { decides-storage_type };
+    ghost exact = { λ z. decides-storage_type };
 
     #[tactic(auto, using(wasm_types_decoding::specs::Laws::reaches_self, wasm_types_decoding::specs::Laws::reaches_then, crate::proofs::Places::beyond_0), unfolding(crate::specs::DecodeValues::storage_type, crate::specs::DecodeValues::storage_type_after))]
     fn from_reader(alloc: Global, reader: &mut BinaryReader<'a>) -> Result<StorageType>

@@ -5,6 +5,7 @@ use Rattle.wasm_types.specs.decoding.declared.Refusal.TheVariants.{Other}
 use Rattle.wasm_types.specs.decoding.Decoder.{State, Outcome, Done, Short, Fault, Decoder, ◌>>=◌, pure, byte, bytes, repeated}
 use Rattle.wasm_types.specs.decoding.Leb.{u32, IsUnsigned}
 use Rattle.wasm_types.specs.decoding.Lists.{refuse_at}
+use Rattle.wasm_types.specs.limits.Settings.{Settings}
 use Rattle.wasm_types.specs.reader.Parts.{counted_part}
 use Rattle.wasm_module_validator_operands.specs.Syntax.{FunctionType}
 use Rattle.wasm_module_validator.specs.laws.Types.{function_type}
@@ -74,19 +75,19 @@ pub record IsCounted (limit : ℕ) (content : List ℕ) (text : List ℕ) : Type
   pub whole : text ≡ count ++ content
 
 -- at most so many bytes; more are refused at this offset
-abbrev pub few_or : ℕ → List ℕ → Decoder (List ℕ)
-few_or place text = if nat_lt 7654321 (length text) then refuse_at Other place else pure text
+abbrev pub few_or : ℕ → ℕ → List ℕ → Decoder (List ℕ)
+few_or limit place text = if nat_lt limit (length text) then refuse_at Other place else pure text
 
 -- an entry of the code section
-unfoldable pub body : Decoder (List ℕ)
-body = counted_part >>= λ part. few_or part.place part.rest
+unfoldable pub body : Settings → Decoder (List ℕ)
+body z = counted_part >>= λ part. few_or z.limits.body_bytes part.place part.rest
 
 -- the entries of the code section, as many as there are functions
-abbrev pub as_many_or : ℕ → ℕ → ℕ → Decoder (List (List ℕ))
-as_many_or functions place n = if n == functions then repeated n body else refuse_at Other place
+abbrev pub as_many_or : Settings → ℕ → ℕ → ℕ → Decoder (List (List ℕ))
+as_many_or z functions place n = if n == functions then repeated n (body z) else refuse_at Other place
 
-unfoldable pub entries : ℕ → Decoder (List (List ℕ))
-entries functions s = (u32 >>= as_many_or functions s.place) s
+unfoldable pub entries : Settings → ℕ → Decoder (List (List ℕ))
+entries z functions s = (u32 >>= as_many_or z functions s.place) s
 
 -- no code section: there is no function
 abbrev pub no_entries : ℕ → Decoder (List (List ℕ))
@@ -96,21 +97,21 @@ no_entries functions s = if functions == 0 then Done [] s else Fault Other s.pla
 abbrev pub at_end : {A : Type 0} → A → Decoder A
 at_end x s = if length s.rest == 0 then Done x s else Fault Other s.place
 
-unfoldable pub type_section : Decoder (List FunctionType)
-type_section = section 1 (items 1000000 function_type) (pure [])
+unfoldable pub type_section : Settings → Decoder (List FunctionType)
+type_section z = section 1 (items z.limits.types (function_type z)) (pure [])
 
-unfoldable pub function_section : ℕ → Decoder (List ℕ)
-function_section types = section 3 (items 1000000 (type_index types)) (pure [])
+unfoldable pub function_section : Settings → ℕ → Decoder (List ℕ)
+function_section z types = section 3 (items z.limits.functions (type_index types)) (pure [])
 
-unfoldable pub code_section : ℕ → Decoder (List (List ℕ))
-code_section functions = section 10 (entries functions) (no_entries functions)
+unfoldable pub code_section : Settings → ℕ → Decoder (List (List ℕ))
+code_section z functions = section 10 (entries z functions) (no_entries functions)
 
 -- the sections behind the header, to the last byte
-unfoldable pub frames : Decoder Frames
-frames =
-    type_section >>= λ types. function_section (length types) >>= λ functions. code_section (length functions) >>= λ entries.
+unfoldable pub frames : Settings → Decoder Frames
+frames z =
+    type_section z >>= λ types. function_section z (length types) >>= λ functions. code_section z (length functions) >>= λ entries.
     at_end (record { types = types; functions = functions; entries = entries })
 
 -- a module: the header and the sections
-unfoldable pub module_frames : Decoder Frames
-module_frames = preamble >>= λ _. frames
+unfoldable pub module_frames : Settings → Decoder Frames
+module_frames z = preamble >>= λ _. frames z

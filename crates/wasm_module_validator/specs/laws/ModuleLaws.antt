@@ -11,6 +11,7 @@ use Rattle.wasm_types.specs.decoding.LebLaws.{decides-u32}
 use Rattle.wasm_types.specs.decoding.Lists.{refuse_at, IsListedWithin}
 use Rattle.wasm_types.specs.decoding.ListLaws.{decides-refuse_at, decides-from_place}
 use Rattle.wasm_types.specs.decoding.Text.{IsSized}
+use Rattle.wasm_types.specs.limits.Settings.{Settings}
 use Rattle.wasm_module_validator_bodies.specs.laws.TypeLaws.{head_is}
 use Rattle.wasm_module_validator.specs.laws.Frames.{IsCounted, begins, contents, section, items, at_most_or, below_or, type_index, body, as_many_or, entries}
 use Rattle.wasm_module_validator.specs.laws.FrameLaws.{decides-body}
@@ -85,43 +86,44 @@ decides-type_index types = decides-same (λ s. (u32 >>= below_or types s.place) 
     (λ place. decides->>= u32 (below_or types place) (IsUnsigned 32) (Below types) decides-u32 (decides-below_or types place)))
     (index_to types) (index_from types)
 
--- as many entries as there are functions
-abbrev pub AreEntries : ℕ → Grammar (List (List ℕ))
-AreEntries functions es text = IsListed (IsCounted 7654321) es text × (length es ≡ functions)
+module _ (settings : Settings) where
+  -- as many entries as there are functions
+  abbrev pub AreEntries : ℕ → Grammar (List (List ℕ))
+  AreEntries functions es text = IsListed (IsCounted settings.limits.body_bytes) es text × (length es ≡ functions)
 
-abbrev Exactly : ℕ → ℕ → Grammar (List (List ℕ))
-Exactly functions n es text = (n ≡ functions) × Many (IsCounted 7654321) n es text
+  abbrev Exactly : ℕ → ℕ → Grammar (List (List ℕ))
+  Exactly functions n es text = (n ≡ functions) × Many (IsCounted settings.limits.body_bytes) n es text
 
-decides-as_many_or : (functions place n : ℕ) → Decides (as_many_or functions place n) (Exactly functions n)
-decides-as_many_or functions place n = decides-if (n == functions) (repeated n body) (refuse_at Other place) (Exactly functions n)
-    (λ same. decides-same (repeated n body) (Many (IsCounted 7654321) n) (Exactly functions n) (decides-repeated body (IsCounted 7654321) decides-body n) (λ xs text h. (eqb-true n functions same, h)) (λ xs text h. h.1))
-    (λ other. decides-refuse_at Other place (Exactly functions n) (λ y text h. eqb-false n functions other h.0))
+  decides-as_many_or : (functions place n : ℕ) → Decides (as_many_or settings functions place n) (Exactly functions n)
+  decides-as_many_or functions place n = decides-if (n == functions) (repeated n (body settings)) (refuse_at Other place) (Exactly functions n)
+      (λ same. decides-same (repeated n (body settings)) (Many (IsCounted settings.limits.body_bytes) n) (Exactly functions n) (decides-repeated (body settings) (IsCounted settings.limits.body_bytes) (decides-body settings) n) (λ xs text h. (eqb-true n functions same, h)) (λ xs text h. h.1))
+      (λ other. decides-refuse_at Other place (Exactly functions n) (λ y text h. eqb-false n functions other h.0))
 
-many_entries : (n : ℕ) (es : List (List ℕ)) (text : List ℕ) → Many (IsCounted 7654321) n es text → n ≡ length es
-many_entries = many_count 0 body (IsCounted 7654321) decides-body
+  many_entries : (n : ℕ) (es : List (List ℕ)) (text : List ℕ) → Many (IsCounted settings.limits.body_bytes) n es text → n ≡ length es
+  many_entries = many_count 0 (body settings) (IsCounted settings.limits.body_bytes) (decides-body settings)
 
-entries_to : (functions : ℕ) (es : List (List ℕ)) (text : List ℕ) → Then (IsUnsigned 32) (Exactly functions) es text → AreEntries functions es text
-entries_to functions es text h =
-    let n = many_entries h.value es h.back h.second.1 in (
-      record {
-        count = h.front;
-        values = h.back;
-        counted = subst (λ (k : ℕ). IsUnsigned 32 k h.front) n h.first;
-        each = subst (λ (k : ℕ). Many (IsCounted 7654321) k es h.back) n h.second.1;
-        whole = h.whole;
-      },
-      sym n ∙ h.second.0,
-    )
+  entries_to : (functions : ℕ) (es : List (List ℕ)) (text : List ℕ) → Then (IsUnsigned 32) (Exactly functions) es text → AreEntries functions es text
+  entries_to functions es text h =
+      let n = many_entries h.value es h.back h.second.1 in (
+        record {
+          count = h.front;
+          values = h.back;
+          counted = subst (λ (k : ℕ). IsUnsigned 32 k h.front) n h.first;
+          each = subst (λ (k : ℕ). Many (IsCounted settings.limits.body_bytes) k es h.back) n h.second.1;
+          whole = h.whole;
+        },
+        sym n ∙ h.second.0,
+      )
 
-entries_from : (functions : ℕ) (es : List (List ℕ)) (text : List ℕ) → AreEntries functions es text → Then (IsUnsigned 32) (Exactly functions) es text
-entries_from functions es text h = record { value = length es; front = h.0.count; back = h.0.values; first = h.0.counted; second = (h.1, h.0.each); whole = h.0.whole }
+  entries_from : (functions : ℕ) (es : List (List ℕ)) (text : List ℕ) → AreEntries functions es text → Then (IsUnsigned 32) (Exactly functions) es text
+  entries_from functions es text h = record { value = length es; front = h.0.count; back = h.0.values; first = h.0.counted; second = (h.1, h.0.each); whole = h.0.whole }
 
-pub decides-entries : (functions : ℕ) → Decides (entries functions) (AreEntries functions)
-unfolding entries
-decides-entries functions = decides-same (λ s. (u32 >>= as_many_or functions s.place) s) (Then (IsUnsigned 32) (Exactly functions)) (AreEntries functions)
-    (decides-from_place (λ place. u32 >>= as_many_or functions place) (Then (IsUnsigned 32) (Exactly functions))
-    (λ place. decides->>= u32 (as_many_or functions place) (IsUnsigned 32) (Exactly functions) decides-u32 (decides-as_many_or functions place)))
-    (entries_to functions) (entries_from functions)
+  pub decides-entries : (functions : ℕ) → Decides (entries settings functions) (AreEntries functions)
+  unfolding entries
+  decides-entries functions = decides-same (λ s. (u32 >>= as_many_or settings functions s.place) s) (Then (IsUnsigned 32) (Exactly functions)) (AreEntries functions)
+      (decides-from_place (λ place. u32 >>= as_many_or settings functions place) (Then (IsUnsigned 32) (Exactly functions))
+      (λ place. decides->>= u32 (as_many_or settings functions place) (IsUnsigned 32) (Exactly functions) decides-u32 (decides-as_many_or functions place)))
+      (entries_to functions) (entries_from functions)
 
 -- ---- a section, and what follows it
 
@@ -162,9 +164,9 @@ module _ {A : Type 0} (id : ℕ) (d : Decoder A) (g : Grammar A) (dg : Decides d
       absurd (begins_not id rest (rw f at b) (apart x rest p))
   present_reads s b (x, front, rest, inr there, p, e) =
       let text : List ℕ = id ∷ there.0 in
-      let t : State = record { rest = rest; place = s.place + length text; features = s.features; start = s.start } in
+      let t : State = record { rest = rest; place = s.place + length text; settings = s.settings; start = s.start } in
       let parts : s.rest ≡ text ++ rest = e ∙ ap (λ (z : List ℕ). z ++ rest) there.2 in
-      let taken : Takes s text t = record { parts = parts; place = refl; features = refl; start = refl } in
+      let taken : Takes s text t = record { parts = parts; place = refl; settings = refl; start = refl } in
       (x, t, (decides-contents d g dg).complete s t x text taken (id, there.0, refl, there.1), p)
 
   present_followed : (s : State) → begins id s.rest ≡ true → Reads (contents d) Left s → Followed id g Absent P s.rest

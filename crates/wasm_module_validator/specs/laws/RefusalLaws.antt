@@ -6,8 +6,8 @@ use Rattle.wasm_types.specs.decoding.Exact.{same_state}
 use Rattle.wasm_types.specs.error.declared.error.ErrorKind.{ErrorKind}
 use Rattle.wasm_types.specs.error.declared.error.ErrorKind.TheVariants as kinds
 use Rattle.wasm_types.specs.error.ErrorValue.{ErrorValue}
-use Rattle.wasm_types.specs.features.Sets.{bits_of, default_features}
 use Rattle.wasm_types.specs.reader.Reading.{FailsAt, Fails}
+use Rattle.wasm_module_validator_operands.specs.Defaults.{default_settings}
 use Rattle.wasm_module_validator_operands.specs.Answers.{UnlessMemory, IsRefusalOf, RefusedWithin}
 use Rattle.wasm_module_validator.specs.declared.validator.State.TheVariants as states
 use Rattle.wasm_module_validator.specs.Refusals.{at_begin, IsFunctionRefusal, RefusesFunction, FailsFrames, after_function, after_frames, IsPlaceOf, IsRefusedAt}
@@ -54,7 +54,7 @@ other_refuses kinds.Failed e = absurd cc
 other_refuses kinds.Other e = tt
 
 -- a reader that was made of the bytes stands there
-pub stands_at_begin : (s : State) (bytes : List ℕ) → s.rest ≡ bytes → s.place ≡ 0 → s.start ≡ 0 → s.features ≡ bits_of default_features → s ≡ at_begin bytes
+pub stands_at_begin : (s : State) (bytes : List ℕ) → s.rest ≡ bytes → s.place ≡ 0 → s.start ≡ 0 → s.settings ≡ default_settings → s ≡ at_begin bytes
 unfolding at_begin
 stands_at_begin s bytes r p b f = same_state s (at_begin bytes) r p f b
 
@@ -108,5 +108,5 @@ place_in e (Short p n) h = place_at {A = Frames} e.kind e.offset (Short p n) h
 place_in e (Fault k p) h = place_at {A = Frames} e.kind e.offset (Fault k p) h
 
 -- an error's offset, by how the error came about
-pub refused_at : (e : ErrorValue) (bytes : List ℕ) → FailsFrames e (module_frames (at_begin bytes)) → UnlessMemory e.kind (IsRefusedAt e.offset bytes)
-refused_at e bytes h = place_in e (module_frames (at_begin bytes)) h
+pub refused_at : (e : ErrorValue) (bytes : List ℕ) → FailsFrames e (module_frames default_settings (at_begin bytes)) → UnlessMemory e.kind (IsRefusedAt e.offset bytes)
+refused_at e bytes h = place_in e (module_frames default_settings (at_begin bytes)) h

@@ -38,7 +38,7 @@ module _ {A : Type 0} (d : Decoder A) where
   ended_finished t u x (Fault k p) e = absurd cc
 
   abbrev behind : ℕ → State → State
-  behind n s = record { rest = drop n s.rest; place = s.place + n; features = s.features; start = s.start }
+  behind n s = record { rest = drop n s.rest; place = s.place + n; settings = s.settings; start = s.start }
 
   abbrev the_part : ℕ → State → State
   the_part n s = part_at s (take n s.rest)

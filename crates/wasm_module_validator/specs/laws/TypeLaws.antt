@@ -12,6 +12,7 @@ use Rattle.wasm_types.specs.values.ValueExact.{SpelledValue}
 use Rattle.wasm_types.specs.fields.Spells.{Signature, SpelledSignature}
 use Rattle.wasm_types.specs.fields.Decode.{signature}
 use Rattle.wasm_types.specs.fields.DecodeLaws.{lawful-signature, decides-signature}
+use Rattle.wasm_types.specs.limits.Settings.{Settings}
 use Rattle.wasm_types.specs.values.declared.value.ValType.{ValType}
 use Rattle.wasm_types.specs.values.declared.value.ValType.TheVariants.{I32, I64, F32, F64, V128, Ref}
 use Rattle.wasm_module_validator_operands.specs.Syntax.{FunctionType}
@@ -60,13 +61,14 @@ numbers_many (suc n) (t ∷ ts) text (front, back, first, rest, whole) =
     let q = numbers_many n ts back rest in
     (rw (p.0, q.0) refl, (front, back, p.1, q.1, whole))
 
-listed_numbers : (ts : List ValType) (text : List ℕ) → are_numbers ts ≡ true → IsListedWithin 1000 SpelledValue ts text → IsListedWithin 1000 SpellsValType ts text
-listed_numbers ts text e h = record { within = h.within; listed = record { count = h.listed.count; values = h.listed.values; counted = h.listed.counted; each = many_numbers (length ts) ts h.listed.values e h.listed.each; whole = h.listed.whole } }
+module _ (limit : ℕ) where
+  listed_numbers : (ts : List ValType) (text : List ℕ) → are_numbers ts ≡ true → IsListedWithin limit SpelledValue ts text → IsListedWithin limit SpellsValType ts text
+  listed_numbers ts text e h = record { within = h.within; listed = record { count = h.listed.count; values = h.listed.values; counted = h.listed.counted; each = many_numbers (length ts) ts h.listed.values e h.listed.each; whole = h.listed.whole } }
 
-numbers_listed : (ts : List ValType) (text : List ℕ) → IsListedWithin 1000 SpellsValType ts text → (are_numbers ts ≡ true) × IsListedWithin 1000 SpelledValue ts text
-numbers_listed ts text h =
-    let p = numbers_many (length ts) ts h.listed.values h.listed.each in
-    (p.0, record { within = h.within; listed = record { count = h.listed.count; values = h.listed.values; counted = h.listed.counted; each = p.1; whole = h.listed.whole } })
+  numbers_listed : (ts : List ValType) (text : List ℕ) → IsListedWithin limit SpellsValType ts text → (are_numbers ts ≡ true) × IsListedWithin limit SpelledValue ts text
+  numbers_listed ts text h =
+      let p = numbers_many (length ts) ts h.listed.values h.listed.each in
+      (p.0, record { within = h.within; listed = record { count = h.listed.count; values = h.listed.values; counted = h.listed.counted; each = p.1; whole = h.listed.whole } })
 
 -- ---- function types
 
@@ -80,53 +82,54 @@ OnlyNumbers f y text = (y ≡ of_signature f) × (text ≡ []) × (are_numbers f
 lawful-numbers_alone : (p : ℕ) (f : Signature) → IsLawful (numbers_alone p f)
 lawful-numbers_alone p f = lawful-if (are_numbers f.params && are_numbers f.results) (pure (of_signature f)) (refuse_at Other p) (lawful-pure (of_signature f)) (lawful-refuse_at Other p)
 
-lawful-number_signature : IsLawful number_signature
-lawful-number_signature = lawful-from_place (λ p. signature >>= numbers_alone p) (λ p. lawful->>= signature (numbers_alone p) lawful-signature (lawful-numbers_alone p))
+module _ (settings : Settings) where
+  lawful-number_signature : IsLawful (number_signature settings)
+  lawful-number_signature = lawful-from_place (λ p. signature settings >>= numbers_alone p) (λ p. lawful->>= (signature settings) (numbers_alone p) (lawful-signature settings) (lawful-numbers_alone p))
 
-pub lawful-function_type : IsLawful function_type
-unfolding function_type
-lawful-function_type = lawful->>= byte _ lawful-byte (λ b. lawful-choice ((0x60, number_signature) ∷ []) _ b (lawful-number_signature, tt) (lawful-refuse Other 1))
+  pub lawful-function_type : IsLawful (function_type settings)
+  unfolding function_type
+  lawful-function_type = lawful->>= byte _ lawful-byte (λ b. lawful-choice ((0x60, number_signature settings) ∷ []) _ b (lawful-number_signature, tt) (lawful-refuse Other 1))
 
-decides-numbers_alone : (p : ℕ) (f : Signature) → Decides (numbers_alone p f) (OnlyNumbers f)
-decides-numbers_alone p f = decides-if (are_numbers f.params && are_numbers f.results) (pure (of_signature f)) (refuse_at Other p) (OnlyNumbers f)
-    (λ t. decides-pure (of_signature f) (OnlyNumbers f) (refl, refl, t) (λ y text h. (h.0, h.1)))
-    (λ n. decides-refuse_at Other p (OnlyNumbers f) (λ y text h. let e = h.2 in absurd cc))
+  decides-numbers_alone : (p : ℕ) (f : Signature) → Decides (numbers_alone p f) (OnlyNumbers f)
+  decides-numbers_alone p f = decides-if (are_numbers f.params && are_numbers f.results) (pure (of_signature f)) (refuse_at Other p) (OnlyNumbers f)
+      (λ t. decides-pure (of_signature f) (OnlyNumbers f) (refl, refl, t) (λ y text h. (h.0, h.1)))
+      (λ n. decides-refuse_at Other p (OnlyNumbers f) (λ y text h. let e = h.2 in absurd cc))
 
-abbrev behind_60 : Grammar FunctionType
-behind_60 f text = SpellsFunctionType f (0x60 ∷ text)
+  abbrev behind_60 : Grammar FunctionType
+  behind_60 f text = SpellsFunctionType settings f (0x60 ∷ text)
 
-signature_to : (y : FunctionType) (text : List ℕ) → Then SpelledSignature OnlyNumbers y text → behind_60 y text
-signature_to y text h =
-    let whole : text ≡ h.front = h.whole ∙ ap (λ (z : List ℕ). h.front ++ z) h.second.1 ∙ append-nil h.front in
-    let n = both (are_numbers h.value.params) (are_numbers h.value.results) h.second.2 in
-    subst (λ (j : FunctionType). behind_60 j text) (sym h.second.0) (record {
-      params = h.first.params;
-      results = h.first.results;
-      taken = listed_numbers h.value.params h.first.params n.0 h.first.taken;
-      given = listed_numbers h.value.results h.first.results n.1 h.first.given;
-      whole = ap (λ (t : List ℕ). 0x60 ∷ t) (whole ∙ h.first.whole);
-    })
+  signature_to : (y : FunctionType) (text : List ℕ) → Then (SpelledSignature settings) OnlyNumbers y text → behind_60 y text
+  signature_to y text h =
+      let whole : text ≡ h.front = h.whole ∙ ap (λ (z : List ℕ). h.front ++ z) h.second.1 ∙ append-nil h.front in
+      let n = both (are_numbers h.value.params) (are_numbers h.value.results) h.second.2 in
+      subst (λ (j : FunctionType). behind_60 j text) (sym h.second.0) (record {
+        params = h.first.params;
+        results = h.first.results;
+        taken = listed_numbers settings.limits.params h.value.params h.first.params n.0 h.first.taken;
+        given = listed_numbers settings.limits.results h.value.results h.first.results n.1 h.first.given;
+        whole = ap (λ (t : List ℕ). 0x60 ∷ t) (whole ∙ h.first.whole);
+      })
 
-signature_from : (y : FunctionType) (text : List ℕ) → behind_60 y text → Then SpelledSignature OnlyNumbers y text
-signature_from y text h =
-    let p = numbers_listed y.params h.params h.taken in
-    let r = numbers_listed y.results h.results h.given in
-    record {
-      value = record { params = y.params; results = y.results };
-      front = text;
-      back = [];
-      first = record { params = h.params; results = h.results; taken = p.1; given = r.1; whole = tail_is 0x60 0x60 text (h.params ++ h.results) h.whole };
-      second = (refl, refl, rw (p.0, r.0) refl);
-      whole = sym (append-nil text);
-    }
+  signature_from : (y : FunctionType) (text : List ℕ) → behind_60 y text → Then (SpelledSignature settings) OnlyNumbers y text
+  signature_from y text h =
+      let p = numbers_listed settings.limits.params y.params h.params h.taken in
+      let r = numbers_listed settings.limits.results y.results h.results h.given in
+      record {
+        value = record { params = y.params; results = y.results };
+        front = text;
+        back = [];
+        first = record { params = h.params; results = h.results; taken = p.1; given = r.1; whole = tail_is 0x60 0x60 text (h.params ++ h.results) h.whole };
+        second = (refl, refl, rw (p.0, r.0) refl);
+        whole = sym (append-nil text);
+      }
 
-decides-number_signature : Decides number_signature behind_60
-decides-number_signature = decides-from_place (λ p. signature >>= numbers_alone p) behind_60
-    (λ p. decides-same _ (Then SpelledSignature OnlyNumbers) behind_60 (decides->>= signature (numbers_alone p) SpelledSignature OnlyNumbers decides-signature (decides-numbers_alone p)) signature_to signature_from)
+  decides-number_signature : Decides (number_signature settings) behind_60
+  decides-number_signature = decides-from_place (λ p. signature settings >>= numbers_alone p) behind_60
+      (λ p. decides-same _ (Then (SpelledSignature settings) OnlyNumbers) behind_60 (decides->>= (signature settings) (numbers_alone p) (SpelledSignature settings) OnlyNumbers (decides-signature settings) (decides-numbers_alone p)) signature_to signature_from)
 
-starts : (b : ℕ) (f : FunctionType) (text : List ℕ) → SpellsFunctionType f (b ∷ text) → has_tag ((0x60, number_signature) ∷ []) b ≡ true
-starts b f text h = let e = head_is b 0x60 text (h.params ++ h.results) h.whole in rw e refl
+  starts : (b : ℕ) (f : FunctionType) (text : List ℕ) → SpellsFunctionType settings f (b ∷ text) → has_tag ((0x60, number_signature settings) ∷ []) b ≡ true
+  starts b f text h = let e = head_is b 0x60 text (h.params ++ h.results) h.whole in rw e refl
 
-pub decides-function_type : Decides function_type SpellsFunctionType
-unfolding function_type
-decides-function_type = decides-choice Other SpellsFunctionType ((0x60, number_signature) ∷ []) (λ f h. let e = h.whole in absurd cc) (decides-number_signature, tt) starts
+  pub decides-function_type : Decides (function_type settings) (SpellsFunctionType settings)
+  unfolding function_type
+  decides-function_type = decides-choice Other (SpellsFunctionType settings) ((0x60, number_signature settings) ∷ []) (λ f h. let e = h.whole in absurd cc) (decides-number_signature, tt) starts

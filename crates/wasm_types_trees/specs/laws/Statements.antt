@@ -1,5 +1,6 @@
 -- Laws of the rules: what the functions of src/laws.rt promise.
 use Rattle.std.specs.Prelude.{◌≡◌, ◌↔◌, ◌⊎◌, ℕ, ◌<◌, Bool, false, List, [], ◌∷◌, map, Contains, get_or}
+use Rattle.wasm_types_limits.specs.Settings.{Settings}
 use Rattle.wasm_types_trees.specs.Rows.{Abstract, HeapOf, exact, abstract, ValueOf, ref, RowOf, row_map}
 use Rattle.wasm_types_trees.specs.Each.{EachHeap, EachValue, EachRows}
 use Rattle.wasm_types_trees.specs.Trees.{GroupTree, RefTree, TypeTree, group_tree, rows_of, opened}
@@ -94,7 +95,7 @@ BelowIsTheStandards = (v w : ValueOf TypeTree) → EachValue IsSound v → EachV
 
 -- so it is on the types of valid groups, where each type in the middle is one of them
 abbrev pub BelowIsTheStandardsInGroups : Type 0
-BelowIsTheStandardsInGroups = (bits : ℕ) (gs : List Written) (space : List TypeTree) (v w : ValueOf TypeTree) → AreValidGroups bits [] gs space
+BelowIsTheStandardsInGroups = (settings : Settings) (gs : List Written) (space : List TypeTree) (v w : ValueOf TypeTree) → AreValidGroups settings [] gs space
     → EachValue (Contains space) v → EachValue (Contains space) w → Below v w ↔ ValueMatches (Contains space) v w
 
 -- ---- matching
@@ -116,4 +117,4 @@ CanonicalFormsUnfold = (tree : ℕ → TypeTree) (ids : List ℕ) (g : Written)
 
 -- the types of groups that are valid one after the other are sound, refer to one another alone, and each declared link matches
 abbrev pub ValidGroupsAreSound : Type 0
-ValidGroupsAreSound = (bits : ℕ) (gs : List Written) (space : List TypeTree) → AreValidGroups bits [] gs space → AreSound space
+ValidGroupsAreSound = (settings : Settings) (gs : List Written) (space : List TypeTree) → AreValidGroups settings [] gs space → AreSound space

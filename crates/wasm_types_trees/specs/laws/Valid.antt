@@ -4,13 +4,14 @@ use Rattle.std.specs.Prelude.{All, Contains}
 use Rattle.std.proofs.lemmas.Bool.{lt-ltb, le-ltb, cases_lt}
 use Rattle.std.proofs.lemmas.List.{length-map, get_or-map}
 use Rattle.std.proofs.lemmas.List.Elements.{All-nil, All-cons, All-from_get_or, All-append, All-weaker, All-contains, All-contains_itself, Contains-get_or, Contains-append_left, Contains-append_right}
+use Rattle.wasm_types_limits.specs.Settings.{Settings}
 use Rattle.wasm_types_trees.specs.Rows.{ValueOf, RowOf, row_of_subtype, row_map}
 use Rattle.wasm_types_trees.specs.Each.{EachOption, EachValue, EachRow}
 use Rattle.wasm_types_trees.specs.Trees.{GroupTree, local, type_of, group_tree, TypeTree, type_meant, past_the_end, opened}
 use Rattle.wasm_types_trees.specs.Unfold.{Reference, Local, Earlier, Row, reference_tree, unfolded}
 use Rattle.wasm_types_trees.specs.Below.{supertype, DeclaredBelow, itself, declared, Below}
 use Rattle.wasm_types_trees.specs.Matches.{Matches}
-use Rattle.wasm_types_trees.specs.ValidGroup.{Written, written_rows, canonical_at, reference_at, type_at, written_tree, types_from, types_of, AreWellReferenced, IsWithinDepth, max_depth, IsValidSupertype, IsValidType, AreValidTypes, IsValidGroup, AreValidGroups, done, next}
+use Rattle.wasm_types_trees.specs.ValidGroup.{Written, written_rows, canonical_at, reference_at, type_at, written_tree, types_from, types_of, AreWellReferenced, IsWithinDepth, IsValidSupertype, IsValidType, AreValidTypes, IsValidGroup, AreValidGroups, done, next}
 use Rattle.wasm_types_trees.specs.Chains.{IsSound, LinksMatch, HasNoCycle, AreClosed, AreSound}
 use Rattle.wasm_types_trees.specs.laws.Rows.{row_twice, rows_twice, each_row, row_of_each}
 use Rattle.wasm_types_trees.specs.laws.Unfold.{open_place}
@@ -127,61 +128,61 @@ nowhere : GroupTree → TypeTree
 nowhere g = record { group = g; place = 0 }
 
 -- a new type refers to the types that are there behind the group
-closed_new : (bits : ℕ) (space : List TypeTree) (g : Written) → IsValidGroup bits space g → (p : ℕ) → p < length g.types
+closed_new : (settings : Settings) (space : List TypeTree) (g : Written) → IsValidGroup settings space g → (p : ℕ) → p < length g.types
     → EachRow (Contains (space ++ types_of space g)) (opened (record { group = written_tree space g; place = p }))
-closed_new bits space g v p lt =
+closed_new settings space g v p lt =
     let x : RowOf ℕ = get_or (written_rows g) p past_the_end in
     let rows = length_rows g in
     subst (EachRow (Contains (space ++ types_of space g))) (sym (opens_written space g p lt))
     (row_of_each (meant space g) (Contains (space ++ types_of space g)) x
     (each_row (λ i. i < length space + length g.types) (λ i. Contains (space ++ types_of space g) (meant space g i)) (meant_known space g) x
-    (known_at bits (length space) (length space + length g.types) (length space) (written_rows g) p past_the_end v.references (omega arith))))
+    (known_at settings.features (length space) (length space + length g.types) (length space) (written_rows g) p past_the_end v.references (omega arith))))
 
-closed_group : (bits : ℕ) (space : List TypeTree) (g : Written) → IsValidGroup bits space g → All (λ t. EachRow (Contains (space ++ types_of space g)) (opened t)) (types_of space g)
-closed_group bits space g v =
+closed_group : (settings : Settings) (space : List TypeTree) (g : Written) → IsValidGroup settings space g → All (λ t. EachRow (Contains (space ++ types_of space g)) (opened t)) (types_of space g)
+closed_group settings space g v =
     let whole : GroupTree = written_tree space g in
     let n : ℕ = length g.types in
     All-from_get_or (λ t. EachRow (Contains (space ++ types_of space g)) (opened t)) (types_of space g) (nowhere whole) (λ i lt.
     let lt' : i < n = omega (arith, length_types whole 0 n) in
     let e : get_or (types_of space g) i (nowhere whole) ≡ record { group = whole; place = i } = get_types whole 0 n i (nowhere whole) lt' ∙ ap (λ (p : ℕ). record { group = whole; place = p }) (omega arith) in
-    subst (λ (t : TypeTree). EachRow (Contains (space ++ types_of space g)) (opened t)) (sym e) (closed_new bits space g v i lt'))
+    subst (λ (t : TypeTree). EachRow (Contains (space ++ types_of space g)) (opened t)) (sym e) (closed_new settings space g v i lt'))
 
-pub closed_push : (bits : ℕ) (space : List TypeTree) (g : Written) → IsValidGroup bits space g → AreClosed space → AreClosed (space ++ types_of space g)
-closed_push bits space g v c =
+pub closed_push : (settings : Settings) (space : List TypeTree) (g : Written) → IsValidGroup settings space g → AreClosed space → AreClosed (space ++ types_of space g)
+closed_push settings space g v c =
     All-append (λ t. EachRow (Contains (space ++ types_of space g)) (opened t)) space (types_of space g)
     (All-weaker (λ t. EachRow (Contains space) (opened t)) (λ t. EachRow (Contains (space ++ types_of space g)) (opened t)) (λ t w. each_row (Contains space) (Contains (space ++ types_of space g)) (λ r. Contains-append_left space (types_of space g) r) (opened t) w) space c)
-    (closed_group bits space g v)
+    (closed_group settings space g v)
 
-valid_types : (bits : ℕ) (ts : List TypeTree) → AreValidTypes bits ts → All (IsValidType bits) ts
-valid_types bits [] w = All-nil (IsValidType bits)
-valid_types bits (t ∷ ts) w = All-cons (IsValidType bits) t ts w.0 (valid_types bits ts w.1)
+valid_types : (settings : Settings) (ts : List TypeTree) → AreValidTypes settings ts → All (IsValidType settings) ts
+valid_types settings [] w = All-nil (IsValidType settings)
+valid_types settings (t ∷ ts) w = All-cons (IsValidType settings) t ts w.0 (valid_types settings ts w.1)
 
 -- ---- groups one after the other
 
-record AreValid (bits : ℕ) (space : List TypeTree) : Type 0 where
+record AreValid (settings : Settings) (space : List TypeTree) : Type 0 where
   closed : AreClosed space
-  valid : All (IsValidType bits) space
+  valid : All (IsValidType settings) space
 
-valid_push : (bits : ℕ) (space : List TypeTree) (g : Written) → AreValid bits space → IsValidGroup bits space g → AreValid bits (space ++ types_of space g)
-valid_push bits space g a v = record {
-  closed = closed_push bits space g v a.closed;
-  valid = All-append (IsValidType bits) space (types_of space g) a.valid (valid_types bits (types_of space g) v.types);
+valid_push : (settings : Settings) (space : List TypeTree) (g : Written) → AreValid settings space → IsValidGroup settings space g → AreValid settings (space ++ types_of space g)
+valid_push settings space g a v = record {
+  closed = closed_push settings space g v a.closed;
+  valid = All-append (IsValidType settings) space (types_of space g) a.valid (valid_types settings (types_of space g) v.types);
 }
 
-valid_after : (bits : ℕ) (space after : List TypeTree) (gs : List Written) → AreValid bits space → AreValidGroups bits space gs after → AreValid bits after
-valid_after bits space after gs a done = a
-valid_after bits space after gs a (next v vs) = valid_after bits _ after _ (valid_push bits space _ a v) vs
+valid_after : (settings : Settings) (space after : List TypeTree) (gs : List Written) → AreValid settings space → AreValidGroups settings space gs after → AreValid settings after
+valid_after settings space after gs a done = a
+valid_after settings space after gs a (next v vs) = valid_after settings _ after _ (valid_push settings space _ a v) vs
 
 -- ---- soundness
 
-module _ (bits : ℕ) (space : List TypeTree) (a : AreValid bits space) where
+module _ (settings : Settings) (space : List TypeTree) (a : AreValid settings space) where
   stays_inside : (t u : TypeTree) → Contains space t → DeclaredBelow t u → Contains space u
   stays_inside t u c itself = c
   stays_inside t u c (declared e p) =
       stays_inside _ u (subst (EachOption (Contains space)) e (All-contains (λ x. EachRow (Contains space) (opened x)) space t a.closed c).supertype) p
 
   link : (u v : TypeTree) → Contains space u → supertype u ≡ Some v → Matches (opened u) (opened v)
-  link u v c e = (subst (IsValidSupertype (opened u)) e (All-contains (IsValidType bits) space u a.valid c).above).1
+  link u v c e = (subst (IsValidSupertype (opened u)) e (All-contains (IsValidType settings) space u a.valid c).above).1
 
   links_match : (t : TypeTree) → Contains space t → LinksMatch t
   links_match t c u v d e = link u v (stays_inside t u c d) e
@@ -190,19 +191,19 @@ module _ (bits : ℕ) (space : List TypeTree) (a : AreValid bits space) where
   sound_space = record {
     links = All-weaker (Contains space) LinksMatch links_match space (All-contains_itself space);
     sound = All-weaker (Contains space) IsSound (λ t c. links_are_sound t (links_match t c)) space (All-contains_itself space);
-    acyclic = All-weaker (IsValidType bits) HasNoCycle (λ t v. depth_ends max_depth t v.depth) space a.valid;
+    acyclic = All-weaker (IsValidType settings) HasNoCycle (λ t v. depth_ends settings.limits.subtyping_depth t v.depth) space a.valid;
     closed = a.closed;
   }
 
-pub valid_groups_are_sound : (bits : ℕ) (gs : List Written) (space : List TypeTree) → AreValidGroups bits [] gs space → AreSound space
-valid_groups_are_sound bits gs space v =
-    sound_space bits space (valid_after bits [] space gs (record { closed = All-nil (λ t. EachRow (Contains []) (opened t)); valid = All-nil (IsValidType bits) }) v)
+pub valid_groups_are_sound : (settings : Settings) (gs : List Written) (space : List TypeTree) → AreValidGroups settings [] gs space → AreSound space
+valid_groups_are_sound settings gs space v =
+    sound_space settings space (valid_after settings [] space gs (record { closed = All-nil (λ t. EachRow (Contains []) (opened t)); valid = All-nil (IsValidType settings) }) v)
 
 -- ---- subtyping on the types of valid groups
 
-pub below_is_in_groups : (bits : ℕ) (gs : List Written) (space : List TypeTree) (v w : ValueOf TypeTree) → AreValidGroups bits [] gs space
+pub below_is_in_groups : (settings : Settings) (gs : List Written) (space : List TypeTree) (v w : ValueOf TypeTree) → AreValidGroups settings [] gs space
     → EachValue (Contains space) v → EachValue (Contains space) w → Below v w ↔ ValueMatches (Contains space) v w
-below_is_in_groups bits gs space v w valid =
-    let sound = valid_groups_are_sound bits gs space valid in
+below_is_in_groups settings gs space v w valid =
+    let sound = valid_groups_are_sound settings gs space valid in
     below_is (Contains space) (λ t c. All-contains IsSound space t sound.sound c)
     (λ t u c e. subst (EachOption (Contains space)) e (All-contains (λ x. EachRow (Contains space) (opened x)) space t sound.closed c).supertype) v w

@@ -2,6 +2,8 @@
 use Rattle.std.specs.Prelude.{◌≡◌, ℕ, zero, suc, true, false, List, [], ◌∷◌, ◌++◌, map, reverse, Some, None}
 use Rattle.wasm_types_features.specs.Features.{Feature, ReferenceTypes, MultiValue, Simd, SharedEverythingThreads, Floats, Exceptions, FunctionReferences, Gc, GcTypes, StackSwitching, CustomDescriptors}
 use Rattle.wasm_types_features.specs.Sets.{bits_of}
+use Rattle.wasm_types_limits.specs.Limits.{default_limits}
+use Rattle.wasm_types_limits.specs.Settings.{Settings}
 use Rattle.wasm_types_trees.specs.Rows.{i32, i64, f32, v128, func, any, eq, exn, abstract, concrete, ValueOf, number, ref, i8, InnerOf, function, array_of, struct_of, continuation, SubtypeOf}
 use Rattle.wasm_types_trees.specs.Trees.{TypeTree}
 use Rattle.wasm_types_trees.specs.ValidGroup.{Written, written_tree, types_of, IsValidType, IsValidGroup, AreValidGroups}
@@ -57,17 +59,25 @@ abbrev pub space_of : List TypeTree → List Written → List TypeTree
 space_of space [] = space
 space_of space (g ∷ gs) = space_of (space ++ types_of space g) gs
 
+-- these features, and the limits by default
+abbrev pub allowing : ℕ → Settings
+allowing features = record { features = features; limits = default_limits }
+
+-- every feature, and one type at most above another
+abbrev pub shallow : Settings
+shallow = record { features = 0xfff_ffff; limits = record default_limits { subtyping_depth = 1 } }
+
 -- behind these groups the group is valid, with these features alone
 abbrev pub IsAccepted : List Feature → List Written → Written → Type 0
-IsAccepted fs before g = IsValidGroup (bits_of fs) (space_of [] before) g
+IsAccepted fs before g = IsValidGroup (allowing (bits_of fs)) (space_of [] before) g
 
 -- it is not, with every feature
 abbrev pub IsRefused : List Written → Written → Type 0
-IsRefused before g = IsValidGroup 0xfff_ffff (space_of [] before) g → ⊥
+IsRefused before g = IsValidGroup (allowing 0xfff_ffff) (space_of [] before) g → ⊥
 
 -- it is not, with every feature but one
 abbrev pub Needs : Feature → List Written → Written → Type 0
-Needs f before g = IsValidGroup (all_but f) (space_of [] before) g → ⊥
+Needs f before g = IsValidGroup (allowing (all_but f)) (space_of [] before) g → ⊥
 
 abbrev pub gc : List Feature
 gc = Gc ∷ GcTypes ∷ []
@@ -174,11 +184,14 @@ pub record GroupsWorked : Type 0 where
   pub describes_added : IsRefused (single (open_type [] (struct_type [])) ∷ []) (together (described_by 2 (open_type [] (struct_type [])) ∷ describing 1 (open_type (0 ∷ []) (struct_type [])) ∷ []))
   pub describes_apart : IsRefused (described ∷ []) (together (described_by 3 (open_type [] (struct_type [])) ∷ describing 2 (open_type (1 ∷ []) (struct_type [])) ∷ []))
   -- at most 63 types above one
-  pub depth_63 : IsValidType (bits_of gc) (deep 63)
-  pub depth_64 : IsValidType 0xfff_ffff (deep 64) → ⊥
+  pub depth_63 : IsValidType (allowing (bits_of gc)) (deep 63)
+  pub depth_64 : IsValidType (allowing 0xfff_ffff) (deep 64) → ⊥
+  -- or at most as many as the limit says
+  pub depth_1 : IsValidType shallow (deep 1)
+  pub depth_2 : IsValidType shallow (deep 2) → ⊥
   -- groups one after the other, and not in the other order
-  pub in_turn : AreValidGroups (bits_of gc) [] two_structs (space_of [] two_structs)
-  pub out_of_turn : (after : List TypeTree) → AreValidGroups 0xfff_ffff [] (reverse two_structs) after → ⊥
+  pub in_turn : AreValidGroups (allowing (bits_of gc)) [] two_structs (space_of [] two_structs)
+  pub out_of_turn : (after : List TypeTree) → AreValidGroups (allowing 0xfff_ffff) [] (reverse two_structs) after → ⊥
   -- equal types: two structs that refer to each other are the same wherever they stand, but not in the other order
   pub equal_groups : written_tree [] (mutual_structs 0 1 integer long) ≡ written_tree (space_of [] (mutual_structs 0 1 integer long ∷ [])) (mutual_structs 2 3 integer long)
   pub other_groups : written_tree [] (mutual_structs 0 1 integer long) ≡ written_tree [] (mutual_structs 0 1 long integer) → ⊥

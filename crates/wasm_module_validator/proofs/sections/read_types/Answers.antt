@@ -1,10 +1,11 @@
-use Rattle.std.proofs.Common.{◌≡◌, ◌∙◌, ap, false, Result, Ok, Err, arith}
+use Rattle.std.proofs.Common.{◌≡◌, ◌∙◌, sym, ap, false, Result, Ok, Err, arith}
 use Rattle.std.specs.Prelude.{nat_lt}
 use Rattle.std.proofs.lemmas.Bool.{le-ltb}
 use Rattle.std.proofs.lemmas.List.{map-id}
 use Rattle.wasm_types.specs.decoding.Decoder.{State, Outcome, Done}
 use Rattle.wasm_types.specs.error.ErrorValue.{ErrorValue}
 use Rattle.wasm_types.specs.reader.Reading.{Gives}
+use Rattle.wasm_types.specs.limits.declared.Limits.{Limits}
 use Rattle.wasm_module_validator.specs.laws.Frames.{items}
 use Rattle.wasm_module_validator.proofs.sections.read_types.Goals as goal
 
@@ -15,5 +16,5 @@ seen_alike f g (Err e) t o alike h = h
 pub returns : goal.returns
 unfolding items
 returns c =
-    let few : nat_lt 1000000 c.in_ok-count.field-0 ≡ false = le-ltb _ _ (omega arith) in
-    rw (c.in_ok-count.ensures.answer, few) (seen_alike _ _ c.read_many.result c.read_many.new.reader _ (λ v. map-id v.items) c.read_many.ensures.answer)
+    let few : nat_lt c.args.contents.now.settings.limits.types c.in_ok-count.field-0 ≡ false = le-ltb _ _ (omega (arith, ap (λ (l : Limits). l.types) c.limits.ensures.value)) in
+    rw (c.in_ok-count.ensures.answer, few, sym c.in_ok-count.ensures.forward.taken.settings) (seen_alike _ _ c.read_many.result c.read_many.new.reader _ (λ v. map-id v.items) c.read_many.ensures.answer)

@@ -14,13 +14,13 @@ pub returns-clause-sizes : goal.returns-clause-sizes
 returns-clause-sizes c = λ limit. (lawful-size_within limit, decides-size_within limit)
 
 pub returns-clause-strings : goal.returns-clause-strings
-returns-clause-strings c = (lawful-name 100000, decides-name 100000)
+returns-clause-strings c = λ limit. (lawful-name limit, decides-name limit)
 
 pub returns-clause-unlimited_strings : goal.returns-clause-unlimited_strings
 returns-clause-unlimited_strings c = (lawful-any_name, decides-any_name)
 
 pub returns-clause-skipped_strings : goal.returns-clause-skipped_strings
-returns-clause-skipped_strings c = lawful-skipped_name 100000
+returns-clause-skipped_strings c = lawful-skipped_name
 
 pub returns-clause-parts : goal.returns-clause-parts
 returns-clause-parts c = lawful-counted_part

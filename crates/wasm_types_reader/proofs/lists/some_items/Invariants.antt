@@ -6,5 +6,5 @@ use Rattle.wasm_types_reader.proofs.lists.some_items.Given as goal
 -- what was read, and what is still read, is what all of it is read as
 abbrev pub invariant-loop : goal.invariant-loop
 invariant-loop g l =
-    let d = g.T.FromReader.decoder in
+    let d = g.T.FromReader.decoder l.fn.reader.settings in
     record { read : with_front (map g.T.FromReader.view l.items.items) (repeated (l.count - l.counter) d l.reader) ≡ repeated l.count d l.fn.reader; forward : Reaches l.fn.reader l.reader }

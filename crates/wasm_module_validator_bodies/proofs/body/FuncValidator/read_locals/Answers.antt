@@ -4,8 +4,8 @@ use Rattle.wasm_types.specs.decoding.Leb.{u32}
 use Rattle.wasm_types.specs.decoding.Places.{within-unsigned}
 use Rattle.wasm_module_validator_bodies.specs.laws.OperatorLaws.{bytewise-u32}
 use Rattle.wasm_module_validator_bodies.proofs.Places.{read_refused, refused_there, within_further}
-use Rattle.wasm_module_validator_operands.proofs.Covering.{does_also}
-use Rattle.wasm_module_validator_bodies.proofs.Groups.{count_refused, entry_read, entry_may}
+use Rattle.wasm_module_validator_operands.proofs.Covering.{denies_also, does_also}
+use Rattle.wasm_module_validator_bodies.proofs.Groups.{params_within, count_refused, entry_read, entry_may}
 use Rattle.wasm_module_validator_bodies.proofs.body.FuncValidator.read_locals.Goals as goal
 
 pub returns-in_err-count-clause-does : goal.returns-in_err-count-clause-does
@@ -32,3 +32,8 @@ returns-in_err-count-clause-within c =
 
 pub returns-clause-within : goal.returns-clause-within
 returns-clause-within c = within_further c.args.reader.now c.read_var_u32.new.self c.read_groups.result c.in_ok-count.ensures.forward c.read_groups.ensures.within
+
+pub returns-in_err-begin-clause-does : goal.returns-in_err-begin-clause-does
+returns-in_err-begin-clause-does c =
+    let p = err_from_is_err_and c.from_residual.result c.from_residual.ensures.1 in
+    rw (p.1, p.2) (denies_also _ (λ (results, a). params_within c.args.params.now results c.args.reader.now.rest a) c.in_err-begin.ensures.does)

@@ -12,8 +12,8 @@ returns-in_err-count-clause-answer c =
 
 pub returns-clause-answer : goal.returns-clause-answer
 returns-clause-answer c =
-    let features = ap (λ (s : State). s.features) c.self.view_is ∙ c.in-Ok.ensures.forward.taken.features in
-    rw (c.new_features.ensures, c.original_position-place.ensures, features) (part_done _ _ _ c.in_ok-count.ensures.answer _ _ c.in-Ok.ensures.answer)
+    let settings = ap (λ (s : State). s.settings) c.self.view_is ∙ c.in-Ok.ensures.forward.taken.settings in
+    rw (c.new_limited.ensures, c.original_position-place.ensures, settings) (part_done _ _ _ c.in_ok-count.ensures.answer _ _ c.in-Ok.ensures.answer)
 
 pub returns-in-Err-clause-answer : goal.returns-in-Err-clause-answer
 returns-in-Err-clause-answer c = (part_ends _ _ _ c.in_ok-count.ensures.answer _ _ c.in-Err.ensures.answer.0, c.self-in-Err.view_is ∙ c.clone-start.ensures)
