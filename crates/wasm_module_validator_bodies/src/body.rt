@@ -7,11 +7,12 @@ ghost use Rattle.wasm_module_validator_operands.specs.Answers.{Tells, RefusedAt,
 ghost use Rattle.wasm_types.specs.decoding.Decoder.{Reaches};
 ghost use Rattle.wasm_module_validator_bodies.specs.Bodies.{AcceptsBody};
 ghost use Rattle.wasm_module_validator_operands.specs.Operands.{Does, fresh};
-ghost use Rattle.wasm_module_validator_bodies.specs.Remaining.{function_type, GroupsLeft, BodyLeft, Taken, MayTake};
+ghost use Rattle.wasm_module_validator_bodies.specs.Remaining.{function_type, GroupsLeft, BodyLeft};
+ghost use Rattle.wasm_module_validator_bodies.specs.Stepping.{StepsOver, as_operator, MayRefuse, IsErrorOf};
 
 use crate::operators::{LocalGroup, Operator};
 use std::alloc::Global;
-use wasm_module_validator_operands::OperatorValidator;
+use wasm_module_validator_operands::{OperatorValidator, Refusal};
 use wasm_types::{BinaryReader, Error, FuncType, Result, ValType};
 
 /// A validator of what functions do, one after the other, which keeps its memory from one to the next.
@@ -46,7 +47,7 @@ impl FuncValidator {
     {
         let mut reader = body;
         self.read_locals(ty.params(), &mut reader)?;
-        self.read_operators(ty.results(), &mut reader)
+        self.read_operators(ty.results(), reader)
     }
 
     /// Reads the groups of locals of a function with these parameters.
@@ -90,19 +91,21 @@ impl FuncValidator {
         Ok(())
     }
 
-    /// Reads operators to the end of the data, and visits each.
-    #[tactic(auto, using(wasm_types::specs::Laws::reaches_self, wasm_types::specs::Laws::reaches_then))]
-    fn read_operators(&mut self, results: &[ValType], reader: &mut BinaryReader<'_>) -> Result<()>
-        ensures verdict { Tells result (BodyLeft results.now self.old.validator reader.old.rest) }
-        ensures within { RefusedWithin reader.old result }
+    /// Reads operators to the end of the data, and steps over each.
+    fn read_operators(&mut self, results: &[ValType], reader: BinaryReader<'_>) -> Result<()>
+        ensures verdict { Tells result (BodyLeft results.now self.old.validator reader.rest) }
+        ensures within { RefusedWithin reader result }
     {
+        let mut reader = reader;
         while !reader.eof() {
-            let offset = reader.original_position();
             if self.validator.has_ended() {
-                return Err(operators_remain(offset));
+                return Err(operators_remain(reader.original_position()));
             }
-            let operator = reader.read::<Operator>(self.alloc)?;
-            self.op(offset, operator, results)?;
+            let mut ahead = reader.clone();
+            if let Err(refusal) = self.step(results, &mut ahead) {
+                return Err(refused_operator(self.alloc, refusal, reader.clone()));
+            }
+            reader = ahead;
         }
         if !self.validator.has_ended() {
             return Err(frames_remain(reader.original_position()));
@@ -110,29 +113,89 @@ impl FuncValidator {
         Ok(())
     }
 
-    /// Visits an operator of a body with these results that has not ended.
-    #[inline]
-    fn op(&mut self, offset: u64, operator: Operator, results: &[ValType]) -> Result<()>
+    /// Reads an operator of a body with these results that has not ended, and steps over it: from its first byte straight
+    /// to its step. Where it is refused the reader may have gone on.
+    #[inline(always)]
+    fn step(
+        &mut self,
+        results: &[ValType],
+        reader: &mut BinaryReader<'_>,
+    ) -> Result<(), OperatorRefusal>
         requires { self.old.validator.ended ≡ false }
-        ensures does { Does result (Taken results.now operator self.old.validator self.new.validator) (MayTake results.now operator self.old.validator) }
-        ensures at { RefusedAt offset result }
+        ensures { StepsOver results.now result self.old.validator self.new.validator reader.old reader.new }
     {
-        match operator {
-            Operator::Unreachable => {
-                self.validator.visit_unreachable();
+        let Some(code) = reader.short_u8() else {
+            return Err(OperatorRefusal::Unread);
+        };
+        match code {
+            0x00 => {
+                self.validator.step_unreachable();
                 Ok(())
             }
-            Operator::Nop => Ok(()),
-            Operator::End => self.validator.visit_end(offset, results),
-            Operator::Drop => self.validator.visit_drop(offset),
-            Operator::LocalGet { local_index } => {
-                self.validator.visit_local_get(offset, local_index)
+            0x01 => Ok(()),
+            0x0b => stepped(self.validator.step_end(results)),
+            0x1a => stepped(self.validator.step_drop()),
+            0x20 => {
+                let Some(local_index) = reader.short_u32() else {
+                    return Err(OperatorRefusal::Unread);
+                };
+                stepped(self.validator.step_local_get(local_index))
             }
-            Operator::I32Const { value: _ } => self.validator.visit_i32_const(),
-            Operator::I64Const { value: _ } => self.validator.visit_i64_const(),
-            Operator::I32Add => self.validator.visit_i32_add(offset),
-            Operator::I64Add => self.validator.visit_i64_add(offset),
+            0x41 => {
+                let Some(_) = reader.short_i32() else {
+                    return Err(OperatorRefusal::Unread);
+                };
+                stepped(self.validator.step_i32_const())
+            }
+            0x42 => {
+                let Some(_) = reader.short_i64() else {
+                    return Err(OperatorRefusal::Unread);
+                };
+                stepped(self.validator.step_i64_const())
+            }
+            0x6a => stepped(self.validator.step_i32_add()),
+            0x7c => stepped(self.validator.step_i64_add()),
+            _ => Err(OperatorRefusal::Unread),
         }
+    }
+}
+
+/// Why an operator is refused where it stands, in few bytes.
+#[derive(Clone, Copy)]
+pub(crate) enum OperatorRefusal {
+    /// The bytes spell no operator. Which fault is at which of them, the public reader tells.
+    Unread,
+    /// An operator was read, and refused for this.
+    Refused(Refusal),
+}
+
+/// The same answer, of an operator that was read.
+#[inline(always)]
+fn stepped(answer: Result<(), Refusal>) -> Result<(), OperatorRefusal>
+    ensures { result ≡ as_operator answer }
+{
+    match answer {
+        Ok(()) => Ok(()),
+        Err(refusal) => Err(OperatorRefusal::Refused(refusal)),
+    }
+}
+
+/// The error of a refusal of the operator at this reader: what cannot be read is read again, so that the fault is named
+/// as by [`Operator`]'s reader.
+#[cold]
+#[inline(never)]
+fn refused_operator(alloc: Global, refusal: OperatorRefusal, reader: BinaryReader<'_>) -> Error
+    requires { MayRefuse refusal reader }
+    ensures { IsErrorOf refusal reader result }
+{
+    let mut reader = reader;
+    let offset = reader.original_position();
+    match refusal {
+        OperatorRefusal::Unread => match reader.read::<Operator>(alloc) {
+            Ok(_) => operators_remain(offset),
+            Err(error) => error,
+        },
+        OperatorRefusal::Refused(refusal) => refusal.error(offset),
     }
 }
 

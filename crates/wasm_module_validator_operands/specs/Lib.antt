@@ -4,4 +4,5 @@ pub mod Validation
 -- What contracts promise besides them.
 pub mod Answers
 pub mod Operands
+pub mod Refusals
 pub mod Locals
