@@ -1,5 +1,5 @@
 -- What it promises to read an operator and step over it at once.
-use Rattle.std.specs.Prelude.{◌≡◌, Unit, List, Result, Ok, Err}
+use Rattle.std.specs.Prelude.{◌≡◌, List, Result, Ok, Err}
 use Rattle.wasm_types.specs.decoding.Decoder.{State, Done}
 use Rattle.wasm_types.specs.error.ErrorValue.{ErrorValue}
 use Rattle.wasm_types.specs.reader.Reading.{Fails}

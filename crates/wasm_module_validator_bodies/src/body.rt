@@ -92,11 +92,11 @@ impl FuncValidator {
     }
 
     /// Reads operators to the end of the data, and steps over each.
-    fn read_operators(&mut self, results: &[ValType], reader: BinaryReader<'_>) -> Result<()>
-        ensures verdict { Tells result (BodyLeft results.now self.old.validator reader.rest) }
-        ensures within { RefusedWithin reader result }
+    fn read_operators(&mut self, results: &[ValType], body: BinaryReader<'_>) -> Result<()>
+        ensures verdict { Tells result (BodyLeft results.now self.old.validator body.entry.rest) }
+        ensures within { RefusedWithin body.entry result }
     {
-        let mut reader = reader;
+        let mut reader = body;
         while !reader.eof() {
             if self.validator.has_ended() {
                 return Err(operators_remain(reader.original_position()));
@@ -186,12 +186,12 @@ fn stepped(answer: Result<(), Refusal>) -> Result<(), OperatorRefusal>
 #[inline(never)]
 fn refused_operator(alloc: Global, refusal: OperatorRefusal, reader: BinaryReader<'_>) -> Error
     requires { MayRefuse refusal reader }
-    ensures { IsErrorOf refusal reader result }
+    ensures { IsErrorOf refusal reader.entry result }
 {
-    let mut reader = reader;
     let offset = reader.original_position();
+    let mut again = reader;
     match refusal {
-        OperatorRefusal::Unread => match reader.read::<Operator>(alloc) {
+        OperatorRefusal::Unread => match again.read::<Operator>(alloc) {
             Ok(_) => operators_remain(offset),
             Err(error) => error,
         },

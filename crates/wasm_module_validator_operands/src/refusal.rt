@@ -20,11 +20,15 @@ pub enum Refusal {
         found: PackedType,
     },
     /// There is no operand where one of this type is expected.
-    EmptyStack { expected: PackedType },
+    EmptyStack {
+        expected: PackedType,
+    },
     /// There is no operand where one of any type is expected.
     EmptyStackOfAny,
     /// No local has this index.
-    UnknownLocal { local_index: u32 },
+    UnknownLocal {
+        local_index: u32,
+    },
     /// Operands are left over at the end.
     ValuesRemain,
 }
