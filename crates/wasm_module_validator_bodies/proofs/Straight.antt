@@ -1,6 +1,6 @@
 -- Operators read from their first byte straight to their step.
-use Rattle.std.proofs.Common.{◌≡◌, ◌↔◌, ◌<◌, ℕ, ℤ, List, [], ◌∷◌, Bool, true, false, cond, length, refl, sym, subst, Result, Ok, Err}
-use Rattle.std.specs.Prelude.{◌==◌}
+use Rattle.std.proofs.Common.{◌≡◌, ◌↔◌, ◌<◌, ℕ, ℤ, List, [], ◌∷◌, Bool, true, false, cond, length, refl, sym, subst, ◌∙◌, Result, Ok, Err}
+use Rattle.std.specs.Prelude.{◌==◌, IfOk}
 use Rattle.wasm_types.specs.decoding.Decoder.{State, Reaches, Outcome, Done, Short, Fault, Decoder, continue_with, byte, choice}
 use Rattle.wasm_types.specs.decoding.Exact.{has_tag}
 use Rattle.wasm_types.specs.decoding.Leb.{u32, s32, s64}
@@ -10,16 +10,17 @@ use Rattle.wasm_module_validator_operands.specs.declared.refusal.Refusal.{Refusa
 use Rattle.wasm_types.specs.error.ErrorValue.{ErrorValue}
 use Rattle.wasm_types.specs.error.declared.error.ErrorKind.{ErrorKind}
 use Rattle.wasm_module_validator_operands.specs.Answers.{Denies, IsRefusalOf}
-use Rattle.wasm_module_validator_operands.specs.Refusals.{Takes, kind_of}
-use Rattle.wasm_module_validator_operands.specs.Operands.{Known}
+use Rattle.wasm_module_validator_operands.specs.Syntax.{Instruction}
+use Rattle.wasm_module_validator_operands.specs.Refusals.{Takes, kind_of, Steps as StepsBy}
+use Rattle.wasm_module_validator_operands.specs.Operands.{Known, Ended, MayEnd}
 use Rattle.wasm_module_validator_bodies.specs.declared.operators.Operator.{Operator}
 use Rattle.wasm_module_validator_bodies.specs.declared.operators.Operator.TheVariants.{Unreachable, Nop, End, Drop, LocalGet, I32Const, I64Const, I32Add, I64Add}
 use Rattle.wasm_module_validator_bodies.specs.laws.Operators.{opcodes, operator}
 use Rattle.wasm_module_validator_bodies.specs.laws.OperatorLaws.{decides-operator, within-operator, bytewise-operator}
 use Rattle.wasm_module_validator_bodies.specs.declared.body.OperatorRefusal.{OperatorRefusal}
 use Rattle.wasm_module_validator_bodies.specs.declared.body.OperatorRefusal.TheVariants.{Unread, Refused}
-use Rattle.wasm_module_validator_bodies.specs.Remaining.{BodyLeft, Taken, MayTake}
-use Rattle.wasm_module_validator_bodies.specs.Stepping.{IsRead, Refuses, StepsOver, as_operator, MayRefuse, IsErrorOf}
+use Rattle.wasm_module_validator_bodies.specs.Remaining.{Closes, BodyLeft, Taken, MayTake}
+use Rattle.wasm_module_validator_bodies.specs.Stepping.{IsOver, Refuses, StepsOver, as_operator, MayRefuse, IsErrorOf}
 use Rattle.wasm_module_validator_bodies.proofs.Places.{read_refused, refused_there}
 use Rattle.wasm_module_validator_bodies.proofs.Steps.{operator_refused, step, step_refused, fewer}
 
@@ -98,26 +99,32 @@ unread_42 s t b e f g = rw (e, f) (refused_first (s64 t) _ g)
 
 -- ---- what was read is stepped over
 
-pub over : {X : Type 0} (r : Result X Refusal) (results : List ValType) (k l : Known) (s t : State) (o : Operator) → operator s ≡ Done o t → Takes r (Taken results o k l) (MayTake results o k)
-    → StepsOver results (as_operator r) k l s t
-over (Ok x) results k l s t o e d = (o, e, d)
-over (Err r) results k l s t o e d = (o, t, e, d)
+pub over : {X : Type 0} (r : Result X Refusal) (results : List ValType) (k l : Known) (s t : State) (o : Operator) (b : Bool) → operator s ≡ Done o t → Takes r (Taken results o k l) (MayTake results o k)
+    → IfOk r (λ x. l.ended ≡ b) → StepsOver results (as_operator b r) k l s t
+over (Ok x) results k l s t o b e d f = (o, e, d, f)
+over (Err r) results k l s t o b e d f = (o, t, e, d)
+
+-- an instruction ends no body, and an end does
+pub still_on : {X : Type 0} (r : Result X Refusal) (i : Instruction) (k l : Known) → k.ended ≡ false → StepsBy i r k l → IfOk r (λ x. l.ended ≡ false)
+still_on (Ok x) i k l e v = v.same.ended ∙ e
+still_on (Err r) i k l e v = tt
+
+pub at_end : {X : Type 0} (r : Result X Refusal) (results : List ValType) (k l : Known) → Takes r (Ended results k l) (MayEnd results k) → IfOk r (λ x. l.ended ≡ true)
+at_end (Ok x) results k l v = v.ended
+at_end (Err r) results k l v = tt
 
 -- ---- one operator of a body
 
-abbrev pub IsOver : List ValType → Known → Known → State → State → Type 0
-IsOver results k l s t = (o : Operator) × IsRead o s t × Taken results o k l
-
 -- an operator was read and stepped over
-pub stepped_left : (results : List ValType) (k l : Known) (s t : State) → IsOver results k l s t → BodyLeft results k s.rest ↔ BodyLeft results l t.rest
-stepped_left results k l s t (o, e, taken) = step results k l s t o e taken
+pub stepped_left : (results : List ValType) (b : Bool) (k l : Known) (s t : State) → IsOver results b k l s t → BodyLeft results k s.rest ↔ BodyLeft results l t.rest
+stepped_left results b k l s t (o, e, taken, f) = step results k l s t o e taken
 
-pub stepped_fewer : (results : List ValType) (k l : Known) (s t : State) → IsOver results k l s t → length t.rest < length s.rest
-stepped_fewer results k l s t (o, e, taken) = fewer s t o e
+pub stepped_fewer : (results : List ValType) (b : Bool) (k l : Known) (s t : State) → IsOver results b k l s t → length t.rest < length s.rest
+stepped_fewer results b k l s t (o, e, taken, f) = fewer s t o e
 
-pub stepped_forward : (results : List ValType) (k l : Known) (s t : State) → IsOver results k l s t → Reaches s t
+pub stepped_forward : (results : List ValType) (b : Bool) (k l : Known) (s t : State) → IsOver results b k l s t → Reaches s t
 unfolding operator
-stepped_forward results k l s t (o, e, taken) =
+stepped_forward results b k l s t (o, e, taken, f) =
     let p = decides-operator.sound s t o e in
     record { text = p.0; taken = p.1 }
 
@@ -139,3 +146,7 @@ error_within s t (Refused r) e at f = refused_there e.kind s t e.offset t.place 
 -- what is refused was not read
 pub not_both : {A : Type 0} (o : Outcome A) (x : A) (t : State) → IsRefused o → o ≡ Done x t → ⊥
 not_both {A} o x t r e = subst (λ (u : Outcome A). IsRefused u) e r
+
+-- behind the end of a body nothing is left
+pub closes_bare : (results : List ValType) (k : Known) (rest : List ℕ) → k.ended ≡ true → BodyLeft results k rest ↔ (rest ≡ [])
+closes_bare results k rest e = (λ c. subst (λ (b : Bool). Closes b results k rest) e c, λ c. subst (λ (b : Bool). Closes b results k rest) (sym e) c)

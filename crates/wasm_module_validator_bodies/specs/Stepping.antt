@@ -1,5 +1,5 @@
 -- What it promises to read an operator and step over it at once.
-use Rattle.std.specs.Prelude.{◌≡◌, List, Result, Ok, Err}
+use Rattle.std.specs.Prelude.{◌≡◌, List, Bool, Result, Ok, Err}
 use Rattle.wasm_types.specs.decoding.Decoder.{State, Done}
 use Rattle.wasm_types.specs.error.ErrorValue.{ErrorValue}
 use Rattle.wasm_types.specs.reader.Reading.{Fails}
@@ -24,15 +24,19 @@ abbrev pub Refuses : List ValType → OperatorRefusal → Known → State → Ty
 Refuses results Unread before s = IsRefused (operator s)
 Refuses results (Refused r) before s = (o : Operator) × (t : State) × IsRead o s t × Denies (kind_of r) (MayTake results o before)
 
+-- an operator was read and taken, and this tells whether the body has ended
+abbrev pub IsOver : List ValType → Bool → Known → Known → State → State → Type 0
+IsOver results ended before after s t = (o : Operator) × IsRead o s t × Taken results o before after × (after.ended ≡ ended)
+
 -- Ok where an operator was read and taken.
-abbrev pub StepsOver : {X : Type 0} → List ValType → Result X OperatorRefusal → Known → Known → State → State → Type 0
-StepsOver results (Ok x) before after s t = (o : Operator) × IsRead o s t × Taken results o before after
+abbrev pub StepsOver : List ValType → Result Bool OperatorRefusal → Known → Known → State → State → Type 0
+StepsOver results (Ok ended) before after s t = IsOver results ended before after s t
 StepsOver results (Err r) before after s t = Refuses results r before s
 
--- the same answer, of an operator that was read
-abbrev pub as_operator : {X : Type 0} → Result X Refusal → Result X OperatorRefusal
-as_operator (Ok x) = Ok x
-as_operator (Err r) = Err (Refused r)
+-- the same answer, of an operator that was read, and whether it is the end
+abbrev pub as_operator : {X : Type 0} → Bool → Result X Refusal → Result Bool OperatorRefusal
+as_operator ended (Ok x) = Ok ended
+as_operator ended (Err r) = Err (Refused r)
 
 -- where no operator is read, the bytes at s spell none
 abbrev pub MayRefuse : OperatorRefusal → State → Type 0

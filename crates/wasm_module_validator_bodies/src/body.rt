@@ -1,6 +1,6 @@
 //! Validation of a function's entry in the code section.
 
-ghost use Rattle.std.specs.Prelude.{◌≡◌, ◌↔◌, ◌≤◌, List, [], length, false};
+ghost use Rattle.std.specs.Prelude.{◌≡◌, ◌↔◌, ◌≤◌, List, [], length, false, IfOk};
 ghost use Rattle.wasm_types.specs.error.declared.error.ErrorKind.TheVariants.{Other};
 ghost use Rattle.wasm_types.specs.values.declared.value.ValType.{ValType as TheValType};
 ghost use Rattle.wasm_module_validator_operands.specs.Answers.{Tells, RefusedAt, RefusedWithin};
@@ -56,6 +56,7 @@ impl FuncValidator {
         ensures does { Does result ((results : List TheValType) → AcceptsBody (function_type params.now results) reader.old.rest ↔ BodyLeft results self.new.validator reader.new.rest) ((results : List TheValType) × AcceptsBody (function_type params.now results) reader.old.rest) }
         ensures within { RefusedWithin reader.old result }
         ensures forward { Reaches reader.old reader.new }
+        ensures still { IfOk result (λ u. self.new.validator.ended ≡ false) }
     {
         self.begin(reader.original_position(), params)?;
         let count = reader.read_var_u32()?;
@@ -82,6 +83,7 @@ impl FuncValidator {
         ensures does { Does result ((results : List TheValType) → GroupsLeft results count self.old.validator.locals reader.old.rest ↔ BodyLeft results self.new.validator reader.new.rest) ((results : List TheValType) × GroupsLeft results count self.old.validator.locals reader.old.rest) }
         ensures within { RefusedWithin reader.old result }
         ensures forward { Reaches reader.old reader.new }
+        ensures still { IfOk result (λ u. self.new.validator.ended ≡ false) }
     {
         for _ in 0..count {
             let offset = reader.original_position();
@@ -93,34 +95,32 @@ impl FuncValidator {
 
     /// Reads operators to the end of the data, and steps over each.
     fn read_operators(&mut self, results: &[ValType], body: BinaryReader<'_>) -> Result<()>
+        requires { self.old.validator.ended ≡ false }
         ensures verdict { Tells result (BodyLeft results.now self.old.validator body.entry.rest) }
         ensures within { RefusedWithin body.entry result }
     {
         let mut reader = body;
         while !reader.eof() {
-            if self.validator.has_ended() {
-                return Err(operators_remain(reader.original_position()));
-            }
             let mut ahead = reader.clone();
-            if let Err(refusal) = self.step(results, &mut ahead) {
-                return Err(refused_operator(self.alloc, refusal, reader.clone()));
+            match self.step(results, &mut ahead) {
+                Ok(false) => reader = ahead,
+                Ok(true) => return ended_at(&ahead),
+                Err(refusal) => {
+                    return Err(refused_operator(self.alloc, refusal, reader.clone()));
+                }
             }
-            reader = ahead;
         }
-        if !self.validator.has_ended() {
-            return Err(frames_remain(reader.original_position()));
-        }
-        Ok(())
+        Err(frames_remain(reader.original_position()))
     }
 
     /// Reads an operator of a body with these results that has not ended, and steps over it: from its first byte straight
-    /// to its step. Where it is refused the reader may have gone on.
+    /// to its step. It answers whether the body has ended. Where it is refused the reader may have gone on.
     #[inline(always)]
     fn step(
         &mut self,
         results: &[ValType],
         reader: &mut BinaryReader<'_>,
-    ) -> Result<(), OperatorRefusal>
+    ) -> Result<bool, OperatorRefusal>
         requires { self.old.validator.ended ≡ false }
         ensures { StepsOver results.now result self.old.validator self.new.validator reader.old reader.new }
     {
@@ -130,31 +130,31 @@ impl FuncValidator {
         match code {
             0x00 => {
                 self.validator.step_unreachable();
-                Ok(())
+                Ok(false)
             }
-            0x01 => Ok(()),
-            0x0b => stepped(self.validator.step_end(results)),
-            0x1a => stepped(self.validator.step_drop()),
+            0x01 => Ok(false),
+            0x0b => stepped(self.validator.step_end(results), true),
+            0x1a => stepped(self.validator.step_drop(), false),
             0x20 => {
                 let Some(local_index) = reader.short_u32() else {
                     return Err(OperatorRefusal::Unread);
                 };
-                stepped(self.validator.step_local_get(local_index))
+                stepped(self.validator.step_local_get(local_index), false)
             }
             0x41 => {
                 let Some(_) = reader.short_i32() else {
                     return Err(OperatorRefusal::Unread);
                 };
-                stepped(self.validator.step_i32_const())
+                stepped(self.validator.step_i32_const(), false)
             }
             0x42 => {
                 let Some(_) = reader.short_i64() else {
                     return Err(OperatorRefusal::Unread);
                 };
-                stepped(self.validator.step_i64_const())
+                stepped(self.validator.step_i64_const(), false)
             }
-            0x6a => stepped(self.validator.step_i32_add()),
-            0x7c => stepped(self.validator.step_i64_add()),
+            0x6a => stepped(self.validator.step_i32_add(), false),
+            0x7c => stepped(self.validator.step_i64_add(), false),
             _ => Err(OperatorRefusal::Unread),
         }
     }
@@ -169,13 +169,13 @@ pub(crate) enum OperatorRefusal {
     Refused(Refusal),
 }
 
-/// The same answer, of an operator that was read.
+/// The same answer, of an operator that was read, and whether it is the body's end.
 #[inline(always)]
-fn stepped(answer: Result<(), Refusal>) -> Result<(), OperatorRefusal>
-    ensures { result ≡ as_operator answer }
+fn stepped(answer: Result<(), Refusal>, ended: bool) -> Result<bool, OperatorRefusal>
+    ensures { result ≡ as_operator ended answer }
 {
     match answer {
-        Ok(()) => Ok(()),
+        Ok(()) => Ok(ended),
         Err(refusal) => Err(OperatorRefusal::Refused(refusal)),
     }
 }
@@ -197,6 +197,17 @@ fn refused_operator(alloc: Global, refusal: OperatorRefusal, reader: BinaryReade
         },
         OperatorRefusal::Refused(refusal) => refusal.error(offset),
     }
+}
+
+/// Whether nothing is left behind the end of a body.
+fn ended_at(reader: &BinaryReader<'_>) -> Result<()>
+    ensures verdict { Tells result (reader.now.rest ≡ []) }
+    ensures within { RefusedWithin reader.now result }
+{
+    if reader.eof() {
+        return Ok(());
+    }
+    Err(operators_remain(reader.original_position()))
 }
 
 #[cold]

@@ -179,12 +179,18 @@ impl OperatorValidator {
         self.check_binary_op(PackedType::new(ValType::I64))
     }
 
-    /// Steps over an instruction that takes two operands of a type and gives one.
+    /// Steps over an instruction that takes two operands of a type and gives one. Where the second is on the stack it stays
+    /// there as what is given.
     #[inline(always)]
     fn check_binary_op(&mut self, ty: PackedType) -> Result<(), Refusal>
         ensures { Takes result (Combined ty self.old self.new) (MayCombine ty self.old) }
     {
         self.pop_operand(ty)?;
+        if let Some(top) = self.operands.last() {
+            if top.is_same(ty) {
+                return Ok(());
+            }
+        }
         self.pop_operand(ty)?;
         self.push_operand(ty)
     }
