@@ -17,9 +17,11 @@ use Rattle.wasm_module_validator_operands.specs.Validation.{OperandType, stack, 
 use Rattle.wasm_module_validator_operands.specs.Answers.{Denies}
 use Rattle.wasm_module_validator_bodies.specs.laws.Operators.{SpellsOperator, operator}
 use Rattle.wasm_module_validator_bodies.specs.laws.OperatorLaws.{decides-operator}
-use Rattle.wasm_module_validator_operands.specs.Operands.{Does, Known, Stacks, Stepped, MayStep, Visits, Ended, MayEnd}
+use Rattle.wasm_module_validator_operands.specs.Operands.{Known, Stacks, Stepped, MayStep, Ended, MayEnd}
+use Rattle.wasm_module_validator_operands.specs.declared.refusal.Refusal.{Refusal}
+use Rattle.wasm_module_validator_operands.specs.Refusals.{Takes, Steps as StepsBy}
 use Rattle.wasm_module_validator_bodies.specs.Remaining.{Continues, Closes, BodyLeft, Taken, MayTake}
-use Rattle.wasm_module_validator_operands.proofs.Covering.{all_match_refl, covers_above, does_also, denies_also}
+use Rattle.wasm_module_validator_operands.proofs.Covering.{all_match_refl, covers_above, takes_also, denies_also}
 use Rattle.wasm_module_validator_bodies.proofs.Reading.{Begins, reads, read_is, was_spelled, refused}
 
 -- ---- operators and instructions
@@ -152,9 +154,9 @@ instruction_may results k i e m =
     let g = goes results k i m.text m.rest q.code q.operands m.spelled q.spelled q.known q.typed in
     (g.before, g.after, g.known, g.steps)
 
-pub instruction_visited : {X : Type 0} (r : Result X ErrorValue) (results : List ValType) (k l : Known) (i : Instruction) → k.ended ≡ false → Visits i r k l
-    → Does r (Taken results (op_of i) k l) (MayTake results (op_of i) k)
-instruction_visited r results k l i e v = does_also r (instruction_taken results k l i e) (instruction_may results k i e) v
+pub instruction_stepped : {X : Type 0} (r : Result X Refusal) (results : List ValType) (k l : Known) (i : Instruction) → k.ended ≡ false → StepsBy i r k l
+    → Takes r (Taken results (op_of i) k l) (MayTake results (op_of i) k)
+instruction_stepped r results k l i e v = takes_also r (instruction_taken results k l i e) (instruction_may results k i e) v
 
 -- ---- the end
 
@@ -180,9 +182,9 @@ end_may results k e m =
     let q = (open_left results k (m.text ++ m.rest) e).0 m.left in
     (ends results k m.text m.rest q.code q.operands m.spelled q.spelled q.known q.typed).1
 
-pub end_visited : {X : Type 0} (r : Result X ErrorValue) (results : List ValType) (k l : Known) → k.ended ≡ false → Does r (Ended results k l) (MayEnd results k)
-    → Does r (Taken results End k l) (MayTake results End k)
-end_visited r results k l e v = does_also r (end_taken results k l e) (end_may results k e) v
+pub end_stepped : {X : Type 0} (r : Result X Refusal) (results : List ValType) (k l : Known) → k.ended ≡ false → Takes r (Ended results k l) (MayEnd results k)
+    → Takes r (Taken results End k l) (MayTake results End k)
+end_stepped r results k l e v = takes_also r (end_taken results k l e) (end_may results k e) v
 
 -- ---- to the end of the data
 

@@ -3,5 +3,6 @@ pub mod Binary
 pub mod Bodies
 -- What contracts promise beside it.
 pub mod Remaining
+pub mod Stepping
 -- How bytes are read, as decoders, and why that is exact.
 pub mod laws

@@ -1,17 +1,18 @@
 //! Validation of a function's entry in the code section.
 
-ghost use Rattle.std.specs.Prelude.{◌≡◌, ◌↔◌, ◌≤◌, List, [], length, false};
+ghost use Rattle.std.specs.Prelude.{◌≡◌, ◌↔◌, ◌≤◌, List, [], length, false, IfOk};
 ghost use Rattle.wasm_types.specs.error.declared.error.ErrorKind.TheVariants.{Other};
 ghost use Rattle.wasm_types.specs.values.declared.value.ValType.{ValType as TheValType};
 ghost use Rattle.wasm_module_validator_operands.specs.Answers.{Tells, RefusedAt, RefusedWithin};
 ghost use Rattle.wasm_types.specs.decoding.Decoder.{Reaches};
 ghost use Rattle.wasm_module_validator_bodies.specs.Bodies.{AcceptsBody};
 ghost use Rattle.wasm_module_validator_operands.specs.Operands.{Does, fresh};
-ghost use Rattle.wasm_module_validator_bodies.specs.Remaining.{function_type, GroupsLeft, BodyLeft, Taken, MayTake};
+ghost use Rattle.wasm_module_validator_bodies.specs.Remaining.{function_type, GroupsLeft, BodyLeft};
+ghost use Rattle.wasm_module_validator_bodies.specs.Stepping.{StepsOver, as_operator, MayRefuse, IsErrorOf};
 
 use crate::operators::{LocalGroup, Operator};
 use std::alloc::Global;
-use wasm_module_validator_operands::OperatorValidator;
+use wasm_module_validator_operands::{OperatorValidator, Refusal};
 use wasm_types::{BinaryReader, Error, FuncType, Result, ValType};
 
 /// A validator of what functions do, one after the other, which keeps its memory from one to the next.
@@ -46,7 +47,7 @@ impl FuncValidator {
     {
         let mut reader = body;
         self.read_locals(ty.params(), &mut reader)?;
-        self.read_operators(ty.results(), &mut reader)
+        self.read_operators(ty.results(), reader)
     }
 
     /// Reads the groups of locals of a function with these parameters.
@@ -55,6 +56,7 @@ impl FuncValidator {
         ensures does { Does result ((results : List TheValType) → AcceptsBody (function_type params.now results) reader.old.rest ↔ BodyLeft results self.new.validator reader.new.rest) ((results : List TheValType) × AcceptsBody (function_type params.now results) reader.old.rest) }
         ensures within { RefusedWithin reader.old result }
         ensures forward { Reaches reader.old reader.new }
+        ensures still { IfOk result (λ u. self.new.validator.ended ≡ false) }
     {
         self.begin(reader.original_position(), params)?;
         let count = reader.read_var_u32()?;
@@ -81,6 +83,7 @@ impl FuncValidator {
         ensures does { Does result ((results : List TheValType) → GroupsLeft results count self.old.validator.locals reader.old.rest ↔ BodyLeft results self.new.validator reader.new.rest) ((results : List TheValType) × GroupsLeft results count self.old.validator.locals reader.old.rest) }
         ensures within { RefusedWithin reader.old result }
         ensures forward { Reaches reader.old reader.new }
+        ensures still { IfOk result (λ u. self.new.validator.ended ≡ false) }
     {
         for _ in 0..count {
             let offset = reader.original_position();
@@ -90,50 +93,121 @@ impl FuncValidator {
         Ok(())
     }
 
-    /// Reads operators to the end of the data, and visits each.
-    #[tactic(auto, using(wasm_types::specs::Laws::reaches_self, wasm_types::specs::Laws::reaches_then))]
-    fn read_operators(&mut self, results: &[ValType], reader: &mut BinaryReader<'_>) -> Result<()>
-        ensures verdict { Tells result (BodyLeft results.now self.old.validator reader.old.rest) }
-        ensures within { RefusedWithin reader.old result }
+    /// Reads operators to the end of the data, and steps over each.
+    fn read_operators(&mut self, results: &[ValType], body: BinaryReader<'_>) -> Result<()>
+        requires { self.old.validator.ended ≡ false }
+        ensures verdict { Tells result (BodyLeft results.now self.old.validator body.entry.rest) }
+        ensures within { RefusedWithin body.entry result }
     {
+        let mut reader = body;
         while !reader.eof() {
-            let offset = reader.original_position();
-            if self.validator.has_ended() {
-                return Err(operators_remain(offset));
+            let mut ahead = reader.clone();
+            match self.step(results, &mut ahead) {
+                Ok(false) => reader = ahead,
+                Ok(true) => return ended_at(&ahead),
+                Err(refusal) => {
+                    return Err(refused_operator(self.alloc, refusal, reader.clone()));
+                }
             }
-            let operator = reader.read::<Operator>(self.alloc)?;
-            self.op(offset, operator, results)?;
         }
-        if !self.validator.has_ended() {
-            return Err(frames_remain(reader.original_position()));
-        }
-        Ok(())
+        Err(frames_remain(reader.original_position()))
     }
 
-    /// Visits an operator of a body with these results that has not ended.
-    #[inline]
-    fn op(&mut self, offset: u64, operator: Operator, results: &[ValType]) -> Result<()>
+    /// Reads an operator of a body with these results that has not ended, and steps over it: from its first byte straight
+    /// to its step. It answers whether the body has ended. Where it is refused the reader may have gone on.
+    #[inline(always)]
+    fn step(
+        &mut self,
+        results: &[ValType],
+        reader: &mut BinaryReader<'_>,
+    ) -> Result<bool, OperatorRefusal>
         requires { self.old.validator.ended ≡ false }
-        ensures does { Does result (Taken results.now operator self.old.validator self.new.validator) (MayTake results.now operator self.old.validator) }
-        ensures at { RefusedAt offset result }
+        ensures { StepsOver results.now result self.old.validator self.new.validator reader.old reader.new }
     {
-        match operator {
-            Operator::Unreachable => {
-                self.validator.visit_unreachable();
-                Ok(())
+        let Some(code) = reader.short_u8() else {
+            return Err(OperatorRefusal::Unread);
+        };
+        match code {
+            0x00 => {
+                self.validator.step_unreachable();
+                Ok(false)
             }
-            Operator::Nop => Ok(()),
-            Operator::End => self.validator.visit_end(offset, results),
-            Operator::Drop => self.validator.visit_drop(offset),
-            Operator::LocalGet { local_index } => {
-                self.validator.visit_local_get(offset, local_index)
+            0x01 => Ok(false),
+            0x0b => stepped(self.validator.step_end(results), true),
+            0x1a => stepped(self.validator.step_drop(), false),
+            0x20 => {
+                let Some(local_index) = reader.short_u32() else {
+                    return Err(OperatorRefusal::Unread);
+                };
+                stepped(self.validator.step_local_get(local_index), false)
             }
-            Operator::I32Const { value: _ } => self.validator.visit_i32_const(),
-            Operator::I64Const { value: _ } => self.validator.visit_i64_const(),
-            Operator::I32Add => self.validator.visit_i32_add(offset),
-            Operator::I64Add => self.validator.visit_i64_add(offset),
+            0x41 => {
+                let Some(_) = reader.short_i32() else {
+                    return Err(OperatorRefusal::Unread);
+                };
+                stepped(self.validator.step_i32_const(), false)
+            }
+            0x42 => {
+                let Some(_) = reader.short_i64() else {
+                    return Err(OperatorRefusal::Unread);
+                };
+                stepped(self.validator.step_i64_const(), false)
+            }
+            0x6a => stepped(self.validator.step_i32_add(), false),
+            0x7c => stepped(self.validator.step_i64_add(), false),
+            _ => Err(OperatorRefusal::Unread),
         }
     }
+}
+
+/// Why an operator is refused where it stands, in few bytes.
+#[derive(Clone, Copy)]
+pub(crate) enum OperatorRefusal {
+    /// The bytes spell no operator. Which fault is at which of them, the public reader tells.
+    Unread,
+    /// An operator was read, and refused for this.
+    Refused(Refusal),
+}
+
+/// The same answer, of an operator that was read, and whether it is the body's end.
+#[inline(always)]
+fn stepped(answer: Result<(), Refusal>, ended: bool) -> Result<bool, OperatorRefusal>
+    ensures { result ≡ as_operator ended answer }
+{
+    match answer {
+        Ok(()) => Ok(ended),
+        Err(refusal) => Err(OperatorRefusal::Refused(refusal)),
+    }
+}
+
+/// The error of a refusal of the operator at this reader: what cannot be read is read again, so that the fault is named
+/// as by [`Operator`]'s reader.
+#[cold]
+#[inline(never)]
+fn refused_operator(alloc: Global, refusal: OperatorRefusal, reader: BinaryReader<'_>) -> Error
+    requires { MayRefuse refusal reader }
+    ensures { IsErrorOf refusal reader.entry result }
+{
+    let offset = reader.original_position();
+    let mut again = reader;
+    match refusal {
+        OperatorRefusal::Unread => match again.read::<Operator>(alloc) {
+            Ok(_) => operators_remain(offset),
+            Err(error) => error,
+        },
+        OperatorRefusal::Refused(refusal) => refusal.error(offset),
+    }
+}
+
+/// Whether nothing is left behind the end of a body.
+fn ended_at(reader: &BinaryReader<'_>) -> Result<()>
+    ensures verdict { Tells result (reader.now.rest ≡ []) }
+    ensures within { RefusedWithin reader.now result }
+{
+    if reader.eof() {
+        return Ok(());
+    }
+    Err(operators_remain(reader.original_position()))
 }
 
 #[cold]

@@ -1,11 +1,16 @@
 -- Stacks that match others, and stacks that operands stand for.
-use Rattle.std.proofs.Common.{List, [], ◌∷◌, Bool, true, false, refl, ◌∙◌, Result, Ok, Err}
+use Rattle.std.specs.Prelude.{IfErr}
+use Rattle.std.proofs.Common.{◌≡◌, ap, ℕ, List, [], ◌∷◌, Bool, true, false, refl, sym, subst, ◌∙◌, Result, Ok, Err}
 use Rattle.wasm_types.specs.error.ErrorValue.{ErrorValue}
 use Rattle.wasm_types.specs.error.declared.error.ErrorKind.{ErrorKind}
 use Rattle.wasm_types.specs.values.declared.value.ValType.{ValType}
 use Rattle.wasm_module_validator_operands.specs.Validation.{OperandType, bottom, value, Matches, AllMatch, values}
-use Rattle.wasm_module_validator_operands.specs.Answers.{Denies, denies_from, Tells}
+use Rattle.wasm_module_validator_operands.specs.Answers.{Denies, denies_from, Tells, RefusedAt}
 use Rattle.wasm_module_validator_operands.specs.Operands.{Covers, Does}
+use Rattle.wasm_types.specs.error.declared.error.ErrorKind.TheVariants.{OutOfMemory}
+use Rattle.wasm_module_validator_operands.specs.declared.refusal.Refusal.{Refusal}
+use Rattle.wasm_module_validator_operands.specs.declared.refusal.Refusal.TheVariants as refusals
+use Rattle.wasm_module_validator_operands.specs.Refusals.{Takes, kind_of, AnswersAt}
 
 pub matches_refl : (t : OperandType) → Matches t t
 matches_refl bottom = tt
@@ -49,3 +54,29 @@ does_also (Err e) f g d = denies_also e.kind g d
 pub tells_also : {X : Type 0} (r : Result X ErrorValue) {P Q : Type 0} → (P → Q) → (Q → P) → Tells r P → Tells r Q
 tells_also (Ok x) f g h = f h
 tells_also (Err e) f g h = denies_also e.kind g h
+
+-- ---- refusals of few bytes
+
+pub takes_also : {X : Type 0} (r : Result X Refusal) {P Q R S : Type 0} → (P → R) → (S → Q) → Takes r P Q → Takes r R S
+takes_also (Ok x) f g d = f d
+takes_also (Err e) f g d = denies_also (kind_of e) g d
+
+-- the answer with an error promises the same
+pub does_of : {X Y : Type 0} (place : ℕ) (r : Result X Refusal) (e : Result Y ErrorValue) (P Q : Type 0) → AnswersAt place r e → Takes r P Q → Does e P Q
+does_of place (Ok x) (Ok y) P Q a d = d
+does_of place (Ok x) (Err e) P Q a d = absurd a
+does_of place (Err r) (Ok y) P Q a d = absurd a
+does_of place (Err r) (Err e) P Q a d = subst (λ (k : ErrorKind). Denies k Q) (sym a.0) d
+
+pub refused_of : {X Y : Type 0} (place : ℕ) (r : Result X Refusal) (e : Result Y ErrorValue) → AnswersAt place r e → RefusedAt place e
+refused_of place (Ok x) (Ok y) a = tt
+refused_of place (Ok x) (Err e) a = absurd a
+refused_of place (Err r) (Ok y) a = absurd a
+refused_of place (Err r) (Err e) a = a.1
+
+-- out of memory stays that
+pub memory_of : {X Y : Type 0} (place : ℕ) (r : Result X Refusal) (e : Result Y ErrorValue) → AnswersAt place r e → IfErr r (λ x. x ≡ refusals.OutOfMemory) → IfErr e (λ y. y.kind ≡ OutOfMemory)
+memory_of place (Ok x) (Ok y) a m = tt
+memory_of place (Ok x) (Err e) a m = absurd a
+memory_of place (Err r) (Ok y) a m = tt
+memory_of place (Err r) (Err e) a m = a.0 ∙ ap kind_of m

@@ -5,7 +5,7 @@ use Rattle.std.proofs.Common.{nat_eq, eq-eqb}
 use Rattle.std.proofs.lemmas.Bool.{eqb-true}
 use Rattle.wasm_types.specs.values.declared.value.ValType.{ValType}
 use Rattle.wasm_module_validator_operands.specs.Syntax.{Instruction, unreachable, nop, drop, local_get}
-use Rattle.wasm_module_validator_operands.specs.Validation.{OperandType, value, AllMatch, values, stack, Exchanges, Row, Steps}
+use Rattle.wasm_module_validator_operands.specs.Validation.{OperandType, bottom, value, AllMatch, values, stack, Exchanges, Row, Steps}
 use Rattle.wasm_module_validator_operands.specs.Operands.{Known, Covers, Stacks, Same, Popped, MayPop, PoppedAny, MayPopAny, Pushed, PoppedAll, MayPopAll, Combined, MayCombine, Stepped, MayStep}
 use Rattle.wasm_module_validator_operands.proofs.Covering.{all_match_refl, covers_above, covers_values}
 
@@ -63,6 +63,16 @@ binary_stepped k l i t fixed p = fixed_stepped k l i (t ∷ t ∷ []) (t ∷ [])
 
 pub binary_may : (k : Known) (i : Instruction) (t : ValType) → IsFixed k.locals i (t ∷ t ∷ []) (t ∷ []) → MayStep i k → MayCombine t k
 binary_may k i t fixed m = fixed_may k i (t ∷ t ∷ []) (t ∷ []) fixed m
+
+-- the same by a type that equals the row's
+pub constant_of : (k l : Known) (i : Instruction) (t u : ValType) → u ≡ t → IsFixed k.locals i [] (t ∷ []) → Pushed u k l → Stepped i k l
+constant_of k l i t u e fixed p = constant_stepped k l i t fixed (subst (λ (v : ValType). Pushed v k l) e p)
+
+pub binary_of : (k l : Known) (i : Instruction) (t u : ValType) → u ≡ t → IsFixed k.locals i (t ∷ t ∷ []) (t ∷ []) → Combined u k l → Stepped i k l
+binary_of k l i t u e fixed p = binary_stepped k l i t fixed (subst (λ (v : ValType). Combined v k l) e p)
+
+pub binary_may_of : (k : Known) (i : Instruction) (t u : ValType) → u ≡ t → IsFixed k.locals i (t ∷ t ∷ []) (t ∷ []) → MayStep i k → MayCombine u k
+binary_may_of k i t u e fixed m = subst (λ (v : ValType). MayCombine v k) (sym e) (binary_may k i t fixed m)
 
 -- two operands taken off, and one put on
 pub combined : (k l m n : Known) (t : ValType) → Popped t k l → Popped t l m → Pushed t m n → Combined t k n
@@ -168,6 +178,19 @@ pub popped_same : (locals items rest : List ValType) (m t : ValType) (u e : Bool
 popped_same locals items rest m t u e is same =
     let r : reverse items ≡ m ∷ reverse rest = rw is (reverse_last rest m) in
     record { same = record { locals = refl; ended = refl }; stacks = λ s. rw r (λ c. c.1, λ c. (same, c)) }
+
+on_top : (u : Bool) (t : ValType) (ms : List ValType) (s : List OperandType) → Covers u (t ∷ ms) s → (rest : List OperandType) × Covers u ms rest × (s ≡ value t ∷ rest)
+on_top u t ms [] c = absurd c
+on_top u t ms (bottom ∷ s) c = absurd c.0
+on_top u t ms (value v ∷ s) c = (s, c.1, ap (λ (x : ValType). value x ∷ s) (sym c.0))
+
+pub pushed_last : (locals items more : List ValType) (t : ValType) (u e : Bool) → more ≡ items ++ t ∷ [] → Pushed t (seen locals items u e) (seen locals more u e)
+pushed_last locals items more t u e is =
+    let r : reverse more ≡ t ∷ reverse items = rw is (reverse_last items t) in
+    record {
+      same = record { locals = refl; ended = refl };
+      stacks = λ s. rw r (on_top u t (reverse items) s, λ (rest, c, f). subst (λ (x : List OperandType). Covers u (t ∷ reverse items) x) (sym f) (refl, c));
+    }
 
 -- nothing is left exactly where the empty stack is one of them
 bare : (u : Bool) (items : List ValType) → length items ≡ 0 → Covers u (reverse items) []

@@ -1,12 +1,12 @@
 -- Runs of locals: one more at the end, and the run that has a local.
-use Rattle.std.proofs.Common.{◌≡◌, ℕ, zero, suc, ◌+◌, ◌-◌, ◌<◌, ◌≤◌, List, [], ◌∷◌, ◌++◌, Some, None, true, false, leb, length, get_or, replicate, refl, sym, ap, ◌∙◌, arith, subst, append_assoc, slice_get, option_map}
-use Rattle.std.proofs.lemmas.List.{append-nil, length-append, length-replicate}
+use Rattle.std.proofs.Common.{◌≡◌, ℕ, zero, suc, ◌+◌, ◌-◌, ◌<◌, ◌≤◌, List, [], ◌∷◌, ◌++◌, Some, None, true, false, leb, length, take, get_or, replicate, refl, sym, ap, ◌∙◌, arith, subst, append_assoc, slice_get, option_map}
+use Rattle.std.proofs.lemmas.List.{append-nil, length-append, length-replicate, take_all}
 use Rattle.std.proofs.lemmas.Bool.{leb-true, leb-false, le-leb}
 use Rattle.std.proofs.lemmas.Option.{slice_get_past, slice_get_read}
 use Rattle.std.specs.List.Sorted.{IsPartitionPoint, IsPartitionedBy}
 use Rattle.wasm_types.specs.values.declared.value.ValType.{ValType}
 use Rattle.wasm_module_validator_operands.specs.declared.locals.Run.{Run}
-use Rattle.wasm_module_validator_operands.specs.Locals.{locals_from, AreRunsFrom}
+use Rattle.wasm_module_validator_operands.specs.Locals.{locals_from, AreRunsFrom, IsFront}
 
 -- where the last run ends
 abbrev pub end_from : ℕ → List Run → ℕ
@@ -128,3 +128,41 @@ local_here rs items ts index i r same a is h at p =
     let p' : Ends index items i = subst (λ (x : List Run). Ends index x i) same p in
     let e = local_at items index i a (omega arith) p' in
     sym (subst (λ (x : List ValType). slice_get x index ≡ Some r.ty) is (e ∙ ap (option_map (λ (q : Run). q.ty)) (slice_get_read items (length items) i r refl h at)))
+
+-- ---- the first locals
+
+-- what is among the first is there among all
+pub front_get : (front all : List ValType) (k : ℕ) → IsFront front all → k < length front → slice_get all k ≡ slice_get front k
+front_get front all k f lt = rw f.1 (go front f.0 k lt)
+  where
+    go : (front rest : List ValType) (k : ℕ) → k < length front → slice_get (front ++ rest) k ≡ slice_get front k
+    go [] rest k lt = absurd (omega arith)
+    go (t ∷ ts) rest zero lt = refl
+    go (t ∷ ts) rest (suc k) lt = go ts rest k (omega arith)
+
+-- more at the end leave the first as they are
+pub front_kept : (front all more : List ValType) → IsFront front all → IsFront front (all ++ more)
+front_kept front all more f = (f.0 ++ more, ap (λ (xs : List ValType). xs ++ more) f.1 ∙ append_assoc front f.0 more)
+
+nothing_left : (rest : List ValType) → length rest ≡ 0 → rest ≡ []
+nothing_left [] e = refl
+nothing_left (t ∷ ts) e = absurd (omega (arith, e))
+
+-- where the first are all, some of what comes at the end are the next of them
+pub front_grown : (front all : List ValType) (t : ValType) (k count : ℕ) → IsFront front all → length front ≡ length all → k ≤ count → IsFront (front ++ replicate k t) (all ++ replicate count t)
+front_grown front all t k count f same le =
+    let none : f.0 ≡ [] = nothing_left f.0 (omega (arith, same, ap (λ (xs : List ValType). length xs) f.1, length-append front f.0)) in
+    let whole : all ≡ front = f.1 ∙ ap (λ (xs : List ValType). front ++ xs) none ∙ append-nil front in
+    (replicate (count - k) t, ap (λ (xs : List ValType). xs ++ replicate count t) whole ∙ ap (λ (xs : List ValType). front ++ xs) (split k count le) ∙ sym (append_assoc front (replicate k t) (replicate (count - k) t)))
+  where
+    split : (k count : ℕ) → k ≤ count → replicate count t ≡ replicate k t ++ replicate (count - k) t
+    split zero count le = let e : count - 0 ≡ count = omega arith in rw e refl
+    split (suc k) zero le = absurd (omega arith)
+    split (suc k) (suc count) le = let e : suc count - suc k ≡ count - k = omega arith in rw e (ap (λ (xs : List ValType). t ∷ xs) (split k count (omega arith)))
+
+pub front_resized : (front us all : List ValType) (t : ValType) (len v more count : ℕ) → IsFront front all → length all ≡ len → length front ≡ len → v ≡ len → more ≤ count → us ≡ take (len + more) front ++ replicate (len + more - v) t → IsFront us (all ++ replicate count t)
+front_resized front us all t len v more count f whole held is le e =
+    let whole_front : take (len + more) front ≡ front = take_all (len + more) front (omega (arith, held)) in
+    let size : len + more - v ≡ more = omega (arith, is) in
+    let new : us ≡ front ++ replicate more t = rw size at (rw whole_front at e) in
+    rw new (front_grown front all t more count f (omega (arith, whole, held)) le)

@@ -5,4 +5,5 @@ pub mod Defaults
 -- What contracts promise besides them.
 pub mod Answers
 pub mod Operands
+pub mod Refusals
 pub mod Locals

@@ -1,5 +1,5 @@
 -- Locals as runs of one type.
-use Rattle.std.specs.Prelude.{ℕ, ◌-◌, ◌≤◌, List, [], ◌∷◌, ◌++◌, replicate}
+use Rattle.std.specs.Prelude.{◌≡◌, ℕ, ◌-◌, ◌≤◌, List, [], ◌∷◌, ◌++◌, replicate}
 use Rattle.wasm_types.specs.values.declared.value.ValType.{ValType}
 use Rattle.wasm_module_validator_operands.specs.declared.locals.Run.{Run}
 
@@ -12,3 +12,7 @@ locals_from start (r ∷ rs) = replicate (r.end - start) r.ty ++ locals_from r.e
 abbrev pub AreRunsFrom : ℕ → List Run → Type 0
 AreRunsFrom start [] = start ≤ 50000
 AreRunsFrom start (r ∷ rs) = (start ≤ r.end) × AreRunsFrom r.end rs
+
+-- these are the first of all
+abbrev pub IsFront : List ValType → List ValType → Type 0
+IsFront front all = (rest : List ValType) × (all ≡ front ++ rest)

@@ -1,38 +1,47 @@
 //! The locals of a function.
 
-ghost use Rattle.std.specs.Prelude.{◌≡◌, ◌+◌, ◌≤◌, [], ◌++◌, length, replicate, slice_get};
-ghost use Rattle.wasm_types.specs.error.declared.error.ErrorKind.TheVariants.{Other};
+ghost use Rattle.std.specs.Prelude.{◌≡◌, ◌+◌, ◌≤◌, List, [], ◌++◌, length, replicate, slice_get, IfErr};
+ghost use Rattle.wasm_types.specs.error.declared.error.ErrorKind.TheVariants.{Other, OutOfMemory};
+ghost use Rattle.wasm_types.specs.values.declared.value.ValType.{ValType as TheValType};
+ghost use Rattle.wasm_module_validator_operands.specs.Locals.{IsFront};
 
 use std::alloc::Global;
+use std::cmp::min;
 use std::marker::Model;
-use wasm_types::{Error, Result, ValType};
+use wasm_module_validator_packed::PackedType;
+use wasm_types::{Error, Result};
 
 /// How many locals a function may have, with its parameters.
 const MAX_WASM_FUNCTION_LOCALS: u32 = 50_000;
+
+/// How many of the first locals are found by their index alone.
+const FIRST: usize = 64;
 
 /// Locals of one type, up to an index.
 #[derive(Clone, Copy)]
 pub struct Run {
     pub end: u32,
-    pub ty: ValType,
+    pub ty: PackedType,
 }
 
-/// The locals of a function, as runs of one type, so that they take no more room than the bytes that declare them.
+/// The locals of a function: the first one by one, and all of them as runs of one type, so that they take no more room
+/// than the bytes that declare them.
 #[derive(Drop)]
 pub struct Locals {
+    first: Vec<PackedType>,
     runs: Vec<Run>,
 }
 
 impl Model for Locals {
-    ghost use Rattle.std.specs.Prelude.{List};
+    ghost use Rattle.std.specs.Prelude.{List, ◌≤◌, length};
     ghost use Rattle.wasm_types.specs.values.declared.value.ValType.{ValType as TheValType};
-    ghost use Rattle.wasm_module_validator_operands.specs.Locals.{locals_from, AreRunsFrom};
+    ghost use Rattle.wasm_module_validator_operands.specs.Locals.{locals_from, AreRunsFrom, IsFront};
 
     ghost Value = { List TheValType };
 
     ghost view = { λ l. locals_from 0 l.runs.items };
 
-    ghost invariant = { λ l. AreRunsFrom 0 l.runs.items };
+    ghost invariant = { λ l. AreRunsFrom 0 l.runs.items × IsFront l.first.items (locals_from 0 l.runs.items) × (length l.first.items ≤ 64) };
 }
 
 impl Locals {
@@ -44,6 +53,7 @@ impl Locals {
         ensures { result ≡ [] }
     {
         Locals {
+            first: Vec::new(alloc),
             runs: Vec::new(alloc),
         }
     }
@@ -52,6 +62,7 @@ impl Locals {
     pub fn clear(&mut self)
         ensures { self.new ≡ [] }
     {
+        self.first.clear();
         self.runs.clear();
     }
 
@@ -67,7 +78,7 @@ impl Locals {
     }
 
     /// Puts `count` locals of a type at the end. It refuses more than 50,000 in all, at this offset.
-    pub fn define(&mut self, offset: u64, count: u32, ty: ValType) -> Result<()>
+    pub fn define(&mut self, offset: u64, count: u32, ty: PackedType) -> Result<()>
         ensures does { Does result ((self.new ≡ self.old ++ replicate count ty) × (length self.new ≤ 50000)) (length self.old + count ≤ 50000) }
         ensures at { RefusedAt offset result }
     {
@@ -80,11 +91,25 @@ impl Locals {
         }
         let end = defined + count;
         self.runs.push(Run { end, ty })?;
+        grow_first(&mut self.first, defined, count, ty)?;
         Ok(())
     }
 
     /// The type of a local, by its index.
-    pub fn get(&self, index: u32) -> Option<ValType>
+    #[inline(always)]
+    pub fn get(&self, index: u32) -> Option<PackedType>
+        ensures { result ≡ slice_get self.now index }
+    {
+        let first = self.first.as_slice();
+        if (index as usize) < first.len() {
+            return Some(first[index as usize]);
+        }
+        self.find(index)
+    }
+
+    /// The type of a local, by its index, wherever it is.
+    #[inline(never)]
+    fn find(&self, index: u32) -> Option<PackedType>
         ensures { result ≡ slice_get self.now index }
     {
         let at = self.runs.partition_point(|run| run.end <= index);
@@ -93,6 +118,23 @@ impl Locals {
         }
         Some(self.runs[at].ty)
     }
+}
+
+/// Puts as many of `count` further locals of a type at the end of the first as have room there, where those are all of
+/// the `defined` ones.
+fn grow_first(first: &mut Vec<PackedType>, defined: u32, count: u32, ty: PackedType) -> Result<()>
+    requires { length first.old.items ≤ 64 }
+    ensures front { (all : List TheValType) → length all ≡ defined → IsFront first.old.items all → IsFront first.new.items (all ++ replicate count ty) }
+    ensures within { length first.new.items ≤ 64 }
+    ensures memory { IfErr result (λ e. e.kind ≡ OutOfMemory) }
+{
+    let held = first.as_slice().len();
+    if held != defined as usize || held >= FIRST {
+        return Ok(());
+    }
+    let more = min(count as usize, FIRST - held);
+    first.resize(held + more, ty)?;
+    Ok(())
 }
 
 #[cold]

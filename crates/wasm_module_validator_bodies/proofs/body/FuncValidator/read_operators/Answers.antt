@@ -1,53 +1,59 @@
-use Rattle.std.proofs.Common.{sym, ◌∙◌}
-use Rattle.std.proofs.lemmas.Result.{err_from_is_err_and}
+use Rattle.std.proofs.Common.{subst, ◌∙◌}
+use Rattle.wasm_types.specs.decoding.Decoder.{State}
 use Rattle.wasm_types.specs.decoding.Laws.{reaches_then}
-use Rattle.wasm_module_validator_bodies.specs.laws.Operators.{operator}
-use Rattle.wasm_module_validator_bodies.specs.laws.OperatorLaws.{within-operator, bytewise-operator}
-use Rattle.wasm_module_validator_bodies.proofs.Places.{read_refused, refused_there, of_content}
-use Rattle.wasm_module_validator_operands.proofs.Covering.{denies_also}
-use Rattle.wasm_module_validator_bodies.proofs.Steps.{operator_refused, step, step_refused, fewer, not_closed, denied, length_is}
+use Rattle.wasm_module_validator_operands.proofs.Covering.{denies_also, tells_also}
+use Rattle.wasm_module_validator_bodies.specs.Stepping.{IsOver, Refuses, IsErrorOf}
+use Rattle.wasm_module_validator_bodies.proofs.Places.{within_further}
+use Rattle.wasm_module_validator_bodies.proofs.Steps.{not_closed, denied, length_is}
+use Rattle.wasm_module_validator_bodies.proofs.Straight.{stepped_left, stepped_fewer, stepped_forward, error_denies, error_within, closes_bare}
 use Rattle.wasm_module_validator_bodies.proofs.body.FuncValidator.read_operators.Goals as goal
 
-pub returns-in_err-operator-clause-verdict : goal.returns-in_err-operator-clause-verdict
-returns-in_err-operator-clause-verdict c =
-    let p = err_from_is_err_and c.from_residual.result c.from_residual.ensures.1 in
-    rw (p.1, p.2) (denies_also _ c.loop-reader.invariant.left.1 (operator_refused c.args.results.now c.loop-reader.self.validator c.loop-reader.reader (sym c.has_ended.ensures ∙ c.if-has_ended.false) _ _ c.in_err-operator.ensures.answer.0))
+pub returns-in-Ok-true-clause-verdict : goal.returns-in-Ok-true-clause-verdict
+returns-in-Ok-true-clause-verdict c =
+    let k = c.loop-reader.self.validator in
+    let l = c.step.new.self.validator in
+    let b = c.in-Ok-true.field-0 in
+    let h = subst (λ (s : State). IsOver c.args.results.now b k l s c.step.new.reader) c.clone-ahead.ensures c.in-Ok-true.ensures in
+    let s = stepped_left c.args.results.now b k l c.loop-reader.reader c.step.new.reader h in
+    let z = closes_bare c.args.results.now l c.step.new.reader.rest (h.3 ∙ c.in-Ok-true.field-0-test) in
+    tells_also c.ended_at.result (λ e. c.loop-reader.invariant.left.0 (s.1 (z.1 e))) (λ a. z.0 (s.0 (c.loop-reader.invariant.left.1 a))) c.ended_at.ensures.verdict
+
+pub returns-in-Ok-true-clause-within : goal.returns-in-Ok-true-clause-within
+returns-in-Ok-true-clause-within c =
+    let h = subst (λ (s : State). IsOver c.args.results.now c.in-Ok-true.field-0 c.loop-reader.self.validator c.step.new.self.validator s c.step.new.reader) c.clone-ahead.ensures c.in-Ok-true.ensures in
+    let f = stepped_forward c.args.results.now c.in-Ok-true.field-0 c.loop-reader.self.validator c.step.new.self.validator c.loop-reader.reader c.step.new.reader h in
+    within_further c.args.body c.step.new.reader c.ended_at.result (reaches_then _ _ _ c.loop-reader.invariant.forward f) c.ended_at.ensures.within
 
 pub loop-reader-smaller : goal.loop-reader-smaller
-loop-reader-smaller c = fewer c.loop-reader.reader _ _ c.in_ok-operator.ensures.answer
+loop-reader-smaller c =
+    stepped_fewer c.args.results.now c.in-Ok-false.field-0 c.loop-reader.self.validator c.step.new.self.validator c.loop-reader.reader c.step.new.reader
+    (subst (λ (s : State). IsOver c.args.results.now c.in-Ok-false.field-0 c.loop-reader.self.validator c.step.new.self.validator s c.step.new.reader) c.clone-ahead.ensures c.in-Ok-false.ensures)
 
 pub loop-reader-preserved : goal.loop-reader-preserved
 loop-reader-preserved c =
-    let s = step c.args.results.now c.loop-reader.self.validator _ c.loop-reader.reader _ _ c.in_ok-operator.ensures.answer c.in_ok-op.ensures.does in
+    let k = c.loop-reader.self.validator in
+    let l = c.step.new.self.validator in
+    let b = c.in-Ok-false.field-0 in
+    let h = subst (λ (s : State). IsOver c.args.results.now b k l s c.step.new.reader) c.clone-ahead.ensures c.in-Ok-false.ensures in
+    let s = stepped_left c.args.results.now b k l c.loop-reader.reader c.step.new.reader h in
     record {
       left = (λ a. c.loop-reader.invariant.left.0 (s.1 a), λ a. s.0 (c.loop-reader.invariant.left.1 a));
-      forward = reaches_then _ _ _ c.loop-reader.invariant.forward c.in_ok-operator.ensures.forward;
+      still = h.3 ∙ c.in-Ok-false.field-0-test;
+      forward = reaches_then _ _ _ c.loop-reader.invariant.forward (stepped_forward c.args.results.now b k l c.loop-reader.reader c.step.new.reader h);
     }
 
-pub returns-in_err-op-clause-verdict : goal.returns-in_err-op-clause-verdict
-returns-in_err-op-clause-verdict c =
-    let p = err_from_is_err_and c.from_residual-in_err-op.result c.from_residual-in_err-op.ensures.1 in
-    rw (p.1, p.2) (denies_also _ c.loop-reader.invariant.left.1 (step_refused c.args.results.now c.loop-reader.self.validator c.loop-reader.reader _ _ _ c.in_ok-operator.ensures.answer c.in_err-op.ensures.does))
+pub returns-in-Err-clause-verdict : goal.returns-in-Err-clause-verdict
+returns-in-Err-clause-verdict c =
+    let h = subst (λ (s : State). Refuses c.args.results.now c.in-Err.refusal c.loop-reader.self.validator s) c.clone-ahead.ensures c.in-Err.ensures in
+    let f = subst (λ (s : State). IsErrorOf c.in-Err.refusal s c.refused_operator.result) c.clone.ensures c.refused_operator.ensures in
+    denies_also _ c.loop-reader.invariant.left.1 (error_denies c.args.results.now c.loop-reader.self.validator c.loop-reader.reader c.in-Err.refusal c.refused_operator.result c.loop-reader.invariant.still h f)
 
-pub returns-then-not-has_ended-clause-verdict : goal.returns-then-not-has_ended-clause-verdict
-returns-then-not-has_ended-clause-verdict c =
+pub returns-in-Err-clause-within : goal.returns-in-Err-clause-within
+returns-in-Err-clause-within c =
+    let f = subst (λ (s : State). IsErrorOf c.in-Err.refusal s c.refused_operator.result) c.clone.ensures c.refused_operator.ensures in
+    error_within c.args.body c.loop-reader.reader c.in-Err.refusal c.refused_operator.result c.loop-reader.invariant.forward f
+
+pub returns-clause-verdict : goal.returns-clause-verdict
+returns-clause-verdict c =
     denied c.frames_remain.result c.frames_remain.ensures.kind
-    (λ a. not_closed c.args.results.now c.loop-reader.self.validator c.loop-reader.reader.rest (sym c.has_ended-2.ensures ∙ c.if-not-has_ended.true) (length_is _ c.eof.result c.eof.ensures c.loop-reader-test.false) (c.loop-reader.invariant.left.1 a))
-
-pub returns-then-has_ended-clause-within : goal.returns-then-has_ended-clause-within
-returns-then-has_ended-clause-within c =
-    refused_there _ c.args.reader.now c.loop-reader.reader _ _ c.loop-reader.invariant.forward c.original_position-offset.ensures (of_content _ _ c.operators_remain.ensures.kind c.operators_remain.ensures.offset)
-
-pub returns-in_err-operator-clause-within : goal.returns-in_err-operator-clause-within
-returns-in_err-operator-clause-within c =
-    let p = err_from_is_err_and c.from_residual.result c.from_residual.ensures.1 in
-    rw (p.1, p.2) (read_refused operator _ _ c.args.reader.now c.loop-reader.reader within-operator bytewise-operator c.loop-reader.invariant.forward c.in_err-operator.ensures.answer.0)
-
-pub returns-in_err-op-clause-within : goal.returns-in_err-op-clause-within
-returns-in_err-op-clause-within c =
-    let p = err_from_is_err_and c.from_residual-in_err-op.result c.from_residual-in_err-op.ensures.1 in
-    rw (p.1, p.2) (refused_there _ c.args.reader.now c.loop-reader.reader _ _ c.loop-reader.invariant.forward c.original_position-offset.ensures c.in_err-op.ensures.at)
-
-pub returns-then-not-has_ended-clause-within : goal.returns-then-not-has_ended-clause-within
-returns-then-not-has_ended-clause-within c =
-    refused_there _ c.args.reader.now c.loop-reader.reader _ _ c.loop-reader.invariant.forward c.original_position.ensures (of_content _ _ c.frames_remain.ensures.kind c.frames_remain.ensures.offset)
+    (λ a. not_closed c.args.results.now c.loop-reader.self.validator c.loop-reader.reader.rest c.loop-reader.invariant.still (length_is _ c.eof.result c.eof.ensures c.loop-reader-test.false) (c.loop-reader.invariant.left.1 a))

@@ -1,12 +1,26 @@
+use Rattle.std.proofs.Common.{List, sym, subst}
+use Rattle.wasm_types.specs.values.declared.value.ValType.{ValType}
+use Rattle.wasm_module_validator_operands.specs.Locals.{IsFront}
 use Rattle.wasm_module_validator_operands.proofs.Runs.{run_fits, none_more, length-more}
 use Rattle.wasm_module_validator_operands.proofs.locals.Locals.define.Goals as goal
 
 pub invariant_of-self-2 : goal.invariant_of-self-2
-invariant_of-self-2 c = rw c.in_ok-push.ensures.items (run_fits _ _ _ c.args.count c.args.ty c.self.invariant c.self.view_is c.len-defined.ensures.value c.if-count-defined.false c.len-defined.ensures.within).0
+invariant_of-self-2 c =
+    let fits = run_fits _ _ _ c.args.count c.args.ty c.self.invariant.0 c.self.view_is c.len-defined.ensures.value c.if-count-defined.false c.len-defined.ensures.within in
+    let f = subst (λ (xs : List ValType). IsFront c.self.inside.first.items xs) c.self.view_is c.self.invariant.1 in
+    let g = c.grow_first.ensures.front c.args.self.now (sym c.len-defined.ensures.value) f in
+    rw c.in_ok-push.ensures.items (fits.0, subst (λ (xs : List ValType). IsFront c.grow_first.new.first.items xs) (sym fits.1) g, c.grow_first.ensures.within)
+
+pub invariant_of-self-in_err-grow_first : goal.invariant_of-self-in_err-grow_first
+invariant_of-self-in_err-grow_first c =
+    let fits = run_fits _ _ _ c.args.count c.args.ty c.self.invariant.0 c.self.view_is c.len-defined.ensures.value c.if-count-defined.false c.len-defined.ensures.within in
+    let f = subst (λ (xs : List ValType). IsFront c.self.inside.first.items xs) c.self.view_is c.self.invariant.1 in
+    let g = c.grow_first.ensures.front c.args.self.now (sym c.len-defined.ensures.value) f in
+    rw c.in_ok-push.ensures.items (fits.0, subst (λ (xs : List ValType). IsFront c.grow_first.new.first.items xs) (sym fits.1) g, c.grow_first.ensures.within)
 
 pub returns-clause-does : goal.returns-clause-does
 returns-clause-does c =
-    let e = (run_fits _ _ _ c.args.count c.args.ty c.self.invariant c.self.view_is c.len-defined.ensures.value c.if-count-defined.false c.len-defined.ensures.within).1 in
+    let e = (run_fits _ _ _ c.args.count c.args.ty c.self.invariant.0 c.self.view_is c.len-defined.ensures.value c.if-count-defined.false c.len-defined.ensures.within).1 in
     rw c.in_ok-push.ensures.items (e, length-more _ _ _ c.args.count c.args.ty c.len-defined.ensures.value c.len-defined.ensures.within c.if-count-defined.false e)
 
 pub returns-then-count-eq0-clause-does : goal.returns-then-count-eq0-clause-does

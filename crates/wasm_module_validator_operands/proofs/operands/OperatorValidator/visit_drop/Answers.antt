@@ -1,6 +1,8 @@
-use Rattle.wasm_module_validator_operands.proofs.Covering.{does_also}
-use Rattle.wasm_module_validator_operands.proofs.Exchanging.{dropped, drop_may}
+use Rattle.wasm_module_validator_operands.proofs.Covering.{does_of, refused_of}
 use Rattle.wasm_module_validator_operands.proofs.operands.OperatorValidator.visit_drop.Goals as goal
 
 pub returns-clause-visits : goal.returns-clause-visits
-returns-clause-visits c = does_also c.pop_any.result (dropped c.args.self.now c.pop_any.new.self) (drop_may c.args.self.now) c.pop_any.ensures.does
+returns-clause-visits c = does_of _ c.step_drop-answer.result c.answer_at.result _ _ c.answer_at.ensures c.step_drop-answer.ensures
+
+pub returns-clause-at : goal.returns-clause-at
+returns-clause-at c = refused_of _ c.step_drop-answer.result c.answer_at.result c.answer_at.ensures

@@ -1,18 +1,8 @@
-use Rattle.std.proofs.Common.{sym, refl, subst}
-use Rattle.wasm_module_validator_operands.specs.Operands.{Known, PoppedAll}
-use Rattle.wasm_module_validator_operands.proofs.Exchanging.{bare_ended, ended_bare, is_none, is_some}
+use Rattle.wasm_module_validator_operands.proofs.Covering.{does_of, refused_of}
 use Rattle.wasm_module_validator_operands.proofs.operands.OperatorValidator.visit_end.Goals as goal
 
-pub returns-then-not-is_empty-clause-does : goal.returns-then-not-is_empty-clause-does
-returns-then-not-is_empty-clause-does c =
-    let p = subst (λ (k : Known). PoppedAll c.args.results.now c.args.self.now k) (sym c.self.view_is) c.in_ok-pop_operands.ensures.does in
-    rw c.values_remain.ensures.kind
-    (λ may. is_some _ _ c.is_empty.result c.is_empty.ensures c.self.inside.operands.ok.0 c.if-not-is_empty.true (ended_bare c.args.self.now c.args.results.now c.self.inside.locals c.self.inside.operands.items c.self.inside.unreachable c.self.inside.ended p may))
-
 pub returns-clause-does : goal.returns-clause-does
-returns-clause-does c =
-    let p = subst (λ (k : Known). PoppedAll c.args.results.now c.args.self.now k) (sym c.self.view_is) c.in_ok-pop_operands.ensures.does in
-    record {
-      results_are = bare_ended c.args.self.now c.args.results.now c.self.inside.locals c.self.inside.operands.items c.self.inside.unreachable c.self.inside.ended p (is_none _ _ c.is_empty.result c.is_empty.ensures c.self.inside.operands.ok.0 c.if-not-is_empty.false);
-      ended = refl;
-    }
+returns-clause-does c = does_of _ c.step_end-answer.result c.answer_at.result _ _ c.answer_at.ensures c.step_end-answer.ensures
+
+pub returns-clause-at : goal.returns-clause-at
+returns-clause-at c = refused_of _ c.step_end-answer.result c.answer_at.result c.answer_at.ensures

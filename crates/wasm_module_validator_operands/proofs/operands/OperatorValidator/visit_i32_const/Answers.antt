@@ -1,11 +1,8 @@
-use Rattle.wasm_types.specs.values.declared.value.ValType.TheVariants.{I32}
-use Rattle.wasm_module_validator_operands.specs.Syntax.{i32_const}
-use Rattle.wasm_module_validator_operands.proofs.Covering.{does_also}
-use Rattle.wasm_module_validator_operands.proofs.Exchanging.{constant_stepped}
+use Rattle.wasm_module_validator_operands.proofs.Covering.{does_of, memory_of}
 use Rattle.wasm_module_validator_operands.proofs.operands.OperatorValidator.visit_i32_const.Goals as goal
 
 pub returns-clause-visits : goal.returns-clause-visits
-returns-clause-visits c = λ value.
-    does_also c.push_operand.result
-    (constant_stepped c.args.self.now c.push_operand.new.self (i32_const value) I32 (λ popped pushed. (λ r. r, λ r. r)))
-    (λ may. tt) c.push_operand.ensures.does
+returns-clause-visits c = λ value. does_of _ c.step_i32_const-answer.result c.answer_at.result _ _ c.answer_at.ensures (c.step_i32_const-answer.ensures.steps value)
+
+pub returns-clause-memory : goal.returns-clause-memory
+returns-clause-memory c = memory_of _ c.step_i32_const-answer.result c.answer_at.result c.answer_at.ensures c.step_i32_const-answer.ensures.memory

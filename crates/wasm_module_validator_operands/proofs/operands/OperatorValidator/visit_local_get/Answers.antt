@@ -1,13 +1,8 @@
-use Rattle.std.proofs.Common.{slice_get, ap, ◌∙◌}
-use Rattle.wasm_module_validator_operands.specs.Syntax.{local_get}
-use Rattle.wasm_module_validator_operands.specs.Operands.{Known}
-use Rattle.wasm_module_validator_operands.proofs.Covering.{does_also}
-use Rattle.wasm_module_validator_operands.proofs.Exchanging.{constant_stepped, local_fixed}
+use Rattle.wasm_module_validator_operands.proofs.Covering.{does_of, refused_of}
 use Rattle.wasm_module_validator_operands.proofs.operands.OperatorValidator.visit_local_get.Goals as goal
 
-pub returns-in-Some-clause-visits : goal.returns-in-Some-clause-visits
-returns-in-Some-clause-visits c =
-    let e = c.in-Some.ensures ∙ ap (λ (k : Known). slice_get k.locals c.args.local_index) c.self.view_is in
-    does_also c.push_operand.result
-    (constant_stepped c.args.self.now c.push_operand.new.self (local_get c.args.local_index) c.in-Some.ty (local_fixed c.args.self.now.locals c.args.local_index c.in-Some.ty e))
-    (λ may. tt) c.push_operand.ensures.does
+pub returns-clause-visits : goal.returns-clause-visits
+returns-clause-visits c = does_of _ c.step_local_get-answer.result c.answer_at.result _ _ c.answer_at.ensures c.step_local_get-answer.ensures
+
+pub returns-clause-at : goal.returns-clause-at
+returns-clause-at c = refused_of _ c.step_local_get-answer.result c.answer_at.result c.answer_at.ensures

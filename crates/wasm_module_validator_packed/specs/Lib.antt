@@ -1,0 +1,2 @@
+-- The codes of value types.
+pub mod Codes
