@@ -4,3 +4,7 @@
 //! its `Lib.antt`: what the rules know of operands, the context, the classes of operators, the table of instruction types,
 //! the rows of all other operators, and the typing of code.
 #![tactic(auto)]
+
+mod worked;
+
+pub use worked::{code_is_worked, instruction_types_are_worked, rows_are_worked};
