@@ -1,12 +1,12 @@
 -- The worked rows of operators.
-use Rattle.std.proofs.Common.{◌≡◌, List, [], ◌∷◌, ◌++◌, Some, true, false, refl, sym, inl, rules}
+use Rattle.std.proofs.Common.{◌≡◌, List, [], ◌∷◌, ◌++◌, true, false, refl, sym, inl, rules}
 use Rattle.wasm_types.specs.features.Features.{has}
-use Rattle.wasm_types.specs.trees.Rows.{i32, i64, number, ref, abstract, concrete, func}
+use Rattle.wasm_types.specs.trees.Rows.{i32, i64, number, concrete}
 use Rattle.wasm_types.specs.trees.Trees.{opened}
 use Rattle.wasm_types.specs.trees.AbstractOrder.{same}
-use Rattle.wasm_operator_validator_rules.specs.Operands.{ValueType, Operand, known, AllBelow, all_known}
+use Rattle.wasm_operator_validator_rules.specs.Operands.{Operand, AllBelow, all_known}
 use Rattle.wasm_operator_validator_rules.specs.Row.{of_type}
-use Rattle.wasm_operator_validator_rules.specs.worked.Contexts.{somewhere, any_function, any_external, widening, table_of}
+use Rattle.wasm_operator_validator_rules.specs.worked.Contexts.{any_function, widening, table_of}
 use Rattle.wasm_operator_validator_rules.specs.worked.Operators.{i32_known, i64_known, ControlWorked, OperandsWorked, VariablesWorked, ReferencesWorked, FeaturesWorked}
 
 -- the last of two, and of one

@@ -1,13 +1,12 @@
 -- What each operator takes and gives (WebAssembly 3.0, validation, instructions), and the features that it needs. An operator
 -- that is merely not supported yet has no row.
-use Rattle.std.specs.Prelude.{◌≡◌, ◌<◌, ℕ, Bool, true, false, IsTrue, List, [], ◌∷◌, ◌++◌, ◌||◌, Option, Some, None, slice_get, if◌then◌else◌, ◌==◌, ◌⊎◌}
+use Rattle.std.specs.Prelude.{◌≡◌, ℕ, Bool, true, false, IsTrue, List, [], ◌∷◌, ◌++◌, Option, Some, None, slice_get, if◌then◌else◌, ◌==◌, ◌⊎◌}
 use Rattle.std.specs.Int.RustNames.{bit_and}
-use Rattle.wasm_types.specs.features.Features.{Floats, CustomDescriptors, has}
-use Rattle.wasm_types.specs.trees.Rows.{i32, Number, number, ref, HeapOf, abstract, concrete, exact, func, heap_map}
+use Rattle.wasm_types.specs.features.Features.{Floats, CustomDescriptors}
+use Rattle.wasm_types.specs.trees.Rows.{number, ref, HeapOf, abstract, concrete, exact, func}
 use Rattle.wasm_types.specs.trees.Trees.{TypeTree}
 use Rattle.wasm_types.specs.trees.Below.{Below, is_shared, value_is_shared}
 use Rattle.wasm_types.specs.trees.Gates.{Has}
-use Rattle.wasm_types.specs.values.declared.heap.HeapType.{HeapType}
 use Rattle.wasm_types.specs.values.declared.value.ValType.TheVariants as value
 use Rattle.wasm_operators_info.specs.Info.{features_of}
 use Rattle.wasm_operators_control.specs.declared.control.ControlOperator.{ControlOperator}
@@ -16,12 +15,11 @@ use Rattle.wasm_operators_memory.specs.declared.memory.MemoryOperator.{MemoryOpe
 use Rattle.wasm_operators_memory.specs.declared.memory.MemoryOperator.TheVariants as memory
 use Rattle.wasm_operators_memory.specs.declared.bulk.BulkOperator.{BulkOperator}
 use Rattle.wasm_operators_memory.specs.declared.bulk.BulkOperator.TheVariants as bulk
-use Rattle.wasm_operators_immediates.specs.Tables.{Labels}
 use Rattle.wasm_operators_operator.specs.Op as op
 use Rattle.wasm_operators_operator.specs.Op.{Op, ParametricTree}
 use Rattle.wasm_operators_operator.specs.Table.{info_of}
 use Rattle.wasm_operator_validator_rules.specs.Operands.{ValueType, Operand, bottom, some_reference, known, IsReference, AllBelow, all_known}
-use Rattle.wasm_operator_validator_rules.specs.Context.{Context, Module, Table, Initialised, Signature, IsFunctionType, IsType, MayUse, address_type}
+use Rattle.wasm_operator_validator_rules.specs.Context.{Context, Table, Initialised, Signature, IsFunctionType, IsType, MayUse, address_type}
 use Rattle.wasm_operator_validator_rules.specs.Numbers.{class_of, has_float, constant_type, is_float}
 use Rattle.wasm_operator_validator_rules.specs.Accesses.{AccessOf, access_of, moves_float}
 use Rattle.wasm_operator_validator_rules.specs.InstructionTypes.{InstructionType, instruction_type, i32_type, shorter}

@@ -3,7 +3,6 @@ use Rattle.std.specs.Prelude.{◌≡◌, ℕ, List, [], ◌∷◌, ◌++◌, Opt
 use Rattle.wasm_operators_immediates.specs.declared.frames.FrameKind.{FrameKind}
 use Rattle.wasm_operators_immediates.specs.declared.frames.FrameKind.TheVariants as frames
 use Rattle.wasm_operators_immediates.specs.declared.block.BlockType.{BlockType}
-use Rattle.wasm_operators_control.specs.declared.control.ControlOperator.{ControlOperator}
 use Rattle.wasm_operators_control.specs.declared.control.ControlOperator.TheVariants as control
 use Rattle.wasm_operators_operator.specs.Op as op
 use Rattle.wasm_operators_operator.specs.Op.{Op}

@@ -24,7 +24,6 @@ pub fn rows_are_worked()
 {}
 
 /// Code that is typed and code that is not.
-#[tactic(auto, using(crate::proofs::WorkedCodes::codes_worked))]
 pub fn code_is_worked()
     ensures { (x : ℤ) → CodesWorked x }
 {}

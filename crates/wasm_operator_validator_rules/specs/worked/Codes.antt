@@ -1,6 +1,6 @@
 -- Code that is typed and code that is not.
-use Rattle.std.specs.Prelude.{◌≡◌, ℕ, ℤ, Bool, true, false, List, [], ◌∷◌}
-use Rattle.wasm_types.specs.trees.Rows.{i32, i64, number, ref, abstract, concrete, func}
+use Rattle.std.specs.Prelude.{ℕ, ℤ, [], ◌∷◌}
+use Rattle.wasm_types.specs.trees.Rows.{i32, number}
 use Rattle.wasm_types.specs.values.declared.value.ValType.TheVariants as value
 use Rattle.wasm_operators_immediates.specs.declared.block.BlockType.TheVariants as block
 use Rattle.wasm_operators_immediates.specs.declared.frames.FrameKind.TheVariants as frames
@@ -11,8 +11,7 @@ use Rattle.wasm_operators_numbers.specs.declared.numeric.NumericOperator.TheVari
 use Rattle.wasm_operators_operator.specs.Op as op
 use Rattle.wasm_operators_operator.specs.Op.{Op}
 use Rattle.wasm_operators_expression.specs.Code.{Code, close, plain, nested, turn}
-use Rattle.wasm_operator_validator_rules.specs.Operands.{Operand, bottom, known}
-use Rattle.wasm_operator_validator_rules.specs.Context.{Context, Signature, Frame, Initialised, initialised_at_first}
+use Rattle.wasm_operator_validator_rules.specs.Context.{Signature, Frame, Initialised, initialised_at_first}
 use Rattle.wasm_operator_validator_rules.specs.Typed.{Typed}
 use Rattle.wasm_operator_validator_rules.specs.worked.Contexts.{somewhere}
 

@@ -1,5 +1,5 @@
 -- Instruction types by the table, and operators for which it has none.
-use Rattle.std.specs.Prelude.{◌≡◌, ℤ, Bool, true, false, List, [], ◌∷◌, Option, Some, None}
+use Rattle.std.specs.Prelude.{◌≡◌, ℤ, List, [], ◌∷◌, Some, None}
 use Rattle.wasm_types.specs.trees.Rows.{Number, i32, i64, f32, f64, number}
 use Rattle.wasm_operators_control.specs.declared.control.ControlOperator.TheVariants as control
 use Rattle.wasm_operators_memory.specs.declared.memory.MemoryOperator.TheVariants as memory
@@ -9,7 +9,6 @@ use Rattle.wasm_operators_numbers.specs.declared.numeric.NumericOperator.TheVari
 use Rattle.wasm_operators_threads.specs.declared.atomic.AtomicOperator.TheVariants as atomic
 use Rattle.wasm_operators_operator.specs.Op as op
 use Rattle.wasm_operators_operator.specs.Op.{Op}
-use Rattle.wasm_operator_validator_rules.specs.Operands.{ValueType}
 use Rattle.wasm_operator_validator_rules.specs.Context.{Context}
 use Rattle.wasm_operator_validator_rules.specs.Numbers.{numbers}
 use Rattle.wasm_operator_validator_rules.specs.InstructionTypes.{◌⟶◌, instruction_type}

@@ -1,6 +1,6 @@
 -- Rows that hold and rows that do not.
-use Rattle.std.specs.Prelude.{◌≡◌, ℕ, ℤ, Bool, true, false, List, [], ◌∷◌, Option, Some, None}
-use Rattle.wasm_types.specs.trees.Rows.{i32, i64, f32, number, ref, abstract, concrete, func}
+use Rattle.std.specs.Prelude.{true, false, List, [], ◌∷◌}
+use Rattle.wasm_types.specs.trees.Rows.{i32, i64, f32, number, ref, concrete}
 use Rattle.wasm_types.specs.values.declared.value.ValType.TheVariants as value
 use Rattle.wasm_operators_control.specs.declared.control.ControlOperator.TheVariants as control
 use Rattle.wasm_operators_memory.specs.declared.memory.MemoryOperator.TheVariants as memory
@@ -8,7 +8,7 @@ use Rattle.wasm_operators_memory.specs.declared.bulk.BulkOperator.TheVariants as
 use Rattle.wasm_operators_numbers.specs.declared.numeric.NumericOperator.TheVariants as numeric
 use Rattle.wasm_operators_operator.specs.Op as op
 use Rattle.wasm_operators_operator.specs.Op.{Op}
-use Rattle.wasm_operator_validator_rules.specs.Operands.{ValueType, Operand, bottom, some_reference, known}
+use Rattle.wasm_operator_validator_rules.specs.Operands.{Operand, bottom, some_reference, known}
 use Rattle.wasm_operator_validator_rules.specs.Context.{Context, Initialised}
 use Rattle.wasm_operator_validator_rules.specs.Row.{Row}
 use Rattle.wasm_operator_validator_rules.specs.worked.Contexts.{somewhere, somewhere_shared, without_features, argument, any_function, any_external, widening}
