@@ -1,0 +1,3 @@
+pub mod WorkedTypes
+pub mod WorkedOperators
+pub mod WorkedCodes

@@ -1,0 +1,108 @@
+-- The instruction types that the module alone determines, as one table (WebAssembly 3.0, validation, instructions): numbers,
+-- constants, globals, memories, tables and atomic accesses. An operator whose type is free in something has a row of its own
+-- (`Row.antt`), and none here.
+use Rattle.std.specs.Prelude.{ℕ, Bool, true, false, List, [], ◌∷◌, ◌&&◌, Option, Some, None, slice_get, nat_lt, if◌then◌else◌}
+use Rattle.wasm_types.specs.trees.Rows.{i32, number}
+use Rattle.wasm_types.specs.externs.declared.memory.MemoryType.{MemoryType}
+use Rattle.wasm_operators_memory.specs.declared.memory.MemoryOperator.{MemoryOperator}
+use Rattle.wasm_operators_memory.specs.declared.memory.MemoryOperator.TheVariants as memory
+use Rattle.wasm_operators_memory.specs.declared.bulk.BulkOperator.{BulkOperator}
+use Rattle.wasm_operators_memory.specs.declared.bulk.BulkOperator.TheVariants as bulk
+use Rattle.wasm_operators_threads.specs.declared.atomic.AtomicOperator.{AtomicOperator}
+use Rattle.wasm_operators_threads.specs.declared.atomic.AtomicOperator.TheVariants as atomic
+use Rattle.wasm_operators_operator.specs.Op as op
+use Rattle.wasm_operators_operator.specs.Op.{Op}
+use Rattle.wasm_operator_validator_rules.specs.Operands.{ValueType}
+use Rattle.wasm_operator_validator_rules.specs.Context.{Context, Table, Global, address_type}
+use Rattle.wasm_operator_validator_rules.specs.Numbers.{numbers, class_of, taken_by, given_by, constant_type}
+use Rattle.wasm_operator_validator_rules.specs.Accesses.{AccessOf, access_of, atomic_access_of, operands_of, results_of, may_access}
+
+-- what is taken off the operands and what is put on, the last on top (validation, conventions, instruction types)
+pub record InstructionType : Type 0 where
+  pub takes : List ValueType
+  pub gives : List ValueType
+
+infix 5 ◌⟶◌
+abbrev pub ◌⟶◌ : List ValueType → List ValueType → InstructionType
+ts ⟶ us = record { takes = ts; gives = us }
+
+-- a type under a condition
+abbrev pub provided : Bool → InstructionType → Option InstructionType
+provided true t = Some t
+provided false t = None
+
+-- f of what an index names, if it names something
+abbrev pub named : {A : Type 0} → Option A → (A → Option InstructionType) → Option InstructionType
+named None f = None
+named (Some x) f = f x
+
+abbrev pub i32_type : ValueType
+i32_type = number i32
+
+-- ---- memories
+
+abbrev pub memory_at : Context → ℕ → (MemoryType → Option InstructionType) → Option InstructionType
+memory_at g x f = named (slice_get g.«module».memories x) f
+
+-- an access takes the address first
+abbrev pub accesses : Context → Bool → Option AccessOf → Option InstructionType
+accesses g is_atomic None = None
+accesses g is_atomic (Some a) =
+    memory_at g a.argument.memory (λ m. provided (may_access is_atomic m a.argument) ((address_type m.memory64 ∷ numbers (operands_of a.access)) ⟶ numbers (results_of a.access)))
+
+-- the data count section, where it stands, names the data segment
+abbrev pub names_data : Option ℕ → ℕ → Bool
+names_data None x = false
+names_data (Some n) x = nat_lt x n
+
+-- lengths are of 64 bits where both memories, or both tables, are
+abbrev pub shorter : Bool → Bool → ValueType
+shorter m n = address_type (m && n)
+
+-- ---- globals and tables; a shared function may use what is shared alone (the proposal on shared everything)
+
+abbrev pub may_use : Context → Bool → Bool
+may_use g true = true
+may_use g false = if g.shared then false else true
+
+abbrev pub global_at : Context → ℕ → (Global → Option InstructionType) → Option InstructionType
+global_at g x f = named (slice_get g.«module».globals x) (λ v. if may_use g v.shared then f v else None)
+
+abbrev pub table_at : Context → ℕ → (Table → Option InstructionType) → Option InstructionType
+table_at g x f = named (slice_get g.«module».tables x) (λ t. if may_use g t.shared then f t else None)
+
+-- ---- the tables of the groups
+
+abbrev pub memory_type_of : Context → MemoryOperator → Option InstructionType
+memory_type_of g (memory.GlobalGet x) = global_at g x (λ v. Some ([] ⟶ v.content ∷ []))
+memory_type_of g (memory.GlobalSet x) = global_at g x (λ v. provided v.mutable (v.content ∷ [] ⟶ []))
+memory_type_of g (memory.MemorySize x) = memory_at g x (λ m. Some ([] ⟶ address_type m.memory64 ∷ []))
+memory_type_of g (memory.MemoryGrow x) = memory_at g x (λ m. Some (address_type m.memory64 ∷ [] ⟶ address_type m.memory64 ∷ []))
+memory_type_of g o = accesses g false (access_of o)
+
+abbrev pub bulk_type_of : Context → BulkOperator → Option InstructionType
+bulk_type_of g (bulk.TableGet x) = table_at g x (λ t. Some (address_type t.table64 ∷ [] ⟶ t.element ∷ []))
+bulk_type_of g (bulk.TableSet x) = table_at g x (λ t. Some (address_type t.table64 ∷ t.element ∷ [] ⟶ []))
+bulk_type_of g (bulk.TableGrow x) = table_at g x (λ t. Some (t.element ∷ address_type t.table64 ∷ [] ⟶ address_type t.table64 ∷ []))
+bulk_type_of g (bulk.TableSize x) = table_at g x (λ t. Some ([] ⟶ address_type t.table64 ∷ []))
+bulk_type_of g (bulk.TableFill x) = table_at g x (λ t. Some (address_type t.table64 ∷ t.element ∷ address_type t.table64 ∷ [] ⟶ []))
+bulk_type_of g (bulk.ElemDrop x) = named (slice_get g.«module».elements x) (λ t. Some ([] ⟶ []))
+bulk_type_of g (bulk.DataDrop x) = provided (names_data g.«module».data_count x) ([] ⟶ [])
+bulk_type_of g (bulk.MemoryInit d x) = memory_at g x (λ m. provided (names_data g.«module».data_count d) (address_type m.memory64 ∷ i32_type ∷ i32_type ∷ [] ⟶ []))
+bulk_type_of g (bulk.MemoryCopy x y) = memory_at g x (λ m. memory_at g y (λ n. Some (address_type m.memory64 ∷ address_type n.memory64 ∷ shorter m.memory64 n.memory64 ∷ [] ⟶ [])))
+bulk_type_of g (bulk.MemoryFill x) = memory_at g x (λ m. Some (address_type m.memory64 ∷ i32_type ∷ address_type m.memory64 ∷ [] ⟶ []))
+bulk_type_of g (bulk.MemoryDiscard x) = memory_at g x (λ m. Some (address_type m.memory64 ∷ address_type m.memory64 ∷ [] ⟶ []))
+bulk_type_of g o = None
+
+abbrev pub atomic_type_of : Context → AtomicOperator → Option InstructionType
+atomic_type_of g atomic.AtomicFence = Some ([] ⟶ [])
+atomic_type_of g o = accesses g true (atomic_access_of o)
+
+-- what an operator takes and gives, where the module determines it
+abbrev pub instruction_type : Context → Op → Option InstructionType
+instruction_type g (op.Memory o) = memory_type_of g o
+instruction_type g (op.Const o) = Some ([] ⟶ number (constant_type o) ∷ [])
+instruction_type g (op.Numeric o) = Some (numbers (taken_by (class_of o)) ⟶ numbers (given_by (class_of o)))
+instruction_type g (op.Bulk o) = bulk_type_of g o
+instruction_type g (op.Atomic o) = atomic_type_of g o
+instruction_type g o = None

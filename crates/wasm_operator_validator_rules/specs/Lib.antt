@@ -1,0 +1,10 @@
+-- The rules of operators: definitions, in the order in which they are read.
+pub mod Operands
+pub mod Context
+pub mod Numbers
+pub mod Accesses
+pub mod InstructionTypes
+pub mod Row
+pub mod Typed
+-- Worked operators: rows that hold and rows that do not, a pair at least for each kind.
+pub mod worked

@@ -1,0 +1,4 @@
+pub mod Contexts
+pub mod InstructionTypes
+pub mod Operators
+pub mod Codes

@@ -1,0 +1,10 @@
+//! The rules of operators: which code is well typed (WebAssembly 3.0, validation, instructions).
+//!
+//! There is no code here but the laws, each on the contract of a function that does nothing. `specs/` is read in the order of
+//! its `Lib.antt`: what the rules know of operands, the context, the classes of operators, the table of instruction types,
+//! the rows of all other operators, and the typing of code.
+#![tactic(auto)]
+
+mod worked;
+
+pub use worked::{code_is_worked, instruction_types_are_worked, rows_are_worked};
