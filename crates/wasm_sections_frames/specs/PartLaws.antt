@@ -115,7 +115,7 @@ decides-header = decides-same _ (Then (Exactly 4) OfMagic) SpelledHeader (decide
 
 -- ---- counted bytes
 
-lawful-counted_bytes : IsLawful counted_bytes
+pub lawful-counted_bytes : IsLawful counted_bytes
 unfolding counted_bytes
 lawful-counted_bytes = lawful->>= u32 bytes (lawful-unsigned 4 4) lawful-bytes
 
@@ -131,7 +131,7 @@ bytes_to xs text h = record {
 bytes_from : (xs text : List ℕ) → IsSized IsBytes xs text → Then (IsUnsigned 32) Exactly xs text
 bytes_from xs text h = record { value = length h.content; front = h.size; back = h.content; first = h.counted; second = (ap length h.spelled, sym h.spelled); whole = h.whole }
 
-decides-counted_bytes : Decides counted_bytes (IsSized IsBytes)
+pub decides-counted_bytes : Decides counted_bytes (IsSized IsBytes)
 unfolding counted_bytes
 decides-counted_bytes = decides-same _ (Then (IsUnsigned 32) Exactly) (IsSized IsBytes) (decides->>= u32 bytes (IsUnsigned 32) Exactly decides-u32 decides-bytes) bytes_to bytes_from
 
