@@ -1,4 +1,10 @@
--- The definitions that contracts cite.
+-- Rules: what contracts cite, and which bytes spell these types.
 pub mod Addresses
--- Worked rows of them.
+pub mod Spells
+-- Decoders.
+pub mod Decode
+-- Laws.
+pub mod DecodeLaws
+-- Worked rows.
 pub mod Worked
+pub mod WorkedReading

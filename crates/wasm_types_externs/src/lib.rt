@@ -1,13 +1,15 @@
 //! The types of tables, memories, globals and tags (WebAssembly 3.0, structure, external types).
 //!
 //! Each is a struct of its parts, such as a [`TableType`] of its element type and its limits. `specs/Addresses.antt`
-//! defines the type of an address and the bytes of a page, which the functions here answer. There are no readers of
-//! these types yet, and no rules on valid limits.
+//! defines the type of an address and the bytes of a page, which the functions here answer; `specs/Spells.antt` defines the
+//! bytes of each type, under whatever features. There are no rules on valid limits yet.
 #![tactic(auto)]
 
 mod global;
 pub mod laws;
+mod limits;
 mod memory;
+mod read;
 mod table;
 mod tag;
 

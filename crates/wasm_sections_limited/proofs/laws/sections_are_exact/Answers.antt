@@ -1,0 +1,9 @@
+-- By the laws of walks, since the items' type is read exactly.
+use Rattle.wasm_sections_limited.specs.WalkLaws.{walk_sound, walk_complete}
+use Rattle.wasm_sections_limited.proofs.laws.sections_are_exact.Goals as goal
+
+pub returns-clause-sound : goal.returns-clause-sound
+returns-clause-sound g c = walk_sound g.T.FromReader.decoder g.T.FromReader.grammar (g.met.T.FromReader c.lifetimes (assumption c)).exact
+
+pub returns-clause-complete : goal.returns-clause-complete
+returns-clause-complete g c = walk_complete g.T.FromReader.decoder g.T.FromReader.grammar (g.met.T.FromReader c.lifetimes (assumption c)).exact

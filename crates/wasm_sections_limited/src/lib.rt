@@ -1,0 +1,13 @@
+//! The contents of a section as a count and as many items (WebAssembly 3.0, binary format, modules).
+//!
+//! A [`SectionLimited`] reads the count at once and its items one by one, plainly or each with its offset. Behind the last
+//! item no byte may be left. `specs/Walking.antt` says what comes next where a walk stands; `laws` promises that a walk
+//! ends without an error exactly where the contents spell the items.
+#![tactic(auto)]
+
+pub mod laws;
+mod section;
+mod walk;
+
+pub use section::SectionLimited;
+pub use walk::{SectionLimitedIntoIter, SectionLimitedIntoIterWithOffsets};

@@ -1,0 +1,58 @@
+//! A section of items.
+
+ghost use Rattle.std.specs.Prelude.{◌≡◌, ◌+◌, length, IfErr, MatchResult};
+ghost use Rattle.wasm_types.specs.decoding.Decoder.{Done};
+ghost use Rattle.wasm_types.specs.decoding.Leb.{u32 as u32_decoder};
+ghost use Rattle.wasm_types.specs.reader.Reading.{Fails, IsNotMemory};
+
+use std::alloc::Global;
+use std::marker::PhantomData;
+use std::ops::Range;
+use wasm_types::{BinaryReader, FromReader, Result};
+
+/// A count and as many items, which are read as they are asked for.
+#[derive(Drop)]
+pub struct SectionLimited<'a, T: FromReader<'a>> {
+    pub(crate) reader: BinaryReader<'a>,
+    count: u32,
+    pub(crate) alloc: Global,
+    of: PhantomData<T>,
+}
+
+impl<'a, T: FromReader<'a>> SectionLimited<'a, T> {
+    /// A section of these contents: reads the count, a number of 32 bits. Items that take memory take it of `alloc`.
+    pub fn new(alloc: Global, reader: BinaryReader<'a>) -> Result<SectionLimited<'a, T>>
+        ensures answer { MatchResult result (λ s. u32_decoder reader.entry ≡ Done s.count s.reader) (λ e. Fails e (u32_decoder reader.entry)) }
+        ensures no_memory { IfErr result (λ e. IsNotMemory e.kind) }
+    {
+        let mut reader = reader;
+        let count = reader.read_var_u32()?;
+        Ok(SectionLimited {
+            reader,
+            count,
+            alloc,
+            of: PhantomData,
+        })
+    }
+
+    /// How many items were counted.
+    pub fn count(&self) -> u32
+        ensures { result ≡ self.now.count }
+    {
+        self.count
+    }
+
+    /// The offset of the first item.
+    pub fn original_position(&self) -> u64
+        ensures { result ≡ self.now.reader.place }
+    {
+        self.reader.original_position()
+    }
+
+    /// The offsets of the contents, the count too.
+    pub fn range(&self) -> Range<u64>
+        ensures { result ≡ record { start = self.now.reader.start; end = self.now.reader.place + length self.now.reader.rest } }
+    {
+        self.reader.range()
+    }
+}

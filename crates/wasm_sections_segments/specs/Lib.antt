@@ -1,0 +1,8 @@
+-- Rules: which bytes spell globals and data segments.
+pub mod Spells
+-- Decoders.
+pub mod Decode
+-- Laws.
+pub mod DecodeLaws
+-- Worked rows.
+pub mod Worked
