@@ -3,7 +3,4 @@ pub mod Passed
 pub mod Rows
 pub mod Sizes
 pub mod Spelled
-pub mod LebGroups
-pub mod LebSigned
-pub mod LebUnsigned
 pub mod AtOnce

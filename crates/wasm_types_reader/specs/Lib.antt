@@ -1,11 +1,12 @@
 pub use Rattle.wasm_types_error.specs.ErrorText
 pub use Rattle.wasm_types_error.specs.ErrorValue
--- what contracts cite: what a read answers, values that nobody wants, parts, bytes below 128, numbers and their flaws
+pub use Rattle.wasm_types_numbers.specs.Numbers
+-- what contracts cite: what a read answers, values that nobody wants, parts, bytes below 128, the errors of numbers
 pub mod Reading
 pub mod Draining
 pub mod Parts
 pub mod Words
-pub mod Numbers
+pub mod Flaws
 -- readings worked by hand
 pub mod Rows
 -- what is proved of them: laws, exactness, rows

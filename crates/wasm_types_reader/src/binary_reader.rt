@@ -11,7 +11,7 @@ ghost use Rattle.wasm_types_features.specs.Sets.{bits_of, default_features};
 ghost use Rattle.wasm_types_limits.specs.Limits.{default_limits, IsWithinCeilings};
 ghost use Rattle.wasm_types_reader.specs.Reading.{Answers, Gives, NeedsNoMemory, MemoryOnlyIf};
 ghost use Rattle.wasm_types_reader.specs.Parts.{part_at, counted_part, IsPassed};
-ghost use Rattle.wasm_types_reader.specs.Numbers.{behind};
+ghost use Rattle.wasm_types_numbers.specs.Numbers.{behind};
 
 use crate::{Error, FromReader, Result};
 use std::alloc::{AllocError, Global};
@@ -315,13 +315,12 @@ impl<'a> BinaryReader<'a> {
         ensures no_memory { NeedsNoMemory result }
         ensures forward { Reaches self.old self.new }
     {
-        let start = self.clone();
-        let size = self.read_var_u32()? as usize;
+        let mut ahead = self.clone();
+        let size = ahead.read_var_u32()? as usize;
         if size > limit {
-            let place = start.original_position();
-            *self = start;
-            return Err(size_error(desc, place));
+            return Err(size_error(desc, self.original_position()));
         }
+        *self = ahead;
         Ok(size)
     }
 
@@ -333,16 +332,11 @@ impl<'a> BinaryReader<'a> {
         ensures no_memory { NeedsNoMemory result }
         ensures forward { Reaches self.old self.new }
     {
-        let start = self.clone();
-        let count = self.read_var_u32()?;
-        let place = self.original_position();
-        let text = match self.read_bytes(count as usize) {
-            Ok(text) => text,
-            Err(error) => {
-                *self = start;
-                return Err(error);
-            }
-        };
+        let mut ahead = self.clone();
+        let count = ahead.read_var_u32()?;
+        let place = ahead.original_position();
+        let text = ahead.read_bytes(count as usize)?;
+        *self = ahead;
         Ok(BinaryReader::new_limited(text, place, self.features, self.limits))
     }
 

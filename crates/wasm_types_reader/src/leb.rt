@@ -1,44 +1,17 @@
-//! Numbers in LEB128 (WebAssembly 3.0, binary format, values, integers): groups of seven bits, the lowest first, in a byte
-//! each, whose highest bit says that more follow.
+//! Numbers in LEB128 (WebAssembly 3.0, binary format, values, integers), with the error where the bytes spell none: groups
+//! of seven bits, the lowest first, in a byte each, whose highest bit says that more follow.
 //!
-//! Most numbers are of one byte, which each reader takes by one test. The longer ones are read by two loops, one for
-//! unsigned numbers of any width and one for signed ones, out of the way.
+//! `wasm_types_numbers` reads them from the bytes at hand, so a reader moves only behind a number that it has.
 
-ghost use Rattle.std.specs.Prelude.{◌≡◌, ℕ, ◌+◌, ◌-◌, ◌*◌, ◌<◌, ◌≤◌, ◌^◌, length, IfOk, IfSome, IfNone};
-ghost use Rattle.std.specs.Bool.{MatchBool};
-ghost use Rattle.wasm_types_decoding.specs.Decoder.{Reaches, byte, Done, IsLawful, Decides};
-ghost use Rattle.wasm_types_decoding.specs.Leb.{IsUnsigned, IsSigned, unsigned, signed, u32 as u32_decoder, u64 as u64_decoder, s32, s33, s64, seven_bits as bits_signed};
+ghost use Rattle.std.specs.Prelude.{◌≡◌, ℕ, ◌+◌, ◌*◌, ◌<◌, ◌≤◌, ◌^◌};
+ghost use Rattle.wasm_types_decoding.specs.Decoder.{Reaches, IsLawful, Decides};
+ghost use Rattle.wasm_types_decoding.specs.Leb.{IsUnsigned, IsSigned, unsigned, signed, u32 as u32_decoder, u64 as u64_decoder, s32, s33, s64};
+ghost use Rattle.wasm_types_numbers.specs.Numbers.{flaw_offset};
+ghost use Rattle.wasm_types_reader.specs.Flaws.{flaw_kind};
 ghost use Rattle.wasm_types_reader.specs.Reading.{Answers, NeedsNoMemory};
-ghost use Rattle.wasm_types_reader.specs.Numbers.{unsigned_of, signed_of, ReadsNumber, flaw_kind, flaw_place, IsWithin, EndsSigned};
 
 use crate::{BinaryReader, Error, Result};
-
-/// Why the bytes at hand spell no number, and the offset that shows it.
-#[derive(Clone, Copy)]
-pub(crate) enum Flaw {
-    /// The bytes end there, before the number does.
-    Ended(u64),
-    /// The number has no room for that byte, the last that it may have.
-    NoRoom { place: u64, byte: u8 },
-}
-
-impl Flaw {
-    /// The error of a flaw, of a number with these messages: where the last byte says that more follow the number is too
-    /// long, and else too large.
-    #[cold]
-    fn error(self, too_long: &str, too_large: &str) -> Error
-        ensures kind { result.kind ≡ flaw_kind self }
-        ensures offset { result.offset ≡ flaw_place self }
-    {
-        match self {
-            Flaw::Ended(place) => Error::eof(place, 1),
-            Flaw::NoRoom { place, byte } => {
-                let message = if byte < 0x80 { too_large } else { too_long };
-                Error::new(message, place)
-            }
-        }
-    }
-}
+use wasm_types_numbers::{Flaw, long_i32_at, long_i64_at, long_s33_at, long_u32_at, long_u64_at};
 
 /// What holds of numbers of any width, by their decoders: a value and a fault stay, whatever bytes follow; the hint of an end of data is
 /// exact; and a number is read exactly where a front of the bytes is one of its spellings.
@@ -50,268 +23,145 @@ pub fn numbers_are_lawful()
 impl<'a> BinaryReader<'a> {
     /// The next unsigned number of 32 bits, in at most five bytes.
     #[inline]
-    #[tactic(auto, using(crate::proofs::LebUnsigned::of_one_byte))]
+    #[tactic(auto, using(crate::proofs::AtOnce::given, crate::proofs::AtOnce::goes_forward, crate::proofs::AtOnce::flawed))]
     pub fn read_var_u32(&mut self) -> Result<u32>
         ensures answer { Answers (λ v. v) result self.old self.new (u32_decoder self.old) }
         ensures no_memory { NeedsNoMemory result }
         ensures forward { Reaches self.old self.new }
     {
-        if let Some(byte) = self.one_byte() {
-            return Ok(byte as u32);
+        if let Some(value) = self.short_u32() {
+            return Ok(value);
         }
-        let value = match self.long_var_u32() {
-            Ok(value) => value,
-            Err(flaw) => {
-                return Err(flaw.error(
-                    "invalid var_u32: integer representation too long",
-                    "invalid var_u32: integer too large",
-                ));
+        match long_u32_at(self.rest(), 0) {
+            Ok((value, length)) => {
+                self.advance(length);
+                Ok(value)
             }
-        };
-        Ok(value)
+            Err(flaw) => Err(flaw_error(
+                flaw,
+                self.original_position(),
+                "invalid var_u32: integer representation too long",
+                "invalid var_u32: integer too large",
+            )),
+        }
     }
 
     /// The next unsigned number of 64 bits, in at most ten bytes.
     #[inline]
-    #[tactic(auto, using(crate::proofs::LebUnsigned::of_one_byte))]
+    #[tactic(auto, using(crate::proofs::AtOnce::given, crate::proofs::AtOnce::goes_forward, crate::proofs::AtOnce::flawed))]
     pub fn read_var_u64(&mut self) -> Result<u64>
         ensures answer { Answers (λ v. v) result self.old self.new (u64_decoder self.old) }
         ensures no_memory { NeedsNoMemory result }
         ensures forward { Reaches self.old self.new }
     {
-        if let Some(byte) = self.one_byte() {
-            return Ok(byte as u64);
+        if let Some(value) = self.short_u64() {
+            return Ok(value);
         }
-        let value = match self.long_var_u64() {
-            Ok(value) => value,
-            Err(flaw) => {
-                return Err(flaw.error(
-                    "invalid var_u64: integer representation too long",
-                    "invalid var_u64: integer too large",
-                ));
+        match long_u64_at(self.rest(), 0) {
+            Ok((value, length)) => {
+                self.advance(length);
+                Ok(value)
             }
-        };
-        Ok(value)
+            Err(flaw) => Err(flaw_error(
+                flaw,
+                self.original_position(),
+                "invalid var_u64: integer representation too long",
+                "invalid var_u64: integer too large",
+            )),
+        }
     }
 
     /// The next signed number of 32 bits, in at most five bytes.
     #[inline]
-    #[tactic(auto, using(crate::proofs::LebSigned::of_one_byte_32))]
+    #[tactic(auto, using(crate::proofs::AtOnce::given, crate::proofs::AtOnce::goes_forward, crate::proofs::AtOnce::flawed))]
     pub fn read_var_i32(&mut self) -> Result<i32>
         ensures answer { Answers (λ v. v) result self.old self.new (s32 self.old) }
         ensures no_memory { NeedsNoMemory result }
         ensures forward { Reaches self.old self.new }
     {
-        if let Some(byte) = self.one_byte() {
-            return Ok(seven_bits(byte) as i32);
+        if let Some(value) = self.short_i32() {
+            return Ok(value);
         }
-        let value = match self.long_var_i32() {
-            Ok(value) => value,
-            Err(flaw) => {
-                return Err(flaw.error(
-                    "invalid var_i32: integer representation too long",
-                    "invalid var_i32: integer too large",
-                ));
+        match long_i32_at(self.rest(), 0) {
+            Ok((value, length)) => {
+                self.advance(length);
+                Ok(value)
             }
-        };
-        Ok(value)
+            Err(flaw) => Err(flaw_error(
+                flaw,
+                self.original_position(),
+                "invalid var_i32: integer representation too long",
+                "invalid var_i32: integer too large",
+            )),
+        }
     }
 
     /// The next signed number of 33 bits, in at most five bytes. A bad fifth byte is called too long whatever is wrong with it.
     #[inline]
-    #[tactic(auto, using(crate::proofs::LebSigned::of_one_byte))]
+    #[tactic(auto, using(crate::proofs::AtOnce::given, crate::proofs::AtOnce::goes_forward, crate::proofs::AtOnce::flawed))]
     pub fn read_var_s33(&mut self) -> Result<i64>
         ensures answer { Answers (λ v. v) result self.old self.new (s33 self.old) }
         ensures no_memory { NeedsNoMemory result }
         ensures forward { Reaches self.old self.new }
     {
-        if let Some(byte) = self.one_byte() {
-            return Ok(seven_bits(byte));
+        if let Some(value) = self.short_s33() {
+            return Ok(value);
         }
-        let value = match self.long_var_s33() {
-            Ok(value) => value,
-            Err(flaw) => {
-                return Err(flaw.error(
-                    "invalid var_i33: integer representation too long",
-                    "invalid var_i33: integer representation too long",
-                ));
+        match long_s33_at(self.rest(), 0) {
+            Ok((value, length)) => {
+                self.advance(length);
+                Ok(value)
             }
-        };
-        Ok(value)
+            Err(flaw) => Err(flaw_error(
+                flaw,
+                self.original_position(),
+                "invalid var_i33: integer representation too long",
+                "invalid var_i33: integer representation too long",
+            )),
+        }
     }
 
     /// The next signed number of 64 bits, in at most ten bytes.
     #[inline]
-    #[tactic(auto, using(crate::proofs::LebSigned::of_one_byte))]
+    #[tactic(auto, using(crate::proofs::AtOnce::given, crate::proofs::AtOnce::goes_forward, crate::proofs::AtOnce::flawed))]
     pub fn read_var_i64(&mut self) -> Result<i64>
         ensures answer { Answers (λ v. v) result self.old self.new (s64 self.old) }
         ensures no_memory { NeedsNoMemory result }
         ensures forward { Reaches self.old self.new }
     {
-        if let Some(byte) = self.one_byte() {
-            return Ok(seven_bits(byte));
+        if let Some(value) = self.short_i64() {
+            return Ok(value);
         }
-        let value = match self.long_var_i64() {
-            Ok(value) => value,
-            Err(flaw) => {
-                return Err(flaw.error(
-                    "invalid var_i64: integer representation too long",
-                    "invalid var_i64: integer too large",
-                ));
+        match long_i64_at(self.rest(), 0) {
+            Ok((value, length)) => {
+                self.advance(length);
+                Ok(value)
             }
-        };
-        Ok(value)
-    }
-
-    /// The next byte, where the number that begins there is of that byte alone.
-    #[inline]
-    #[tactic(auto, using(crate::proofs::LebGroups::first_byte, crate::proofs::LebGroups::one_forward, wasm_types_decoding::specs::Laws::reaches_self))]
-    pub(crate) fn one_byte(&mut self) -> Option<u8>
-        ensures found { IfSome result (λ b. (byte self.old ≡ Done b self.new) × (b < 128)) }
-        ensures none { IfNone result (self.new ≡ self.old) }
-        ensures forward { Reaches self.old self.new }
-    {
-        let rest = self.rest();
-        if rest.is_empty() || rest[0] >= 0x80 {
-            return None;
+            Err(flaw) => Err(flaw_error(
+                flaw,
+                self.original_position(),
+                "invalid var_i64: integer representation too long",
+                "invalid var_i64: integer too large",
+            )),
         }
-        self.advance(1);
-        Some(rest[0])
-    }
-
-    #[inline(never)]
-    pub(crate) fn long_var_u32(&mut self) -> Result<u32, Flaw>
-        ensures answer { ReadsNumber result self.old self.new (u32_decoder self.old) }
-        ensures forward { Reaches self.old self.new }
-    {
-        match self.unsigned(32) {
-            Ok(value) => Ok(value as u32),
-            Err(flaw) => Err(flaw),
-        }
-    }
-
-    #[inline(never)]
-    pub(crate) fn long_var_u64(&mut self) -> Result<u64, Flaw>
-        ensures answer { ReadsNumber result self.old self.new (u64_decoder self.old) }
-        ensures forward { Reaches self.old self.new }
-    {
-        self.unsigned(64)
-    }
-
-    #[inline(never)]
-    pub(crate) fn long_var_i32(&mut self) -> Result<i32, Flaw>
-        ensures answer { ReadsNumber result self.old self.new (s32 self.old) }
-        ensures forward { Reaches self.old self.new }
-    {
-        match self.signed(32) {
-            Ok(value) => Ok(value as i32),
-            Err(flaw) => Err(flaw),
-        }
-    }
-
-    #[inline(never)]
-    pub(crate) fn long_var_s33(&mut self) -> Result<i64, Flaw>
-        ensures answer { ReadsNumber result self.old self.new (s33 self.old) }
-        ensures forward { Reaches self.old self.new }
-    {
-        self.signed(33)
-    }
-
-    #[inline(never)]
-    pub(crate) fn long_var_i64(&mut self) -> Result<i64, Flaw>
-        ensures answer { ReadsNumber result self.old self.new (s64 self.old) }
-        ensures forward { Reaches self.old self.new }
-    {
-        self.signed(64)
-    }
-
-    /// The next unsigned number of `bits` bits.
-    #[inline]
-    #[tactic(auto, using(crate::proofs::LebGroups::goes_forward, wasm_types_decoding::specs::Laws::reaches_self))]
-    fn unsigned(&mut self, bits: u32) -> Result<u64, Flaw>
-        requires some { 0 < bits }
-        requires room { bits ≤ 64 }
-        ensures answer { ReadsNumber result self.old self.new (unsigned_of bits self.old) }
-        ensures within { IfOk result (λ v. v < 2 ^ bits) }
-        ensures forward { Reaches self.old self.new }
-    {
-        let rest = self.rest();
-        let start = self.original_position();
-        let mut value: u64 = 0;
-        let mut shift: u32 = 0;
-        for (i, byte) in rest.iter().enumerate() {
-            // The last byte that a number may have has room for so many bits.
-            if shift + 7 >= bits && *byte >= 1 << (bits - shift) {
-                return Err(Flaw::NoRoom {
-                    place: start + i as u64,
-                    byte: *byte,
-                });
-            }
-            value |= ((*byte & 0x7f) as u64) << shift;
-            if shift + 7 >= bits || *byte < 0x80 {
-                self.advance(i + 1);
-                return Ok(value);
-            }
-            shift += 7;
-        }
-        Err(Flaw::Ended(start + rest.len() as u64))
-    }
-
-    /// The next signed number of `bits` bits.
-    #[inline]
-    #[tactic(auto, using(crate::proofs::LebGroups::goes_forward, wasm_types_decoding::specs::Laws::reaches_self))]
-    fn signed(&mut self, bits: u32) -> Result<i64, Flaw>
-        requires some { 0 < bits }
-        requires room { bits ≤ 64 }
-        ensures answer { ReadsNumber result self.old self.new (signed_of bits self.old) }
-        ensures within { IfOk result (λ v. IsWithin (bits - 1) v) }
-        ensures forward { Reaches self.old self.new }
-    {
-        let rest = self.rest();
-        let start = self.original_position();
-        let mut low: u64 = 0;
-        let mut shift: u32 = 0;
-        for (i, byte) in rest.iter().enumerate() {
-            if shift + 7 >= bits && !ends_signed(*byte, bits - shift) {
-                return Err(Flaw::NoRoom {
-                    place: start + i as u64,
-                    byte: *byte,
-                });
-            }
-            if shift + 7 >= bits || *byte < 0x80 {
-                self.advance(i + 1);
-                let high = seven_bits(*byte).cast_unsigned() << shift;
-                return Ok((low | high).cast_signed());
-            }
-            low |= ((*byte & 0x7f) as u64) << shift;
-            shift += 7;
-        }
-        Err(Flaw::Ended(start + rest.len() as u64))
     }
 }
 
-/// The number that seven bits are, of which the highest is the sign.
-#[inline]
-pub(crate) fn seven_bits(byte: u8) -> i64
-    requires { byte < 128 }
-    ensures { result ≡ bits_signed byte }
+/// The error of a flaw in the bytes from an offset of the input on, of a number with these messages: where the last byte
+/// says that more follow the number is too long, and else too large.
+#[cold]
+fn flaw_error(flaw: Flaw, start: u64, too_long: &str, too_large: &str) -> Error
+    requires { start + flaw_offset flaw < 2 ^ 64 }
+    ensures kind { result.kind ≡ flaw_kind flaw }
+    ensures offset { result.offset ≡ start + flaw_offset flaw }
 {
-    if byte < 0x40 {
-        byte as i64
-    } else {
-        byte as i64 - 0x80
+    match flaw {
+        Flaw::Ended(offset) => Error::eof(start + offset as u64, 1),
+        Flaw::NoRoom { offset, byte } => {
+            let message = if byte < 0x80 { too_large } else { too_long };
+            Error::new(message, start + offset as u64)
+        }
     }
-}
-
-/// Whether a byte ends a signed number that takes `bits` of its bits: those above them are as the highest of them, the sign.
-#[inline]
-fn ends_signed(byte: u8, bits: u32) -> bool
-    requires some { 0 < bits }
-    requires few { bits ≤ 7 }
-    ensures { MatchBool result (EndsSigned bits byte) (EndsSigned bits byte → ⊥) }
-{
-    let half = 1u8 << (bits - 1);
-    byte < half || (0x80 - half <= byte && byte < 0x80)
 }
 
 #[cfg(test)]

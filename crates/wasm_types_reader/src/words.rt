@@ -61,12 +61,12 @@ impl<'a> BinaryReader<'a> {
         ensures no_memory { NeedsNoMemory result }
         ensures forward { Reaches self.old self.new }
     {
-        let start = self.clone();
-        let b = self.read_u8()?;
+        let mut ahead = self.clone();
+        let b = ahead.read_u8()?;
         if b >= 0x80 {
-            *self = start;
             return Err(Error::new("invalid u7", self.original_position()));
         }
+        *self = ahead;
         Ok(b)
     }
 

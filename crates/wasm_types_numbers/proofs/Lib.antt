@@ -1,0 +1,4 @@
+pub mod LebGroups
+pub mod LebSigned
+pub mod LebUnsigned
+pub mod AtOnce
