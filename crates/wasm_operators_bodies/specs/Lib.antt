@@ -1,0 +1,8 @@
+-- The rules, in reading order.
+pub mod Locals
+pub mod Groups
+pub mod Bodies
+-- What is proved of it.
+pub mod LocalsLaws
+pub mod GroupLaws
+pub mod BodyLaws
