@@ -1,9 +1,10 @@
 //! A function's body: groups of locals, and operators behind them.
 
 ghost use Rattle.std.specs.Prelude.{◌≡◌, ◌+◌, length, IfOk, MatchResult};
-ghost use Rattle.wasm_types.specs.decoding.Decoder.{Reaches};
+ghost use Rattle.wasm_types.specs.decoding.Decoder.{State, Reaches};
 ghost use Rattle.wasm_types.specs.reader.Parts.{counted_part};
 ghost use Rattle.wasm_types.specs.reader.Reading.{Collects, Fails, Gives, NeedsNoMemory};
+ghost use Rattle.wasm_operators_reader.specs.Standing.{at_start};
 ghost use Rattle.wasm_operators_bodies.specs.Locals.{locals};
 ghost use Rattle.wasm_operators_bodies.specs.Groups.{counted_groups};
 ghost use Rattle.wasm_operators_bodies.specs.Bodies.{body_bytes, OperatorsBegin};
@@ -12,6 +13,7 @@ use crate::LocalsReader;
 use std::alloc::Global;
 use std::marker::Model;
 use std::ops::Range;
+use wasm_operators_reader::OperatorsReader;
 use wasm_types::{BinaryReader, FromReader, Result};
 
 /// The bytes of a function's body: its groups of locals, and an expression (WebAssembly 3.0, binary format, modules, code
@@ -69,6 +71,21 @@ impl<'a> FunctionBody<'a> {
         let mut groups = self.get_locals_reader()?;
         groups.pass()?;
         Ok(groups.get_binary_reader())
+    }
+
+    /// A reader of the operators behind the groups of locals.
+    ///
+    /// # Errors
+    ///
+    /// As `get_binary_reader_for_operators`.
+    pub fn get_operators_reader(&self) -> Result<OperatorsReader<'a>>
+        ensures answer { MatchResult result (λ operators. (t : State) × OperatorsBegin self.now t × (operators ≡ at_start t)) (λ e. Fails e (locals self.now.features self.now)) }
+        ensures no_memory { NeedsNoMemory result }
+    {
+        match self.get_binary_reader_for_operators() {
+            Ok(reader) => Ok(OperatorsReader::new(self.alloc, reader)),
+            Err(error) => Err(error),
+        }
     }
 
     /// The offsets of all bytes of the reader that the body was made of, those before the body too.

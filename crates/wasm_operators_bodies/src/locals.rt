@@ -5,11 +5,13 @@ ghost use Rattle.std.specs.Iterator.{at_most};
 ghost use Rattle.wasm_types.specs.decoding.Decoder.{Reaches};
 ghost use Rattle.wasm_types.specs.error.declared.error.ErrorKind.TheVariants.{Other};
 ghost use Rattle.wasm_types.specs.reader.Reading.{Answers, Collects, Fails, Gives, NeedsNoMemory};
+ghost use Rattle.wasm_operators_reader.specs.Standing.{at_start};
 ghost use Rattle.wasm_operators_bodies.specs.Locals.{LocalGroup, group_of, group_within};
 ghost use Rattle.wasm_operators_bodies.specs.Groups.{counted_groups, ReadsGroup, ReadsGroups, RefusesGroup, NextGroup, groups_left};
 
 use std::alloc::Global;
 use std::marker::Model;
+use wasm_operators_reader::OperatorsReader;
 use wasm_types::{BinaryReader, Error, Result, ValType};
 
 /// The most locals that the groups of a body declare together.
@@ -180,6 +182,14 @@ impl<'a> LocalsIterator<'a> {
     {
         let LocalsIterator { reader, failed: _ } = self;
         reader.get_binary_reader()
+    }
+
+    /// A reader of operators that stands there, in memory of the same allocator.
+    pub fn into_operators_reader(self) -> OperatorsReader<'a>
+        ensures { result ≡ at_start self.entry.reader.bytes }
+    {
+        let alloc = self.reader.alloc;
+        OperatorsReader::new(alloc, self.into_binary_reader_for_operators())
     }
 }
 

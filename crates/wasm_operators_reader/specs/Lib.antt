@@ -4,3 +4,4 @@ pub mod Iterating
 -- What is proved of it.
 pub mod StandingLaws
 pub mod RunLaws
+pub mod MeetLaws
