@@ -1,5 +1,5 @@
 -- What is read to the first `end`, where it closes all frames, is a constant expression, and every one is read so.
-use Rattle.std.proofs.Common.{◌≡◌, inl, inr, ℕ, ◌+◌, Bool, true, false, List, [], ◌∷◌, ◌++◌, length, refl, sym, ◌∙◌, ap, subst, append-nil, append_assoc, length-append, arith}
+use Rattle.std.proofs.Common.{◌≡◌, inl, inr, ℕ, ◌+◌, Bool, true, false, List, [], ◌∷◌, ◌++◌, length, refl, sym, ◌∙◌, ap, subst, append-nil, append_assoc, length-append, is_some, arith}
 use Rattle.wasm_types.specs.decoding.Decoder.{State, Takes}
 use Rattle.wasm_types.specs.decoding.Laws.{takes_none, Takes-then}
 use Rattle.wasm_types.specs.decoding.Exact.{same_state}
@@ -8,11 +8,12 @@ use Rattle.wasm_types.specs.reader.Reading.{IsNotMemory}
 use Rattle.wasm_operators_immediates.specs.declared.frames.FrameKind.{FrameKind}
 use Rattle.wasm_operators_immediates.specs.declared.frames.FrameKind.TheVariants.{Block}
 use Rattle.wasm_operators_operator.specs.Op.{Op}
-use Rattle.wasm_operators_expression.specs.Code.{Code, walk}
-use Rattle.wasm_operators_expression.specs.Spelling.{SpelledOperators, SpelledExpression}
+use Rattle.wasm_operators_expression.specs.Code.{walk}
+use Rattle.wasm_operators_expression.specs.Spelling.{SpelledOperators}
 use Rattle.wasm_operators_expression.specs.Frames.{Closes}
 use Rattle.wasm_operators_expression.specs.FrameLaws.{closes_step, closes_more}
 use Rattle.wasm_operators_expression.specs.SpellingLaws.{spelled_read, read_spelled}
+use Rattle.wasm_operators_expression.specs.Stack.{innermost}
 use Rattle.wasm_operators_reader.specs.Standing.{Standing, at_start, Reads, Runs}
 use Rattle.wasm_operators_reader.specs.RunLaws.{run_more, closes_at}
 use Rattle.wasm_operators_reader.specs.MeetLaws.{meets_end, meets_refusal}
@@ -131,8 +132,20 @@ passes_by : (s t u : Standing) (o : Op) (b : Bool) → PassesTo s false t → Re
 passes_by s t u o true (os, run, none) r e = (os, t, o, run, none, r, e)
 passes_by s t u o false (os, run, none) r e = (os ++ o ∷ [], run_more os s t u o run r, no_end_more os o none e)
 
-pub passes_more : (s t u : Standing) (o : Op) → PassesTo s false t → Reads t o u → PassesTo s (is_end o) u
-passes_more s t u o h r = passes_by s t u o (is_end o) h r refl
+pub passes_more : (s t u : Standing) (b : Bool) → PassesTo s false t → (o : Op) × Reads t o u × (is_end o ≡ b) → PassesTo s b u
+passes_more s t u b h (o, r, e) = passes_by s t u o b h r e
 
 pub passes_none : (s : Standing) → PassesTo s false s
 passes_none s = ([], refl, tt)
+
+-- what was read before no `end` came
+pub still_none : (s t : Standing) (b : Bool) → b ≡ false → PassesTo s b t → PassesTo s false t
+still_none s t b e h = subst (λ (a : Bool). PassesTo s a t) e h
+
+pub ended_once : (s t : Standing) (b : Bool) → b ≡ true → PassesTo s b t → PassesTo s true t
+ended_once s t b e h = subst (λ (a : Bool). PassesTo s a t) e h
+
+-- without an innermost frame none is open
+pub none_open : (ks : List FrameKind) → false ≡ is_some (innermost ks) → ks ≡ []
+none_open [] e = refl
+none_open (k ∷ ks) e = absurd cc

@@ -5,8 +5,8 @@ ghost use Rattle.wasm_types.specs.decoding.Decoder.{State, Takes};
 ghost use Rattle.wasm_types.specs.error.declared.error.ErrorKind.TheVariants.{Other};
 ghost use Rattle.wasm_types.specs.reader.Parts.{part_at};
 ghost use Rattle.wasm_types.specs.reader.Reading.{IsNotMemory};
-ghost use Rattle.wasm_operators_operator.specs.Op.{op_of};
-ghost use Rattle.wasm_operators_reader.specs.Standing.{at_start, Refuses};
+ghost use Rattle.wasm_operators_operator.specs.Op.{Op, op_of};
+ghost use Rattle.wasm_operators_reader.specs.Standing.{at_start, Reads, Refuses};
 ghost use Rattle.wasm_operators_bodies.specs.Constants.{is_end, SpelledConstant, PassesTo, StopsConstant};
 
 use crate::part::front;
@@ -90,13 +90,24 @@ fn pass_end(operators: &mut OperatorsReader<'_>) -> Result<()>
 {
     let mut ended = false;
     while !ended {
-        let op = match operators.read() {
-            Ok(op) => op,
+        ended = match read_end(operators) {
+            Ok(ended) => ended,
             Err(error) => return Err(error),
         };
-        ended = is_end(&op);
     }
     Ok(())
+}
+
+/// Reads the next operator, and tells whether it is `end`.
+fn read_end(operators: &mut OperatorsReader<'_>) -> Result<bool>
+    ensures read { IfOk result (λ ended. (o : Op) × Reads operators.old o operators.new × (is_end o ≡ ended)) }
+    ensures refused { IfErr result (λ e. Refuses operators.old e × (operators.new ≡ operators.old)) }
+{
+    let op = match operators.read() {
+        Ok(op) => op,
+        Err(error) => return Err(error),
+    };
+    Ok(is_end(&op))
 }
 
 /// Where the bytes go on behind a constant expression.

@@ -10,7 +10,9 @@ mod expression;
 mod iterators;
 pub mod laws;
 mod operators_reader;
+mod visiting;
 
 pub use expression::read_expression;
 pub use iterators::{OperatorsIterator, OperatorsIteratorWithOffsets};
 pub use operators_reader::{OperatorsReader, OperatorsReaderAllocations, misplaced};
+pub use visiting::unexpected_vector;

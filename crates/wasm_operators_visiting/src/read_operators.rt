@@ -18,8 +18,8 @@ use wasm_operators_visit_operator::{VisitOperator, is_simd};
 use wasm_operators_visit_simd_operator::VisitSimdOperator;
 use wasm_types::{BinaryReader, Error, Result};
 
-/// Reads operators one by one; which frames are open is known to a stack of frames, or to the visitor, which is one. With no
-/// frame open nothing is read: that is refused before a byte is read.
+/// Looks at operators, where a stack knows which frames are open. With no frame open nothing is read: that is refused before a
+/// byte is read.
 pub trait ReadOperators<'a> {
     ghost use Rattle.wasm_types.specs.decoding.Decoder.{State as TheState};
 
@@ -37,37 +37,6 @@ pub trait ReadOperators<'a> {
         ensures refused { IfErr result (λ e. RefusesIn (S.frame stack.now) (state self.now) e) }
         ensures no_memory { keeps_list_at (state self.now) ≡ false → NeedsNoMemory result };
 
-    /// Reads the next operator, and calls the visit that belongs to it.
-    ///
-    /// # Errors
-    ///
-    /// As `peek_operator`; and where the operator is one on vectors, which is refused where it begins. The reader stays as it
-    /// was, and the visitor is told nothing.
-    fn visit_operator<V: VisitOperator<'a> + FrameStack>(
-        &mut self,
-        alloc: Global,
-        visitor: &mut V,
-    ) -> Result<V::Output>
-        ensures visited { IfOk result (λ answer. (o : Op) × ReadsIn (V.frame visitor.old) (state self.old) o (state self.new) × (is_simd o ≡ false) × V.visits visitor.old o answer visitor.new) }
-        ensures refused { IfErr result (λ e. RefusesPlainIn (V.frame visitor.old) (state self.old) e × (self.new ≡ self.old)) }
-        ensures told { IfErr result (λ _. visitor.new ≡ visitor.old) }
-        ensures no_memory { keeps_list_at (state self.old) ≡ false → NeedsNoMemory result };
-
-    /// Reads the next operator, and calls the visit that belongs to it, also where it is one on vectors.
-    ///
-    /// # Errors
-    ///
-    /// As `peek_operator`. The reader stays as it was, and the visitor is told nothing.
-    fn visit_operator_simd<V: VisitSimdOperator<'a> + FrameStack>(
-        &mut self,
-        alloc: Global,
-        visitor: &mut V,
-    ) -> Result<V::Output>
-        ensures visited { IfOk result (λ answer. (o : Op) × ReadsIn (V.frame visitor.old) (state self.old) o (state self.new) × V.visits visitor.old o answer visitor.new) }
-        ensures refused { IfErr result (λ e. RefusesIn (V.frame visitor.old) (state self.old) e × (self.new ≡ self.old)) }
-        ensures told { IfErr result (λ _. visitor.new ≡ visitor.old) }
-        ensures no_memory { keeps_list_at (state self.old) ≡ false → NeedsNoMemory result };
-
     /// That no frame is open, and no byte left.
     ///
     /// # Errors
@@ -79,36 +48,60 @@ pub trait ReadOperators<'a> {
         ensures no_memory { NeedsNoMemory result };
 }
 
+/// Reads operators one by one and visits them. The visitor knows which frames are open: with none open nothing is read, and that
+/// is refused before a byte is read.
+pub trait ReadToVisitor<'a, V: VisitOperator<'a> + FrameStack> {
+    ghost use Rattle.wasm_types.specs.decoding.Decoder.{State as TheState};
+
+    /// Where it stands.
+    ghost state: { Self → TheState };
+
+    /// Reads the next operator, and calls the visit that belongs to it.
+    ///
+    /// # Errors
+    ///
+    /// As `ReadOperators::peek_operator`; and where the operator is one on vectors, which is refused where it begins. The reader stays as it
+    /// was, and the visitor is told nothing.
+    fn visit_operator(
+        &mut self,
+        alloc: Global,
+        visitor: &mut V,
+    ) -> Result<V::Output>
+        ensures visited { IfOk result (λ answer. (o : Op) × ReadsIn (V.frame visitor.old) (state self.old) o (state self.new) × (is_simd o ≡ false) × V.visits visitor.old o answer visitor.new) }
+        ensures refused { IfErr result (λ e. RefusesPlainIn (V.frame visitor.old) (state self.old) e × (self.new ≡ self.old)) }
+        ensures told { IfErr result (λ _. visitor.new ≡ visitor.old) }
+        ensures no_memory { keeps_list_at (state self.old) ≡ false → NeedsNoMemory result };
+}
+
+/// The same of a visitor of all operators, those on vectors too.
+pub trait ReadToSimdVisitor<'a, V: VisitSimdOperator<'a> + FrameStack> {
+    ghost use Rattle.wasm_types.specs.decoding.Decoder.{State as TheState};
+
+    /// Where it stands.
+    ghost state: { Self → TheState };
+
+    /// Reads the next operator, and calls the visit that belongs to it, also where it is one on vectors.
+    ///
+    /// # Errors
+    ///
+    /// As `ReadOperators::peek_operator`. The reader stays as it was, and the visitor is told nothing.
+    fn visit_operator_simd(
+        &mut self,
+        alloc: Global,
+        visitor: &mut V,
+    ) -> Result<V::Output>
+        ensures visited { IfOk result (λ answer. (o : Op) × ReadsIn (V.frame visitor.old) (state self.old) o (state self.new) × V.visits visitor.old o answer visitor.new) }
+        ensures refused { IfErr result (λ e. RefusesIn (V.frame visitor.old) (state self.old) e × (self.new ≡ self.old)) }
+        ensures told { IfErr result (λ _. visitor.new ≡ visitor.old) }
+        ensures no_memory { keeps_list_at (state self.old) ≡ false → NeedsNoMemory result };
+}
+
 impl<'a> ReadOperators<'a> for BinaryReader<'a> {
     ghost state = { λ r. r };
 
     fn peek_operator<S: FrameStack>(&self, alloc: Global, stack: &S) -> Result<Operator<'a>> {
         let mut reader = self.clone();
         read_in_frame(alloc, stack.current_frame(), &mut reader)
-    }
-
-    fn visit_operator<V: VisitOperator<'a> + FrameStack>(
-        &mut self,
-        alloc: Global,
-        visitor: &mut V,
-    ) -> Result<V::Output> {
-        let op = match read_plain_in_frame(alloc, visitor.current_frame(), self) {
-            Ok(op) => op,
-            Err(error) => return Err(error),
-        };
-        Ok(visitor.visit_owned(op))
-    }
-
-    fn visit_operator_simd<V: VisitSimdOperator<'a> + FrameStack>(
-        &mut self,
-        alloc: Global,
-        visitor: &mut V,
-    ) -> Result<V::Output> {
-        let op = match read_in_frame(alloc, visitor.current_frame(), self) {
-            Ok(op) => op,
-            Err(error) => return Err(error),
-        };
-        Ok(visitor.visit_simd_owned(op))
     }
 
     fn finish_expression<S: FrameStack>(&self, stack: &S) -> Result<()> {
@@ -125,6 +118,38 @@ impl<'a> ReadOperators<'a> for BinaryReader<'a> {
             ));
         }
         Ok(())
+    }
+}
+
+impl<'a, V: VisitOperator<'a> + FrameStack> ReadToVisitor<'a, V> for BinaryReader<'a> {
+    ghost state = { λ r. r };
+
+    fn visit_operator(
+        &mut self,
+        alloc: Global,
+        visitor: &mut V,
+    ) -> Result<V::Output> {
+        let op = match read_plain_in_frame(alloc, visitor.current_frame(), self) {
+            Ok(op) => op,
+            Err(error) => return Err(error),
+        };
+        Ok(visitor.visit_owned(op))
+    }
+}
+
+impl<'a, V: VisitSimdOperator<'a> + FrameStack> ReadToSimdVisitor<'a, V> for BinaryReader<'a> {
+    ghost state = { λ r. r };
+
+    fn visit_operator_simd(
+        &mut self,
+        alloc: Global,
+        visitor: &mut V,
+    ) -> Result<V::Output> {
+        let op = match read_in_frame(alloc, visitor.current_frame(), self) {
+            Ok(op) => op,
+            Err(error) => return Err(error),
+        };
+        Ok(visitor.visit_simd_owned(op))
     }
 }
 

@@ -1,6 +1,6 @@
 //! Expressions that are visited as they are read.
 
-ghost use Rattle.std.specs.Prelude.{◌≡◌, [], tt, Ok, Err, IfOk, IfErr, OnOk};
+ghost use Rattle.std.specs.Prelude.{◌≡◌, [], Ok, Err, IfOk, IfErr};
 ghost use Rattle.wasm_types.specs.reader.Reading.{IsNotMemory};
 ghost use Rattle.wasm_operators_expression.specs.Code.{Code, walk};
 ghost use Rattle.wasm_operators_expression.specs.Spelling.{SpelledExpression};
