@@ -28,7 +28,7 @@ run_pushed view xs x s t u e h = rw map-append (run_more (map view xs) s t u (vi
 
 -- ---- from a run to an expression
 
-closes_at : (o : Op) (os : List Op) (ks js : List FrameKind) → after o ks ≡ Some js → Closes js os → Closes ks (o ∷ os)
+pub closes_at : (o : Op) (os : List Op) (ks js : List FrameKind) → after o ks ≡ Some js → Closes js os → Closes ks (o ∷ os)
 closes_at o os [] js e c = absurd cc
 closes_at o os (k ∷ ks) js e c = (closes_step o k ks os).1 (js, e, c)
 

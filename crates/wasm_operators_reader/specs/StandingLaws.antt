@@ -86,7 +86,7 @@ pub unread : (e : ErrorValue) (settings : Settings) (s : State) → Fails e (ope
 unread e settings s fails n c t read =
     done_fails e.kind e.offset c t (subst (λ (o : Outcome Coded). FailsAt e.kind e.offset o) read fails) n
 
-nothing_follows : (s : Standing) (o : Op) (t : Standing) → s.frames ≡ [] → Reads s o t → ⊥
+pub nothing_follows : (s : Standing) (o : Op) (t : Standing) → s.frames ≡ [] → Reads s o t → ⊥
 nothing_follows s o t f h = let g : after o [] ≡ Some t.frames = subst (λ (ks : List FrameKind). after o ks ≡ Some t.frames) f h.fits in absurd cc
 
 refused_at : (s : Standing) (e : ErrorValue) (ks : List FrameKind) → s.frames ≡ ks → RefusesIn ks s e → IsNotMemory e.kind → (o : Op) (t : Standing) → Reads s o t → ⊥

@@ -168,6 +168,13 @@ impl<'a> OperatorsReader<'a> {
         Ok((op, place))
     }
 
+    /// Lets it stand at other bytes, with the same frames.
+    pub(crate) fn put_back(&mut self, reader: BinaryReader<'a>)
+        ensures { self.new ≡ record { bytes = reader.entry; frames = self.old.frames } }
+    {
+        self.reader = reader;
+    }
+
     /// That all frames are closed, and all bytes read.
     ///
     /// # Errors
@@ -204,9 +211,9 @@ impl<'a> FrameStack for OperatorsReader<'a> {
     }
 }
 
-// That an operator, which begins where the reader stands, may not come next there: it is refused behind its first byte.
+/// That an operator, which begins where the reader stands, may not come next there: it is refused behind its first byte.
 #[cold]
-fn misplaced(op: &Operator, reader: &BinaryReader) -> Error
+pub fn misplaced(op: &Operator, reader: &BinaryReader) -> Error
     requires { 0 < length reader.now.rest }
     ensures kind { result.kind ≡ Other }
     ensures offset { result.offset ≡ reader.now.place + 1 }

@@ -1,0 +1,50 @@
+-- Constant expressions, as they stand among other bytes (WebAssembly 3.0, binary format, expressions): an expression whose only
+-- `end` is its last operator. Which operators are constant is a rule of validation.
+use Rattle.std.specs.Prelude.{◌≡◌, ◌⊎◌, ℕ, Bool, true, false, List, [], ◌∷◌, ◌++◌}
+use Rattle.wasm_types.specs.error.declared.error.ErrorKind.TheVariants.{Other}
+use Rattle.wasm_types.specs.error.ErrorValue.{ErrorValue}
+use Rattle.wasm_operators_operator.specs.Op.{Op}
+use Rattle.wasm_operators_operator.specs.declared.role.Role.{Role}
+use Rattle.wasm_operators_operator.specs.declared.role.Role.TheVariants.{End}
+use Rattle.wasm_operators_operator.specs.Roles.{role_of}
+use Rattle.wasm_operators_expression.specs.Code.{Code, walk}
+use Rattle.wasm_operators_expression.specs.Spelling.{SpelledExpression}
+use Rattle.wasm_operators_reader.specs.Standing.{Standing, Reads, Refuses, Runs}
+
+-- of all roles that of `end`
+abbrev pub ends : Role → Bool
+ends End = true
+ends r = false
+
+-- the operator is `end`
+abbrev pub is_end : Op → Bool
+is_end o = ends (role_of o)
+
+-- none of them is
+abbrev pub HasNoEnd : List Op → Type 0
+HasNoEnd [] = Unit {0}
+HasNoEnd (o ∷ os) = (is_end o ≡ false) × HasNoEnd os
+
+-- the last of them is `end`, and no other
+pub record EndsOnce (os : List Op) : Type 0 where
+  pub front : List Op
+  pub last : Op
+  pub whole : os ≡ front ++ last ∷ []
+  pub none : HasNoEnd front
+  pub ended : is_end last ≡ true
+
+-- an expression whose only `end` is its last operator
+pub record SpelledConstant (features : ℕ) (text : List ℕ) : Type 0 where
+  pub code : Code
+  pub spelled : SpelledExpression features code text
+  pub once : EndsOnce (walk code)
+
+-- operators are read from s to t, none of which is `end`; or the last of them is
+abbrev pub PassesTo : Standing → Bool → Standing → Type 0
+PassesTo s false t = (os : List Op) × Runs s os t × HasNoEnd os
+PassesTo s true t = (os : List Op) × (m : Standing) × (o : Op) × Runs s os m × HasNoEnd os × Reads m o t × (is_end o ≡ true)
+
+-- why no constant expression is read: an operator is refused before the first `end`; or a frame is open behind it, which is refused
+-- there
+abbrev pub StopsConstant : Standing → ErrorValue → Type 0
+StopsConstant s e = ((t : Standing) × PassesTo s false t × Refuses t e) ⊎ ((t : Standing) × PassesTo s true t × (t.frames ≡ [] → ⊥) × (e.kind ≡ Other) × (e.offset ≡ t.bytes.place))

@@ -1,0 +1,138 @@
+//! Constant expressions, as they stand among other bytes.
+
+ghost use Rattle.std.specs.Prelude.{◌≡◌, ℕ, List, false, true, IfOk, IfErr};
+ghost use Rattle.wasm_types.specs.decoding.Decoder.{State, Takes};
+ghost use Rattle.wasm_types.specs.error.declared.error.ErrorKind.TheVariants.{Other};
+ghost use Rattle.wasm_types.specs.reader.Parts.{part_at};
+ghost use Rattle.wasm_types.specs.reader.Reading.{IsNotMemory};
+ghost use Rattle.wasm_operators_operator.specs.Op.{Op, op_of};
+ghost use Rattle.wasm_operators_reader.specs.Standing.{at_start, Reads, Refuses};
+ghost use Rattle.wasm_operators_bodies.specs.Constants.{is_end, SpelledConstant, PassesTo, StopsConstant};
+
+use crate::part::front;
+use std::alloc::Global;
+use std::marker::Model;
+use wasm_operators_immediates::FrameStack;
+use wasm_operators_operator::{Operator, Role};
+use wasm_operators_reader::OperatorsReader;
+use wasm_types::{BinaryReader, Error, Result};
+
+/// The bytes of a constant expression, such as the value of a global (WebAssembly 3.0, binary format, expressions).
+#[derive(Drop)]
+pub struct ConstExpr<'a> {
+    reader: BinaryReader<'a>,
+    alloc: Global,
+}
+
+impl<'a> Model for ConstExpr<'a> {
+    ghost use Rattle.wasm_types.specs.decoding.Decoder.{State};
+
+    ghost Value = { State };
+
+    ghost view = { λ e. e.reader };
+}
+
+impl<'a> ConstExpr<'a> {
+    /// The expression whose bytes are those that are left to `reader`. None of them is judged. Reading from it takes memory of
+    /// `alloc` for operators.
+    pub fn new(alloc: Global, reader: BinaryReader<'a>) -> ConstExpr<'a>
+        ensures { result ≡ reader.entry }
+    {
+        ConstExpr { reader, alloc }
+    }
+
+    /// Reads an expression at the front of what is left, whose only `end` is its last operator, and takes exactly its bytes.
+    ///
+    /// # Errors
+    ///
+    /// No front of the bytes spells such an expression: an operator is refused before the first `end`, or a frame is open behind
+    /// it, which is refused there. Or there is no memory. The reader stays as it was.
+    pub fn read(alloc: Global, reader: &mut BinaryReader<'a>) -> Result<ConstExpr<'a>>
+        ensures read { IfOk result (λ it. (text : List ℕ) × SpelledConstant reader.old.features text × Takes reader.old text reader.new × (it ≡ part_at reader.old text)) }
+        ensures refused { IfErr result (λ e. IsNotMemory e.kind → (text : List ℕ) (t : State) → Takes reader.old text t → SpelledConstant reader.old.features text → ⊥) }
+        ensures stops { IfErr result (λ e. StopsConstant (at_start reader.old) e) }
+        ensures stays { IfErr result (λ _. reader.new ≡ reader.old) }
+    {
+        let behind = pass_constant(alloc, reader.clone())?;
+        let passed = reader.bytes_remaining() - behind.bytes_remaining();
+        let part = front(reader, passed);
+        *reader = behind;
+        Ok(ConstExpr::new(alloc, part))
+    }
+
+    /// A reader of the expression's bytes.
+    pub fn get_binary_reader(&self) -> BinaryReader<'a>
+        ensures { result ≡ self.now }
+    {
+        self.reader.clone()
+    }
+
+    /// A reader of the expression's operators.
+    pub fn get_operators_reader(&self) -> OperatorsReader<'a>
+        ensures { result ≡ at_start self.now }
+    {
+        OperatorsReader::new(self.alloc, self.reader.clone())
+    }
+}
+
+/// Whether an operator is `end`.
+#[inline]
+fn is_end(op: &Operator) -> bool
+    ensures { result ≡ is_end (op_of op.now) }
+{
+    matches!(Role::of(op), Role::End)
+}
+
+/// Goes past the first `end`.
+fn pass_end(operators: &mut OperatorsReader<'_>) -> Result<()>
+    ensures passed { IfOk result (λ _. PassesTo operators.old true operators.new) }
+    ensures refused { IfErr result (λ e. PassesTo operators.old false operators.new × Refuses operators.new e) }
+{
+    let mut ended = false;
+    while !ended {
+        ended = match read_end(operators) {
+            Ok(ended) => ended,
+            Err(error) => return Err(error),
+        };
+    }
+    Ok(())
+}
+
+/// Reads the next operator, and tells whether it is `end`.
+fn read_end(operators: &mut OperatorsReader<'_>) -> Result<bool>
+    ensures read { IfOk result (λ ended. (o : Op) × Reads operators.old o operators.new × (is_end o ≡ ended)) }
+    ensures refused { IfErr result (λ e. Refuses operators.old e × (operators.new ≡ operators.old)) }
+{
+    let op = match operators.read() {
+        Ok(op) => op,
+        Err(error) => return Err(error),
+    };
+    Ok(is_end(&op))
+}
+
+/// Where the bytes go on behind a constant expression.
+fn pass_constant<'a>(alloc: Global, reader: BinaryReader<'a>) -> Result<BinaryReader<'a>>
+    ensures read { IfOk result (λ behind. (text : List ℕ) × SpelledConstant reader.entry.features text × Takes reader.entry text behind) }
+    ensures stops { IfErr result (λ e. StopsConstant (at_start reader.entry) e) }
+{
+    let mut operators = OperatorsReader::new(alloc, reader);
+    if let Err(error) = pass_end(&mut operators) {
+        return Err(error);
+    }
+    if operators.current_frame().is_some() {
+        return Err(frames_remain(operators.original_position()));
+    }
+    Ok(operators.get_binary_reader())
+}
+
+/// That a frame is open where the expression ends.
+#[cold]
+fn frames_remain(offset: u64) -> Error
+    ensures kind { result.kind ≡ Other }
+    ensures offset { result.offset ≡ offset }
+{
+    Error::new(
+        "control frames remain at end of function body or expression",
+        offset,
+    )
+}

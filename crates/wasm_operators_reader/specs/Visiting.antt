@@ -1,0 +1,28 @@
+-- What a visitor is told of what is read, and what is refused because a visitor has no visit of it.
+use Rattle.std.specs.Prelude.{◌≡◌, ◌⊎◌, true, false, List, [], ◌∷◌}
+use Rattle.wasm_types.specs.error.declared.error.ErrorKind.TheVariants.{Other}
+use Rattle.wasm_types.specs.error.ErrorValue.{ErrorValue}
+use Rattle.wasm_operators_operator.specs.Op.{Op}
+use Rattle.wasm_operators_visit_operator.specs.Vectors.{is_simd}
+use Rattle.wasm_operators_reader.specs.Standing.{Standing, Reads, Refuses}
+
+-- an operator is read here, and the visitor, which has this relation, is told of it
+abbrev pub Visits : {V A : Type 0} → (V → Op → A → V → Type 0) → Standing → V → A → Standing → V → Type 0
+Visits visits s v answer t w = (o : Op) × Reads s o t × visits v o answer w
+
+-- the same of an operator that is not on vectors
+abbrev pub VisitsPlain : {V A : Type 0} → (V → Op → A → V → Type 0) → Standing → V → A → Standing → V → Type 0
+VisitsPlain visits s v answer t w = (o : Op) × Reads s o t × (is_simd o ≡ false) × visits v o answer w
+
+-- an operator on vectors is read here, which is refused where it begins
+pub record RefusesVector (s : Standing) (e : ErrorValue) : Type 0 where
+  pub op : Op
+  pub behind : Standing
+  pub read : Reads s op behind
+  pub vector : is_simd op ≡ true
+  pub kind : e.kind ≡ Other
+  pub offset : e.offset ≡ s.bytes.place
+
+-- why no operator is read, or one on vectors
+abbrev pub RefusesPlain : Standing → ErrorValue → Type 0
+RefusesPlain s e = Refuses s e ⊎ RefusesVector s e

@@ -1,0 +1,58 @@
+-- What a visitor is told on the way to the end is the walk of an expression without vectors, and every such expression is.
+use Rattle.std.proofs.Common.{◌≡◌, inl, inr, true, false, List, [], ◌∷◌, ◌++◌, refl, sym, ◌∙◌, ap, subst}
+use Rattle.wasm_types.specs.decoding.Decoder.{State}
+use Rattle.wasm_types.specs.error.ErrorValue.{ErrorValue}
+use Rattle.wasm_types.specs.reader.Reading.{IsNotMemory}
+use Rattle.wasm_operators_operator.specs.Op.{Op}
+use Rattle.wasm_operators_visit_operator.specs.Vectors.{is_simd}
+use Rattle.wasm_operators_expression.specs.Code.{Code, walk}
+use Rattle.wasm_operators_expression.specs.Spelling.{SpelledExpression}
+use Rattle.wasm_operators_reader.specs.Standing.{Standing, at_start, IsFinished, Reads, Runs}
+use Rattle.wasm_operators_reader.specs.Visiting.{RefusesVector}
+use Rattle.wasm_operators_reader.specs.RunLaws.{run_more, run_expression, expression_run, refused_run, ended_run}
+use Rattle.wasm_operators_reader.specs.MeetLaws.{meets_end}
+use Rattle.wasm_operators_visiting.specs.Walking.{HasNoVectors, VisitsAll, WalksTo, StopsPlain}
+
+none_more : (os : List Op) (o : Op) → HasNoVectors os → is_simd o ≡ false → HasNoVectors (os ++ o ∷ [])
+none_more [] o h e = (e, tt)
+none_more (p ∷ os) o (f, h) e = (f, none_more os o h e)
+
+none_among : (os more : List Op) (o : Op) → HasNoVectors (os ++ o ∷ more) → is_simd o ≡ false
+none_among [] more o h = h.0
+none_among (p ∷ os) more o h = none_among os more o h.1
+
+module _ {V A : Type 0} (visits : V → Op → A → V → Type 0) (answer : A) where
+  visits_more : (os : List Op) (v w x : V) (o : Op) → VisitsAll visits answer v os w → visits w o answer x → VisitsAll visits answer v (os ++ o ∷ []) x
+  visits_more [] v w x o e h = (x, subst (λ (z : V). visits z o answer x) e h, refl)
+  visits_more (p ∷ os) v w x o (m, h, more) g = (m, h, visits_more os m w x o more g)
+
+  -- nothing was visited yet
+  pub walk_none : (s : Standing) (v : V) → WalksTo visits answer s v s v
+  walk_none s v = ([], refl, tt, refl)
+
+  -- one operator more
+  pub walk_more : (s t u : Standing) (v w x : V) (o : Op) → WalksTo visits answer s v t w → Reads t o u → is_simd o ≡ false → visits w o answer x → WalksTo visits answer s v u x
+  walk_more s t u v w x o (os, run, none, told) r e h = (os ++ o ∷ [], run_more os s t u o run r, none_more os o none e, visits_more os v w x o told h)
+
+  -- a visitor was told of the walk of an expression without vectors, all of it
+  abbrev pub WalksExpression : State → V → V → Type 0
+  WalksExpression s v w = (c : Code) × SpelledExpression s.features c s.rest × HasNoVectors (walk c) × VisitsAll visits answer v (walk c) w
+
+  pub walk_whole : (s : State) (t : Standing) (v w : V) → WalksTo visits answer (at_start s) v t w → IsFinished t → WalksExpression s v w
+  walk_whole s t v w (os, run, none, told) f =
+      let found = run_expression s os t run f in
+      (found.0, found.2, subst HasNoVectors (sym found.1) none, subst (λ (ps : List Op). VisitsAll visits answer v ps w) (sym found.1) told)
+
+  module _ (s : State) (t : Standing) (v w : V) (told : WalksTo visits answer (at_start s) v t w) (e : ErrorValue) (n : IsNotMemory e.kind) (c : Code) (h : SpelledExpression s.features c s.rest) (none : HasNoVectors (walk c)) where
+    vector_denies : RefusesVector t e → ⊥
+    vector_denies r =
+        let whole = expression_run s c h in
+        let met = meets_end told.0 (walk c) (at_start s) t whole.0 r.behind r.op told.1 r.read whole.1 whole.2.frames in
+        let no : is_simd r.op ≡ false = none_among told.0 met.0 r.op (subst HasNoVectors met.1 none) in
+        absurd cc
+
+    -- where a walk stops before the end, the bytes spell no expression without vectors
+    pub stop_denies : StopsPlain t e → ⊥
+    stop_denies (inl (more, inl r)) = refused_run s told.0 t told.1 (λ f. more f.bytes) c h e r n
+    stop_denies (inl (more, inr r)) = vector_denies r
+    stop_denies (inr (ended, open_still, kind, place)) = ended_run s told.0 t told.1 (λ f. open_still f.frames) c h ended
