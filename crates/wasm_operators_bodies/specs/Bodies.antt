@@ -17,4 +17,4 @@ body_bytes = counted_part >>= λ part. pure part.rest
 
 -- groups of locals stand at the front of s, and behind them, where t stands, the operators begin
 abbrev pub OperatorsBegin : State → State → Type 0
-OperatorsBegin s t = (gs : List LocalGroup) × (locals s.features s ≡ Done gs t)
+OperatorsBegin s t = (gs : List LocalGroup) × (locals s.settings s ≡ Done gs t)

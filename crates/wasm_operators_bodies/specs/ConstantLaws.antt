@@ -22,12 +22,12 @@ use Rattle.wasm_operators_bodies.specs.Constants.{is_end, HasNoEnd, EndsOnce, Sp
 -- ---- from a run to bytes
 
 -- the bytes that a run takes spell its operators
-pub run_takes : (os : List Op) (s t : Standing) → Runs s os t → (text : List ℕ) × Takes s.bytes text t.bytes × SpelledOperators s.bytes.features os text
+pub run_takes : (os : List Op) (s t : Standing) → Runs s os t → (text : List ℕ) × Takes s.bytes text t.bytes × SpelledOperators s.bytes.settings os text
 run_takes [] s t e = ([], subst (λ (u : Standing). Takes s.bytes [] u.bytes) (sym e) (takes_none s.bytes), refl)
 run_takes (o ∷ os) s t (m, r, more) =
-    let found = read_spelled s.bytes.features s.bytes m.bytes o r.read r.canonical in
+    let found = read_spelled s.bytes.settings s.bytes m.bytes o r.read r.canonical in
     let rest = run_takes os m t more in
-    (found.0 ++ rest.0, Takes-then s.bytes m.bytes t.bytes found.0 rest.0 found.1 rest.1, (found.0, rest.0, found.2, subst (λ (n : ℕ). SpelledOperators n os rest.0) found.1.features rest.2, refl))
+    (found.0 ++ rest.0, Takes-then s.bytes m.bytes t.bytes found.0 rest.0 found.1 rest.1, (found.0, rest.0, found.2, subst (λ (n : ℕ). SpelledOperators n os rest.0) found.1.settings rest.2, refl))
 
 -- one that leaves no frame open closes those before
 pub run_closes : (os : List Op) (s t : Standing) → Runs s os t → t.frames ≡ [] → Closes s.frames os
@@ -39,21 +39,21 @@ run_closes (o ∷ os) s t (m, r, more) f = closes_at o os s.frames m.frames r.fi
 -- ---- from bytes to a run
 
 -- bytes at the front that spell operators which close the frames are read so, whatever follows
-front_run : (os : List Op) (ks : List FrameKind) (b u : State) (text : List ℕ) → Closes ks os → SpelledOperators b.features os text → Takes b text u
+front_run : (os : List Op) (ks : List FrameKind) (b u : State) (text : List ℕ) → Closes ks os → SpelledOperators b.settings os text → Takes b text u
     → Runs (record { bytes = b; frames = ks }) os (record { bytes = u; frames = [] })
 front_run [] [] b u text c h p =
     let parts : b.rest ≡ u.rest = p.parts ∙ ap (λ (z : List ℕ). z ++ u.rest) h in
-    let same : u ≡ b = same_state u b (sym parts) (omega (arith, p.place, ap length h)) p.features p.start in
+    let same : u ≡ b = same_state u b (sym parts) (omega (arith, p.place, ap length h)) p.settings p.start in
     ap (λ (v : State). record { bytes = v; frames = [] }) same
 front_run [] (k ∷ ks) b u text c h p = absurd (closes_more k ks c)
 front_run (o ∷ os) [] b u text c h p = absurd cc
 front_run (o ∷ os) (k ∷ ks) b u text c (front, back, h, more, e) p =
     let step = (closes_step o k ks os).0 c in
-    let next : State = record { rest = back ++ u.rest; place = b.place + length front; features = b.features; start = b.start } in
+    let next : State = record { rest = back ++ u.rest; place = b.place + length front; settings = b.settings; start = b.start } in
     let parts : b.rest ≡ front ++ (back ++ u.rest) = p.parts ∙ ap (λ (z : List ℕ). z ++ u.rest) e ∙ append_assoc front back u.rest in
-    let taken : Takes next back u = record { parts = refl; place = omega (arith, p.place, ap length e, length-append front back); features = p.features; start = p.start } in
+    let taken : Takes next back u = record { parts = refl; place = omega (arith, p.place, ap length e, length-append front back); settings = p.settings; start = p.start } in
     let m : Standing = record { bytes = next; frames = step.0 } in
-    (m, record { canonical = h.canonical; read = spelled_read b.features b o front (back ++ u.rest) h parts; fits = step.1 }, front_run os step.0 next u back step.2 more taken)
+    (m, record { canonical = h.canonical; read = spelled_read b.settings b o front (back ++ u.rest) h parts; fits = step.1 }, front_run os step.0 next u back step.2 more taken)
 
 -- ---- sound
 
@@ -66,13 +66,13 @@ module _ (s : State) (t : Standing) (run : PassesTo (at_start s) true t) (closed
   whole_run = run_more run.0 (at_start s) run.1 t run.2 run.3 run.5
 
   -- a constant expression was read, and no more
-  pub constant_read : (text : List ℕ) × SpelledConstant s.features text × Takes s text t.bytes
+  pub constant_read : (text : List ℕ) × SpelledConstant s.settings text × Takes s text t.bytes
   constant_read =
       let taken = run_takes all (at_start s) t whole_run in
       let (c, rest, i, e, g) = run_closes all (at_start s) t whole_run closed in
       let same : all ≡ walk c = e ∙ ap (λ (xs : List Op). walk c ++ xs) g ∙ append-nil (walk c) in
       let once : EndsOnce all = record { front = run.0; last = run.2; whole = refl; none = run.4; ended = run.6 } in
-      (taken.0, record { code = c; spelled = record { expression = i; spelled = subst (λ (xs : List Op). SpelledOperators s.features xs taken.0) same taken.2 }; once = subst EndsOnce same once }, taken.1)
+      (taken.0, record { code = c; spelled = record { expression = i; spelled = subst (λ (xs : List Op). SpelledOperators s.settings xs taken.0) same taken.2 }; once = subst EndsOnce same once }, taken.1)
 
 -- ---- complete
 
@@ -97,7 +97,7 @@ before_last [] (x ∷ y ∷ os) more z o p e h = absurd (not_empty y (os ++ o �
 before_last (f ∷ front) [] more z o p e h = subst (λ (q : Op). is_end q ≡ false) (same_first f o (front ++ z ∷ []) (p ∷ more) e) h.0
 before_last (f ∷ front) (x ∷ os) more z o p e h = before_last front os more z o p (same_rest f x (front ++ z ∷ []) (os ++ o ∷ p ∷ more) e) h.1
 
-module _ (s : State) (e : ErrorValue) (n : IsNotMemory e.kind) (text : List ℕ) (u : State) (taken : Takes s text u) (h : SpelledConstant s.features text) where
+module _ (s : State) (e : ErrorValue) (n : IsNotMemory e.kind) (text : List ℕ) (u : State) (taken : Takes s text u) (h : SpelledConstant s.settings text) where
   abbrev behind : Standing
   behind = record { bytes = u; frames = [] }
 

@@ -1,6 +1,7 @@
 -- Constant expressions, as they stand among other bytes (WebAssembly 3.0, binary format, expressions): an expression whose only
 -- `end` is its last operator. Which operators are constant is a rule of validation.
 use Rattle.std.specs.Prelude.{◌≡◌, ◌⊎◌, ℕ, Bool, true, false, List, [], ◌∷◌, ◌++◌}
+use Rattle.wasm_types.specs.limits.Settings.{Settings}
 use Rattle.wasm_types.specs.error.declared.error.ErrorKind.TheVariants.{Other}
 use Rattle.wasm_types.specs.error.ErrorValue.{ErrorValue}
 use Rattle.wasm_operators_operator.specs.Op.{Op}
@@ -34,9 +35,9 @@ pub record EndsOnce (os : List Op) : Type 0 where
   pub ended : is_end last ≡ true
 
 -- an expression whose only `end` is its last operator
-pub record SpelledConstant (features : ℕ) (text : List ℕ) : Type 0 where
+pub record SpelledConstant (settings : Settings) (text : List ℕ) : Type 0 where
   pub code : Code
-  pub spelled : SpelledExpression features code text
+  pub spelled : SpelledExpression settings code text
   pub once : EndsOnce (walk code)
 
 -- operators are read from s to t, none of which is `end`; or the last of them is

@@ -3,6 +3,7 @@ use Rattle.std.proofs.Common.{◌≡◌, ℕ, zero, suc, ◌+◌, ◌-◌, ◌<�
 use Rattle.wasm_types.specs.decoding.Decoder.{State, Outcome, Done, Short, Fault, continue_with, ◌>>=◌, pure}
 use Rattle.wasm_types.specs.decoding.Exact.{done_then, value_is, state_is}
 use Rattle.wasm_types.specs.decoding.Leb.{u32}
+use Rattle.wasm_types.specs.limits.Settings.{Settings}
 use Rattle.wasm_types.specs.error.declared.error.ErrorKind.{ErrorKind}
 use Rattle.wasm_types.specs.error.declared.error.ErrorKind.TheVariants.{EndOfData, MissingFeature, OutOfMemory, Failed, Other}
 use Rattle.wasm_types.specs.error.ErrorValue.{ErrorValue}
@@ -106,50 +107,50 @@ groups_read (suc n) room c gs b d e =
 
 -- ---- behind the count
 
-module _ (features : ℕ) (s u : State) (l : LocalsLeft) (begun : counted_groups features s ≡ Done l u) where
+module _ (settings : Settings) (s u : State) (l : LocalsLeft) (begun : counted_groups settings s ≡ Done l u) where
   -- where the groups begin
-  begins : locals features s ≡ all_left l
+  begins : locals settings s ≡ all_left l
   unfolding locals counted_groups
   begins =
-      let one = done_then (u32 s) (λ n t. Done (behind_count features n t) t) l u begun in
-      let where_ : behind_count features one.0 one.1 ≡ l = value_is (behind_count features one.0 one.1) l one.1 u one.3 in
-      ap (λ (o : Outcome ℕ). continue_with o (λ n. groups_within n (most_locals features))) one.2 ∙ ap all_left where_
+      let one = done_then (u32 s) (λ n t. Done (behind_count settings n t) t) l u begun in
+      let where_ : behind_count settings one.0 one.1 ≡ l = value_is (behind_count settings one.0 one.1) l one.1 u one.3 in
+      ap (λ (o : Outcome ℕ). continue_with o (λ n. groups_within n (most_locals settings))) one.2 ∙ ap all_left where_
 
   -- what is read to the last group is what the decoder answers
-  pub locals_done : (gs : List LocalGroup) (t : LocalsLeft) → ReadsGroups l gs t → t.groups ≡ 0 → locals features s ≡ Done gs t.bytes
+  pub locals_done : (gs : List LocalGroup) (t : LocalsLeft) → ReadsGroups l gs t → t.groups ≡ 0 → locals settings s ≡ Done gs t.bytes
   locals_done gs t run none = begins ∙ groups_done gs l t run none
 
   -- and so is a refusal
-  pub locals_fail : (e : ErrorValue) (gs : List LocalGroup) (t : LocalsLeft) → ReadsGroups l gs t → 0 < t.groups → Fails e (group_within t.room t.bytes) → Fails e (locals features s)
+  pub locals_fail : (e : ErrorValue) (gs : List LocalGroup) (t : LocalsLeft) → ReadsGroups l gs t → 0 < t.groups → Fails e (group_within t.room t.bytes) → Fails e (locals settings s)
   locals_fail e gs t run some fails = subst (λ (o : Outcome (List LocalGroup)). Fails e o) (sym begins) (groups_fail e gs l t run some fails)
 
 -- a count that was refused
-uncounted : (features : ℕ) (o : Outcome ℕ) (k : ErrorKind) (p : ℕ) → FailsAt k p (continue_with o (λ n t. Done (behind_count features n t) t)) → FailsAt k p o
-uncounted features (Done n t) (EndOfData h) p e = absurd cc
-uncounted features (Done n t) (MissingFeature f) p e = absurd cc
-uncounted features (Done n t) OutOfMemory p e = tt
-uncounted features (Done n t) Failed p e = e
-uncounted features (Done n t) Other p e = absurd cc
-uncounted features (Short q h) (EndOfData g) p e = cc
-uncounted features (Short q h) (MissingFeature f) p e = absurd cc
-uncounted features (Short q h) OutOfMemory p e = tt
-uncounted features (Short q h) Failed p e = e
-uncounted features (Short q h) Other p e = absurd cc
-uncounted features (Fault k q) (EndOfData h) p e = absurd cc
-uncounted features (Fault k q) (MissingFeature f) p e = cc
-uncounted features (Fault k q) OutOfMemory p e = tt
-uncounted features (Fault k q) Failed p e = e
-uncounted features (Fault k q) Other p e = cc
+uncounted : (settings : Settings) (o : Outcome ℕ) (k : ErrorKind) (p : ℕ) → FailsAt k p (continue_with o (λ n t. Done (behind_count settings n t) t)) → FailsAt k p o
+uncounted settings (Done n t) (EndOfData h) p e = absurd cc
+uncounted settings (Done n t) (MissingFeature f) p e = absurd cc
+uncounted settings (Done n t) OutOfMemory p e = tt
+uncounted settings (Done n t) Failed p e = e
+uncounted settings (Done n t) Other p e = absurd cc
+uncounted settings (Short q h) (EndOfData g) p e = cc
+uncounted settings (Short q h) (MissingFeature f) p e = absurd cc
+uncounted settings (Short q h) OutOfMemory p e = tt
+uncounted settings (Short q h) Failed p e = e
+uncounted settings (Short q h) Other p e = absurd cc
+uncounted settings (Fault k q) (EndOfData h) p e = absurd cc
+uncounted settings (Fault k q) (MissingFeature f) p e = cc
+uncounted settings (Fault k q) OutOfMemory p e = tt
+uncounted settings (Fault k q) Failed p e = e
+uncounted settings (Fault k q) Other p e = cc
 
 -- where no count is read, no locals are
-pub count_fails : (features : ℕ) (s : State) (e : ErrorValue) → Fails e (counted_groups features s) → Fails e (locals features s)
+pub count_fails : (settings : Settings) (s : State) (e : ErrorValue) → Fails e (counted_groups settings s) → Fails e (locals settings s)
 unfolding locals counted_groups
-count_fails features s e fails = fails_then (u32 s) (λ n. groups_within n (most_locals features)) e.kind e.offset (uncounted features (u32 s) e.kind e.offset fails)
+count_fails settings s e fails = fails_then (u32 s) (λ n. groups_within n (most_locals settings)) e.kind e.offset (uncounted settings (u32 s) e.kind e.offset fails)
 
 -- what the decoder answers is read group by group
-pub locals_read : (features : ℕ) (s b : State) (gs : List LocalGroup) → locals features s ≡ Done gs b
-    → (l : LocalsLeft) × (u : State) × (counted_groups features s ≡ Done l u) × AllRead l gs b
+pub locals_read : (settings : Settings) (s b : State) (gs : List LocalGroup) → locals settings s ≡ Done gs b
+    → (l : LocalsLeft) × (u : State) × (counted_groups settings s ≡ Done l u) × AllRead l gs b
 unfolding locals counted_groups
-locals_read features s b gs e =
-    let one = done_then (u32 s) (λ n. groups_within n (most_locals features)) gs b e in
-    (behind_count features one.0 one.1, one.1, ap (λ (o : Outcome ℕ). continue_with o (λ n t. Done (behind_count features n t) t)) one.2, groups_read one.0 (most_locals features) one.0 gs one.1 b one.3)
+locals_read settings s b gs e =
+    let one = done_then (u32 s) (λ n. groups_within n (most_locals settings)) gs b e in
+    (behind_count settings one.0 one.1, one.1, ap (λ (o : Outcome ℕ). continue_with o (λ n t. Done (behind_count settings n t) t)) one.2, groups_read one.0 (most_locals settings) one.0 gs one.1 b one.3)

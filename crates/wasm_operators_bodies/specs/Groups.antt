@@ -2,6 +2,7 @@
 use Rattle.std.specs.Prelude.{◌≡◌, ◌⊎◌, ℕ, zero, suc, ◌+◌, ◌<◌, Bool, true, false, List, [], ◌∷◌, Result, Ok, Err, Option, Some, None}
 use Rattle.wasm_types.specs.decoding.Decoder.{State, Decoder, Done, ◌>>=◌}
 use Rattle.wasm_types.specs.decoding.Leb.{u32}
+use Rattle.wasm_types.specs.limits.Settings.{Settings}
 use Rattle.wasm_types.specs.error.declared.error.ErrorKind.TheVariants.{Other}
 use Rattle.wasm_types.specs.error.ErrorValue.{ErrorValue}
 use Rattle.wasm_types.specs.reader.Reading.{Fails, IsNotMemory}
@@ -15,12 +16,12 @@ pub record LocalsLeft : Type 0 where
   pub room : ℕ
 
 -- behind a count
-abbrev pub behind_count : ℕ → ℕ → State → LocalsLeft
-behind_count features n s = record { bytes = s; count = n; groups = n; room = most_locals features }
+abbrev pub behind_count : Settings → ℕ → State → LocalsLeft
+behind_count settings n s = record { bytes = s; count = n; groups = n; room = most_locals settings }
 
 -- a count, and where the reader of as many groups stands behind it
-unfoldable pub counted_groups : ℕ → Decoder LocalsLeft
-counted_groups features = u32 >>= λ n s. Done (behind_count features n s) s
+unfoldable pub counted_groups : Settings → Decoder LocalsLeft
+counted_groups settings = u32 >>= λ n s. Done (behind_count settings n s) s
 
 -- it reads this group, and stands there behind it
 pub record ReadsGroup (s : LocalsLeft) (g : LocalGroup) (t : LocalsLeft) : Type 0 where

@@ -4,6 +4,7 @@ use Rattle.wasm_types.specs.decoding.declared.Refusal.TheVariants.{Other}
 use Rattle.wasm_types.specs.decoding.Decoder.{Decoder, ◌>>=◌, pure}
 use Rattle.wasm_types.specs.decoding.Leb.{u32, IsUnsigned, IsListed}
 use Rattle.wasm_types.specs.decoding.Lists.{refuse_at}
+use Rattle.wasm_types.specs.limits.Settings.{Settings}
 use Rattle.wasm_types.specs.values.declared.value.ValType.{ValType}
 use Rattle.wasm_types.specs.values.DecodeValues.{value_type}
 use Rattle.wasm_types.specs.values.ValueExact.{SpelledValue}
@@ -23,8 +24,8 @@ total [] = 0
 total (g ∷ gs) = g.count + total gs
 
 -- the most that they may have (appendix, implementation limitations)
-abbrev pub most_locals : ℕ → ℕ
-most_locals features = 50000
+abbrev pub most_locals : Settings → ℕ
+most_locals settings = settings.limits.locals
 
 -- ---- which bytes spell them
 
@@ -37,9 +38,9 @@ pub record SpelledGroup (g : LocalGroup) (text : List ℕ) : Type 0 where
   pub whole : text ≡ count ++ type
 
 -- list(locals), and no more locals than the limit
-pub record SpelledLocals (features : ℕ) (gs : List LocalGroup) (text : List ℕ) : Type 0 where
+pub record SpelledLocals (settings : Settings) (gs : List LocalGroup) (text : List ℕ) : Type 0 where
   pub listed : IsListed SpelledGroup gs text
-  pub within : total gs ≤ most_locals features
+  pub within : total gs ≤ most_locals settings
 
 -- ---- how they are read
 
@@ -61,5 +62,5 @@ groups_within zero room = pure []
 groups_within (suc n) room = group_within room >>= λ g. groups_within n (room - g.count) >>= λ gs. pure (g ∷ gs)
 
 -- a count, and as many groups
-unfoldable pub locals : ℕ → Decoder (List LocalGroup)
-locals features = u32 >>= λ n. groups_within n (most_locals features)
+unfoldable pub locals : Settings → Decoder (List LocalGroup)
+locals settings = u32 >>= λ n. groups_within n (most_locals settings)

@@ -11,6 +11,7 @@ use Rattle.wasm_types.specs.decoding.Leb.{u32, IsUnsigned}
 use Rattle.wasm_types.specs.decoding.LebLaws.{lawful-unsigned, decides-u32}
 use Rattle.wasm_types.specs.decoding.Lists.{refuse_at}
 use Rattle.wasm_types.specs.decoding.ListLaws.{lawful-from_place, decides-from_place, lawful-refuse_at, decides-refuse_at}
+use Rattle.wasm_types.specs.limits.Settings.{Settings}
 use Rattle.wasm_types.specs.values.DecodeValues.{value_type}
 use Rattle.wasm_types.specs.values.DecodeLaws.{lawful-value_type}
 use Rattle.wasm_types.specs.values.ValueExact.{SpelledValue, decides-value_type}
@@ -122,16 +123,16 @@ count_is zero (g ∷ gs) text h = absurd h
 count_is (suc n) [] text h = absurd h
 count_is (suc n) (g ∷ gs) text h = ap suc (count_is n gs h.1 h.3)
 
-module _ (features : ℕ) where
-  pub lawful-locals : IsLawful (locals features)
+module _ (settings : Settings) where
+  pub lawful-locals : IsLawful (locals settings)
   unfolding locals
-  lawful-locals = lawful->>= u32 (λ n. groups_within n (most_locals features)) (lawful-unsigned 4 4) (λ n. lawful-groups_within n (most_locals features))
+  lawful-locals = lawful->>= u32 (λ n. groups_within n (most_locals settings)) (lawful-unsigned 4 4) (λ n. lawful-groups_within n (most_locals settings))
 
   -- the groups behind a count
   abbrev counted : ℕ → Grammar (List LocalGroup)
-  counted n = GroupsWithin n (most_locals features)
+  counted n = GroupsWithin n (most_locals settings)
 
-  locals_to : (gs : List LocalGroup) (text : List ℕ) → Then (IsUnsigned 32) counted gs text → SpelledLocals features gs text
+  locals_to : (gs : List LocalGroup) (text : List ℕ) → Then (IsUnsigned 32) counted gs text → SpelledLocals settings gs text
   locals_to gs text h =
       let n = count_is h.value gs h.back h.second.0 in
       record {
@@ -145,7 +146,7 @@ module _ (features : ℕ) where
         within = h.second.1;
       }
 
-  locals_from : (gs : List LocalGroup) (text : List ℕ) → SpelledLocals features gs text → Then (IsUnsigned 32) counted gs text
+  locals_from : (gs : List LocalGroup) (text : List ℕ) → SpelledLocals settings gs text → Then (IsUnsigned 32) counted gs text
   locals_from gs text h = record {
     value = length gs;
     front = h.listed.count;
@@ -155,6 +156,6 @@ module _ (features : ℕ) where
     whole = h.listed.whole;
   }
 
-  pub decides-locals : Decides (locals features) (SpelledLocals features)
+  pub decides-locals : Decides (locals settings) (SpelledLocals settings)
   unfolding locals
-  decides-locals = decides-same (locals features) (Then (IsUnsigned 32) counted) (SpelledLocals features) (decides->>= u32 (λ n. groups_within n (most_locals features)) (IsUnsigned 32) counted decides-u32 (λ n. decides-groups_within n (most_locals features))) locals_to locals_from
+  decides-locals = decides-same (locals settings) (Then (IsUnsigned 32) counted) (SpelledLocals settings) (decides->>= u32 (λ n. groups_within n (most_locals settings)) (IsUnsigned 32) counted decides-u32 (λ n. decides-groups_within n (most_locals settings))) locals_to locals_from

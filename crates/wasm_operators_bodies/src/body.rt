@@ -53,7 +53,7 @@ impl<'a> FunctionBody<'a> {
     ///
     /// The bytes spell no count of groups.
     pub fn get_locals_reader(&self) -> Result<LocalsReader<'a>>
-        ensures answer { Collects (λ l. l) result (counted_groups self.now.features self.now) }
+        ensures answer { Collects (λ l. l) result (counted_groups self.now.settings self.now) }
         ensures no_memory { NeedsNoMemory result }
     {
         LocalsReader::new(self.alloc, self.reader.clone())
@@ -65,7 +65,7 @@ impl<'a> FunctionBody<'a> {
     ///
     /// The bytes spell no groups of locals, or more than 50,000 locals.
     pub fn get_binary_reader_for_operators(&self) -> Result<BinaryReader<'a>>
-        ensures answer { MatchResult result (λ reader. OperatorsBegin self.now reader) (λ e. Fails e (locals self.now.features self.now)) }
+        ensures answer { MatchResult result (λ reader. OperatorsBegin self.now reader) (λ e. Fails e (locals self.now.settings self.now)) }
         ensures no_memory { NeedsNoMemory result }
     {
         let mut groups = self.get_locals_reader()?;
@@ -79,7 +79,7 @@ impl<'a> FunctionBody<'a> {
     ///
     /// As `get_binary_reader_for_operators`.
     pub fn get_operators_reader(&self) -> Result<OperatorsReader<'a>>
-        ensures answer { MatchResult result (λ operators. (t : State) × OperatorsBegin self.now t × (operators ≡ at_start t)) (λ e. Fails e (locals self.now.features self.now)) }
+        ensures answer { MatchResult result (λ operators. (t : State) × OperatorsBegin self.now t × (operators ≡ at_start t)) (λ e. Fails e (locals self.now.settings self.now)) }
         ensures no_memory { NeedsNoMemory result }
     {
         match self.get_binary_reader_for_operators() {
@@ -117,9 +117,9 @@ impl<'a> FromReader<'a> for FunctionBody<'a> {
 
     ghost view = { λ b. b.rest };
 
-    ghost decoder = { body_bytes };
+    ghost decoder = { λ z. body_bytes };
 
-    ghost grammar = { SpelledBody };
+    ghost grammar = { λ z. SpelledBody };
 
     ghost takes_memory = { false };
 

@@ -2,6 +2,7 @@
 
 ghost use Rattle.std.specs.Prelude.{◌≡◌, ◌<◌, ℕ, List};
 ghost use Rattle.wasm_types.specs.decoding.Decoder.{State, Done, IsLawful, Decides};
+ghost use Rattle.wasm_types.specs.limits.Settings.{Settings};
 ghost use Rattle.wasm_types.specs.error.ErrorValue.{ErrorValue};
 ghost use Rattle.wasm_types.specs.reader.Reading.{Fails};
 ghost use Rattle.wasm_operators_bodies.specs.Locals.{LocalGroup, SpelledLocals, group_within, locals};
@@ -9,14 +10,14 @@ ghost use Rattle.wasm_operators_bodies.specs.Groups.{LocalsLeft, counted_groups,
 
 /// The decoder of locals is lawful, and reads groups exactly where a front of the bytes spells them.
 pub const fn locals_are_lawful()
-    ensures lawful { (features : ℕ) → IsLawful (locals features) }
-    ensures exact { (features : ℕ) → Decides (locals features) (SpelledLocals features) }
+    ensures lawful { (settings : Settings) → IsLawful (locals settings) }
+    ensures exact { (settings : Settings) → Decides (locals settings) (SpelledLocals settings) }
 {}
 
 /// Groups that are read one by one to the last that was counted are those that the decoder answers, and the reader then
 /// stands where the operators begin. A refusal on the way is that of the decoder. What the decoder answers can be read so.
 pub const fn locals_are_read_one_by_one()
-    ensures sound { (features : ℕ) (s u : State) (l t : LocalsLeft) (gs : List LocalGroup) → counted_groups features s ≡ Done l u → ReadsGroups l gs t → t.groups ≡ 0 → locals features s ≡ Done gs t.bytes }
-    ensures refused { (features : ℕ) (s u : State) (l t : LocalsLeft) (gs : List LocalGroup) (e : ErrorValue) → counted_groups features s ≡ Done l u → ReadsGroups l gs t → 0 < t.groups → Fails e (group_within t.room t.bytes) → Fails e (locals features s) }
-    ensures complete { (features : ℕ) (s b : State) (gs : List LocalGroup) → locals features s ≡ Done gs b → (l t : LocalsLeft) × (u : State) × (counted_groups features s ≡ Done l u) × ReadsGroups l gs t × (t.groups ≡ 0) × (t.bytes ≡ b) }
+    ensures sound { (settings : Settings) (s u : State) (l t : LocalsLeft) (gs : List LocalGroup) → counted_groups settings s ≡ Done l u → ReadsGroups l gs t → t.groups ≡ 0 → locals settings s ≡ Done gs t.bytes }
+    ensures refused { (settings : Settings) (s u : State) (l t : LocalsLeft) (gs : List LocalGroup) (e : ErrorValue) → counted_groups settings s ≡ Done l u → ReadsGroups l gs t → 0 < t.groups → Fails e (group_within t.room t.bytes) → Fails e (locals settings s) }
+    ensures complete { (settings : Settings) (s b : State) (gs : List LocalGroup) → locals settings s ≡ Done gs b → (l t : LocalsLeft) × (u : State) × (counted_groups settings s ≡ Done l u) × ReadsGroups l gs t × (t.groups ≡ 0) × (t.bytes ≡ b) }
 {}

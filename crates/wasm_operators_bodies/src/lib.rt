@@ -16,4 +16,4 @@ mod part;
 
 pub use body::FunctionBody;
 pub use constant::ConstExpr;
-pub use locals::{LocalsIterator, LocalsReader, MAX_WASM_FUNCTION_LOCALS};
+pub use locals::{LocalsIterator, LocalsReader};

@@ -14,9 +14,6 @@ use std::marker::Model;
 use wasm_operators_reader::OperatorsReader;
 use wasm_types::{BinaryReader, Error, Result, ValType};
 
-/// The most locals that the groups of a body declare together.
-pub const MAX_WASM_FUNCTION_LOCALS: u32 = 50_000;
-
 /// Reads the groups of locals at the front of a body, one after the other.
 #[derive(Drop)]
 pub struct LocalsReader<'a> {
@@ -44,16 +41,17 @@ impl<'a> LocalsReader<'a> {
     /// The bytes spell no count.
     #[tactic(auto, unfolding(crate::specs::Groups::counted_groups))]
     pub(crate) fn new(alloc: Global, reader: BinaryReader<'a>) -> Result<LocalsReader<'a>>
-        ensures answer { Collects (λ l. l) result (counted_groups reader.entry.features reader.entry) }
+        ensures answer { Collects (λ l. l) result (counted_groups reader.entry.settings reader.entry) }
         ensures no_memory { NeedsNoMemory result }
     {
         let mut reader = reader;
+        let room = reader.limits().locals;
         let count = reader.read_var_u32()?;
         Ok(LocalsReader {
             reader,
             count,
             groups: count,
-            room: MAX_WASM_FUNCTION_LOCALS,
+            room,
             alloc,
         })
     }

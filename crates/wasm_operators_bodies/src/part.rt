@@ -17,5 +17,5 @@ pub(crate) fn front<'a>(reader: &BinaryReader<'a>, n: usize) -> BinaryReader<'a>
         unreachable!()
     };
     prove!(place <= end);
-    BinaryReader::new_features(text, place, reader.features())
+    BinaryReader::new_limited(text, place, reader.features(), reader.limits())
 }

@@ -15,7 +15,7 @@ use Rattle.wasm_operators_visit_operator.specs.Vectors.{is_simd}
 -- this operator begins here, may come next in this frame, and ends where t stands
 pub record ReadsIn (frame : Option FrameKind) (s : State) (o : Op) (t : State) : Type 0 where
   pub canonical : IsTrue (is_canonical o)
-  pub read : operator s.features s ≡ Done (coded_of o) t
+  pub read : operator s.settings s ≡ Done (coded_of o) t
   pub fits : IsTrue (fits o frame)
 
 -- an operator begins here that may not come next in this frame
@@ -23,14 +23,14 @@ pub record IsMisplaced (frame : Option FrameKind) (s : State) : Type 0 where
   pub op : Op
   pub behind : State
   pub canonical : IsTrue (is_canonical op)
-  pub read : operator s.features s ≡ Done (coded_of op) behind
+  pub read : operator s.settings s ≡ Done (coded_of op) behind
   pub misfit : fits op frame ≡ false
 
 -- Why nothing is read. With no frame open that is refused where the reader stands, before a byte is read. With one open, no
 -- operator begins here; or one does that may not come next, which is refused behind its first byte.
 abbrev pub RefusesIn : Option FrameKind → State → ErrorValue → Type 0
 RefusesIn None s e = (e.kind ≡ Other) × (e.offset ≡ s.place)
-RefusesIn (Some k) s e = Fails e (operator s.features s) ⊎ (IsMisplaced (Some k) s × (e.kind ≡ Other) × (e.offset ≡ s.place + 1))
+RefusesIn (Some k) s e = Fails e (operator s.settings s) ⊎ (IsMisplaced (Some k) s × (e.kind ≡ Other) × (e.offset ≡ s.place + 1))
 
 -- an operator on vectors is read here, which is refused where it begins
 pub record RefusesVectorIn (frame : Option FrameKind) (s : State) (e : ErrorValue) : Type 0 where

@@ -36,14 +36,14 @@ module _ {V A : Type 0} (visits : V → Op → A → V → Type 0) (answer : A) 
 
   -- a visitor was told of the walk of an expression without vectors, all of it
   abbrev pub WalksExpression : State → V → V → Type 0
-  WalksExpression s v w = (c : Code) × SpelledExpression s.features c s.rest × HasNoVectors (walk c) × VisitsAll visits answer v (walk c) w
+  WalksExpression s v w = (c : Code) × SpelledExpression s.settings c s.rest × HasNoVectors (walk c) × VisitsAll visits answer v (walk c) w
 
   pub walk_whole : (s : State) (t : Standing) (v w : V) → WalksTo visits answer (at_start s) v t w → IsFinished t → WalksExpression s v w
   walk_whole s t v w (os, run, none, told) f =
       let found = run_expression s os t run f in
       (found.0, found.2, subst HasNoVectors (sym found.1) none, subst (λ (ps : List Op). VisitsAll visits answer v ps w) (sym found.1) told)
 
-  module _ (s : State) (t : Standing) (v w : V) (told : WalksTo visits answer (at_start s) v t w) (e : ErrorValue) (n : IsNotMemory e.kind) (c : Code) (h : SpelledExpression s.features c s.rest) (none : HasNoVectors (walk c)) where
+  module _ (s : State) (t : Standing) (v w : V) (told : WalksTo visits answer (at_start s) v t w) (e : ErrorValue) (n : IsNotMemory e.kind) (c : Code) (h : SpelledExpression s.settings c s.rest) (none : HasNoVectors (walk c)) where
     vector_denies : RefusesVector t e → ⊥
     vector_denies r =
         let whole = expression_run s c h in

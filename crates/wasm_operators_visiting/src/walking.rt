@@ -25,9 +25,9 @@ pub fn visit_expression<'a, E: Drop, V: VisitOperator<'a, Output = std::result::
     reader: BinaryReader<'a>,
     visitor: &mut V,
 ) -> Result<std::result::Result<(), E>>
-    ensures whole { IfOk result (λ end. IfOk end (λ _. (c : Code) × SpelledExpression reader.entry.features c reader.entry.rest × HasNoVectors (walk c) × VisitsAll V.visits (Ok tt) visitor.old (walk c) visitor.new)) }
+    ensures whole { IfOk result (λ end. IfOk end (λ _. (c : Code) × SpelledExpression reader.entry.settings c reader.entry.rest × HasNoVectors (walk c) × VisitsAll V.visits (Ok tt) visitor.old (walk c) visitor.new)) }
     ensures ended { IfOk result (λ end. IfErr end (λ x. WalksUntil V.visits (Ok tt) (at_start reader.entry) visitor.old (Err x) visitor.new)) }
-    ensures refused { IfErr result (λ e. IsNotMemory e.kind → (c : Code) → SpelledExpression reader.entry.features c reader.entry.rest → HasNoVectors (walk c) → ⊥) }
+    ensures refused { IfErr result (λ e. IsNotMemory e.kind → (c : Code) → SpelledExpression reader.entry.settings c reader.entry.rest → HasNoVectors (walk c) → ⊥) }
     ensures stops { IfErr result (λ e. (t : Standing) × WalksTo V.visits (Ok tt) (at_start reader.entry) visitor.old t visitor.new × StopsPlain t e) }
 {
     let mut operators = OperatorsReader::new(alloc, reader);
