@@ -124,6 +124,17 @@ impl<'a> BinaryReader<'a> {
         }
     }
 
+    /// Back to where the reader stood, under the same features and limits, which are not written again.
+    #[inline]
+    pub fn return_to(&mut self, start: BinaryReader<'a>)
+        requires kept { start.settings ≡ self.old.settings }
+        ensures { self.new ≡ start.entry }
+    {
+        self.buffer = start.buffer;
+        self.position = start.position;
+        self.original_offset = start.original_offset;
+    }
+
     /// Where the next byte stands in the input.
     #[inline]
     pub fn original_position(&self) -> u64
@@ -319,7 +330,7 @@ impl<'a> BinaryReader<'a> {
         let size = self.read_var_u32()? as usize;
         if size > limit {
             let place = start.original_position();
-            *self = start;
+            self.return_to(start);
             return Err(size_error(desc, place));
         }
         Ok(size)
@@ -339,7 +350,7 @@ impl<'a> BinaryReader<'a> {
         let text = match self.read_bytes(count as usize) {
             Ok(text) => text,
             Err(error) => {
-                *self = start;
+                self.return_to(start);
                 return Err(error);
             }
         };
@@ -393,7 +404,7 @@ impl<'a> BinaryReader<'a> {
         let value = match T::from_reader(alloc, self) {
             Ok(value) => value,
             Err(error) => {
-                *self = start;
+                self.return_to(start);
                 return Err(error);
             }
         };

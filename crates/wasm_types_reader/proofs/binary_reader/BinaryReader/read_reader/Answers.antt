@@ -16,4 +16,4 @@ returns-clause-answer c =
     rw (c.new_limited.ensures, c.original_position-place.ensures, settings) (part_done _ _ _ c.in_ok-count.ensures.answer _ _ c.in-Ok.ensures.answer)
 
 pub returns-in-Err-clause-answer : goal.returns-in-Err-clause-answer
-returns-in-Err-clause-answer c = (part_ends _ _ _ c.in_ok-count.ensures.answer _ _ c.in-Err.ensures.answer.0, c.self-in-Err.view_is ∙ c.clone-start.ensures)
+returns-in-Err-clause-answer c = (part_ends _ _ _ c.in_ok-count.ensures.answer _ _ c.in-Err.ensures.answer.0, c.return_to.ensures ∙ c.clone-start.ensures)

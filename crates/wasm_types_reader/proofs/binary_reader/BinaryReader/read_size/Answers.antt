@@ -1,4 +1,5 @@
 -- The number, and its limit.
+use Rattle.std.proofs.Common.{◌∙◌}
 use Rattle.std.proofs.lemmas.Result.{err_from_is_err_and}
 use Rattle.wasm_types_reader.proofs.Sizes.{size_fails, size_small, size_large}
 use Rattle.wasm_types_reader.proofs.binary_reader.BinaryReader.read_size.Goals as goal
@@ -10,7 +11,7 @@ returns-in_err-size-clause-answer c =
 
 pub returns-then-size-limit-clause-answer : goal.returns-then-size-limit-clause-answer
 returns-then-size-limit-clause-answer c =
-    (rw (c.size_error.ensures.kind, c.size_error.ensures.offset, c.original_position-place.ensures, c.clone-start.ensures) (size_large c.args.limit _ _ _ c.in_ok-size.ensures.answer c.if-size-limit.true), c.clone-start.ensures)
+    (rw (c.size_error.ensures.kind, c.size_error.ensures.offset, c.original_position-place.ensures, c.clone-start.ensures) (size_large c.args.limit _ _ _ c.in_ok-size.ensures.answer c.if-size-limit.true), c.return_to.ensures ∙ c.clone-start.ensures)
 
 pub returns-clause-answer : goal.returns-clause-answer
 returns-clause-answer c = size_small c.args.limit _ _ _ c.in_ok-size.ensures.answer c.if-size-limit.false
