@@ -124,6 +124,17 @@ impl<'a> BinaryReader<'a> {
         }
     }
 
+    /// Back to where the reader stood, under the same features and limits, which are not written again.
+    #[inline]
+    pub fn return_to(&mut self, start: BinaryReader<'a>)
+        requires kept { start.settings ≡ self.old.settings }
+        ensures { self.new ≡ start.entry }
+    {
+        self.buffer = start.buffer;
+        self.position = start.position;
+        self.original_offset = start.original_offset;
+    }
+
     /// Where the next byte stands in the input.
     #[inline]
     pub fn original_position(&self) -> u64
@@ -387,7 +398,7 @@ impl<'a> BinaryReader<'a> {
         let value = match T::from_reader(alloc, self) {
             Ok(value) => value,
             Err(error) => {
-                *self = start;
+                self.return_to(start);
                 return Err(error);
             }
         };

@@ -25,7 +25,7 @@ pub fn read_list<'a, T: FromReader<'a>>(
     let items = match counted_items(alloc, limit, desc, reader) {
         Ok(items) => items,
         Err(error) => {
-            *reader = start;
+            reader.return_to(start);
             return Err(error);
         }
     };
@@ -47,7 +47,7 @@ pub fn read_many<'a, T: FromReader<'a>>(
     let items = match some_items(alloc, count, reader) {
         Ok(items) => items,
         Err(error) => {
-            *reader = start;
+            reader.return_to(start);
             return Err(error);
         }
     };

@@ -22,7 +22,7 @@ impl<'a> BinaryReader<'a> {
         let text = match self.limited_text() {
             Ok(text) => text,
             Err(error) => {
-                *self = start;
+                self.return_to(start);
                 return Err(error);
             }
         };
@@ -40,7 +40,7 @@ impl<'a> BinaryReader<'a> {
         let text = match self.counted_text() {
             Ok(text) => text,
             Err(error) => {
-                *self = before;
+                self.return_to(before);
                 return Err(error);
             }
         };
@@ -56,7 +56,7 @@ impl<'a> BinaryReader<'a> {
     {
         let here = self.clone();
         if let Err(error) = self.skip_text() {
-            *self = here;
+            self.return_to(here);
             return Err(error);
         }
         Ok(())
