@@ -1,5 +1,6 @@
 -- Rules: which bytes spell globals and data segments.
 pub mod Spells
+pub mod Segments
 -- Decoders.
 pub mod Decode
 -- Laws.

@@ -5,7 +5,9 @@
 //! each.
 #![tactic(auto)]
 
+mod global;
 pub mod laws;
-mod read;
+mod segment;
 
-pub use read::read_global;
+pub use global::GlobalOf;
+pub use segment::{DataKindOf, DataOf};

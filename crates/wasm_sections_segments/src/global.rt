@@ -1,0 +1,46 @@
+//! Globals.
+
+ghost use Rattle.std.specs.Prelude.{◌≡◌};
+ghost use Rattle.wasm_types.specs.decoding.Decoder.{Reaches};
+ghost use Rattle.wasm_types.specs.reader.Reading.{Gives, MemoryOnlyIf};
+ghost use Rattle.wasm_sections_segments.specs.Decode.{global};
+
+use std::alloc::Global;
+use wasm_types::{BinaryReader, FromReader, GlobalType, Result};
+
+/// A global with its initial value, which is a constant expression of this type (WebAssembly 3.0, binary format, global
+/// section).
+#[derive(Drop)]
+pub struct GlobalOf<E: Drop> {
+    /// Its type.
+    pub ty: GlobalType,
+    /// Its initial value.
+    pub init_expr: E,
+}
+
+/// A type and a constant expression.
+impl<'a, E: FromReader<'a>> FromReader<'a> for GlobalOf<E> {
+    ghost use Rattle.wasm_sections_segments.specs.Spells.{GlobalTree, SpelledGlobalItem};
+    ghost use Rattle.wasm_sections_segments.specs.DecodeLaws.{lawful-global, decides-global};
+
+    ghost Value = { GlobalTree E.Value };
+
+    ghost view = { λ x. record { ty = x.ty; init = E.view x.init_expr } };
+
+    ghost decoder = { global E.decoder };
+
+    ghost grammar = { SpelledGlobalItem E.grammar };
+
+    ghost takes_memory = { E.takes_memory };
+
+    ghost lawful = { lawful-global E.decoder E.lawful };
+
+    ghost exact = { decides-global E.decoder E.grammar E.exact };
+
+    #[tactic(auto, using(wasm_types::specs::Laws::reaches_self, wasm_types::specs::Laws::reaches_then), unfolding(crate::specs::Decode::global))]
+    fn from_reader(alloc: Global, reader: &mut BinaryReader<'a>) -> Result<GlobalOf<E>> {
+        let ty = GlobalType::from_reader(alloc, reader)?;
+        let init_expr = E::from_reader(alloc, reader)?;
+        Ok(GlobalOf { ty, init_expr })
+    }
+}
