@@ -2,6 +2,7 @@
 
 ghost use Rattle.std.specs.Prelude.{◌≡◌, ℕ, List, length, map, Result, Ok};
 ghost use Rattle.std.specs.Iterator.{Drains};
+ghost use Rattle.wasm_types.specs.limits.Settings.{Settings};
 ghost use Rattle.wasm_types.specs.decoding.Decoder.{State, Done};
 ghost use Rattle.wasm_types.specs.decoding.Leb.{u32 as u32_decoder, IsListed};
 ghost use Rattle.wasm_types.specs.error.ErrorValue.{ErrorValue};
@@ -14,8 +15,8 @@ use wasm_types::FromReader;
 /// it gave, and no byte after them. Where they do, the count is that of the items, and a walk gives these and no error, out
 /// of memory aside.
 pub fn sections_are_exact<'a, T: FromReader<'a>>()
-    ensures sound { (s t : State) (n : ℕ) (xs : List T.Value) → u32_decoder s ≡ Done n t → Drains (plainly T.decoder) (fresh n t) (map ok xs) → IsListed T.grammar xs s.rest }
-    ensures complete { (s : State) (xs : List T.Value) → IsListed T.grammar xs s.rest → (t : State) × (u32_decoder s ≡ Done (length xs) t) × ((items : List (Result T.Value ErrorValue)) → Drains (plainly T.decoder) (fresh (length xs) t) items → NeverLacksMemory items → items ≡ map ok xs) }
+    ensures sound { (z : Settings) (s t : State) (n : ℕ) (xs : List T.Value) → u32_decoder s ≡ Done n t → Drains (plainly (T.decoder z)) (fresh n t) (map ok xs) → IsListed (T.grammar z) xs s.rest }
+    ensures complete { (z : Settings) (s : State) (xs : List T.Value) → IsListed (T.grammar z) xs s.rest → (t : State) × (u32_decoder s ≡ Done (length xs) t) × ((items : List (Result T.Value ErrorValue)) → Drains (plainly (T.decoder z)) (fresh (length xs) t) items → NeverLacksMemory items → items ≡ map ok xs) }
 {}
 
 /// Walks that were worked by hand, over one-byte items: none, all of two, one too few, and a byte too many.

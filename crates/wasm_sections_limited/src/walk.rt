@@ -34,7 +34,7 @@ fn trailing_error(offset: u64) -> Error
 impl<'a, T: FromReader<'a>> Iterator for SectionLimitedIntoIter<'a, T> {
     type Item = Result<T>;
 
-    ghost next_gives = { λ s r t. NextIn (λ b x c. T.decoder b ≡ Done (T.view x) c) (λ b e. Fails e (T.decoder b)) (record { left = s.remaining; reader = s.section.reader; over = s.end }) r (record { left = t.remaining; reader = t.section.reader; over = t.end }) × IfSome r (λ item. MemoryOnlyIf T.takes_memory item) };
+    ghost next_gives = { λ s r t. NextIn (λ b x c. T.decoder s.section.reader.settings b ≡ Done (T.view x) c) (λ b e. Fails e (T.decoder s.section.reader.settings b)) (record { left = s.remaining; reader = s.section.reader; over = s.end }) r (record { left = t.remaining; reader = t.section.reader; over = t.end }) × IfSome r (λ item. MemoryOnlyIf T.takes_memory item) × (t.section.reader.settings ≡ s.section.reader.settings) };
 
     ghost remaining = { λ s. at_most (items_left s.end s.remaining) };
 
@@ -73,7 +73,7 @@ pub struct SectionLimitedIntoIterWithOffsets<'a, T: FromReader<'a>> {
 impl<'a, T: FromReader<'a>> Iterator for SectionLimitedIntoIterWithOffsets<'a, T> {
     type Item = Result<(u64, T)>;
 
-    ghost next_gives = { λ s r t. NextIn (λ b x c. (x.0 ≡ b.place) × (T.decoder b ≡ Done (T.view x.1) c)) (λ b e. Fails e (T.decoder b)) (record { left = s.remaining; reader = s.section.reader; over = s.end }) r (record { left = t.remaining; reader = t.section.reader; over = t.end }) × IfSome r (λ item. MemoryOnlyIf T.takes_memory item) };
+    ghost next_gives = { λ s r t. NextIn (λ b x c. (x.0 ≡ b.place) × (T.decoder s.section.reader.settings b ≡ Done (T.view x.1) c)) (λ b e. Fails e (T.decoder s.section.reader.settings b)) (record { left = s.remaining; reader = s.section.reader; over = s.end }) r (record { left = t.remaining; reader = t.section.reader; over = t.end }) × IfSome r (λ item. MemoryOnlyIf T.takes_memory item) × (t.section.reader.settings ≡ s.section.reader.settings) };
 
     ghost remaining = { λ s. at_most (items_left s.end s.remaining) };
 

@@ -27,15 +27,15 @@ impl<'a, E: FromReader<'a>> FromReader<'a> for GlobalOf<E> {
 
     ghost view = { λ x. record { ty = x.ty; init = E.view x.init_expr } };
 
-    ghost decoder = { global E.decoder };
+    ghost decoder = { λ z. global (E.decoder z) };
 
-    ghost grammar = { SpelledGlobalItem E.grammar };
+    ghost grammar = { λ z. SpelledGlobalItem (E.grammar z) };
 
     ghost takes_memory = { E.takes_memory };
 
-    ghost lawful = { lawful-global E.decoder E.lawful };
+    ghost lawful = { λ z. lawful-global (E.decoder z) (E.lawful z) };
 
-    ghost exact = { decides-global E.decoder E.grammar E.exact };
+    ghost exact = { λ z. decides-global (E.decoder z) (E.grammar z) (E.exact z) };
 
     #[tactic(auto, using(wasm_types::specs::Laws::reaches_self, wasm_types::specs::Laws::reaches_then), unfolding(crate::specs::Decode::global))]
     fn from_reader(alloc: Global, reader: &mut BinaryReader<'a>) -> Result<GlobalOf<E>> {

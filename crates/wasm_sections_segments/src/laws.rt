@@ -1,5 +1,6 @@
 //! Laws of globals and data segments, each the contract of a function that does nothing.
 
+ghost use Rattle.wasm_types.specs.limits.Settings.{Settings};
 ghost use Rattle.wasm_types.specs.decoding.Decoder.{IsLawful, Decides};
 ghost use Rattle.wasm_sections_segments.specs.Spells.{SpelledGlobalItem, SpelledData};
 ghost use Rattle.wasm_sections_segments.specs.Decode.{global, data_segment};
@@ -10,8 +11,8 @@ use wasm_types::FromReader;
 /// Whatever constant expressions are read from bytes: a value and a fault stay whatever bytes follow, an end of data needs
 /// exactly as many bytes as are missing, and a value is read exactly where a front of the bytes spells one.
 pub fn items_are_lawful<'a, E: FromReader<'a>>()
-    ensures globals { IsLawful (global E.decoder) × Decides (global E.decoder) (SpelledGlobalItem E.grammar) }
-    ensures segments { IsLawful (data_segment E.decoder) × Decides (data_segment E.decoder) (SpelledData E.grammar) }
+    ensures globals { (z : Settings) → IsLawful (global (E.decoder z)) × Decides (global (E.decoder z)) (SpelledGlobalItem (E.grammar z)) }
+    ensures segments { (z : Settings) → IsLawful (data_segment (E.decoder z)) × Decides (data_segment (E.decoder z)) (SpelledData (E.grammar z)) }
 {}
 
 /// Worked bytes: globals, each flag of a data segment, and what is refused.

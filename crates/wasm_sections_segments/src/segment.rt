@@ -75,7 +75,7 @@ fn read_placed<'a, E: FromReader<'a>>(
     alloc: Global,
     reader: &mut BinaryReader<'a>,
 ) -> Result<DataOf<'a, E>>
-    ensures answer { Gives (λ x. record { mode = mode_of E.view x.kind; content = x.«data».now }) result reader.new (placed_in E.decoder memory_index reader.old) }
+    ensures answer { Gives (λ x. record { mode = mode_of E.view x.kind; content = x.«data».now }) result reader.new (placed_in (E.decoder reader.old.settings) memory_index reader.old) }
     ensures range { IfOk result (λ x. x.range ≡ record { start = start; end = reader.new.place }) }
     ensures memory { MemoryOnlyIf E.takes_memory result }
     ensures forward { Reaches reader.old reader.new }
@@ -98,19 +98,19 @@ impl<'a, E: FromReader<'a>> FromReader<'a> for DataOf<'a, E> {
 
     ghost view = { λ x. record { mode = mode_of E.view x.kind; content = x.«data».now } };
 
-    ghost decoder = { data_segment E.decoder };
+    ghost decoder = { λ z. data_segment (E.decoder z) };
 
-    ghost grammar = { SpelledData E.grammar };
+    ghost grammar = { λ z. SpelledData (E.grammar z) };
 
     ghost takes_memory = { E.takes_memory };
 
-    ghost lawful = { lawful-data_segment E.decoder E.lawful };
+    ghost lawful = { λ z. lawful-data_segment (E.decoder z) (E.lawful z) };
 
-    ghost exact = { decides-data_segment E.decoder E.grammar E.exact };
+    ghost exact = { λ z. decides-data_segment (E.decoder z) (E.grammar z) (E.exact z) };
 
     #[tactic(auto, using(wasm_types::specs::Laws::reaches_self, wasm_types::specs::Laws::reaches_then), unfolding(crate::specs::Decode::data_segment))]
     fn from_reader(alloc: Global, reader: &mut BinaryReader<'a>) -> Result<DataOf<'a, E>>
-        ensures answer { Gives (λ x. record { mode = mode_of E.view x.kind; content = x.«data».now }) result reader.new (data_segment E.decoder reader.old) }
+        ensures answer { Gives (λ x. record { mode = mode_of E.view x.kind; content = x.«data».now }) result reader.new (data_segment (E.decoder reader.old.settings) reader.old) }
         ensures memory { MemoryOnlyIf E.takes_memory result }
         ensures forward { Reaches reader.old reader.new }
         ensures range { IfOk result (λ x. x.range ≡ record { start = reader.old.place; end = reader.new.place }) }
