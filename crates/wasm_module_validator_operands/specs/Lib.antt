@@ -7,3 +7,5 @@ pub mod Answers
 pub mod Operands
 pub mod Refusals
 pub mod Locals
+-- Worked kinds of refusals.
+pub mod Worked

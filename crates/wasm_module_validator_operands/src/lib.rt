@@ -8,6 +8,7 @@
 //! a body is refused. The visits (`visit_*`) are the same with an `Error`.
 #![tactic(auto)]
 
+pub mod laws;
 mod locals;
 mod operands;
 mod refusal;

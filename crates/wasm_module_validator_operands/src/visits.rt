@@ -8,7 +8,9 @@ use crate::refusal::answer_at;
 use wasm_types::{Result, ValType};
 
 impl OperatorValidator {
-    ghost use Rattle.wasm_module_validator_operands.specs.Syntax.{unreachable as unreachable_instruction, drop as drop_instruction, local_get as local_get_instruction, i32_const as i32_const_instruction, i64_const as i64_const_instruction, i32_add as i32_add_instruction, i64_add as i64_add_instruction};
+    ghost use Rattle.wasm_module_validator_operands.specs.Syntax.{unreachable as unreachable_instruction, drop as drop_instruction, local_get as local_get_instruction};
+    ghost use Rattle.wasm_module_validator_operands.specs.Syntax.{i32_const as i32_const_instruction, i64_const as i64_const_instruction};
+    ghost use Rattle.wasm_module_validator_operands.specs.Syntax.{i32_add as i32_add_instruction, i64_add as i64_add_instruction};
     ghost use Rattle.wasm_module_validator_operands.specs.Operands.{Does, Ended, MayEnd, Stepped, Visits};
     ghost use Rattle.wasm_module_validator_operands.specs.Answers.{RefusedAt};
 

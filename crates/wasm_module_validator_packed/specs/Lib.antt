@@ -1,2 +1,4 @@
 -- The codes of value types.
 pub mod Codes
+-- Worked ones.
+pub mod Worked
