@@ -1,8 +1,10 @@
 //! Operators of WebAssembly, readers and visitors of them.
 //!
 //! `OperatorsReader` reads operators from bytes, one after the other, and knows which frames are open (`ControlStack`);
-//! `read_expression` reads a whole expression. `Operator::info` tells an operator's proposal, name, prefix and code
-//! (`OperatorInfo`).
+//! `read_expression` reads a whole expression, and `visit_expression` visits one. With frames of your own, `ReadOperators`,
+//! `ReadToVisitor` and `ReadToSimdVisitor` look at, read and visit one operator of a `BinaryReader`. `FunctionBody` has the
+//! groups of locals of a body (`LocalsReader`) and finds where its operators begin; `ConstExpr` is a constant expression.
+//! `Operator::info` tells an operator's proposal, name, prefix and code (`OperatorInfo`).
 //!
 //! A visitor implements the traits of groups (`VisitControl`, `VisitMemory` and so on), one visit for each operator, under
 //! the relation that its `Visitor` states. With all of them but those of vectors it is a `VisitOperator`. With `VisitSimd`,
@@ -13,6 +15,9 @@
 //! expression in `wasm_operators_expression`.
 #![tactic(auto)]
 
+pub use wasm_operators_bodies::{
+    ConstExpr, FunctionBody, LocalsIterator, LocalsReader, MAX_WASM_FUNCTION_LOCALS,
+};
 pub use wasm_operators_control::{
     ContinuationOperator, ControlOperator, ExceptionOperator, ParametricOperator,
 };
@@ -46,3 +51,6 @@ pub use wasm_operators_visit_vectors_floats::VisitSimdFloats;
 pub use wasm_operators_visit_vectors_immediates::VisitSimd;
 pub use wasm_operators_visit_vectors_narrow::VisitSimdNarrow;
 pub use wasm_operators_visit_vectors_wide::VisitSimdWide;
+pub use wasm_operators_visiting::{
+    ReadOperators, ReadToSimdVisitor, ReadToVisitor, visit_expression,
+};

@@ -1,7 +1,6 @@
 -- What is read in a frame is what a reader with that frame innermost reads.
-use Rattle.std.proofs.Common.{◌≡◌, ◌↔◌, ◌⊎◌, inl, inr, IsTrue, Bool, true, false, ◌+◌, List, [], ◌∷◌, Option, Some, None, refl, sym, ◌∙◌, ap, subst}
-use Rattle.wasm_types.specs.decoding.Decoder.{State, Done}
-use Rattle.wasm_types.specs.error.declared.error.ErrorKind.TheVariants.{Other}
+use Rattle.std.proofs.Common.{◌≡◌, ◌↔◌, inl, inr, Bool, true, false, List, [], ◌∷◌, Option, Some, None, refl, sym, ◌∙◌}
+use Rattle.wasm_types.specs.decoding.Decoder.{State}
 use Rattle.wasm_types.specs.error.ErrorValue.{ErrorValue}
 use Rattle.wasm_operators_immediates.specs.declared.frames.FrameKind.{FrameKind}
 use Rattle.wasm_operators_operator.specs.Op.{Op}
@@ -9,9 +8,8 @@ use Rattle.wasm_operators_operator.specs.Roles.{fits}
 use Rattle.wasm_operators_expression.specs.Frames.{after}
 use Rattle.wasm_operators_expression.specs.FrameLaws.{fits_after}
 use Rattle.wasm_operators_expression.specs.Stack.{innermost}
-use Rattle.wasm_operators_reader.specs.Standing as standing
-use Rattle.wasm_operators_reader.specs.Standing.{Standing, Reads, IsUnfit, Refuses}
-use Rattle.wasm_operators_visiting.specs.InFrame.{ReadsIn, IsMisplaced, RefusesIn}
+use Rattle.wasm_operators_reader.specs.Standing.{Reads, Refuses}
+use Rattle.wasm_operators_visiting.specs.InFrame.{ReadsIn, RefusesIn}
 
 -- a reader at these bytes with these frames reads this operator, and stands behind it
 abbrev pub ReadsTo : List FrameKind → State → Op → State → Type 0

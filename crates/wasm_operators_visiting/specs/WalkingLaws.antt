@@ -1,17 +1,21 @@
 -- What a visitor is told on the way to the end is the walk of an expression without vectors, and every such expression is.
-use Rattle.std.proofs.Common.{◌≡◌, inl, inr, true, false, List, [], ◌∷◌, ◌++◌, refl, sym, ◌∙◌, ap, subst}
+use Rattle.std.proofs.Common.{◌≡◌, ◌<◌, ℕ, Bool, length, inl, inr, true, false, List, [], ◌∷◌, ◌++◌, refl, sym, ◌∙◌, ap, subst, arith}
+use Rattle.std.specs.Prelude.{◌==◌}
+use Rattle.std.proofs.lemmas.Bool.{eqb-true}
 use Rattle.wasm_types.specs.decoding.Decoder.{State}
+use Rattle.wasm_types.specs.error.declared.error.ErrorKind.TheVariants.{Other}
 use Rattle.wasm_types.specs.error.ErrorValue.{ErrorValue}
 use Rattle.wasm_types.specs.reader.Reading.{IsNotMemory}
 use Rattle.wasm_operators_operator.specs.Op.{Op}
 use Rattle.wasm_operators_visit_operator.specs.Vectors.{is_simd}
 use Rattle.wasm_operators_expression.specs.Code.{Code, walk}
 use Rattle.wasm_operators_expression.specs.Spelling.{SpelledExpression}
-use Rattle.wasm_operators_reader.specs.Standing.{Standing, at_start, IsFinished, Reads, Runs}
-use Rattle.wasm_operators_reader.specs.Visiting.{RefusesVector}
+use Rattle.wasm_operators_reader.specs.Standing.{Standing, at_start, IsFinished, Reads}
+use Rattle.wasm_operators_reader.specs.Visiting.{VisitsPlain, RefusesVector, RefusesPlain}
+use Rattle.wasm_operators_reader.specs.StandingLaws.{reads_fewer}
 use Rattle.wasm_operators_reader.specs.RunLaws.{run_more, run_expression, expression_run, refused_run, ended_run}
 use Rattle.wasm_operators_reader.specs.MeetLaws.{meets_end}
-use Rattle.wasm_operators_visiting.specs.Walking.{HasNoVectors, VisitsAll, WalksTo, StopsPlain}
+use Rattle.wasm_operators_visiting.specs.Walking.{HasNoVectors, VisitsAll, WalksTo, WalksUntil, StopsPlain}
 
 none_more : (os : List Op) (o : Op) → HasNoVectors os → is_simd o ≡ false → HasNoVectors (os ++ o ∷ [])
 none_more [] o h e = (e, tt)
@@ -56,3 +60,39 @@ module _ {V A : Type 0} (visits : V → Op → A → V → Type 0) (answer : A) 
     stop_denies (inl (more, inl r)) = refused_run s told.0 t told.1 (λ f. more f.bytes) c h e r n
     stop_denies (inl (more, inr r)) = vector_denies r
     stop_denies (inr (ended, open_still, kind, place)) = ended_run s told.0 t told.1 (λ f. open_still f.frames) c h ended
+
+-- ---- of a reader's visit
+
+module _ {V A : Type 0} (visits : V → Op → A → V → Type 0) (answer : A) (s t u : Standing) (v w x : V) (told : WalksTo visits answer s v t w) where
+  -- an operator that is answered alike goes on
+  pub walk_on : VisitsPlain visits t w answer u x → WalksTo visits answer s v u x
+  walk_on (o, r, e, h) = walk_more visits answer s t u v w x o told r e h
+
+  -- one that is answered otherwise is the last
+  pub walk_until : (last : A) → VisitsPlain visits t w last u x → WalksUntil visits answer s v last x
+  walk_until last (o, r, e, h) = (t, w, told, o, u, r, e, h)
+
+-- a visit goes on
+pub visit_fewer : {V A : Type 0} (visits : V → Op → A → V → Type 0) (t u : Standing) (w x : V) (last : A) → VisitsPlain visits t w last u x → length u.bytes.rest < length t.bytes.rest
+visit_fewer visits t u w x last (o, r, e, h) = reads_fewer t o u r
+
+-- ---- at the end of the bytes or before it
+
+pub some_rest : (b : Bool) (xs : List ℕ) → b ≡ false → b ≡ (length xs == 0) → xs ≡ [] → ⊥
+some_rest b xs f e g = let no : false ≡ true = sym f ∙ e ∙ ap (λ (ys : List ℕ). length ys == 0) g in absurd cc
+
+pub none_rest : (b : Bool) (xs : List ℕ) → b ≡ true → b ≡ (length xs == 0) → xs ≡ []
+none_rest b [] t e = refl
+none_rest b (x ∷ xs) t e = absurd (omega (arith, eqb-true (length (x ∷ xs)) 0 (sym e ∙ t)))
+
+module _ {V A : Type 0} (visits : V → Op → A → V → Type 0) (answer : A) (s : Standing) (v : V) where
+  -- a refused visit leaves all as it was
+  pub walk_stops : (t u : Standing) (w x : V) (e : ErrorValue) → WalksTo visits answer s v t w → (t.bytes.rest ≡ [] → ⊥) → RefusesPlain t e → u ≡ t → x ≡ w → WalksTo visits answer s v u x × StopsPlain u e
+  walk_stops t u w x e told more r same kept = (subst (λ (y : V). WalksTo visits answer s v u y) (sym kept) (subst (λ (z : Standing). WalksTo visits answer s v z w) (sym same) told), subst (λ (z : Standing). StopsPlain z e) (sym same) (inl (more, r)))
+
+  pub answered : (t u : Standing) (w x : V) (a b : A) → a ≡ b → VisitsPlain visits t w a u x → VisitsPlain visits t w b u x
+  answered t u w x a b e h = subst (λ (c : A). VisitsPlain visits t w c u x) e h
+
+-- at the end of the bytes with a frame open
+pub cut_short : (t : Standing) (e : ErrorValue) → t.bytes.rest ≡ [] → (IsFinished t → ⊥) → e.kind ≡ Other → e.offset ≡ t.bytes.place → StopsPlain t e
+cut_short t e ended unfinished kind place = inr (ended, λ f. unfinished (record { frames = f; bytes = ended }), kind, place)

@@ -62,11 +62,7 @@ pub trait ReadToVisitor<'a, V: VisitOperator<'a> + FrameStack> {
     ///
     /// As `ReadOperators::peek_operator`; and where the operator is one on vectors, which is refused where it begins. The reader stays as it
     /// was, and the visitor is told nothing.
-    fn visit_operator(
-        &mut self,
-        alloc: Global,
-        visitor: &mut V,
-    ) -> Result<V::Output>
+    fn visit_operator(&mut self, alloc: Global, visitor: &mut V) -> Result<V::Output>
         ensures visited { IfOk result (λ answer. (o : Op) × ReadsIn (V.frame visitor.old) (state self.old) o (state self.new) × (is_simd o ≡ false) × V.visits visitor.old o answer visitor.new) }
         ensures refused { IfErr result (λ e. RefusesPlainIn (V.frame visitor.old) (state self.old) e × (self.new ≡ self.old)) }
         ensures told { IfErr result (λ _. visitor.new ≡ visitor.old) }
@@ -85,11 +81,7 @@ pub trait ReadToSimdVisitor<'a, V: VisitSimdOperator<'a> + FrameStack> {
     /// # Errors
     ///
     /// As `ReadOperators::peek_operator`. The reader stays as it was, and the visitor is told nothing.
-    fn visit_operator_simd(
-        &mut self,
-        alloc: Global,
-        visitor: &mut V,
-    ) -> Result<V::Output>
+    fn visit_operator_simd(&mut self, alloc: Global, visitor: &mut V) -> Result<V::Output>
         ensures visited { IfOk result (λ answer. (o : Op) × ReadsIn (V.frame visitor.old) (state self.old) o (state self.new) × V.visits visitor.old o answer visitor.new) }
         ensures refused { IfErr result (λ e. RefusesIn (V.frame visitor.old) (state self.old) e × (self.new ≡ self.old)) }
         ensures told { IfErr result (λ _. visitor.new ≡ visitor.old) }
@@ -124,11 +116,7 @@ impl<'a> ReadOperators<'a> for BinaryReader<'a> {
 impl<'a, V: VisitOperator<'a> + FrameStack> ReadToVisitor<'a, V> for BinaryReader<'a> {
     ghost state = { λ r. r };
 
-    fn visit_operator(
-        &mut self,
-        alloc: Global,
-        visitor: &mut V,
-    ) -> Result<V::Output> {
+    fn visit_operator(&mut self, alloc: Global, visitor: &mut V) -> Result<V::Output> {
         let op = match read_plain_in_frame(alloc, visitor.current_frame(), self) {
             Ok(op) => op,
             Err(error) => return Err(error),
@@ -140,11 +128,7 @@ impl<'a, V: VisitOperator<'a> + FrameStack> ReadToVisitor<'a, V> for BinaryReade
 impl<'a, V: VisitSimdOperator<'a> + FrameStack> ReadToSimdVisitor<'a, V> for BinaryReader<'a> {
     ghost state = { λ r. r };
 
-    fn visit_operator_simd(
-        &mut self,
-        alloc: Global,
-        visitor: &mut V,
-    ) -> Result<V::Output> {
+    fn visit_operator_simd(&mut self, alloc: Global, visitor: &mut V) -> Result<V::Output> {
         let op = match read_in_frame(alloc, visitor.current_frame(), self) {
             Ok(op) => op,
             Err(error) => return Err(error),

@@ -20,6 +20,7 @@ use wasm_types::{BinaryReader, Result};
 ///
 /// The bytes spell no expression without vectors, or there is no memory; the operators before the one that is refused were
 /// visited.
+#[tactic(none)]
 pub fn visit_expression<'a, E: Drop, V: VisitOperator<'a, Output = std::result::Result<(), E>>>(
     alloc: Global,
     reader: BinaryReader<'a>,
