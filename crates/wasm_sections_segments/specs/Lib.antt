@@ -1,9 +1,12 @@
--- Rules: which bytes spell globals and data segments.
+-- Rules: which bytes spell globals and data segments, and how the code has these.
 pub mod Spells
 pub mod Segments
 -- Decoders.
 pub mod Decode
+-- Tables: rules and decoders.
+pub mod Tables
 -- Laws.
 pub mod DecodeLaws
+pub mod TableLaws
 -- Worked rows.
 pub mod Worked

@@ -228,7 +228,7 @@ decides-memory_type = decides-same _ (Then (IsFlags 16) memory_behind) SpelledMe
 
 -- ---- tables
 
-lawful-table_after : (r : Reference) (f : LimitsFlags) → IsLawful (table_after r f)
+pub lawful-table_after : (r : Reference) (f : LimitsFlags) → IsLawful (table_after r f)
 unfolding table_after
 lawful-table_after r f =
     lawful->>= (size f.wide) _ (lawful-size f.wide) (λ low.
