@@ -11,6 +11,8 @@ mod features;
 #[cfg(test)]
 mod limits;
 #[cfg(test)]
+mod numbers;
+#[cfg(test)]
 mod reader;
 #[cfg(test)]
 mod types;

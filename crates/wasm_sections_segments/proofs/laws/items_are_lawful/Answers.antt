@@ -4,16 +4,16 @@ use Rattle.wasm_sections_segments.specs.TableLaws.{lawful-table, decides-table}
 use Rattle.wasm_sections_segments.proofs.laws.items_are_lawful.Goals as goal
 
 pub returns-clause-globals : goal.returns-clause-globals
-returns-clause-globals g c =
+returns-clause-globals g c = λ z.
     let met = g.met.E.FromReader c.lifetimes (assumption c) in
-    (lawful-global g.E.FromReader.decoder met.lawful, decides-global g.E.FromReader.decoder g.E.FromReader.grammar met.exact)
+    (lawful-global (g.E.FromReader.decoder z) (met.lawful z), decides-global (g.E.FromReader.decoder z) (g.E.FromReader.grammar z) (met.exact z))
 
 pub returns-clause-segments : goal.returns-clause-segments
-returns-clause-segments g c =
+returns-clause-segments g c = λ z.
     let met = g.met.E.FromReader c.lifetimes (assumption c) in
-    (lawful-data_segment g.E.FromReader.decoder met.lawful, decides-data_segment g.E.FromReader.decoder g.E.FromReader.grammar met.exact)
+    (lawful-data_segment (g.E.FromReader.decoder z) (met.lawful z), decides-data_segment (g.E.FromReader.decoder z) (g.E.FromReader.grammar z) (met.exact z))
 
 pub returns-clause-tables : goal.returns-clause-tables
-returns-clause-tables g c =
+returns-clause-tables g c = λ z.
     let met = g.met.E.FromReader c.lifetimes (assumption c) in
-    (lawful-table g.E.FromReader.decoder met.lawful, decides-table g.E.FromReader.decoder g.E.FromReader.grammar met.exact)
+    (lawful-table (g.E.FromReader.decoder z) (met.lawful z), decides-table (g.E.FromReader.decoder z) (g.E.FromReader.grammar z) (met.exact z))
