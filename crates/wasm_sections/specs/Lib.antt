@@ -1,0 +1,5 @@
+-- The rules, decoders and laws of the parts, each under the part's name.
+pub use Rattle.wasm_sections_frames.specs as frames
+pub use Rattle.wasm_sections_limited.specs as limited
+pub use Rattle.wasm_sections_imports.specs as imports
+pub use Rattle.wasm_sections_segments.specs as segments
