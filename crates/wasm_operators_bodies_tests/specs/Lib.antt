@@ -1,0 +1,2 @@
+-- Worked bytes of bodies.
+pub mod Rows

@@ -1,0 +1,40 @@
+-- Worked bytes of locals and bodies, by hand: what is read, what is refused at which offset, where the bytes end.
+use Rattle.std.specs.Prelude.{◌≡◌, ℕ, List, [], ◌∷◌, length}
+use Rattle.wasm_types.specs.decoding.declared.Refusal.TheVariants.{Other}
+use Rattle.wasm_types.specs.decoding.Decoder.{State, Decoder, Done, Short, Fault}
+use Rattle.wasm_types.specs.limits.Settings.{no_features}
+use Rattle.wasm_types.specs.values.declared.value.ValType.TheVariants.{I32, I64, F64}
+use Rattle.wasm_operators_bodies.specs.Locals.{LocalGroup, group_of, locals}
+use Rattle.wasm_operators_bodies.specs.Bodies.{body_bytes}
+
+-- a reader behind n bytes, with these left, where no feature is allowed
+abbrev pub behind : ℕ → List ℕ → State
+behind n rest = record { rest = rest; place = n; settings = no_features; start = 0 }
+
+-- the bytes, all of them, are this value
+abbrev pub reads : {A : Type 0} → Decoder A → List ℕ → A → Type 0
+reads d text x = d (behind 0 text) ≡ Done x (behind (length text) [])
+
+-- they are refused at this offset
+abbrev pub refuses : {A : Type 0} → Decoder A → List ℕ → ℕ → Type 0
+refuses d text offset = d (behind 0 text) ≡ Fault Other offset
+
+-- they end at this offset, where so many more are needed
+abbrev pub ends : {A : Type 0} → Decoder A → List ℕ → ℕ → ℕ → Type 0
+ends d text offset wanted = d (behind 0 text) ≡ Short offset wanted
+
+-- groups of locals: none, the most in one group, one more, two groups, too many in two, no type, a count alone
+pub record LocalRows : Type 0 where
+  pub none : reads (locals 0) (0x00 ∷ []) []
+  pub most : reads (locals 0) (0x01 ∷ 0xd0 ∷ 0x86 ∷ 0x03 ∷ 0x7f ∷ []) (group_of 50000 I32 ∷ [])
+  pub one_too_many : refuses (locals 0) (0x01 ∷ 0xd1 ∷ 0x86 ∷ 0x03 ∷ 0x7f ∷ []) 1
+  pub two : reads (locals 0) (0x02 ∷ 0x01 ∷ 0x7e ∷ 0x02 ∷ 0x7c ∷ []) (group_of 1 I64 ∷ group_of 2 F64 ∷ [])
+  pub too_many_in_two : refuses (locals 0) (0x02 ∷ 0xd0 ∷ 0x86 ∷ 0x03 ∷ 0x7f ∷ 0x01 ∷ 0x7f ∷ []) 5
+  pub no_type : refuses (locals 0) (0x01 ∷ 0x01 ∷ 0x40 ∷ []) 2
+  pub count_alone : ends (locals 0) (0xff ∷ 0xff ∷ 0xff ∷ 0xff ∷ 0x0f ∷ []) 5 1
+
+-- bodies: of two bytes, of none, and one whose bytes end too early
+pub record BodyRows : Type 0 where
+  pub two_bytes : reads body_bytes (0x02 ∷ 0x00 ∷ 0x0b ∷ []) (0x00 ∷ 0x0b ∷ [])
+  pub no_byte : reads body_bytes (0x00 ∷ []) []
+  pub cut_short : ends body_bytes (0x03 ∷ 0x00 ∷ []) 1 2
