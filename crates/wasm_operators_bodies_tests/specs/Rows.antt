@@ -25,13 +25,13 @@ ends d text offset wanted = d (behind 0 text) ≡ Short offset wanted
 
 -- groups of locals: none, the most in one group, one more, two groups, too many in two, no type, a count alone
 pub record LocalRows : Type 0 where
-  pub none : reads (locals 0) (0x00 ∷ []) []
-  pub most : reads (locals 0) (0x01 ∷ 0xd0 ∷ 0x86 ∷ 0x03 ∷ 0x7f ∷ []) (group_of 50000 I32 ∷ [])
-  pub one_too_many : refuses (locals 0) (0x01 ∷ 0xd1 ∷ 0x86 ∷ 0x03 ∷ 0x7f ∷ []) 1
-  pub two : reads (locals 0) (0x02 ∷ 0x01 ∷ 0x7e ∷ 0x02 ∷ 0x7c ∷ []) (group_of 1 I64 ∷ group_of 2 F64 ∷ [])
-  pub too_many_in_two : refuses (locals 0) (0x02 ∷ 0xd0 ∷ 0x86 ∷ 0x03 ∷ 0x7f ∷ 0x01 ∷ 0x7f ∷ []) 5
-  pub no_type : refuses (locals 0) (0x01 ∷ 0x01 ∷ 0x40 ∷ []) 2
-  pub count_alone : ends (locals 0) (0xff ∷ 0xff ∷ 0xff ∷ 0xff ∷ 0x0f ∷ []) 5 1
+  pub none : reads (locals no_features) (0x00 ∷ []) []
+  pub most : reads (locals no_features) (0x01 ∷ 0xd0 ∷ 0x86 ∷ 0x03 ∷ 0x7f ∷ []) (group_of 50000 I32 ∷ [])
+  pub one_too_many : refuses (locals no_features) (0x01 ∷ 0xd1 ∷ 0x86 ∷ 0x03 ∷ 0x7f ∷ []) 1
+  pub two : reads (locals no_features) (0x02 ∷ 0x01 ∷ 0x7e ∷ 0x02 ∷ 0x7c ∷ []) (group_of 1 I64 ∷ group_of 2 F64 ∷ [])
+  pub too_many_in_two : refuses (locals no_features) (0x02 ∷ 0xd0 ∷ 0x86 ∷ 0x03 ∷ 0x7f ∷ 0x01 ∷ 0x7f ∷ []) 5
+  pub no_type : refuses (locals no_features) (0x01 ∷ 0x01 ∷ 0x40 ∷ []) 2
+  pub count_alone : ends (locals no_features) (0xff ∷ 0xff ∷ 0xff ∷ 0xff ∷ 0x0f ∷ []) 5 1
 
 -- bodies: of two bytes, of none, and one whose bytes end too early
 pub record BodyRows : Type 0 where
