@@ -25,7 +25,9 @@ fn limits_of_names(rt: HostRuntime) -> std::result::Result<(), Fail> {
     same(&rt, error.kind().number(), 5);
     same(&rt, error.offset(), 0);
     same(&rt, reader.current_position(), 0);
-    reader.set_limits(Limits::default());
+    let usual = Limits::default();
+    assert!(rt; usual.is_within_ceilings());
+    reader.set_limits(usual);
     same(&rt, reader.read_string()?, "aa");
     Ok(())
 }
