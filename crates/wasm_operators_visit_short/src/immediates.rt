@@ -1,0 +1,90 @@
+//! Immediates in their frequent forms, at an offset in the bytes.
+
+ghost use Rattle.std.specs.Prelude.{◌≡◌, Bool, ◌≤◌, length, IfSome};
+ghost use Rattle.wasm_types.specs.features.Features.{has, Memory64};
+ghost use Rattle.wasm_types_numbers.specs.Numbers.{GivesAt};
+ghost use Rattle.wasm_operators_immediates.specs.Blocks.{block_type};
+ghost use Rattle.wasm_operators_immediates.specs.Kinds.{Plain};
+ghost use Rattle.wasm_operators_decode_immediates.specs.Bytes.{index_or_zero};
+ghost use Rattle.wasm_operators_decode_immediates.specs.MemoryArguments.{memory_argument, offset as offset_decoder};
+
+use wasm_operators_immediates::{BlockType, MemArg, MemArgTarget};
+use wasm_types::{ValType, WasmFeatures};
+use wasm_types_numbers::{short_u32_at, short_u64_at};
+
+/// A zero, where an index or a zero stands.
+#[inline(always)]
+#[tactic(auto, using(crate::proofs::Carried::zero_there))]
+pub(crate) fn zero_at(bytes: &[u8], at: usize) -> Option<(u32, usize)>
+    ensures { IfSome result (λ r. (r.0 ≡ 0) × ((allowed : Bool) → GivesAt (index_or_zero allowed) bytes.now at r.0 r.1)) }
+{
+    if at < bytes.len() && bytes[at] == 0 {
+        return Some((0, at + 1));
+    }
+    None
+}
+
+/// The empty block type, or a number type as the result.
+#[inline(always)]
+#[tactic(auto, using(crate::proofs::Carried::empty_there, crate::proofs::Carried::i32_there, crate::proofs::Carried::i64_there, crate::proofs::Carried::f32_there, crate::proofs::Carried::f64_there))]
+pub(crate) fn block_type_at(bytes: &[u8], at: usize) -> Option<(BlockType, usize)>
+    ensures { IfSome result (λ r. GivesAt block_type bytes.now at r.0 r.1) }
+{
+    if at >= bytes.len() {
+        return None;
+    }
+    match bytes[at] {
+        0x40 => Some((BlockType::Empty, at + 1)),
+        0x7f => Some((BlockType::Val(ValType::I32), at + 1)),
+        0x7e => Some((BlockType::Val(ValType::I64), at + 1)),
+        0x7d => Some((BlockType::Val(ValType::F32), at + 1)),
+        0x7c => Some((BlockType::Val(ValType::F64), at + 1)),
+        _ => None,
+    }
+}
+
+/// An offset of 64 bits where memories of 64 bits are allowed, else of 32.
+#[inline(always)]
+#[tactic(auto, unfolding(wasm_operators_decode_immediates::specs::MemoryArguments::offset))]
+fn offset_at(bytes: &[u8], at: usize, wide: bool) -> Option<(u64, usize)>
+    requires { at ≤ length bytes.now }
+    ensures { IfSome result (λ r. GivesAt (offset_decoder wide) bytes.now at r.0 r.1) }
+{
+    if wide {
+        return short_u64_at(bytes, at);
+    }
+    let Some((offset, end)) = short_u32_at(bytes, at) else {
+        return None;
+    };
+    Some((offset as u64, end))
+}
+
+/// The argument of a plain access to memory 0, the natural alignment of which is `2^max_align` bytes.
+#[inline(always)]
+#[tactic(auto, using(crate::proofs::Carried::access_there))]
+pub(crate) fn memarg_at(
+    bytes: &[u8],
+    at: usize,
+    features: WasmFeatures,
+    max_align: u8,
+) -> Option<(MemArg, usize)>
+    requires { at ≤ length bytes.now }
+    ensures { IfSome result (λ r. GivesAt (memory_argument features.0 Plain max_align) bytes.now at r.0 r.1) }
+{
+    if at >= bytes.len() || bytes[at] >= 0x10 {
+        return None;
+    }
+    let align = bytes[at];
+    let Some((offset, end)) = offset_at(bytes, at + 1, features.memory64()) else {
+        return None;
+    };
+    let memarg = MemArg {
+        align,
+        max_align,
+        offset,
+        memory: 0,
+        ordering: None,
+        target: MemArgTarget::Memory,
+    };
+    Some((memarg, end))
+}

@@ -1,0 +1,18 @@
+//! The frequent operators, read from their first byte and visited at once.
+//!
+//! [`visit_short`] takes the bytes of an expression, an offset in them and a visitor. Where a frequent operator in a
+//! frequent form begins there, the visitor is told of it and the offset behind it is answered: no operator is built, no
+//! reader moves, and no error is made. Where it answers none, nothing was visited; `read_operator` then reads whatever
+//! stands there, or says why it is refused.
+//!
+//! `specs/Short.antt` defines what was told: that the decoder of operators gives this operator for these bytes, wherever
+//! they stand, and that the visitor's relation holds of it.
+#![tactic(auto)]
+
+mod control;
+mod immediates;
+mod memory;
+mod numbers;
+mod short;
+
+pub use short::visit_short;

@@ -1,0 +1,55 @@
+//! The operator at an offset, by its first byte.
+
+ghost use Rattle.std.specs.Prelude.{◌≡◌, IfSome, IfNone};
+ghost use Rattle.wasm_operators_visit_short.specs.Short.{IsTold};
+
+use crate::control::{control_alone, control_block, control_index};
+use crate::memory::{
+    access_1, access_2, access_4, access_8, i32_const, i64_const, memory_size, variable,
+};
+use crate::numbers::numeric;
+use wasm_operators_visit_control::VisitControl;
+use wasm_operators_visit_memory::VisitMemory;
+use wasm_operators_visit_numbers_floats::VisitFloats;
+use wasm_operators_visit_numbers_integers::VisitIntegers;
+use wasm_types::WasmFeatures;
+
+/// Tells a visitor of the operator that begins at an offset in `bytes`, if it is a frequent one in a frequent form, and
+/// gives the visitor's answer with the offset behind the operator. None where it is another, or where the bytes spell
+/// none: the visitor is then told nothing.
+#[inline(always)]
+pub fn visit_short<'a, V>(
+    bytes: &'a [u8],
+    at: usize,
+    features: WasmFeatures,
+    visitor: &mut V,
+) -> Option<(V::Output, usize)>
+where
+    V: VisitControl<'a> + VisitMemory<'a> + VisitIntegers<'a> + VisitFloats<'a>,
+    ensures told { IfSome result (λ r. IsTold features.0 bytes.now at r.1 (λ o. V.visits visitor.old o r.0 visitor.new)) }
+    ensures none { IfNone result (visitor.new ≡ visitor.old) }
+{
+    if at >= bytes.len() {
+        return None;
+    }
+    let code = bytes[at];
+    match code {
+        0x00 | 0x01 | 0x05 | 0x0b | 0x0f | 0x1a | 0x1b => {
+            control_alone(bytes, at, code, features, visitor)
+        }
+        0x02 | 0x03 | 0x04 => control_block(bytes, at, code, features, visitor),
+        0x0c | 0x0d | 0x10 => control_index(bytes, at, code, features, visitor),
+        0x20..=0x24 => variable(bytes, at, code, features, visitor),
+        0x2c | 0x2d | 0x30 | 0x31 | 0x3a | 0x3c => access_1(bytes, at, code, features, visitor),
+        0x2e | 0x2f | 0x32 | 0x33 | 0x3b | 0x3d => access_2(bytes, at, code, features, visitor),
+        0x28 | 0x2a | 0x34 | 0x35 | 0x36 | 0x38 | 0x3e => {
+            access_4(bytes, at, code, features, visitor)
+        }
+        0x29 | 0x2b | 0x37 | 0x39 => access_8(bytes, at, code, features, visitor),
+        0x3f | 0x40 => memory_size(bytes, at, code, features, visitor),
+        0x41 => i32_const(bytes, at, code, features, visitor),
+        0x42 => i64_const(bytes, at, code, features, visitor),
+        0x45..=0xc4 => numeric(bytes, at, code, features, visitor),
+        _ => None,
+    }
+}
