@@ -1,5 +1,5 @@
 -- What a visitor is told of what is read, and what is refused because a visitor has no visit of it.
-use Rattle.std.specs.Prelude.{◌≡◌, ◌⊎◌, true, false, List, [], ◌∷◌}
+use Rattle.std.specs.Prelude.{◌≡◌, ◌⊎◌, true, false}
 use Rattle.wasm_types.specs.error.declared.error.ErrorKind.TheVariants.{Other}
 use Rattle.wasm_types.specs.error.ErrorValue.{ErrorValue}
 use Rattle.wasm_operators_operator.specs.Op.{Op}
