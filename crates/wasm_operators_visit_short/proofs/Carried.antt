@@ -4,6 +4,7 @@ use Rattle.std.proofs.lemmas.List.{drop_more}
 use Rattle.wasm_types.specs.decoding.Decoder.{State, Done, Decoder, byte}
 use Rattle.wasm_types.specs.decoding.Leb.{unsigned, u32, s32, s64}
 use Rattle.wasm_types.specs.decoding.Text.{word}
+use Rattle.wasm_types.specs.limits.Settings.{Settings}
 use Rattle.wasm_types.specs.reader.declared.words.Ieee32.{Ieee32}
 use Rattle.wasm_types.specs.reader.declared.words.Ieee64.{Ieee64}
 use Rattle.wasm_types.specs.values.DecodeValues.{value_type, value_type_after}
@@ -22,42 +23,42 @@ use Rattle.wasm_operators_decode_immediates.specs.Bytes.{index_or_zero, zero_byt
 use Rattle.wasm_operators_decode_immediates.specs.MemoryArguments.{may_order, flags_in, flags_from, flags, named_memory, named_ordering, offset, argument, after_flags, memory_argument}
 use Rattle.wasm_operators_visit_short.proofs.Reading.{gives_as, gives_then}
 
-module _ (features : ℕ) (text : List ℕ) (i e : ℕ) where
-  pub index_of : (space : IndexSpace) (n : ℕ) → GivesAt u32 text i n e → GivesAt (immediate features (kind.Index space)) text i (Index space n) e
+module _ (settings : Settings) (text : List ℕ) (i e : ℕ) where
+  pub index_of : (space : IndexSpace) (n : ℕ) → GivesAt u32 text i n e → GivesAt (immediate settings (kind.Index space)) text i (Index space n) e
   unfolding immediate
   index_of space n g = gives_as u32 text i n (Index space) e g
 
-  pub label_of : (n : ℕ) → GivesAt u32 text i n e → GivesAt (immediate features kind.Label) text i (Label n) e
+  pub label_of : (n : ℕ) → GivesAt u32 text i n e → GivesAt (immediate settings kind.Label) text i (Label n) e
   unfolding immediate
   label_of n g = gives_as u32 text i n Label e g
 
-  pub i32_of : (n : ℤ) → GivesAt s32 text i n e → GivesAt (immediate features kind.I32Constant) text i (I32Constant n) e
+  pub i32_of : (n : ℤ) → GivesAt s32 text i n e → GivesAt (immediate settings kind.I32Constant) text i (I32Constant n) e
   unfolding immediate
   i32_of n g = gives_as s32 text i n I32Constant e g
 
-  pub i64_of : (n : ℤ) → GivesAt s64 text i n e → GivesAt (immediate features kind.I64Constant) text i (I64Constant n) e
+  pub i64_of : (n : ℤ) → GivesAt s64 text i n e → GivesAt (immediate settings kind.I64Constant) text i (I64Constant n) e
   unfolding immediate
   i64_of n g = gives_as s64 text i n I64Constant e g
 
-  pub f32_of : (bits : Ieee32) → GivesAt (word 4) text i bits.0 e → GivesAt (immediate features kind.F32Constant) text i (F32Constant bits) e
+  pub f32_of : (bits : Ieee32) → GivesAt (word 4) text i bits.0 e → GivesAt (immediate settings kind.F32Constant) text i (F32Constant bits) e
   unfolding immediate
   f32_of bits g = gives_as (word 4) text i bits.0 (λ n. F32Constant (record { 0 = n })) e g
 
-  pub f64_of : (bits : Ieee64) → GivesAt (word 8) text i bits.0 e → GivesAt (immediate features kind.F64Constant) text i (F64Constant bits) e
+  pub f64_of : (bits : Ieee64) → GivesAt (word 8) text i bits.0 e → GivesAt (immediate settings kind.F64Constant) text i (F64Constant bits) e
   unfolding immediate
   f64_of bits g = gives_as (word 8) text i bits.0 (λ n. F64Constant (record { 0 = n })) e g
 
-  pub block_of : (ty : BlockType) → GivesAt block_type text i ty e → GivesAt (immediate features kind.Block) text i (Block ty) e
+  pub block_of : (ty : BlockType) → GivesAt block_type text i ty e → GivesAt (immediate settings kind.Block) text i (Block ty) e
   unfolding immediate
   block_of ty g = gives_as block_type text i ty Block e g
 
-  pub access_of : (natural : ℕ) (m : MemArg) → GivesAt (memory_argument features Plain natural) text i m e → GivesAt (immediate features (kind.MemoryArgument Plain natural)) text i (MemoryArgument Plain natural m) e
+  pub access_of : (natural : ℕ) (m : MemArg) → GivesAt (memory_argument settings Plain natural) text i m e → GivesAt (immediate settings (kind.MemoryArgument Plain natural)) text i (MemoryArgument Plain natural m) e
   unfolding immediate
-  access_of natural m g = gives_as (memory_argument features Plain natural) text i m (MemoryArgument Plain natural) e g
+  access_of natural m g = gives_as (memory_argument settings Plain natural) text i m (MemoryArgument Plain natural) e g
 
-  pub zero_of : (space : IndexSpace) (n : ℕ) → GivesAt (index_or_zero (may_index features space)) text i n e → GivesAt (immediate features (kind.IndexOrZero space)) text i (IndexOrZero space n) e
+  pub zero_of : (space : IndexSpace) (n : ℕ) → GivesAt (index_or_zero (may_index settings space)) text i n e → GivesAt (immediate settings (kind.IndexOrZero space)) text i (IndexOrZero space n) e
   unfolding immediate
-  zero_of space n g = gives_as (index_or_zero (may_index features space)) text i n (IndexOrZero space) e g
+  zero_of space n g = gives_as (index_or_zero (may_index settings space)) text i n (IndexOrZero space) e g
 
 -- ---- forms of one byte
 
@@ -116,13 +117,13 @@ small_flags order memory place b t lt =
     let h : b / 64 ≡ 0 = omega arith in
     rw (lt-ltb b 128 (omega arith), d, f, h) refl
 
-module _ (features natural : ℕ) (text : List ℕ) (i b : ℕ) (lt : i < length text) (is : get_or text i 0 ≡ b) (small : b < 16) where
+module _ (settings : Settings) (natural : ℕ) (text : List ℕ) (i b : ℕ) (lt : i < length text) (is : get_or text i 0 ≡ b) (small : b < 16) where
   flags_there : (order memory : Bool) → GivesAt (flags order memory) text i (flags_in b) (i + 1)
   unfolding flags
   flags_there order memory = by_one text i b lt is (flags order memory) (flags_in b) (λ s same.
       rw (u32_there text i b lt is (omega arith) s same) (small_flags order memory s.place b (behind 1 s) small))
 
-  after_there : (x e : ℕ) → GivesAt (offset (has Memory64 features)) text (i + 1) x e → GivesAt (after_flags features Plain natural (flags_in b)) text (i + 1) (argument b natural 0 None x) e
+  after_there : (x e : ℕ) → GivesAt (offset (has Memory64 settings.features)) text (i + 1) x e → GivesAt (after_flags settings Plain natural (flags_in b)) text (i + 1) (argument b natural 0 None x) e
   unfolding after_flags named_memory named_ordering
   after_there x e g = record {
     forward = g.forward;
@@ -134,8 +135,8 @@ module _ (features natural : ℕ) (text : List ℕ) (i b : ℕ) (lt : i < length
         rw (q, f, h, g.gives s same) refl;
   }
 
-  pub access_there : (wide : Bool) (x e : ℕ) → GivesAt (offset wide) text (i + 1) x e → wide ≡ has Memory64 features → GivesAt (memory_argument features Plain natural) text i (argument b natural 0 None x) e
+  pub access_there : (wide : Bool) (x e : ℕ) → GivesAt (offset wide) text (i + 1) x e → wide ≡ has Memory64 settings.features → GivesAt (memory_argument settings Plain natural) text i (argument b natural 0 None x) e
   unfolding memory_argument
   access_there wide x e g same =
-      gives_then (flags (may_order features Plain) (has MultiMemory features)) text i (flags_in b) (after_flags features Plain natural) (i + 1) (argument b natural 0 None x) e
-      (flags_there (may_order features Plain) (has MultiMemory features)) (after_there x e (rw same at g))
+      gives_then (flags (may_order settings Plain) (has MultiMemory settings.features)) text i (flags_in b) (after_flags settings Plain natural) (i + 1) (argument b natural 0 None x) e
+      (flags_there (may_order settings Plain) (has MultiMemory settings.features)) (after_there x e (rw same at g))

@@ -4,6 +4,8 @@ use Rattle.std.specs.Prelude.{◌==◌}
 use Rattle.std.proofs.lemmas.Bool.{ne_eqb}
 use Rattle.std.proofs.lemmas.List.{drop-drop, drop_more}
 use Rattle.wasm_types.specs.decoding.Decoder.{State, Outcome, Done, Decoder, continue_with, ◌>>=◌, pure, byte}
+use Rattle.wasm_types.specs.limits.declared.Limits.{Limits}
+use Rattle.wasm_types.specs.limits.Settings.{Settings}
 use Rattle.wasm_types_numbers.specs.Numbers.{behind, GivesAt}
 use Rattle.wasm_operators_immediates.specs.Kinds.{Kind}
 use Rattle.wasm_operators_immediates.specs.Immediates.{Immediate, kind_of}
@@ -16,7 +18,7 @@ use Rattle.wasm_operators_decode_encoding.specs.Coded.{kinds_at, coded, operator
 use Rattle.wasm_operators_decode_encoding.specs.Operators.{opcode_of, coded_of}
 use Rattle.wasm_operators_decode_encoding.specs.OperatorLaws.{own_kinds_at}
 use Rattle.wasm_operators_operator.specs.Table.{info_of}
-use Rattle.wasm_operators_visit_short.specs.Short.{IsTold, Begins}
+use Rattle.wasm_operators_visit_short.specs.Short.{within, IsTold, Begins}
 
 -- ---- offsets
 
@@ -60,13 +62,13 @@ gives_byte text i lt = record {
 
 -- ---- operators of one byte of opcode
 
-with_kinds : (features place : ℕ) (o : Opcode) (found : Option (List Kind)) (s t : State) (ks : List Kind) (is : List Immediate) → found ≡ Some ks → immediates features ks s ≡ Done is t → carried_by features place o found s ≡ Done (coded o is) t
-with_kinds features place o found s t ks is e h = rw (e, h) refl
+with_kinds : (settings : Settings) (place : ℕ) (o : Opcode) (found : Option (List Kind)) (s t : State) (ks : List Kind) (is : List Immediate) → found ≡ Some ks → immediates settings ks s ≡ Done is t → carried_by settings place o found s ≡ Done (coded o is) t
+with_kinds settings place o found s t ks is e h = rw (e, h) refl
 
-read_behind : (features place : ℕ) (read : Outcome Opcode) (o : Opcode) (s t : State) (ks : List Kind) (is : List Immediate) → read ≡ Done o s → kinds_at o ≡ Some ks → immediates features ks s ≡ Done is t → continue_with read (behind_opcode features place) ≡ Done (coded o is) t
-read_behind features place read o s t ks is first e h = rw first (with_kinds features place o (kinds_at o) s t ks is e h)
+read_behind : (settings : Settings) (place : ℕ) (read : Outcome Opcode) (o : Opcode) (s t : State) (ks : List Kind) (is : List Immediate) → read ≡ Done o s → kinds_at o ≡ Some ks → immediates settings ks s ≡ Done is t → continue_with read (behind_opcode settings place) ≡ Done (coded o is) t
+read_behind settings place read o s t ks is first e h = rw first (with_kinds settings place o (kinds_at o) s t ks is e h)
 
-module _ (features : ℕ) (text : List ℕ) (i code n : ℕ) (begins : Begins text i code) (is : code ≡ n) (o : Op) (opcode_is : opcode_of o ≡ plain n) (no_prefix : is_prefix n ≡ false) where
+module _ (settings : Settings) (text : List ℕ) (i code n : ℕ) (begins : Begins text i code) (is : code ≡ n) (o : Op) (opcode_is : opcode_of o ≡ plain n) (no_prefix : is_prefix n ≡ false) where
   kinds : kinds_at (plain n) ≡ Some (map kind_of (immediates_of o))
   kinds = ap kinds_at (sym opcode_is) ∙ own_kinds_at o
 
@@ -82,12 +84,12 @@ module _ (features : ℕ) (text : List ℕ) (i code n : ℕ) (begins : Begins te
   opcode_read s same = rw (first s same, no_prefix) refl
 
   -- an operator of what it carries
-  carries : (s t : State) → s.rest ≡ drop i text → immediates features (map kind_of (immediates_of o)) (behind 1 s) ≡ Done (immediates_of o) t → operator features s ≡ Done (coded_of o) t
+  carries : (s t : State) → s.rest ≡ drop i text → immediates settings (map kind_of (immediates_of o)) (behind 1 s) ≡ Done (immediates_of o) t → operator settings s ≡ Done (coded_of o) t
   unfolding operator
   carries s t same h =
-      read_behind features s.place (opcode s) (plain n) (behind 1 s) t (map kind_of (immediates_of o)) (immediates_of o) (opcode_read s same) kinds h ∙ ap (λ (c : Opcode). Done (coded c (immediates_of o)) t) (sym opcode_is)
+      read_behind settings s.place (opcode s) (plain n) (behind 1 s) t (map kind_of (immediates_of o)) (immediates_of o) (opcode_read s same) kinds h ∙ ap (λ (c : Opcode). Done (coded c (immediates_of o)) t) (sym opcode_is)
 
-  none : immediates_of o ≡ [] → GivesAt (operator features) text i (coded_of o) (i + 1)
+  none : immediates_of o ≡ [] → GivesAt (operator settings) text i (coded_of o) (i + 1)
   none nothing = record {
     forward = omega arith;
     inside = omega (arith, begins.inside);
@@ -99,7 +101,7 @@ module _ (features : ℕ) (text : List ℕ) (i code n : ℕ) (begins : Begins te
   after_first : (s : State) → s.rest ≡ drop i text → drop 1 s.rest ≡ drop (i + 1) text
   after_first s same = let one : i + 1 - i ≡ 1 = omega arith in rw one at (stands text i (i + 1) s same (omega arith))
 
-  one_more : (x : Immediate) (e : ℕ) → immediates_of o ≡ x ∷ [] → GivesAt (immediate features (kind_of x)) text (i + 1) x e → GivesAt (operator features) text i (coded_of o) e
+  one_more : (x : Immediate) (e : ℕ) → immediates_of o ≡ x ∷ [] → GivesAt (immediate settings (kind_of x)) text (i + 1) x e → GivesAt (operator settings) text i (coded_of o) e
   one_more x e just g = record {
     forward = omega (arith, g.forward);
     inside = g.inside;
@@ -110,7 +112,7 @@ module _ (features : ℕ) (text : List ℕ) (i code n : ℕ) (begins : Begins te
         carries s (behind (e - i) s) same (rw (just, read) refl);
   }
 
-  two_more : (x y : Immediate) (m e : ℕ) → immediates_of o ≡ x ∷ y ∷ [] → GivesAt (immediate features (kind_of x)) text (i + 1) x m → GivesAt (immediate features (kind_of y)) text m y e → GivesAt (operator features) text i (coded_of o) e
+  two_more : (x y : Immediate) (m e : ℕ) → immediates_of o ≡ x ∷ y ∷ [] → GivesAt (immediate settings (kind_of x)) text (i + 1) x m → GivesAt (immediate settings (kind_of y)) text m y e → GivesAt (operator settings) text i (coded_of o) e
   two_more x y m e both g h = record {
     forward = omega (arith, g.forward, h.forward);
     inside = h.inside;
@@ -124,15 +126,34 @@ module _ (features : ℕ) (text : List ℕ) (i code n : ℕ) (begins : Begins te
         carries s (behind (e - i) s) same (rw (both, read, read_more) refl);
   }
 
+-- ---- the same within any limits
+
+module _ (features : ℕ) (text : List ℕ) (i code n : ℕ) (begins : Begins text i code) (is : code ≡ n) (o : Op) (opcode_is : opcode_of o ≡ plain n) (no_prefix : is_prefix n ≡ false) where
   module _ (Told : Op → Type 0) (told : Told o) (canonical : IsTrue (is_canonical o)) where
     pub told_alone : immediates_of o ≡ [] → IsTold features text i (i + 1) Told
-    told_alone nothing = record { op = o; canonical = canonical; reads = none nothing; told = told }
+    told_alone nothing = record {
+      op = o;
+      canonical = canonical;
+      reads = λ limits. none (within features limits) text i code n begins is o opcode_is no_prefix nothing;
+      told = told;
+    }
 
-    pub told_with : (x : Immediate) (e : ℕ) → immediates_of o ≡ x ∷ [] → GivesAt (immediate features (kind_of x)) text (i + 1) x e → IsTold features text i e Told
-    told_with x e just g = record { op = o; canonical = canonical; reads = one_more x e just g; told = told }
+    pub told_with : (x : Immediate) (e : ℕ) → immediates_of o ≡ x ∷ [] → ((limits : Limits) → GivesAt (immediate (within features limits) (kind_of x)) text (i + 1) x e) → IsTold features text i e Told
+    told_with x e just g = record {
+      op = o;
+      canonical = canonical;
+      reads = λ limits. one_more (within features limits) text i code n begins is o opcode_is no_prefix x e just (g limits);
+      told = told;
+    }
 
-    pub told_with_two : (x y : Immediate) (m e : ℕ) → immediates_of o ≡ x ∷ y ∷ [] → GivesAt (immediate features (kind_of x)) text (i + 1) x m → GivesAt (immediate features (kind_of y)) text m y e → IsTold features text i e Told
-    told_with_two x y m e both g h = record { op = o; canonical = canonical; reads = two_more x y m e both g h; told = told }
+    pub told_with_two : (x y : Immediate) (m e : ℕ) → immediates_of o ≡ x ∷ y ∷ [] → ((limits : Limits) → GivesAt (immediate (within features limits) (kind_of x)) text (i + 1) x m)
+        → ((limits : Limits) → GivesAt (immediate (within features limits) (kind_of y)) text m y e) → IsTold features text i e Told
+    told_with_two x y m e both g h = record {
+      op = o;
+      canonical = canonical;
+      reads = λ limits. two_more (within features limits) text i code n begins is o opcode_is no_prefix x y m e both (g limits) (h limits);
+      told = told;
+    }
 
 -- ---- what a code tells
 

@@ -1,16 +1,23 @@
 -- Operators that were read at an offset in a slice and told to a visitor.
 use Rattle.std.specs.Prelude.{◌≡◌, ℕ, ◌<◌, List, length, get_or, IsTrue}
+use Rattle.wasm_types.specs.limits.declared.Limits.{Limits}
+use Rattle.wasm_types.specs.limits.Settings.{Settings}
 use Rattle.wasm_types_numbers.specs.Numbers.{GivesAt}
 use Rattle.wasm_operators_operator.specs.Op.{Op}
 use Rattle.wasm_operators_operator.specs.Immediates.{is_canonical}
 use Rattle.wasm_operators_decode_encoding.specs.Coded.{operator}
 use Rattle.wasm_operators_decode_encoding.specs.Operators.{coded_of}
 
--- Wherever in an input these bytes stand, those from one offset to the other are read as an operator, of which this holds.
+-- these features, within any limits
+abbrev pub within : ℕ → Limits → Settings
+within features limits = record { features = features; limits = limits }
+
+-- Wherever in an input these bytes stand, and whatever the limits, those from one offset to the other are read as an operator,
+-- of which this holds.
 pub record IsTold (features : ℕ) (text : List ℕ) (at_offset end_offset : ℕ) (Told : Op → Type 0) : Type 0 where
   pub op : Op
   pub canonical : IsTrue (is_canonical op)
-  pub reads : GivesAt (operator features) text at_offset (coded_of op) end_offset
+  pub reads : (limits : Limits) → GivesAt (operator (within features limits)) text at_offset (coded_of op) end_offset
   pub told : Told op
 
 -- this byte stands at this offset
