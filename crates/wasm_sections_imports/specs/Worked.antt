@@ -3,6 +3,7 @@
 use Rattle.std.proofs.Common.{◌≡◌, ℕ, List, [], ◌∷◌, refl, true, false, Some, None}
 use Rattle.std.specs.Str.{is_utf8}
 use Rattle.wasm_types.specs.decoding.declared.Refusal.TheVariants.{Other}
+use Rattle.wasm_types.specs.limits.Limits.{default_limits}
 use Rattle.wasm_types.specs.limits.Settings.{no_features}
 use Rattle.wasm_types.specs.decoding.Decoder.{Done, Short, Fault}
 use Rattle.wasm_types.specs.decoding.Leb.{unsigned}
@@ -80,7 +81,7 @@ pub record ImportRows : Type 0 where
   pub another_kind : is_utf8 (0x61 ∷ []) ≡ true → import no_features (start_of (0x01 ∷ 0x61 ∷ 0x01 ∷ 0x61 ∷ 0x7f ∷ [])) ≡ Fault Other 4
 
 pub import_rows : ImportRows
-unfolding import type_ref external_kind unsigned counted_within text_of
+unfolding default_limits import type_ref external_kind unsigned counted_within text_of
 import_rows = record { function = λ e f. rw (e, f) refl; malformed_module = λ e. rw e refl; malformed_name = λ e f. rw (e, f) refl; module_too_long = refl; longest_module = refl; no_type = λ e. rw (e, e) refl; another_kind = λ e. rw (e, e) refl }
 
 pub record ExportRows : Type 0 where
@@ -91,5 +92,5 @@ pub record ExportRows : Type 0 where
   pub no_index : is_utf8 (0x61 ∷ []) ≡ true → export no_features (start_of (0x01 ∷ 0x61 ∷ 0x02 ∷ [])) ≡ Short 3 1
 
 pub export_rows : ExportRows
-unfolding export external_kind unsigned counted_within text_of
+unfolding default_limits export external_kind unsigned counted_within text_of
 export_rows = record { memory = λ e. rw e refl; malformed = λ e. rw e refl; too_long = refl; another_kind = λ e. rw e refl; no_index = λ e. rw e refl }

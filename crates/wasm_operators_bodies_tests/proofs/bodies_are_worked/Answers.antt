@@ -1,6 +1,7 @@
 -- These rows compute.
 use Rattle.std.proofs.Common.{refl}
 use Rattle.wasm_types.specs.decoding.Leb.{unsigned}
+use Rattle.wasm_types.specs.limits.Limits.{default_limits}
 use Rattle.wasm_types.specs.reader.Parts.{counted_part}
 use Rattle.wasm_types.specs.values.Decode.{reference_after}
 use Rattle.wasm_types.specs.values.DecodeValues.{value_type, value_type_after}
@@ -9,7 +10,7 @@ use Rattle.wasm_operators_bodies.specs.Bodies.{body_bytes}
 use Rattle.wasm_operators_bodies_tests.proofs.bodies_are_worked.Goals as goal
 
 pub returns-clause-locals : goal.returns-clause-locals
-unfolding unsigned reference_after value_type value_type_after group group_within groups_within locals
+unfolding default_limits unsigned reference_after value_type value_type_after group group_within groups_within locals
 returns-clause-locals c = record { none = refl; most = refl; one_too_many = refl; two = refl; too_many_in_two = refl; no_type = refl; count_alone = refl }
 
 pub returns-clause-bodies : goal.returns-clause-bodies
