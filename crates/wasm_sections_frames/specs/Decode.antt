@@ -1,10 +1,11 @@
 -- How headers and sections are read.
 use Rattle.std.specs.Prelude.{ℕ, ◌+◌, ◌==◌, List, [], ◌∷◌, length, take, drop, Bool, false, nat_lt, if◌then◌else◌}
+use Rattle.wasm_types.specs.limits.Settings.{Settings}
 use Rattle.wasm_types.specs.decoding.declared.Refusal.TheVariants.{Other}
 use Rattle.wasm_types.specs.decoding.Decoder.{Decoder, Done, ◌>>=◌, pure, refuse, byte, bytes}
 use Rattle.wasm_types.specs.decoding.Leb.{u32, listed}
 use Rattle.wasm_types.specs.decoding.Text.{little_endian, name, sized}
-use Rattle.wasm_sections_frames.specs.Outer.{Header, Part, custom, code, section, most_bytes}
+use Rattle.wasm_sections_frames.specs.Outer.{Header, Part, custom, code, section}
 
 -- ---- headers
 
@@ -40,13 +41,13 @@ abbrev pub rest_after : List ℕ → Decoder (List ℕ × List ℕ)
 rest_after n s = Done (n, s.rest) (record { rest = []; place = s.place + length s.rest; settings = s.settings; start = s.start })
 
 -- the contents of a custom section
-unfoldable pub named_rest : Decoder (List ℕ × List ℕ)
-named_rest = name most_bytes >>= rest_after
+unfoldable pub named_rest : Settings → Decoder (List ℕ × List ℕ)
+named_rest z = name z.limits.string_bytes >>= rest_after
 
 -- what follows an id
-abbrev pub part_after : ℕ → Decoder Part
-part_after id = if id == 0 then (sized Other Other named_rest >>= λ c. pure (custom c.0 c.1)) else (if id == 10 then (sized Other Other (listed counted_bytes) >>= λ es. pure (code es)) else (counted_bytes >>= λ c. pure (section id c)))
+abbrev pub part_after : Settings → ℕ → Decoder Part
+part_after z id = if id == 0 then (sized Other Other (named_rest z) >>= λ c. pure (custom c.0 c.1)) else (if id == 10 then (sized Other Other (listed counted_bytes) >>= λ es. pure (code es)) else (counted_bytes >>= λ c. pure (section id c)))
 
 -- a section
-unfoldable pub part : Decoder Part
-part = byte >>= part_after
+unfoldable pub part : Settings → Decoder Part
+part z = byte >>= part_after z

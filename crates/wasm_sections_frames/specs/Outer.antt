@@ -1,6 +1,7 @@
 -- The outer spelling of a module (WebAssembly 3.0, binary format, modules): a header and sections. The contents of a section are
 -- bytes here, but for the name of a custom section and the entries of the code section, each a string of bytes.
 use Rattle.std.specs.Prelude.{◌≡◌, ◌⊎◌, ℕ, ◌<◌, ◌≤◌, List, [], ◌∷◌, ◌++◌, length, Option, Some, None}
+use Rattle.wasm_types.specs.limits.Settings.{Settings}
 use Rattle.wasm_types.specs.decoding.Decoder.{Grammar, Many}
 use Rattle.wasm_types.specs.decoding.Leb.{IsUnsigned, IsListed}
 use Rattle.wasm_types.specs.decoding.Text.{little_endian, IsSized, IsName}
@@ -46,33 +47,29 @@ custom_id = 0
 abbrev pub code_id : ℕ
 code_id = 10
 
--- the most bytes of a name (appendix, implementation limitations)
-abbrev pub most_bytes : ℕ
-most_bytes = 100000
-
 -- bytes as they stand
 abbrev pub IsBytes : Grammar (List ℕ)
 IsBytes xs text = xs ≡ text
 
 -- custom ::= name byte*
-pub record SpelledCustom (name content text : List ℕ) : Type 0 where
+pub record SpelledCustom (z : Settings) (name content text : List ℕ) : Type 0 where
   pub name_text : List ℕ
-  pub named : IsName most_bytes name name_text
+  pub named : IsName z.limits.string_bytes name name_text
   pub whole : text ≡ name_text ++ content
 
 -- the same of a name and what follows it as a pair
-abbrev pub SpelledNamed : Grammar (List ℕ × List ℕ)
-SpelledNamed c = SpelledCustom c.0 c.1
+abbrev pub SpelledNamed : Settings → Grammar (List ℕ × List ℕ)
+SpelledNamed z c = SpelledCustom z c.0 c.1
 
 -- code ::= size:u32 code:func, as the bytes of the function
 abbrev pub SpelledEntry : Grammar (List ℕ)
 SpelledEntry = IsSized IsBytes
 
 -- section_N(B) ::= N:byte size:u32 en*:B, where the size is that of the contents
-abbrev pub SpelledPart : Grammar Part
-SpelledPart (custom name content) text = (sized : List ℕ) × (text ≡ custom_id ∷ sized) × IsSized SpelledNamed (name, content) sized
-SpelledPart (code entries) text = (sized : List ℕ) × (text ≡ code_id ∷ sized) × IsSized (IsListed SpelledEntry) entries sized
-SpelledPart (section id contents) text = (id ≡ custom_id → ⊥) × (id ≡ code_id → ⊥) × ((sized : List ℕ) × (text ≡ id ∷ sized) × IsSized IsBytes contents sized)
+abbrev pub SpelledPart : Settings → Grammar Part
+SpelledPart z (custom name content) text = (sized : List ℕ) × (text ≡ custom_id ∷ sized) × IsSized (SpelledNamed z) (name, content) sized
+SpelledPart z (code entries) text = (sized : List ℕ) × (text ≡ code_id ∷ sized) × IsSized (IsListed SpelledEntry) entries sized
+SpelledPart z (section id contents) text = (id ≡ custom_id → ⊥) × (id ≡ code_id → ⊥) × ((sized : List ℕ) × (text ≡ id ∷ sized) × IsSized IsBytes contents sized)
 
 -- ---- modules
 
@@ -82,11 +79,11 @@ pub record Outer : Type 0 where
   pub parts : List Part
 
 -- the frames of a module, of any version and of ids in any order
-pub record SpelledOuter (m : Outer) (text : List ℕ) : Type 0 where
+pub record SpelledOuter (z : Settings) (m : Outer) (text : List ℕ) : Type 0 where
   pub header_text : List ℕ
   pub parts_text : List ℕ
   pub headed : SpelledHeader m.header header_text
-  pub each : Many SpelledPart (length m.parts) m.parts parts_text
+  pub each : Many (SpelledPart z) (length m.parts) m.parts parts_text
   pub whole : text ≡ header_text ++ parts_text
 
 -- The ids in the order of their sections: type, import, function, table, memory, tag, global, export, start, element, data count,

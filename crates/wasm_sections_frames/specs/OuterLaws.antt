@@ -2,7 +2,7 @@
 use Rattle.std.proofs.Common.{◌≡◌, ℕ, zero, suc, List, [], ◌∷◌, ◌++◌, length, refl, sym, ap, ◌∙◌, subst, arith}
 use Rattle.wasm_types.specs.decoding.Decoder.{State, Outcome, Done, Decoder, Grammar, Decides, Many}
 use Rattle.wasm_types.specs.decoding.Exact.{value_is, state_is}
-use Rattle.wasm_types.specs.limits.Settings.{no_features}
+use Rattle.wasm_types.specs.limits.Settings.{Settings, no_features}
 use Rattle.wasm_sections_frames.specs.Outer.{SpelledHeader, SpelledPart, Outer, SpelledOuter}
 use Rattle.wasm_sections_frames.specs.Decode.{header, part}
 use Rattle.wasm_sections_frames.specs.PartLaws.{decides-header, decides-part, part_some}
@@ -48,8 +48,8 @@ module _ {A : Type 0} (d : Decoder A) (g : Grammar A) (dg : Decides d g) where
       let others = many_one some n m xs ys k.1 (subst (Many g n xs) first.1 h.3) k.3 in
       λ i. first.0 i ∷ others i
 
-pub one_outer : (m n : Outer) (text : List ℕ) → SpelledOuter m text → SpelledOuter n text → m ≡ n
-one_outer m n text h k =
+pub one_outer : (z : Settings) (m n : Outer) (text : List ℕ) → SpelledOuter z m text → SpelledOuter z n text → m ≡ n
+one_outer z m n text h k =
     let heads = one header SpelledHeader decides-header m.header n.header text h.header_text h.parts_text k.header_text k.parts_text h.whole h.headed k.whole k.headed in
-    let parts = many_one part SpelledPart decides-part part_some (length m.parts) (length n.parts) m.parts n.parts k.parts_text (subst (Many SpelledPart (length m.parts) m.parts) heads.1 h.each) k.each in
+    let parts = many_one (part z) (SpelledPart z) (decides-part z) (part_some z) (length m.parts) (length n.parts) m.parts n.parts k.parts_text (subst (Many (SpelledPart z) (length m.parts) m.parts) heads.1 h.each) k.each in
     λ i. record { header = heads.0 i; parts = parts i }

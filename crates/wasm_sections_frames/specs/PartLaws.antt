@@ -3,6 +3,7 @@ use Rattle.std.proofs.Common.{◌≡◌, ℕ, ◌+◌, ◌-◌, ◌<◌, ◌≤�
 use Rattle.std.specs.Prelude.{nat_lt, ◌==◌}
 use Rattle.std.proofs.lemmas.Bool.{eqb-true, eqb-false, ltb-true, ltb-false}
 use Rattle.std.proofs.lemmas.List.{append-nil, length-append, take-append-drop, length-take, length-drop, take_at, drop_at}
+use Rattle.wasm_types.specs.limits.Settings.{Settings}
 use Rattle.wasm_types.specs.decoding.declared.Refusal.{Refusal}
 use Rattle.wasm_types.specs.decoding.declared.Refusal.TheVariants.{Other}
 use Rattle.wasm_types.specs.decoding.Decoder.{State, Outcome, Done, Short, Fault, Decoder, Grammar, byte, bytes, ended, inside, within, Takes, IsLawful, Decides, Then}
@@ -13,7 +14,7 @@ use Rattle.wasm_types.specs.decoding.LebLaws.{lawful-unsigned, decides-u32, deci
 use Rattle.wasm_types.specs.decoding.Text.{little_endian, name, sized, Within, IsSized}
 use Rattle.wasm_types.specs.decoding.TextLaws.{decides-name, lawful-sized, decides-sized}
 use Rattle.wasm_types.specs.values.HeapExact.{heads, tails}
-use Rattle.wasm_sections_frames.specs.Outer.{Header, SpelledHeader, magic, Part, custom, code, section, most_bytes, IsBytes, SpelledNamed, SpelledEntry, SpelledPart}
+use Rattle.wasm_sections_frames.specs.Outer.{Header, SpelledHeader, magic, Part, custom, code, section, IsBytes, SpelledNamed, SpelledEntry, SpelledPart}
 use Rattle.wasm_sections_frames.specs.Decode.{is_magic, header_of, header_after, magic_after, header, counted_bytes, rest_after, named_rest, part_after, part}
 
 -- ---- headers
@@ -203,83 +204,84 @@ pair n c = (n, c)
 at_end : State → State
 at_end s = record { rest = []; place = s.place + length s.rest; settings = s.settings; start = s.start }
 
-named_sound : (s t : State) (c : List ℕ × List ℕ) → named_rest s ≡ Done c t → t.rest ≡ [] → SpelledNamed c s.rest
-unfolding named_rest
-named_sound s t c e end =
-    let m = done_then (name most_bytes s) rest_after c t e in
-    let front = (decides-name most_bytes).sound s m.1 m.0 m.2 in
-    let same : pair m.0 m.1.rest ≡ c = value_is _ _ _ _ m.3 in
-    subst (λ (k : List ℕ × List ℕ). SpelledNamed k s.rest) same (record { name_text = front.0; named = front.2; whole = front.1.parts })
+module _ (z : Settings) where
+  named_sound : (s t : State) (c : List ℕ × List ℕ) → (named_rest z) s ≡ Done c t → t.rest ≡ [] → (SpelledNamed z) c s.rest
+  unfolding named_rest
+  named_sound s t c e end =
+      let m = done_then (name z.limits.string_bytes s) rest_after c t e in
+      let front = (decides-name z.limits.string_bytes).sound s m.1 m.0 m.2 in
+      let same : pair m.0 m.1.rest ≡ c = value_is _ _ _ _ m.3 in
+      subst (λ (k : List ℕ × List ℕ). (SpelledNamed z) k s.rest) same (record { name_text = front.0; named = front.2; whole = front.1.parts })
 
-named_complete : (s : State) (c : List ℕ × List ℕ) → SpelledNamed c s.rest → (t : State) × (named_rest s ≡ Done c t) × (t.rest ≡ [])
-unfolding named_rest
-named_complete s c h =
-    let m : State = record { rest = c.1; place = s.place + length h.name_text; settings = s.settings; start = s.start } in
-    let read = (decides-name most_bytes).complete s m c.0 h.name_text (record { parts = h.whole; place = refl; settings = refl; start = refl }) h.named in
-    (record { rest = []; place = m.place + length c.1; settings = s.settings; start = s.start }, rw read refl, refl)
+  named_complete : (s : State) (c : List ℕ × List ℕ) → (SpelledNamed z) c s.rest → (t : State) × ((named_rest z) s ≡ Done c t) × (t.rest ≡ [])
+  unfolding named_rest
+  named_complete s c h =
+      let m : State = record { rest = c.1; place = s.place + length h.name_text; settings = s.settings; start = s.start } in
+      let read = (decides-name z.limits.string_bytes).complete s m c.0 h.name_text (record { parts = h.whole; place = refl; settings = refl; start = refl }) h.named in
+      (record { rest = []; place = m.place + length c.1; settings = s.settings; start = s.start }, rw read refl, refl)
 
-decides-custom : Decides (sized Other Other named_rest) (IsSized SpelledNamed)
-decides-custom = decides-sized_whole Other Other named_rest SpelledNamed named_sound named_complete
+  decides-custom : Decides (sized Other Other (named_rest z)) (IsSized (SpelledNamed z))
+  decides-custom = decides-sized_whole Other Other (named_rest z) (SpelledNamed z) named_sound named_complete
 
--- ---- sections
+  -- ---- sections
 
-decides-entries : Decides (sized Other Other (listed counted_bytes)) (IsSized (IsListed SpelledEntry))
-decides-entries = decides-sized Other Other (listed counted_bytes) (IsListed SpelledEntry) (decides-listed SpelledEntry counted_bytes decides-counted_bytes)
+  decides-entries : Decides (sized Other Other (listed counted_bytes)) (IsSized (IsListed SpelledEntry))
+  decides-entries = decides-sized Other Other (listed counted_bytes) (IsListed SpelledEntry) (decides-listed SpelledEntry counted_bytes decides-counted_bytes)
 
-abbrev custom_of : List ℕ × List ℕ → Part
-custom_of c = custom c.0 c.1
+  abbrev custom_of : List ℕ × List ℕ → Part
+  custom_of c = custom c.0 c.1
 
-abbrev code_of : List (List ℕ) → Part
-code_of es = code es
+  abbrev code_of : List (List ℕ) → Part
+  code_of es = code es
 
-abbrev section_of : ℕ → List ℕ → Part
-section_of id c = section id c
+  abbrev section_of : ℕ → List ℕ → Part
+  section_of id c = section id c
 
-pub lawful-part : IsLawful part
-unfolding part
-lawful-part = lawful->>= byte part_after lawful-byte (λ id. lawful-if (id == 0) _ _
-    (lawful->>= (sized Other Other named_rest) _ (lawful-sized Other Other named_rest) (λ c. lawful-pure (custom_of c)))
-    (lawful-if (id == 10) _ _
-    (lawful->>= (sized Other Other (listed counted_bytes)) _ (lawful-sized Other Other (listed counted_bytes)) (λ es. lawful-pure (code_of es)))
-    (lawful->>= counted_bytes _ lawful-counted_bytes (λ c. lawful-pure (section_of id c)))))
+  pub lawful-part : IsLawful (part z)
+  unfolding part
+  lawful-part = lawful->>= byte (part_after z) lawful-byte (λ id. lawful-if (id == 0) _ _
+      (lawful->>= (sized Other Other (named_rest z)) _ (lawful-sized Other Other (named_rest z)) (λ c. lawful-pure (custom_of c)))
+      (lawful-if (id == 10) _ _
+      (lawful->>= (sized Other Other (listed counted_bytes)) _ (lawful-sized Other Other (listed counted_bytes)) (λ es. lawful-pure (code_of es)))
+      (lawful->>= counted_bytes _ lawful-counted_bytes (λ c. lawful-pure (section_of id c)))))
 
-pub part_some : (p : Part) → SpelledPart p [] → ⊥
-part_some (custom n c) h = let no : [] ≡ 0 ∷ h.0 = h.1 in cc
-part_some (code es) h = let no : [] ≡ 10 ∷ h.0 = h.1 in cc
-part_some (section id c) h = let no : [] ≡ id ∷ h.2.0 = h.2.1 in cc
+  pub part_some : (p : Part) → (SpelledPart z) p [] → ⊥
+  part_some (custom n c) h = let no : [] ≡ 0 ∷ h.0 = h.1 in cc
+  part_some (code es) h = let no : [] ≡ 10 ∷ h.0 = h.1 in cc
+  part_some (section id c) h = let no : [] ≡ id ∷ h.2.0 = h.2.1 in cc
 
-custom_to : (b : ℕ) → b ≡ 0 → (p : Part) (text : List ℕ) → Mapped custom_of (IsSized SpelledNamed) p text → SpelledPart p (b ∷ text)
-custom_to b e p text h = subst (λ (k : Part). SpelledPart k (b ∷ text)) (sym h.2) (text, ap (λ (n : ℕ). n ∷ text) e, h.1)
+  custom_to : (b : ℕ) → b ≡ 0 → (p : Part) (text : List ℕ) → Mapped custom_of (IsSized (SpelledNamed z)) p text → (SpelledPart z) p (b ∷ text)
+  custom_to b e p text h = subst (λ (k : Part). (SpelledPart z) k (b ∷ text)) (sym h.2) (text, ap (λ (n : ℕ). n ∷ text) e, h.1)
 
-custom_from : (b : ℕ) → b ≡ 0 → (p : Part) (text : List ℕ) → SpelledPart p (b ∷ text) → Mapped custom_of (IsSized SpelledNamed) p text
-custom_from b e (custom n c) text h = (pair n c, subst (IsSized SpelledNamed (pair n c)) (sym (tails b 0 text h.0 h.1)) h.2, refl)
-custom_from b e (code es) text h = absurd (omega (arith, e, heads b 10 text h.0 h.1))
-custom_from b e (section id c) text h = absurd (h.0 (sym (heads b id text h.2.0 h.2.1) ∙ e))
+  custom_from : (b : ℕ) → b ≡ 0 → (p : Part) (text : List ℕ) → (SpelledPart z) p (b ∷ text) → Mapped custom_of (IsSized (SpelledNamed z)) p text
+  custom_from b e (custom n c) text h = (pair n c, subst (IsSized (SpelledNamed z) (pair n c)) (sym (tails b 0 text h.0 h.1)) h.2, refl)
+  custom_from b e (code es) text h = absurd (omega (arith, e, heads b 10 text h.0 h.1))
+  custom_from b e (section id c) text h = absurd (h.0 (sym (heads b id text h.2.0 h.2.1) ∙ e))
 
-code_to : (b : ℕ) → b ≡ 10 → (p : Part) (text : List ℕ) → Mapped code_of (IsSized (IsListed SpelledEntry)) p text → SpelledPart p (b ∷ text)
-code_to b e p text h = subst (λ (k : Part). SpelledPart k (b ∷ text)) (sym h.2) (text, ap (λ (n : ℕ). n ∷ text) e, h.1)
+  code_to : (b : ℕ) → b ≡ 10 → (p : Part) (text : List ℕ) → Mapped code_of (IsSized (IsListed SpelledEntry)) p text → (SpelledPart z) p (b ∷ text)
+  code_to b e p text h = subst (λ (k : Part). (SpelledPart z) k (b ∷ text)) (sym h.2) (text, ap (λ (n : ℕ). n ∷ text) e, h.1)
 
-code_from : (b : ℕ) → b ≡ 10 → (p : Part) (text : List ℕ) → SpelledPart p (b ∷ text) → Mapped code_of (IsSized (IsListed SpelledEntry)) p text
-code_from b e (custom n c) text h = absurd (omega (arith, e, heads b 0 text h.0 h.1))
-code_from b e (code es) text h = (es, subst (IsSized (IsListed SpelledEntry) es) (sym (tails b 10 text h.0 h.1)) h.2, refl)
-code_from b e (section id c) text h = absurd (h.1 (sym (heads b id text h.2.0 h.2.1) ∙ e))
+  code_from : (b : ℕ) → b ≡ 10 → (p : Part) (text : List ℕ) → (SpelledPart z) p (b ∷ text) → Mapped code_of (IsSized (IsListed SpelledEntry)) p text
+  code_from b e (custom n c) text h = absurd (omega (arith, e, heads b 0 text h.0 h.1))
+  code_from b e (code es) text h = (es, subst (IsSized (IsListed SpelledEntry) es) (sym (tails b 10 text h.0 h.1)) h.2, refl)
+  code_from b e (section id c) text h = absurd (h.1 (sym (heads b id text h.2.0 h.2.1) ∙ e))
 
-section_to : (b : ℕ) → (b ≡ 0 → ⊥) → (b ≡ 10 → ⊥) → (p : Part) (text : List ℕ) → Mapped (section_of b) (IsSized IsBytes) p text → SpelledPart p (b ∷ text)
-section_to b e f p text h = subst (λ (k : Part). SpelledPart k (b ∷ text)) (sym h.2) (e, f, (text, refl, h.1))
+  section_to : (b : ℕ) → (b ≡ 0 → ⊥) → (b ≡ 10 → ⊥) → (p : Part) (text : List ℕ) → Mapped (section_of b) (IsSized IsBytes) p text → (SpelledPart z) p (b ∷ text)
+  section_to b e f p text h = subst (λ (k : Part). (SpelledPart z) k (b ∷ text)) (sym h.2) (e, f, (text, refl, h.1))
 
-section_from : (b : ℕ) → (b ≡ 0 → ⊥) → (b ≡ 10 → ⊥) → (p : Part) (text : List ℕ) → SpelledPart p (b ∷ text) → Mapped (section_of b) (IsSized IsBytes) p text
-section_from b e f (custom n c) text h = absurd (e (heads b 0 text h.0 h.1))
-section_from b e f (code es) text h = absurd (f (heads b 10 text h.0 h.1))
-section_from b e f (section id c) text h = (c, subst (IsSized IsBytes c) (sym (tails b id text h.2.0 h.2.1)) h.2.2, ap (λ (n : ℕ). section_of n c) (sym (heads b id text h.2.0 h.2.1)))
+  section_from : (b : ℕ) → (b ≡ 0 → ⊥) → (b ≡ 10 → ⊥) → (p : Part) (text : List ℕ) → (SpelledPart z) p (b ∷ text) → Mapped (section_of b) (IsSized IsBytes) p text
+  section_from b e f (custom n c) text h = absurd (e (heads b 0 text h.0 h.1))
+  section_from b e f (code es) text h = absurd (f (heads b 10 text h.0 h.1))
+  section_from b e f (section id c) text h = (c, subst (IsSized IsBytes c) (sym (tails b id text h.2.0 h.2.1)) h.2.2, ap (λ (n : ℕ). section_of n c) (sym (heads b id text h.2.0 h.2.1)))
 
-decides-part_after : (b : ℕ) → Decides (part_after b) (λ p text. SpelledPart p (b ∷ text))
-decides-part_after b =
-    decides-if (eqb b 0) _ _ _ (λ t. let e : b ≡ 0 = eqb-true _ _ t in
-    decides-same _ (Mapped custom_of (IsSized SpelledNamed)) (λ p text. SpelledPart p (b ∷ text)) (decides-map (sized Other Other named_rest) custom_of (IsSized SpelledNamed) decides-custom) (custom_to b e) (custom_from b e))
-    (λ i. decides-if (eqb b 10) _ _ _ (λ t. let e : b ≡ 10 = eqb-true _ _ t in
-    decides-same _ (Mapped code_of (IsSized (IsListed SpelledEntry))) (λ p text. SpelledPart p (b ∷ text)) (decides-map (sized Other Other (listed counted_bytes)) code_of (IsSized (IsListed SpelledEntry)) decides-entries) (code_to b e) (code_from b e))
-    (λ j. decides-same _ (Mapped (section_of b) (IsSized IsBytes)) (λ p text. SpelledPart p (b ∷ text)) (decides-map counted_bytes (section_of b) (IsSized IsBytes) decides-counted_bytes) (section_to b (eqb-false _ _ i) (eqb-false _ _ j)) (section_from b (eqb-false _ _ i) (eqb-false _ _ j))))
+  decides-part_after : (b : ℕ) → Decides ((part_after z) b) (λ p text. (SpelledPart z) p (b ∷ text))
+  decides-part_after b =
+      decides-if (eqb b 0) _ _ _ (λ t. let e : b ≡ 0 = eqb-true _ _ t in
+      decides-same _ (Mapped custom_of (IsSized (SpelledNamed z))) (λ p text. (SpelledPart z) p (b ∷ text)) (decides-map (sized Other Other (named_rest z)) custom_of (IsSized (SpelledNamed z)) decides-custom) (custom_to b e) (custom_from b e))
+      (λ i. decides-if (eqb b 10) _ _ _ (λ t. let e : b ≡ 10 = eqb-true _ _ t in
+      decides-same _ (Mapped code_of (IsSized (IsListed SpelledEntry))) (λ p text. (SpelledPart z) p (b ∷ text)) (decides-map (sized Other Other (listed counted_bytes)) code_of (IsSized (IsListed SpelledEntry)) decides-entries) (code_to b e) (code_from b e))
+      (λ j. decides-same _ (Mapped (section_of b) (IsSized IsBytes)) (λ p text. (SpelledPart z) p (b ∷ text)) (decides-map counted_bytes (section_of b) (IsSized IsBytes) decides-counted_bytes) (section_to b (eqb-false _ _ i) (eqb-false _ _ j)) (section_from b (eqb-false _ _ i) (eqb-false _ _ j))))
 
-pub decides-part : Decides part SpelledPart
-unfolding part
-decides-part = decides-byte part_after SpelledPart part_some decides-part_after
+  pub decides-part : Decides (part z) (SpelledPart z)
+  unfolding part
+  decides-part = decides-byte (part_after z) (SpelledPart z) part_some decides-part_after

@@ -1,6 +1,8 @@
 -- Worked headers, sections and modules: what is read, and what a rule allows and forbids.
 use Rattle.std.proofs.Common.{◌≡◌, ◌⊎◌, ℕ, List, [], ◌∷◌, ◌++◌, length, refl, sym, ap, subst, true, false, Some, inl, inr, arith, lit<}
 use Rattle.std.specs.Str.{is_utf8}
+use Rattle.wasm_types.specs.limits.Limits.{default_limits}
+use Rattle.wasm_types.specs.limits.Settings.{no_features}
 use Rattle.wasm_types.specs.decoding.declared.Refusal.TheVariants.{Other}
 use Rattle.wasm_types.specs.decoding.Decoder.{Done, Short, Fault, repeated, within}
 use Rattle.wasm_types.specs.decoding.Leb.{u32, unsigned, listed, IsUnsigned, last}
@@ -39,22 +41,22 @@ header_rows = record { first_version = refl; second_version = refl; high_byte = 
 -- contents of an id, whatever they are, cut short, of a padded size; custom sections with their names; the code section with its
 -- entries, each within the section, all of them to its end
 pub record PartRows : Type 0 where
-  pub types : part (start_of (0x01 ∷ 0x02 ∷ 0x05 ∷ 0x06 ∷ [])) ≡ Done (section 1 (0x05 ∷ 0x06 ∷ [])) (behind 4)
-  pub padded : part (start_of (0x01 ∷ 0x81 ∷ 0x00 ∷ 0x05 ∷ [])) ≡ Done (section 1 (0x05 ∷ [])) (behind 4)
-  pub unknown : part (start_of (0x63 ∷ 0x01 ∷ 0x05 ∷ [])) ≡ Done (section 99 (0x05 ∷ [])) (behind 3)
-  pub empty : part (start_of (0x01 ∷ 0x00 ∷ [])) ≡ Done (section 1 []) (behind 2)
-  pub cut_short : part (start_of (0x01 ∷ 0x05 ∷ 0x05 ∷ [])) ≡ Short 2 4
-  pub no_size : part (start_of (0x01 ∷ [])) ≡ Short 1 1
-  pub named : is_utf8 (0x61 ∷ []) ≡ true → part (start_of (0x00 ∷ 0x03 ∷ 0x01 ∷ 0x61 ∷ 0x05 ∷ [])) ≡ Done (custom (0x61 ∷ []) (0x05 ∷ [])) (behind 5)
-  pub name_past_the_end : part (start_of (0x00 ∷ 0x01 ∷ 0x01 ∷ 0x61 ∷ [])) ≡ Fault Other 3
-  pub no_name : part (start_of (0x00 ∷ 0x00 ∷ [])) ≡ Fault Other 2
-  pub malformed_name : is_utf8 (0x80 ∷ []) ≡ false → part (start_of (0x00 ∷ 0x02 ∷ 0x01 ∷ 0x80 ∷ [])) ≡ Fault Other 3
-  pub entries : part (start_of (0x0a ∷ 0x06 ∷ 0x02 ∷ 0x01 ∷ 0x0b ∷ 0x02 ∷ 0x00 ∷ 0x0b ∷ [])) ≡ Done (code ((0x0b ∷ []) ∷ (0x00 ∷ 0x0b ∷ []) ∷ [])) (behind 8)
-  pub entry_past_the_end : part (start_of (0x0a ∷ 0x03 ∷ 0x01 ∷ 0x04 ∷ 0x00 ∷ [])) ≡ Fault Other 4
-  pub byte_too_many : part (start_of (0x0a ∷ 0x02 ∷ 0x00 ∷ 0x05 ∷ [])) ≡ Fault Other 3
+  pub types : part no_features (start_of (0x01 ∷ 0x02 ∷ 0x05 ∷ 0x06 ∷ [])) ≡ Done (section 1 (0x05 ∷ 0x06 ∷ [])) (behind 4)
+  pub padded : part no_features (start_of (0x01 ∷ 0x81 ∷ 0x00 ∷ 0x05 ∷ [])) ≡ Done (section 1 (0x05 ∷ [])) (behind 4)
+  pub unknown : part no_features (start_of (0x63 ∷ 0x01 ∷ 0x05 ∷ [])) ≡ Done (section 99 (0x05 ∷ [])) (behind 3)
+  pub empty : part no_features (start_of (0x01 ∷ 0x00 ∷ [])) ≡ Done (section 1 []) (behind 2)
+  pub cut_short : part no_features (start_of (0x01 ∷ 0x05 ∷ 0x05 ∷ [])) ≡ Short 2 4
+  pub no_size : part no_features (start_of (0x01 ∷ [])) ≡ Short 1 1
+  pub named : is_utf8 (0x61 ∷ []) ≡ true → part no_features (start_of (0x00 ∷ 0x03 ∷ 0x01 ∷ 0x61 ∷ 0x05 ∷ [])) ≡ Done (custom (0x61 ∷ []) (0x05 ∷ [])) (behind 5)
+  pub name_past_the_end : part no_features (start_of (0x00 ∷ 0x01 ∷ 0x01 ∷ 0x61 ∷ [])) ≡ Fault Other 3
+  pub no_name : part no_features (start_of (0x00 ∷ 0x00 ∷ [])) ≡ Fault Other 2
+  pub malformed_name : is_utf8 (0x80 ∷ []) ≡ false → part no_features (start_of (0x00 ∷ 0x02 ∷ 0x01 ∷ 0x80 ∷ [])) ≡ Fault Other 3
+  pub entries : part no_features (start_of (0x0a ∷ 0x06 ∷ 0x02 ∷ 0x01 ∷ 0x0b ∷ 0x02 ∷ 0x00 ∷ 0x0b ∷ [])) ≡ Done (code ((0x0b ∷ []) ∷ (0x00 ∷ 0x0b ∷ []) ∷ [])) (behind 8)
+  pub entry_past_the_end : part no_features (start_of (0x0a ∷ 0x03 ∷ 0x01 ∷ 0x04 ∷ 0x00 ∷ [])) ≡ Fault Other 4
+  pub byte_too_many : part no_features (start_of (0x0a ∷ 0x02 ∷ 0x00 ∷ 0x05 ∷ [])) ≡ Fault Other 3
 
 pub part_rows : PartRows
-unfolding part counted_bytes named_rest sized within unsigned listed repeated counted_within text_of
+unfolding default_limits part counted_bytes named_rest sized within unsigned listed repeated counted_within text_of
 part_rows = record { types = refl; padded = refl; unknown = refl; empty = refl; cut_short = refl; no_size = refl; named = λ e. rw e refl; name_past_the_end = refl; no_name = refl; malformed_name = λ e. rw e refl; entries = refl; entry_past_the_end = refl; byte_too_many = refl }
 
 -- ---- order
@@ -164,20 +166,20 @@ headed = record { version_text = 0x01 ∷ 0x00 ∷ []; layer_text = 0x00 ∷ 0x0
 -- a bare header; a section behind it; not two versions for the same bytes, and no byte behind the last section. Which of them are
 -- modules of this format: another version, a component, an unknown section and a repeated one are none.
 pub record OuterRows : Type 0 where
-  pub bare : SpelledOuter (outer (head 1 0) []) first_eight
-  pub not_another : SpelledOuter (outer (head 2 0) []) first_eight → ⊥
-  pub types : SpelledOuter (outer (head 1 0) (section 1 (0x00 ∷ []) ∷ [])) (first_eight ++ (0x01 ∷ 0x01 ∷ 0x00 ∷ []))
-  pub not_without : SpelledOuter (outer (head 1 0) []) (first_eight ++ (0x01 ∷ 0x01 ∷ 0x00 ∷ [])) → ⊥
+  pub bare : SpelledOuter no_features (outer (head 1 0) []) first_eight
+  pub not_another : SpelledOuter no_features (outer (head 2 0) []) first_eight → ⊥
+  pub types : SpelledOuter no_features (outer (head 1 0) (section 1 (0x00 ∷ []) ∷ [])) (first_eight ++ (0x01 ∷ 0x01 ∷ 0x00 ∷ []))
+  pub not_without : SpelledOuter no_features (outer (head 1 0) []) (first_eight ++ (0x01 ∷ 0x01 ∷ 0x00 ∷ [])) → ⊥
   pub core : IsCoreModule (outer (head 1 0) (section 1 (0x00 ∷ []) ∷ []))
   pub not_version : IsCoreModule (outer (head 2 0) []) → ⊥
   pub not_component : IsCoreModule (outer (head 1 1) []) → ⊥
   pub not_unknown : IsCoreModule (outer (head 1 0) (section 99 [] ∷ [])) → ⊥
   pub not_twice : IsCoreModule (outer (head 1 0) (section 1 (0x00 ∷ []) ∷ section 1 (0x00 ∷ []) ∷ [])) → ⊥
 
-bare_spelled : SpelledOuter (outer (head 1 0) []) first_eight
+bare_spelled : SpelledOuter no_features (outer (head 1 0) []) first_eight
 bare_spelled = record { header_text = first_eight; parts_text = []; headed = headed; each = refl; whole = refl }
 
-types_spelled : SpelledOuter (outer (head 1 0) (section 1 (0x00 ∷ []) ∷ [])) (first_eight ++ (0x01 ∷ 0x01 ∷ 0x00 ∷ []))
+types_spelled : SpelledOuter no_features (outer (head 1 0) (section 1 (0x00 ∷ []) ∷ [])) (first_eight ++ (0x01 ∷ 0x01 ∷ 0x00 ∷ []))
 types_spelled = record {
   header_text = first_eight;
   parts_text = 0x01 ∷ 0x01 ∷ 0x00 ∷ [];
@@ -189,9 +191,9 @@ types_spelled = record {
 pub outer_rows : OuterRows
 outer_rows = record {
   bare = bare_spelled;
-  not_another = λ h. let e = ap (λ (m : Outer). m.header.version) (one_outer _ _ _ h bare_spelled) in omega (arith, e);
+  not_another = λ h. let e = ap (λ (m : Outer). m.header.version) (one_outer no_features _ _ _ h bare_spelled) in omega (arith, e);
   types = types_spelled;
-  not_without = λ h. let e = ap (λ (m : Outer). length m.parts) (one_outer _ _ _ h types_spelled) in omega (arith, e);
+  not_without = λ h. let e = ap (λ (m : Outer). length m.parts) (one_outer no_features _ _ _ h types_spelled) in omega (arith, e);
   core = record {
     version = refl;
     layer = refl;

@@ -1,6 +1,7 @@
 //! Laws of frames, each the contract of a function that does nothing.
 
 ghost use Rattle.std.specs.Prelude.{◌≡◌, ℕ, List};
+ghost use Rattle.wasm_types.specs.limits.Settings.{Settings};
 ghost use Rattle.wasm_types.specs.decoding.Decoder.{IsLawful, Decides};
 ghost use Rattle.wasm_sections_frames.specs.Outer.{Header, Part, Outer, SpelledHeader, SpelledPart, SpelledOuter};
 ghost use Rattle.wasm_sections_frames.specs.Decode.{header, part};
@@ -10,12 +11,12 @@ ghost use Rattle.wasm_sections_frames.specs.Worked.{HeaderRows, PartRows, OrderR
 /// are missing, and a value is read exactly where a front of the bytes spells it.
 pub const fn frames_are_lawful()
     ensures headers { IsLawful header × Decides header SpelledHeader }
-    ensures sections { IsLawful part × Decides part SpelledPart }
+    ensures sections { (z : Settings) → IsLawful (part z) × Decides (part z) (SpelledPart z) }
 {}
 
 /// Bytes are the frames of at most one module.
 pub const fn frames_are_unique()
-    ensures { (m n : Outer) (text : List ℕ) → SpelledOuter m text → SpelledOuter n text → m ≡ n }
+    ensures { (z : Settings) (m n : Outer) (text : List ℕ) → SpelledOuter z m text → SpelledOuter z n text → m ≡ n }
 {}
 
 /// Worked headers, sections and modules, each with a yes or a no.

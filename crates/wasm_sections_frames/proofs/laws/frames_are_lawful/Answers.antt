@@ -6,4 +6,4 @@ pub returns-clause-headers : goal.returns-clause-headers
 returns-clause-headers c = (lawful-header, decides-header)
 
 pub returns-clause-sections : goal.returns-clause-sections
-returns-clause-sections c = (lawful-part, decides-part)
+returns-clause-sections c = λ z. (lawful-part z, decides-part z)
