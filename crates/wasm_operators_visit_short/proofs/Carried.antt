@@ -52,13 +52,13 @@ module _ (settings : Settings) (text : List ℕ) (i e : ℕ) where
   unfolding immediate
   block_of ty g = gives_as block_type text i ty Block e g
 
-  pub access_of : (natural : ℕ) (m : MemArg) → GivesAt (memory_argument settings Plain natural) text i m e → GivesAt (immediate settings (kind.MemoryArgument Plain natural)) text i (MemoryArgument Plain natural m) e
+  pub access_of : (natural : ℕ) (m : MemArg) → GivesAt (memory_argument settings.features Plain natural) text i m e → GivesAt (immediate settings (kind.MemoryArgument Plain natural)) text i (MemoryArgument Plain natural m) e
   unfolding immediate
-  access_of natural m g = gives_as (memory_argument settings Plain natural) text i m (MemoryArgument Plain natural) e g
+  access_of natural m g = gives_as (memory_argument settings.features Plain natural) text i m (MemoryArgument Plain natural) e g
 
-  pub zero_of : (space : IndexSpace) (n : ℕ) → GivesAt (index_or_zero (may_index settings space)) text i n e → GivesAt (immediate settings (kind.IndexOrZero space)) text i (IndexOrZero space n) e
+  pub zero_of : (space : IndexSpace) (n : ℕ) → GivesAt (index_or_zero (may_index settings.features space)) text i n e → GivesAt (immediate settings (kind.IndexOrZero space)) text i (IndexOrZero space n) e
   unfolding immediate
-  zero_of space n g = gives_as (index_or_zero (may_index settings space)) text i n (IndexOrZero space) e g
+  zero_of space n g = gives_as (index_or_zero (may_index settings.features space)) text i n (IndexOrZero space) e g
 
 -- ---- forms of one byte
 
@@ -117,13 +117,13 @@ small_flags order memory place b t lt =
     let h : b / 64 ≡ 0 = omega arith in
     rw (lt-ltb b 128 (omega arith), d, f, h) refl
 
-module _ (settings : Settings) (natural : ℕ) (text : List ℕ) (i b : ℕ) (lt : i < length text) (is : get_or text i 0 ≡ b) (small : b < 16) where
+module _ (features natural : ℕ) (text : List ℕ) (i b : ℕ) (lt : i < length text) (is : get_or text i 0 ≡ b) (small : b < 16) where
   flags_there : (order memory : Bool) → GivesAt (flags order memory) text i (flags_in b) (i + 1)
   unfolding flags
   flags_there order memory = by_one text i b lt is (flags order memory) (flags_in b) (λ s same.
       rw (u32_there text i b lt is (omega arith) s same) (small_flags order memory s.place b (behind 1 s) small))
 
-  after_there : (x e : ℕ) → GivesAt (offset (has Memory64 settings.features)) text (i + 1) x e → GivesAt (after_flags settings Plain natural (flags_in b)) text (i + 1) (argument b natural 0 None x) e
+  after_there : (x e : ℕ) → GivesAt (offset (has Memory64 features)) text (i + 1) x e → GivesAt (after_flags features Plain natural (flags_in b)) text (i + 1) (argument b natural 0 None x) e
   unfolding after_flags named_memory named_ordering
   after_there x e g = record {
     forward = g.forward;
@@ -135,8 +135,8 @@ module _ (settings : Settings) (natural : ℕ) (text : List ℕ) (i b : ℕ) (lt
         rw (q, f, h, g.gives s same) refl;
   }
 
-  pub access_there : (wide : Bool) (x e : ℕ) → GivesAt (offset wide) text (i + 1) x e → wide ≡ has Memory64 settings.features → GivesAt (memory_argument settings Plain natural) text i (argument b natural 0 None x) e
+  pub access_there : (wide : Bool) (x e : ℕ) → GivesAt (offset wide) text (i + 1) x e → wide ≡ has Memory64 features → GivesAt (memory_argument features Plain natural) text i (argument b natural 0 None x) e
   unfolding memory_argument
   access_there wide x e g same =
-      gives_then (flags (may_order settings Plain) (has MultiMemory settings.features)) text i (flags_in b) (after_flags settings Plain natural) (i + 1) (argument b natural 0 None x) e
-      (flags_there (may_order settings Plain) (has MultiMemory settings.features)) (after_there x e (rw same at g))
+      gives_then (flags (may_order features Plain) (has MultiMemory features)) text i (flags_in b) (after_flags features Plain natural) (i + 1) (argument b natural 0 None x) e
+      (flags_there (may_order features Plain) (has MultiMemory features)) (after_there x e (rw same at g))

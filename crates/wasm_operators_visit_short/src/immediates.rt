@@ -2,8 +2,6 @@
 
 ghost use Rattle.std.specs.Prelude.{◌≡◌, Bool, ◌≤◌, length, IfSome};
 ghost use Rattle.wasm_types.specs.features.Features.{has, Memory64};
-ghost use Rattle.wasm_types.specs.limits.declared.Limits.{Limits};
-ghost use Rattle.wasm_operators_visit_short.specs.Short.{within};
 ghost use Rattle.wasm_types_numbers.specs.Numbers.{GivesAt};
 ghost use Rattle.wasm_operators_immediates.specs.Blocks.{block_type};
 ghost use Rattle.wasm_operators_immediates.specs.Kinds.{Plain};
@@ -71,7 +69,7 @@ pub(crate) fn memarg_at(
     max_align: u8,
 ) -> Option<(MemArg, usize)>
     requires { at ≤ length bytes.now }
-    ensures { IfSome result (λ r. (limits : Limits) → GivesAt (memory_argument (within features.0 limits) Plain max_align) bytes.now at r.0 r.1) }
+    ensures { IfSome result (λ r. GivesAt (memory_argument features.0 Plain max_align) bytes.now at r.0 r.1) }
 {
     if at >= bytes.len() || bytes[at] >= 0x10 {
         return None;
