@@ -1,5 +1,6 @@
 -- What is read to the first `end`, where it closes all frames, is a constant expression, and every one is read so.
 use Rattle.std.proofs.Common.{◌≡◌, inl, inr, ℕ, ◌+◌, Bool, true, false, List, [], ◌∷◌, ◌++◌, length, refl, sym, ◌∙◌, ap, subst, append-nil, append_assoc, length-append, is_some, arith}
+use Rattle.wasm_types.specs.limits.Settings.{Settings}
 use Rattle.wasm_types.specs.decoding.Decoder.{State, Takes}
 use Rattle.wasm_types.specs.decoding.Laws.{takes_none, Takes-then}
 use Rattle.wasm_types.specs.decoding.Exact.{same_state}
@@ -27,7 +28,7 @@ run_takes [] s t e = ([], subst (λ (u : Standing). Takes s.bytes [] u.bytes) (s
 run_takes (o ∷ os) s t (m, r, more) =
     let found = read_spelled s.bytes.settings s.bytes m.bytes o r.read r.canonical in
     let rest = run_takes os m t more in
-    (found.0 ++ rest.0, Takes-then s.bytes m.bytes t.bytes found.0 rest.0 found.1 rest.1, (found.0, rest.0, found.2, subst (λ (n : ℕ). SpelledOperators n os rest.0) found.1.settings rest.2, refl))
+    (found.0 ++ rest.0, Takes-then s.bytes m.bytes t.bytes found.0 rest.0 found.1 rest.1, (found.0, rest.0, found.2, subst (λ (n : Settings). SpelledOperators n os rest.0) found.1.settings rest.2, refl))
 
 -- one that leaves no frame open closes those before
 pub run_closes : (os : List Op) (s t : Standing) → Runs s os t → t.frames ≡ [] → Closes s.frames os

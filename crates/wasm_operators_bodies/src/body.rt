@@ -123,9 +123,9 @@ impl<'a> FromReader<'a> for FunctionBody<'a> {
 
     ghost takes_memory = { false };
 
-    ghost lawful = { lawful-body };
+    ghost lawful = { λ z. lawful-body };
 
-    ghost exact = { decides-body };
+    ghost exact = { λ z. decides-body };
 
     #[tactic(auto, using(wasm_types::specs::Laws::reaches_self, wasm_types::specs::Laws::reaches_then), unfolding(crate::specs::Bodies::body_bytes))]
     fn from_reader(alloc: Global, reader: &mut BinaryReader<'a>) -> Result<FunctionBody<'a>>

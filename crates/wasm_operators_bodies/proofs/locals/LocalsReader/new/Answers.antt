@@ -4,4 +4,4 @@ use Rattle.wasm_operators_bodies.proofs.locals.LocalsReader.new.Goals as goal
 
 pub returns-clause-answer : goal.returns-clause-answer
 unfolding counted_groups
-returns-clause-answer c = (c.read_var_u32.new.self, rw c.in_ok-count.ensures.answer refl)
+returns-clause-answer c = (c.read_var_u32.new.self, rw (c.limits-room.ensures.value, c.in_ok-count.ensures.answer) refl)
