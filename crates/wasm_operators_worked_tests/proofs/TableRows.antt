@@ -8,11 +8,12 @@ use Rattle.wasm_types.specs.limits.Limits.{default_limits}
 use Rattle.wasm_operators_immediates.specs.Blocks.{block_type, value_block, empty_block}
 use Rattle.wasm_operators_immediates.specs.Labels.{labels}
 use Rattle.wasm_operators_immediates.specs.Handlers.{clause, clause_after, try_table, handle, handle_after, handlers}
+use Rattle.wasm_operators_decode_immediates.specs.Bytes.{select_types}
 use Rattle.wasm_operators_decode_immediates.specs.Immediates.{immediate}
 use Rattle.wasm_operators_worked_tests.specs.TableRows.{TableRows}
 
 pub tables : TableRows
-unfolding default_limits unsigned repeated size_within listed_within value_type value_type_after block_type value_block empty_block labels clause clause_after try_table handle handle_after handlers immediate
+unfolding default_limits unsigned repeated size_within listed_within value_type value_type_after block_type value_block empty_block labels clause clause_after try_table handle handle_after handlers select_types immediate
 tables = record {
   labels = refl;
   default_alone = refl;
