@@ -1,1 +1,1 @@
-pub use Rattle.wasm_types_reader.proofs.Rows
+pub use Rattle.wasm_types_groups.proofs.Rows

@@ -13,16 +13,10 @@
 #![tactic(auto)]
 
 pub use wasm_types_externs::{GlobalType, MemoryType, TableType, TagKind, TagType};
-pub use wasm_types_features::{WasmFeatures, WasmFeaturesInflated};
-pub use wasm_types_fields::{ArrayType, ContType, FieldType, FuncType, StructType};
 pub use wasm_types_groups::{
-    CompositeInnerType, CompositeType, RecGroup, SubType, TypesAndOffsets,
+    AbstractHeapType, ArrayType, BinaryReader, BinaryReaderError, BinaryReaderIter,
+    CompositeInnerType, CompositeType, ContType, CoreTypeId, Error, ErrorKind, FieldType,
+    FromReader, FuncType, HeapType, Ieee32, Ieee64, Limits, PackedIndex, RecGroup, RefType, Result,
+    StorageType, StructType, SubType, TypesAndOffsets, UnpackedIndex, ValType, WasmFeatures,
+    WasmFeaturesInflated, equality_is_identity, limits, read_list, read_many,
 };
-pub use wasm_types_indices::{CoreTypeId, PackedIndex, UnpackedIndex};
-pub use wasm_types_limits::Limits;
-pub use wasm_types_reader::{
-    BinaryReader, BinaryReaderError, BinaryReaderIter, Error, ErrorKind, FromReader, Ieee32,
-    Ieee64, Result, limits, read_list, read_many,
-};
-pub use wasm_types_values::laws::equality_is_identity;
-pub use wasm_types_values::{AbstractHeapType, HeapType, RefType, StorageType, ValType};

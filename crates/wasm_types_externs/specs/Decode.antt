@@ -1,8 +1,8 @@
 -- How the types of tables, memories, globals and tags are read, under whatever features.
 use Rattle.std.specs.Prelude.{ℕ, ◌/◌, ◌%◌, ◌==◌, Bool, Option, Some, None, nat_lt, if◌then◌else◌}
-use Rattle.wasm_types_decoding.specs.declared.Refusal.TheVariants.{Other}
-use Rattle.wasm_types_decoding.specs.Decoder.{Decoder, ◌>>=◌, pure, refuse, byte}
-use Rattle.wasm_types_decoding.specs.Leb.{u32, u64}
+use Rattle.wasm_types_values.specs.decoding.declared.Refusal.TheVariants.{Other}
+use Rattle.wasm_types_values.specs.decoding.Decoder.{Decoder, ◌>>=◌, pure, refuse, byte}
+use Rattle.wasm_types_values.specs.decoding.Leb.{u32, u64}
 use Rattle.wasm_types_values.specs.declared.value.ValType.{ValType}
 use Rattle.wasm_types_values.specs.Reference.{Reference}
 use Rattle.wasm_types_values.specs.Decode.{reference_type}

@@ -3,12 +3,12 @@ use Rattle.std.proofs.Common.{◌≡◌, ℕ, ◌+◌, ◌*◌, ◌/◌, ◌%◌
 use Rattle.std.specs.Prelude.{nat_lt, ◌==◌}
 use Rattle.std.specs.Option.{is_some}
 use Rattle.std.proofs.lemmas.Bool.{eqb-true, eqb-false, ltb-true, ltb-false}
-use Rattle.wasm_types_decoding.specs.declared.Refusal.TheVariants.{Other}
-use Rattle.wasm_types_decoding.specs.Decoder.{Decoder, Grammar, ◌>>=◌, byte, IsLawful, Decides, Then}
-use Rattle.wasm_types_decoding.specs.Laws.{lawful-byte, lawful->>=, lawful-pure, lawful-refuse, lawful-if}
-use Rattle.wasm_types_decoding.specs.Exact.{Mapped, decides->>=, decides-same, decides-pure, decides-refuse, decides-if, decides-map, decides-byte}
-use Rattle.wasm_types_decoding.specs.Leb.{u32, IsUnsigned}
-use Rattle.wasm_types_decoding.specs.LebLaws.{lawful-unsigned, decides-u32, decides-u64}
+use Rattle.wasm_types_values.specs.decoding.declared.Refusal.TheVariants.{Other}
+use Rattle.wasm_types_values.specs.decoding.Decoder.{Decoder, Grammar, ◌>>=◌, byte, IsLawful, Decides, Then}
+use Rattle.wasm_types_values.specs.decoding.Laws.{lawful-byte, lawful->>=, lawful-pure, lawful-refuse, lawful-if}
+use Rattle.wasm_types_values.specs.decoding.Exact.{Mapped, decides->>=, decides-same, decides-pure, decides-refuse, decides-if, decides-map, decides-byte}
+use Rattle.wasm_types_values.specs.decoding.Leb.{u32, IsUnsigned}
+use Rattle.wasm_types_values.specs.decoding.LebLaws.{lawful-unsigned, decides-u32, decides-u64}
 use Rattle.wasm_types_values.specs.declared.value.ValType.{ValType}
 use Rattle.wasm_types_values.specs.Reference.{Reference}
 use Rattle.wasm_types_values.specs.Decode.{reference_type}

@@ -2,8 +2,8 @@
 -- and globals by the proposals on threads and on shared everything, page sizes by that on custom page sizes).
 use Rattle.std.specs.Prelude.{◌≡◌, ℕ, ◌+◌, ◌*◌, List, [], ◌∷◌, ◌++◌, Bool, true, false, Option, Some, None}
 use Rattle.std.specs.Option.{is_some}
-use Rattle.wasm_types_decoding.specs.Decoder.{Grammar}
-use Rattle.wasm_types_decoding.specs.Leb.{IsUnsigned}
+use Rattle.wasm_types_values.specs.decoding.Decoder.{Grammar}
+use Rattle.wasm_types_values.specs.decoding.Leb.{IsUnsigned}
 use Rattle.wasm_types_values.specs.ValueExact.{SpelledValue}
 use Rattle.wasm_types_values.specs.ReferenceExact.{SpelledReference}
 use Rattle.wasm_types_externs.specs.declared.limits.LimitsFlags.{LimitsFlags}

@@ -1,8 +1,8 @@
 -- Worked bytes of the types of tables, memories, globals and tags: what each flag asks for, and what is refused.
 use Rattle.std.proofs.Common.{◌≡◌, ℕ, List, [], ◌∷◌, refl, Bool, true, false, Option, Some, None}
-use Rattle.wasm_types_decoding.specs.declared.Refusal.TheVariants.{Other}
-use Rattle.wasm_types_decoding.specs.Decoder.{Done, Short, Fault}
-use Rattle.wasm_types_decoding.specs.Leb.{unsigned}
+use Rattle.wasm_types_values.specs.decoding.declared.Refusal.TheVariants.{Other}
+use Rattle.wasm_types_values.specs.decoding.Decoder.{Done, Short, Fault}
+use Rattle.wasm_types_values.specs.decoding.Leb.{unsigned}
 use Rattle.wasm_types_values.specs.declared.heap.AbstractHeapType.TheVariants as heap
 use Rattle.wasm_types_values.specs.declared.heap.HeapType.TheVariants.{Abstract}
 use Rattle.wasm_types_values.specs.declared.value.ValType.TheVariants.{I32}

@@ -1,11 +1,11 @@
 //! Limits, of tables and memories (WebAssembly 3.0, binary format, types).
 
 ghost use Rattle.std.specs.Prelude.{◌≡◌};
-ghost use Rattle.wasm_types_decoding.specs.Decoder.{Reaches};
-ghost use Rattle.wasm_types_reader.specs.Reading.{Gives, NeedsNoMemory};
+ghost use Rattle.wasm_types_values.specs.decoding.Decoder.{Reaches};
+ghost use Rattle.wasm_types_values.specs.reader.Reading.{Gives, NeedsNoMemory};
 ghost use Rattle.wasm_types_externs.specs.Decode.{limits_flags, size, written};
 
-use wasm_types_reader::{BinaryReader, Error, Result};
+use wasm_types_values::{BinaryReader, Error, Result};
 
 // What the flags of limits say.
 #[derive(Clone, Copy)]
@@ -21,7 +21,7 @@ pub(crate) struct LimitsFlags {
 }
 
 // A byte of flags, which is below `bound`. Another is refused at its offset, with this message.
-#[tactic(auto, using(wasm_types_decoding::specs::Laws::reaches_self, wasm_types_decoding::specs::Laws::reaches_then), unfolding(crate::specs::Decode::limits_flags))]
+#[tactic(auto, using(wasm_types_values::specs::Laws::reaches_self, wasm_types_values::specs::Laws::reaches_then), unfolding(crate::specs::Decode::limits_flags))]
 pub(crate) fn read_flags<'a>(
     bound: u8,
     message: &str,
@@ -45,7 +45,7 @@ pub(crate) fn read_flags<'a>(
 }
 
 // A number of elements or of pages.
-#[tactic(auto, using(wasm_types_decoding::specs::Laws::reaches_self, wasm_types_decoding::specs::Laws::reaches_then), unfolding(crate::specs::Decode::size))]
+#[tactic(auto, using(wasm_types_values::specs::Laws::reaches_self, wasm_types_values::specs::Laws::reaches_then), unfolding(crate::specs::Decode::size))]
 pub(crate) fn read_size<'a>(wide: bool, reader: &mut BinaryReader<'a>) -> Result<u64>
     ensures answer { Gives (λ n. n) result reader.new (size wide reader.old) }
     ensures no_memory { NeedsNoMemory result }
@@ -59,7 +59,7 @@ pub(crate) fn read_size<'a>(wide: bool, reader: &mut BinaryReader<'a>) -> Result
 }
 
 // A maximum, where one is written.
-#[tactic(auto, using(wasm_types_decoding::specs::Laws::reaches_self, wasm_types_decoding::specs::Laws::reaches_then), unfolding(crate::specs::Decode::written))]
+#[tactic(auto, using(wasm_types_values::specs::Laws::reaches_self, wasm_types_values::specs::Laws::reaches_then), unfolding(crate::specs::Decode::written))]
 pub(crate) fn read_maximum<'a>(
     has_maximum: bool,
     wide: bool,

@@ -1,18 +1,17 @@
 //! The types of tables, memories, globals and tags from their bytes (WebAssembly 3.0, binary format, types).
 
-ghost use Rattle.wasm_types_decoding.specs.Decoder.{Reaches};
-ghost use Rattle.wasm_types_decoding.specs.Leb.{u32 as u32_decoder};
-ghost use Rattle.wasm_types_reader.specs.Reading.{Gives, NeedsNoMemory};
+ghost use Rattle.wasm_types_values.specs.decoding.Decoder.{Reaches};
+ghost use Rattle.wasm_types_values.specs.decoding.Leb.{u32 as u32_decoder};
+ghost use Rattle.wasm_types_values.specs.reader.Reading.{Gives, NeedsNoMemory};
 ghost use Rattle.wasm_types_externs.specs.Decode.{written, table_after};
 
 use crate::limits::{LimitsFlags, read_flags, read_maximum, read_size};
 use crate::{GlobalType, MemoryType, TableType, TagKind, TagType};
 use std::alloc::Global;
-use wasm_types_reader::{BinaryReader, Error, FromReader, Result};
-use wasm_types_values::{RefType, ValType};
+use wasm_types_values::{BinaryReader, Error, FromReader, RefType, Result, ValType};
 
 // The logarithm of a page's size, where one is written.
-#[tactic(auto, using(wasm_types_decoding::specs::Laws::reaches_self, wasm_types_decoding::specs::Laws::reaches_then), unfolding(crate::specs::Decode::written))]
+#[tactic(auto, using(wasm_types_values::specs::Laws::reaches_self, wasm_types_values::specs::Laws::reaches_then), unfolding(crate::specs::Decode::written))]
 fn read_page_size<'a>(has_page_size: bool, reader: &mut BinaryReader<'a>) -> Result<Option<u32>>
     ensures answer { Gives (λ o. o) result reader.new (written has_page_size u32_decoder reader.old) }
     ensures no_memory { NeedsNoMemory result }
@@ -48,7 +47,7 @@ impl<'a> FromReader<'a> for MemoryType {
 
     ghost exact = { λ z. decides-memory_type };
 
-    #[tactic(auto, using(wasm_types_decoding::specs::Laws::reaches_self, wasm_types_decoding::specs::Laws::reaches_then), unfolding(crate::specs::Decode::memory_type, crate::specs::Decode::memory_after))]
+    #[tactic(auto, using(wasm_types_values::specs::Laws::reaches_self, wasm_types_values::specs::Laws::reaches_then), unfolding(crate::specs::Decode::memory_type, crate::specs::Decode::memory_after))]
     fn from_reader(_alloc: Global, reader: &mut BinaryReader<'a>) -> Result<MemoryType>
         ensures answer { Gives (λ x. x) result reader.new (memory_type reader.old) }
         ensures forward { Reaches reader.old reader.new }
@@ -69,7 +68,7 @@ impl<'a> FromReader<'a> for MemoryType {
 }
 
 // What follows the type of a table's elements and its flags.
-#[tactic(auto, using(wasm_types_decoding::specs::Laws::reaches_self, wasm_types_decoding::specs::Laws::reaches_then), unfolding(crate::specs::Decode::table_after))]
+#[tactic(auto, using(wasm_types_values::specs::Laws::reaches_self, wasm_types_values::specs::Laws::reaches_then), unfolding(crate::specs::Decode::table_after))]
 fn table_after_flags<'a>(
     element_type: RefType,
     flags: LimitsFlags,
@@ -113,7 +112,7 @@ impl<'a> FromReader<'a> for TableType {
 
     ghost exact = { λ z. decides-table_type };
 
-    #[tactic(auto, using(wasm_types_decoding::specs::Laws::reaches_self, wasm_types_decoding::specs::Laws::reaches_then), unfolding(crate::specs::Decode::table_type))]
+    #[tactic(auto, using(wasm_types_values::specs::Laws::reaches_self, wasm_types_values::specs::Laws::reaches_then), unfolding(crate::specs::Decode::table_type))]
     fn from_reader(alloc: Global, reader: &mut BinaryReader<'a>) -> Result<TableType>
         ensures answer { Gives (λ x. x) result reader.new (table_type reader.old) }
         ensures forward { Reaches reader.old reader.new }
@@ -148,7 +147,7 @@ impl<'a> FromReader<'a> for GlobalType {
 
     ghost exact = { λ z. decides-global_type };
 
-    #[tactic(auto, using(wasm_types_decoding::specs::Laws::reaches_self, wasm_types_decoding::specs::Laws::reaches_then), unfolding(crate::specs::Decode::global_type))]
+    #[tactic(auto, using(wasm_types_values::specs::Laws::reaches_self, wasm_types_values::specs::Laws::reaches_then), unfolding(crate::specs::Decode::global_type))]
     fn from_reader(alloc: Global, reader: &mut BinaryReader<'a>) -> Result<GlobalType>
         ensures answer { Gives (λ x. x) result reader.new (global_type reader.old) }
         ensures forward { Reaches reader.old reader.new }
@@ -190,7 +189,7 @@ impl<'a> FromReader<'a> for TagType {
 
     ghost exact = { λ z. decides-tag_type };
 
-    #[tactic(auto, using(wasm_types_decoding::specs::Laws::reaches_self, wasm_types_decoding::specs::Laws::reaches_then), unfolding(crate::specs::Decode::tag_type))]
+    #[tactic(auto, using(wasm_types_values::specs::Laws::reaches_self, wasm_types_values::specs::Laws::reaches_then), unfolding(crate::specs::Decode::tag_type))]
     fn from_reader(_alloc: Global, reader: &mut BinaryReader<'a>) -> Result<TagType>
         ensures answer { Gives (λ x. x) result reader.new (tag_type reader.old) }
         ensures forward { Reaches reader.old reader.new }

@@ -1,12 +1,12 @@
 -- How fields, signatures and indices are read.
 use Rattle.std.specs.Prelude.{ℕ, List, [], ◌∷◌, Bool, true, false, nat_lt, if◌then◌else◌}
-use Rattle.wasm_types_decoding.specs.declared.Refusal.TheVariants.{Other}
-use Rattle.wasm_types_decoding.specs.Decoder.{Decoder, ◌>>=◌, pure, refuse, byte, choice}
-use Rattle.wasm_types_decoding.specs.Leb.{u32}
-use Rattle.wasm_types_decoding.specs.Lists.{refuse_at, listed_within}
-use Rattle.wasm_types_limits.specs.Settings.{Settings}
-use Rattle.wasm_types_indices.specs.declared.index.UnpackedIndex.{UnpackedIndex}
-use Rattle.wasm_types_indices.specs.declared.index.UnpackedIndex.TheVariants.{Module}
+use Rattle.wasm_types_values.specs.decoding.declared.Refusal.TheVariants.{Other}
+use Rattle.wasm_types_values.specs.decoding.Decoder.{Decoder, ◌>>=◌, pure, refuse, byte, choice}
+use Rattle.wasm_types_values.specs.decoding.Leb.{u32}
+use Rattle.wasm_types_values.specs.decoding.Lists.{refuse_at, listed_within}
+use Rattle.wasm_types_values.specs.limits.Settings.{Settings}
+use Rattle.wasm_types_values.specs.indices.declared.index.UnpackedIndex.{UnpackedIndex}
+use Rattle.wasm_types_values.specs.indices.declared.index.UnpackedIndex.TheVariants.{Module}
 use Rattle.wasm_types_values.specs.DecodeValues.{value_type, storage_type}
 use Rattle.wasm_types_fields.specs.declared.field.FieldType.{FieldType}
 use Rattle.wasm_types_fields.specs.Spells.{Signature}

@@ -3,17 +3,17 @@ use Rattle.std.proofs.Common.{◌≡◌, ℕ, ◌<◌, ◌≤◌, List, [], ◌�
 use Rattle.std.specs.Prelude.{nat_lt}
 use Rattle.std.proofs.lemmas.Bool.{ltb-true, ltb-false}
 use Rattle.std.proofs.lemmas.List.{append-nil}
-use Rattle.wasm_types_decoding.specs.declared.Refusal.TheVariants.{Other}
-use Rattle.wasm_types_decoding.specs.Decoder.{Decoder, Grammar, ◌>>=◌, pure, byte, IsLawful, Decides, Then}
-use Rattle.wasm_types_decoding.specs.Laws.{lawful-byte, lawful->>=, lawful-pure, lawful-refuse, lawful-choice, lawful-if}
-use Rattle.wasm_types_decoding.specs.Exact.{decides->>=, decides-same, decides-pure, decides-if, decides-map, Mapped, decides-choice, has_tag}
-use Rattle.wasm_types_decoding.specs.Leb.{u32, IsUnsigned}
-use Rattle.wasm_types_decoding.specs.LebLaws.{lawful-unsigned, decides-u32}
-use Rattle.wasm_types_decoding.specs.Lists.{refuse_at, listed_within, IsListedWithin}
-use Rattle.wasm_types_decoding.specs.ListLaws.{lawful-from_place, decides-from_place, lawful-refuse_at, decides-refuse_at, lawful-listed_within, decides-listed_within}
-use Rattle.wasm_types_limits.specs.Settings.{Settings}
-use Rattle.wasm_types_indices.specs.declared.index.UnpackedIndex.{UnpackedIndex}
-use Rattle.wasm_types_indices.specs.declared.index.UnpackedIndex.TheVariants.{Module, RecGroup, Id}
+use Rattle.wasm_types_values.specs.decoding.declared.Refusal.TheVariants.{Other}
+use Rattle.wasm_types_values.specs.decoding.Decoder.{Decoder, Grammar, ◌>>=◌, pure, byte, IsLawful, Decides, Then}
+use Rattle.wasm_types_values.specs.decoding.Laws.{lawful-byte, lawful->>=, lawful-pure, lawful-refuse, lawful-choice, lawful-if}
+use Rattle.wasm_types_values.specs.decoding.Exact.{decides->>=, decides-same, decides-pure, decides-if, decides-map, Mapped, decides-choice, has_tag}
+use Rattle.wasm_types_values.specs.decoding.Leb.{u32, IsUnsigned}
+use Rattle.wasm_types_values.specs.decoding.LebLaws.{lawful-unsigned, decides-u32}
+use Rattle.wasm_types_values.specs.decoding.Lists.{refuse_at, listed_within, IsListedWithin}
+use Rattle.wasm_types_values.specs.decoding.ListLaws.{lawful-from_place, decides-from_place, lawful-refuse_at, decides-refuse_at, lawful-listed_within, decides-listed_within}
+use Rattle.wasm_types_values.specs.limits.Settings.{Settings}
+use Rattle.wasm_types_values.specs.indices.declared.index.UnpackedIndex.{UnpackedIndex}
+use Rattle.wasm_types_values.specs.indices.declared.index.UnpackedIndex.TheVariants.{Module, RecGroup, Id}
 use Rattle.wasm_types_values.specs.declared.value.ValType.{ValType}
 use Rattle.wasm_types_values.specs.declared.value.StorageType.{StorageType}
 use Rattle.wasm_types_values.specs.DecodeValues.{value_type, storage_type}

@@ -1,9 +1,9 @@
 -- The bytes of fields, signatures and indices (WebAssembly 3.0, binary format, types), as grammars over the values that contracts see.
 use Rattle.std.specs.Prelude.{◌≡◌, ℕ, List, [], ◌∷◌, ◌++◌, Bool, true, false}
-use Rattle.wasm_types_decoding.specs.Decoder.{Grammar}
-use Rattle.wasm_types_decoding.specs.Lists.{IsListedWithin}
-use Rattle.wasm_types_limits.specs.Settings.{Settings}
-use Rattle.wasm_types_indices.specs.declared.index.UnpackedIndex.{UnpackedIndex}
+use Rattle.wasm_types_values.specs.decoding.Decoder.{Grammar}
+use Rattle.wasm_types_values.specs.decoding.Lists.{IsListedWithin}
+use Rattle.wasm_types_values.specs.limits.Settings.{Settings}
+use Rattle.wasm_types_values.specs.indices.declared.index.UnpackedIndex.{UnpackedIndex}
 use Rattle.wasm_types_values.specs.declared.value.ValType.{ValType}
 use Rattle.wasm_types_values.specs.Spells.{SpellsExactIndex}
 use Rattle.wasm_types_values.specs.ValueExact.{SpelledValue, SpelledStorage}

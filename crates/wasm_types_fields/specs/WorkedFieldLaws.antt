@@ -2,11 +2,11 @@
 use Rattle.std.proofs.Common.{◌≡◌, ◌++◌, List, [], ◌∷◌, refl, Bool, true, false}
 use Rattle.std.specs.Prelude.{codes}
 use Rattle.std.specs.Fmt.{decimal}
-use Rattle.wasm_types_decoding.specs.declared.Refusal.TheVariants.{Other}
-use Rattle.wasm_types_decoding.specs.Decoder.{Done, Short, Fault, repeated}
-use Rattle.wasm_types_decoding.specs.Leb.{unsigned}
-use Rattle.wasm_types_decoding.specs.Lists.{size_within, listed_within}
-use Rattle.wasm_types_indices.specs.declared.index.UnpackedIndex.TheVariants.{Module}
+use Rattle.wasm_types_values.specs.decoding.declared.Refusal.TheVariants.{Other}
+use Rattle.wasm_types_values.specs.decoding.Decoder.{Done, Short, Fault, repeated}
+use Rattle.wasm_types_values.specs.decoding.Leb.{unsigned}
+use Rattle.wasm_types_values.specs.decoding.Lists.{size_within, listed_within}
+use Rattle.wasm_types_values.specs.indices.declared.index.UnpackedIndex.TheVariants.{Module}
 use Rattle.wasm_types_values.specs.declared.heap.AbstractHeapType.TheVariants as heap
 use Rattle.wasm_types_values.specs.declared.heap.HeapType.TheVariants.{Abstract}
 use Rattle.wasm_types_values.specs.declared.value.ValType.{ValType}
@@ -15,8 +15,8 @@ use Rattle.wasm_types_values.specs.declared.value.StorageType.{StorageType}
 use Rattle.wasm_types_values.specs.declared.value.StorageType.TheVariants.{I8, I16, Val}
 use Rattle.wasm_types_values.specs.Decode.{reference, reference_after}
 use Rattle.wasm_types_values.specs.DecodeValues.{value_type_after, value_type, storage_type_after, storage_type}
-use Rattle.wasm_types_limits.specs.Limits.{default_limits}
-use Rattle.wasm_types_limits.specs.Settings.{Settings, no_features}
+use Rattle.wasm_types_values.specs.limits.Limits.{default_limits}
+use Rattle.wasm_types_values.specs.limits.Settings.{Settings, no_features}
 use Rattle.wasm_types_values.specs.WorkedTypeLaws.{start_of, behind}
 use Rattle.wasm_types_fields.specs.declared.field.FieldType.{FieldType}
 use Rattle.wasm_types_fields.specs.Spells.{Signature}

@@ -8,8 +8,7 @@ use crate::remap::remap_lists;
 use std::alloc::{AllocError, Global};
 use std::fmt::{self, Display};
 use std::iter::{FromIterator, IntoIterator};
-use wasm_types_reader::Result as Reading;
-use wasm_types_values::{PackedIndex, ValType};
+use wasm_types_values::{PackedIndex, Result as Reading, ValType};
 
 /// A function, by its parameters and its results (WebAssembly 3.0, structure, composite types).
 #[derive(Clone, Debug, Drop, PartialEq, Eq, PartialOrd, Ord, Hash)]

@@ -16,3 +16,10 @@ pub use cont::ContType;
 pub use field::{ArrayType, FieldType, StructType};
 pub use func::FuncType;
 pub use read::read_index;
+pub use wasm_types_values::laws::equality_is_identity;
+pub use wasm_types_values::{
+    AbstractHeapType, BinaryReader, BinaryReaderError, BinaryReaderIter, CoreTypeId, Error,
+    ErrorKind, FromReader, HeapType, Ieee32, Ieee64, Limits, PackedIndex, RefType, Result,
+    StorageType, UnpackedIndex, ValType, WasmFeatures, WasmFeaturesInflated, index_error, limits,
+    read_list, read_many,
+};

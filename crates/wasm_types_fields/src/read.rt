@@ -1,16 +1,17 @@
 //! Fields, functions and continuations from their bytes (WebAssembly 3.0, binary format, types).
 
-ghost use Rattle.wasm_types_decoding.specs.Decoder.{Reaches};
-ghost use Rattle.wasm_types_reader.specs.Reading.{Gives, NeedsNoMemory};
+ghost use Rattle.wasm_types_values.specs.decoding.Decoder.{Reaches};
+ghost use Rattle.wasm_types_values.specs.reader.Reading.{Gives, NeedsNoMemory};
 ghost use Rattle.wasm_types_fields.specs.Decode.{field_type, mutability, module_index};
 
 use crate::{ArrayType, ContType, FieldType, FuncType, StructType};
 use std::alloc::Global;
-use wasm_types_reader::{BinaryReader, Error, FromReader, Result, read_list};
-use wasm_types_values::{PackedIndex, StorageType, index_error};
+use wasm_types_values::{
+    BinaryReader, Error, FromReader, PackedIndex, Result, StorageType, index_error, read_list,
+};
 
 // Whether a field may be written.
-#[tactic(auto, using(wasm_types_decoding::specs::Laws::reaches_self, wasm_types_decoding::specs::Laws::reaches_then), unfolding(crate::specs::Decode::mutability))]
+#[tactic(auto, using(wasm_types_values::specs::Laws::reaches_self, wasm_types_values::specs::Laws::reaches_then), unfolding(crate::specs::Decode::mutability))]
 fn read_mutability<'a>(reader: &mut BinaryReader<'a>) -> Result<bool>
     ensures answer { Gives (λ m. m) result reader.new (mutability reader.old) }
     ensures no_memory { NeedsNoMemory result }
@@ -44,7 +45,7 @@ impl<'a> FromReader<'a> for FieldType {
 
     ghost exact = { λ z. decides-field_type };
 
-    #[tactic(auto, using(wasm_types_decoding::specs::Laws::reaches_self, wasm_types_decoding::specs::Laws::reaches_then), unfolding(crate::specs::Decode::field_type))]
+    #[tactic(auto, using(wasm_types_values::specs::Laws::reaches_self, wasm_types_values::specs::Laws::reaches_then), unfolding(crate::specs::Decode::field_type))]
     fn from_reader(alloc: Global, reader: &mut BinaryReader<'a>) -> Result<FieldType>
         ensures answer { Gives (λ x. x) result reader.new (field_type reader.old) }
         ensures forward { Reaches reader.old reader.new }
@@ -110,7 +111,7 @@ impl<'a> FromReader<'a> for StructType {
 
     ghost exact = { decides-fields };
 
-    #[tactic(auto, using(wasm_types_decoding::specs::Laws::reaches_self, wasm_types_decoding::specs::Laws::reaches_then), unfolding(crate::specs::Decode::fields))]
+    #[tactic(auto, using(wasm_types_values::specs::Laws::reaches_self, wasm_types_values::specs::Laws::reaches_then), unfolding(crate::specs::Decode::fields))]
     fn from_reader(alloc: Global, reader: &mut BinaryReader<'a>) -> Result<StructType> {
         let limit = reader.limits().fields as usize;
         let fields = read_list(alloc, limit, "struct fields", reader)?;
@@ -138,7 +139,7 @@ impl<'a> FromReader<'a> for FuncType {
 
     ghost exact = { decides-signature };
 
-    #[tactic(auto, using(wasm_types_decoding::specs::Laws::reaches_self, wasm_types_decoding::specs::Laws::reaches_then), unfolding(crate::specs::Decode::signature))]
+    #[tactic(auto, using(wasm_types_values::specs::Laws::reaches_self, wasm_types_values::specs::Laws::reaches_then), unfolding(crate::specs::Decode::signature))]
     fn from_reader(alloc: Global, reader: &mut BinaryReader<'a>) -> Result<FuncType> {
         let limits = reader.limits();
         let params = read_list(alloc, limits.params as usize, "function params", reader)?;
@@ -149,7 +150,7 @@ impl<'a> FromReader<'a> for FuncType {
 
 /// A type of the module by its index, which is below 2^20 (WebAssembly 3.0, binary format, indices). A larger one is refused
 /// at its offset.
-#[tactic(auto, using(wasm_types_decoding::specs::Laws::reaches_self, wasm_types_decoding::specs::Laws::reaches_then), unfolding(crate::specs::Decode::module_index))]
+#[tactic(auto, using(wasm_types_values::specs::Laws::reaches_self, wasm_types_values::specs::Laws::reaches_then), unfolding(crate::specs::Decode::module_index))]
 pub fn read_index<'a>(reader: &mut BinaryReader<'a>) -> Result<PackedIndex>
     ensures answer { Gives (λ i. i) result reader.new (module_index reader.old) }
     ensures no_memory { NeedsNoMemory result }
@@ -165,7 +166,7 @@ pub fn read_index<'a>(reader: &mut BinaryReader<'a>) -> Result<PackedIndex>
 
 impl<'a> FromReader<'a> for ContType {
     ghost use Rattle.std.specs.Prelude.{false};
-    ghost use Rattle.wasm_types_indices.specs.declared.index.UnpackedIndex.{UnpackedIndex};
+    ghost use Rattle.wasm_types_values.specs.indices.declared.index.UnpackedIndex.{UnpackedIndex};
     ghost use Rattle.wasm_types_fields.specs.Spells.{SpelledIndex};
     ghost use Rattle.wasm_types_fields.specs.DecodeLaws.{lawful-module_index, decides-module_index};
 

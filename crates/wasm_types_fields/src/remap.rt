@@ -8,8 +8,7 @@ ghost use Rattle.wasm_types_fields.specs.Fields.{field_of, array_tree, continuat
 ghost use Rattle.wasm_types_fields.specs.Remap.{field_shape, field_indices, inner_shape, inner_indices};
 
 use crate::{ArrayType, ContType, FieldType, StructType};
-use wasm_types_reader::Result;
-use wasm_types_values::{PackedIndex, ValType};
+use wasm_types_values::{PackedIndex, Result, ValType};
 
 // Each of these types with its index replaced.
 fn remap_values<F: Fn(PackedIndex) -> Result<PackedIndex>>(

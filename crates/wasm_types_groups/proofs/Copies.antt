@@ -1,9 +1,9 @@
 -- What a clone keeps.
 use Rattle.std.proofs.Common.{◌≡◌, List, [], ◌∷◌, refl, ap, map, Option, Some, None}
 use Rattle.std.specs.List.{AllZip, each_same}
-use Rattle.wasm_types_indices.specs.declared.index.UnpackedIndex.{UnpackedIndex}
-use Rattle.wasm_types_values.specs.Values.{value_of}
-use Rattle.wasm_types_trees.specs.Rows as tree
+use Rattle.wasm_types_fields.specs.indices.declared.index.UnpackedIndex.{UnpackedIndex}
+use Rattle.wasm_types_fields.specs.values.Values.{value_of}
+use Rattle.wasm_types_fields.specs.trees.Rows as tree
 use Rattle.wasm_types_fields.specs.declared.field.FieldType.{FieldType}
 use Rattle.wasm_types_fields.specs.declared.field.ArrayType.{ArrayType}
 use Rattle.wasm_types_fields.specs.declared.cont.ContType.{ContType}

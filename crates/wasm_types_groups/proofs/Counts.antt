@@ -1,9 +1,9 @@
 -- A count of at most one, and as many values.
 use Rattle.std.proofs.Common.{◌≡◌, ◌∙◌, ℕ, ◌≤◌, List, [], ◌∷◌, ◌++◌, length, refl, ap, sym, arith}
 use Rattle.std.proofs.lemmas.List.{length-append}
-use Rattle.wasm_types_decoding.specs.Decoder.{State, Outcome, Done, Decoder, continue_with, repeated}
-use Rattle.wasm_types_decoding.specs.Lists.{size_within, listed_within}
-use Rattle.wasm_types_decoding.specs.ListLaws.{decides-size_within}
+use Rattle.wasm_types_fields.specs.decoding.Decoder.{State, Outcome, Done, Decoder, continue_with, repeated}
+use Rattle.wasm_types_fields.specs.decoding.Lists.{size_within, listed_within}
+use Rattle.wasm_types_fields.specs.decoding.ListLaws.{decides-size_within}
 
 pub small_size : (limit n : ℕ) (s t : State) → size_within limit s ≡ Done n t → n ≤ limit
 small_size limit n s t e = let p = (decides-size_within limit).sound s t n e in p.2.within

@@ -3,13 +3,13 @@ use Rattle.std.proofs.Common.{◌≡◌, ◌↔◌, IsTrue, true, ◌&&◌, ap, 
 use mathlib.Core.Bool.{beq}
 use lib.Pointwise.{pointwise}
 use Rattle.std.specs.Option.{option_eq, option_map}
-use Rattle.wasm_types_indices.specs.declared.index.UnpackedIndex.{UnpackedIndex}
-use Rattle.wasm_types_indices.specs.contracts.packed.PackedIndexPartialEq.TheImpl as index
-use Rattle.wasm_types_values.specs.contracts.value.ValTypePartialEq.TheImpl as value_type
-use Rattle.wasm_types_values.specs.contracts.value.StorageTypePartialEq.TheImpl as storage_type
-use Rattle.wasm_types_values.specs.Laws.{ValueEqualityIsIdentity, StorageEqualityIsIdentity}
-use Rattle.wasm_types_trees.specs.Rows as tree
-use Rattle.wasm_types_trees.specs.Rows.{ValueOf, FieldOf, InnerOf, RowOf}
+use Rattle.wasm_types_fields.specs.indices.declared.index.UnpackedIndex.{UnpackedIndex}
+use Rattle.wasm_types_fields.specs.indices.contracts.packed.PackedIndexPartialEq.TheImpl as index
+use Rattle.wasm_types_fields.specs.values.contracts.value.ValTypePartialEq.TheImpl as value_type
+use Rattle.wasm_types_fields.specs.values.contracts.value.StorageTypePartialEq.TheImpl as storage_type
+use Rattle.wasm_types_fields.specs.values.Laws.{ValueEqualityIsIdentity, StorageEqualityIsIdentity}
+use Rattle.wasm_types_fields.specs.trees.Rows as tree
+use Rattle.wasm_types_fields.specs.trees.Rows.{ValueOf, FieldOf, InnerOf, RowOf}
 use Rattle.wasm_types_fields.specs.declared.field.FieldType.{FieldType}
 use Rattle.wasm_types_groups.specs.declared.composite.CompositeInnerType.{CompositeInnerType}
 use Rattle.wasm_types_groups.specs.declared.composite.CompositeInnerType.TheVariants.{Func, Array, Struct, Cont}

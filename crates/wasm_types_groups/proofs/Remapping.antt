@@ -4,9 +4,9 @@ use Rattle.std.specs.Prelude.{Result, Ok, Err}
 use Rattle.std.specs.List.{flat_map}
 use Rattle.std.proofs.lemmas.List.{set-get_or}
 use Rattle.std.specs.Option.{option_map}
-use Rattle.wasm_types_trees.specs.Rows.{InnerOf, RowOf}
-use Rattle.wasm_types_values.specs.Remap.{AreAnswered, IsCutShort, IsWalked, Remapped}
-use Rattle.wasm_types_values.specs.RemapLaws.{refused_alone, walked_next, cut_before}
+use Rattle.wasm_types_fields.specs.trees.Rows.{InnerOf, RowOf}
+use Rattle.wasm_types_fields.specs.values.Remap.{AreAnswered, IsCutShort, IsWalked, Remapped}
+use Rattle.wasm_types_fields.specs.values.RemapLaws.{refused_alone, walked_next, cut_before}
 use Rattle.wasm_types_fields.specs.Remap.{inner_indices, inner_shape}
 use Rattle.wasm_types_fields.proofs.Remapping.{SoFar, cut}
 use Rattle.wasm_types_groups.specs.Rows.{first_of, declared_with}

@@ -1,10 +1,10 @@
 -- How composite types and subtypes are read: a decoder for what follows the first byte, by that byte.
 use Rattle.std.specs.Prelude.{ℕ, ◌==◌, List, [], ◌∷◌, Bool, true, false, Option, Some, None, if◌then◌else◌}
-use Rattle.wasm_types_decoding.specs.declared.Refusal.TheVariants.{Other}
-use Rattle.wasm_types_decoding.specs.Decoder.{Decoder, ◌>>=◌, pure, refuse, byte, choice}
-use Rattle.wasm_types_decoding.specs.Lists.{listed_within}
-use Rattle.wasm_types_limits.specs.Settings.{Settings}
-use Rattle.wasm_types_indices.specs.declared.index.UnpackedIndex.{UnpackedIndex}
+use Rattle.wasm_types_fields.specs.decoding.declared.Refusal.TheVariants.{Other}
+use Rattle.wasm_types_fields.specs.decoding.Decoder.{Decoder, ◌>>=◌, pure, refuse, byte, choice}
+use Rattle.wasm_types_fields.specs.decoding.Lists.{listed_within}
+use Rattle.wasm_types_fields.specs.limits.Settings.{Settings}
+use Rattle.wasm_types_fields.specs.indices.declared.index.UnpackedIndex.{UnpackedIndex}
 use Rattle.wasm_types_fields.specs.Decode.{field_type, fields, signature, module_index}
 use Rattle.wasm_types_groups.specs.SpellsTypes.{InnerValue, function, array_of, struct_of, continuation, CompositeValue, SubValue, composite_with, sub_with, GroupValue, group_with}
 

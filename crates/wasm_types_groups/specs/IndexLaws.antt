@@ -4,9 +4,9 @@ use Rattle.std.proofs.Common.{◌≡◌, suc, List, [], ◌∷◌, ◌++◌, ref
 use Rattle.std.specs.List.{flat_map}
 use Rattle.std.specs.Option.{option_map}
 use Rattle.std.proofs.lemmas.List.{length-append}
-use Rattle.wasm_types_trees.specs.Rows as tree
-use Rattle.wasm_types_trees.specs.Rows.{HeapOf, ValueOf, StorageOf, FieldOf, InnerOf, RowOf, heap_map, value_map, storage_map, field_map, inner_map, row_map}
-use Rattle.wasm_types_values.specs.Remap.{heap_indices, value_indices, storage_indices, value_shape, storage_shape}
+use Rattle.wasm_types_fields.specs.trees.Rows as tree
+use Rattle.wasm_types_fields.specs.trees.Rows.{HeapOf, ValueOf, StorageOf, FieldOf, InnerOf, RowOf, heap_map, value_map, storage_map, field_map, inner_map, row_map}
+use Rattle.wasm_types_fields.specs.values.Remap.{heap_indices, value_indices, storage_indices, value_shape, storage_shape}
 use Rattle.wasm_types_fields.specs.Remap.{field_indices, field_shape, inner_indices, inner_shape}
 use Rattle.wasm_types_groups.specs.Rows.{first_of, DeclaredOf, declared_with}
 use Rattle.wasm_types_groups.specs.Remap.{option_indices, row_indices, list_shape, declared_indices, declared_shape, declared_map}

@@ -3,7 +3,7 @@ use Rattle.std.specs.Prelude.{◌≡◌, ◌↔◌, IsTrue, Bool, ℕ, List, map
 use Rattle.std.specs.Cmp.Lexicographic.{slice_cmp}
 use Rattle.std.specs.Hash.{slice}
 use Rattle.std.specs.declared.cmp.Ordering.TheVariants.{Equal}
-use Rattle.wasm_types_limits.specs.Settings.{Settings}
+use Rattle.wasm_types_fields.specs.limits.Settings.{Settings}
 use Rattle.wasm_types_groups.specs.declared.sub_type.SubType.{SubType}
 use Rattle.wasm_types_groups.specs.declared.rec_group.RecGroup.{RecGroup}
 use Rattle.wasm_types_groups.specs.contracts.sub_type.SubTypePartialEq.TheImpl as subtype
@@ -16,7 +16,7 @@ use Rattle.wasm_types_groups.specs.contracts.sub_type.SubTypeHash.TheImpl as sub
 use Rattle.wasm_types_groups.specs.contracts.rec_group.RecGroupHash.TheImpl as group_hash
 use Rattle.wasm_types_groups.specs.SpellsTypes.{CompositeValue, SubValue, GroupValue, SpelledComposite, SpelledSub, SpelledGroup, inner_tree, declared_by, sub_value, group_value}
 use Rattle.wasm_types_groups.specs.Spells.{SpellsParts, SpellsSub, SpellsGroup}
-use Rattle.wasm_types_indices.specs.declared.index.UnpackedIndex.{UnpackedIndex}
+use Rattle.wasm_types_fields.specs.indices.declared.index.UnpackedIndex.{UnpackedIndex}
 use Rattle.wasm_types_groups.specs.Remap.{declared_shape, declared_indices, declared_map}
 use Rattle.wasm_types_groups.specs.Rows.{Declared, subtypes, declared_of, declared_types}
 

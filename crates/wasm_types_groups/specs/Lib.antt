@@ -16,3 +16,14 @@ pub mod SpellsLaws
 pub mod TreeLaws
 pub mod IndexLaws
 pub mod WorkedGroupLaws
+-- The rules and laws of the crates below, under their names: crates above cite them here.
+pub use Rattle.wasm_types_fields.specs.limits as limits
+pub use Rattle.wasm_types_fields.specs.decoding as decoding
+pub use Rattle.wasm_types_fields.specs.features as features
+pub use Rattle.wasm_types_fields.specs.error as error
+pub use Rattle.wasm_types_fields.specs.numbers as numbers
+pub use Rattle.wasm_types_fields.specs.reader as reader
+pub use Rattle.wasm_types_fields.specs.indices as indices
+pub use Rattle.wasm_types_fields.specs.trees as trees
+pub use Rattle.wasm_types_fields.specs.values as values
+pub use Rattle.wasm_types_fields.specs as fields

@@ -1,8 +1,8 @@
 -- Where the types of a group begin.
 use Rattle.std.specs.Prelude.{ℕ, ◌==◌, List, [], ◌∷◌, if◌then◌else◌}
-use Rattle.wasm_types_decoding.specs.Decoder.{Decoder, ◌>>=◌, pure, byte}
-use Rattle.wasm_types_decoding.specs.Lists.{listed_within}
-use Rattle.wasm_types_limits.specs.Settings.{Settings}
+use Rattle.wasm_types_fields.specs.decoding.Decoder.{Decoder, ◌>>=◌, pure, byte}
+use Rattle.wasm_types_fields.specs.decoding.Lists.{listed_within}
+use Rattle.wasm_types_fields.specs.limits.Settings.{Settings}
 use Rattle.wasm_types_groups.specs.DecodeTypes.{sub_after, sub_type}
 
 -- the offset at which d begins to read

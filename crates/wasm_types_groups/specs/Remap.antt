@@ -1,7 +1,7 @@
 -- Rules: the indices and the shape of a subtype, in order: the supertypes, those of the type itself, its descriptor, and the
 -- type that it describes.
 use Rattle.std.specs.Prelude.{◌≡◌, List, [], ◌∷◌, ◌++◌, map, Option, Some, None, Result, Ok, Err, MatchResult}
-use Rattle.wasm_types_trees.specs.Rows.{RowOf, row_map}
+use Rattle.wasm_types_fields.specs.trees.Rows.{RowOf, row_map}
 use Rattle.wasm_types_fields.specs.Remap.{inner_indices}
 use Rattle.wasm_types_groups.specs.Rows.{DeclaredOf}
 

@@ -1,7 +1,7 @@
 -- Types as plain trees over the indices that they hold, without where they lie in memory.
 use Rattle.std.specs.Prelude.{List, [], ◌∷◌, map, Option, Some, None, Bool, true}
-use Rattle.wasm_types_indices.specs.declared.index.UnpackedIndex.{UnpackedIndex}
-use Rattle.wasm_types_trees.specs.Rows.{InnerOf, RowOf}
+use Rattle.wasm_types_fields.specs.indices.declared.index.UnpackedIndex.{UnpackedIndex}
+use Rattle.wasm_types_fields.specs.trees.Rows.{InnerOf, RowOf}
 use Rattle.wasm_types_fields.specs.Fields.{function_tree, array_tree, struct_tree, continuation_tree}
 use Rattle.wasm_types_groups.specs.declared.composite.CompositeInnerType.{CompositeInnerType}
 use Rattle.wasm_types_groups.specs.declared.composite.CompositeInnerType.TheVariants.{Func, Array, Struct, Cont}

@@ -1,12 +1,12 @@
 -- Rules: which bytes spell a type, as the plain trees that subtyping and valid groups speak of (WebAssembly 3.0, binary format,
 -- types; what stands before a composite type, and continuations, by their proposals). An index is one of the module.
 use Rattle.std.specs.Prelude.{◌≡◌, ◌⊎◌, ℕ, List, [], ◌∷◌, ◌++◌, Bool, true, false, Option, Some, None}
-use Rattle.wasm_types_decoding.specs.Lists.{IsListedWithin}
-use Rattle.wasm_types_limits.specs.Settings.{Settings}
-use Rattle.wasm_types_indices.specs.declared.index.UnpackedIndex.{UnpackedIndex}
-use Rattle.wasm_types_trees.specs.Rows as tree
-use Rattle.wasm_types_trees.specs.Rows.{ValueOf, FieldOf, InnerOf, RowOf}
-use Rattle.wasm_types_values.specs.Spells.{SpellsValue, SpellsStorage, SpellsExactIndex}
+use Rattle.wasm_types_fields.specs.decoding.Lists.{IsListedWithin}
+use Rattle.wasm_types_fields.specs.limits.Settings.{Settings}
+use Rattle.wasm_types_fields.specs.indices.declared.index.UnpackedIndex.{UnpackedIndex}
+use Rattle.wasm_types_fields.specs.trees.Rows as tree
+use Rattle.wasm_types_fields.specs.trees.Rows.{ValueOf, FieldOf, InnerOf, RowOf}
+use Rattle.wasm_types_fields.specs.values.Spells.{SpellsValue, SpellsStorage, SpellsExactIndex}
 use Rattle.wasm_types_fields.specs.Spells.{IsMutability}
 use Rattle.wasm_types_groups.specs.Rows.{first_of, Declared}
 

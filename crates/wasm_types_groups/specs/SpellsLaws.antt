@@ -1,15 +1,15 @@
 -- Laws: bytes spell a value exactly where they spell the tree that it declares.
 use Rattle.std.proofs.Common.{◌≡◌, ℕ, zero, suc, ◌≤◌, List, [], ◌∷◌, ◌++◌, refl, sym, ap, ◌∙◌, subst, length, map, Bool, true, false, Option, Some, None, inl, inr}
 use Rattle.std.specs.Option.{is_some}
-use Rattle.wasm_types_decoding.specs.Decoder.{Grammar, Many}
-use Rattle.wasm_types_decoding.specs.Leb.{IsUnsigned}
-use Rattle.wasm_types_decoding.specs.Lists.{IsListedWithin}
-use Rattle.wasm_types_limits.specs.Settings.{Settings}
-use Rattle.wasm_types_indices.specs.declared.index.UnpackedIndex.{UnpackedIndex}
-use Rattle.wasm_types_values.specs.declared.value.ValType.{ValType}
-use Rattle.wasm_types_values.specs.Values.{value_of}
-use Rattle.wasm_types_values.specs.Spells.{SpellsValue}
-use Rattle.wasm_types_values.specs.ValueExact.{SpelledValue}
+use Rattle.wasm_types_fields.specs.decoding.Decoder.{Grammar, Many}
+use Rattle.wasm_types_fields.specs.decoding.Leb.{IsUnsigned}
+use Rattle.wasm_types_fields.specs.decoding.Lists.{IsListedWithin}
+use Rattle.wasm_types_fields.specs.limits.Settings.{Settings}
+use Rattle.wasm_types_fields.specs.indices.declared.index.UnpackedIndex.{UnpackedIndex}
+use Rattle.wasm_types_fields.specs.values.declared.value.ValType.{ValType}
+use Rattle.wasm_types_fields.specs.values.Values.{value_of}
+use Rattle.wasm_types_fields.specs.values.Spells.{SpellsValue}
+use Rattle.wasm_types_fields.specs.values.ValueExact.{SpelledValue}
 use Rattle.wasm_types_fields.specs.Fields.{field_of}
 use Rattle.wasm_types_fields.specs.declared.field.FieldType.{FieldType}
 use Rattle.wasm_types_fields.specs.Spells.{SpelledField}

@@ -2,14 +2,14 @@
 -- and its continuations by their proposals), as grammars over values that do not show where a type lies in memory.
 use Rattle.std.specs.Prelude.{◌≡◌, ◌⊎◌, ℕ, List, [], ◌∷◌, ◌++◌, Bool, true, false, Option, Some, None, map}
 use Rattle.std.specs.Option.{is_some}
-use Rattle.wasm_types_decoding.specs.Decoder.{Grammar}
-use Rattle.wasm_types_decoding.specs.Exact.{Mapped}
-use Rattle.wasm_types_decoding.specs.Lists.{IsListedWithin}
-use Rattle.wasm_types_limits.specs.Settings.{Settings}
-use Rattle.wasm_types_indices.specs.declared.index.UnpackedIndex.{UnpackedIndex}
-use Rattle.wasm_types_trees.specs.Rows as tree
-use Rattle.wasm_types_trees.specs.Rows.{InnerOf}
-use Rattle.wasm_types_values.specs.Values.{value_of}
+use Rattle.wasm_types_fields.specs.decoding.Decoder.{Grammar}
+use Rattle.wasm_types_fields.specs.decoding.Exact.{Mapped}
+use Rattle.wasm_types_fields.specs.decoding.Lists.{IsListedWithin}
+use Rattle.wasm_types_fields.specs.limits.Settings.{Settings}
+use Rattle.wasm_types_fields.specs.indices.declared.index.UnpackedIndex.{UnpackedIndex}
+use Rattle.wasm_types_fields.specs.trees.Rows as tree
+use Rattle.wasm_types_fields.specs.trees.Rows.{InnerOf}
+use Rattle.wasm_types_fields.specs.values.Values.{value_of}
 use Rattle.wasm_types_fields.specs.Fields.{field_of}
 use Rattle.wasm_types_groups.specs.Rows.{first_of, Declared}
 use Rattle.wasm_types_groups.specs.Spells.{final_byte}

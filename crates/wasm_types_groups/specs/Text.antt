@@ -2,8 +2,8 @@
 -- proposals.
 use Rattle.std.specs.Prelude.{ℕ, List, [], ◌∷◌, ◌++◌, codes, Bool, true, false, Option, Some, None}
 use Rattle.std.specs.List.{flat_map}
-use Rattle.wasm_types_indices.specs.declared.index.UnpackedIndex.{UnpackedIndex}
-use Rattle.wasm_types_indices.specs.Text.{index_text}
+use Rattle.wasm_types_fields.specs.indices.declared.index.UnpackedIndex.{UnpackedIndex}
+use Rattle.wasm_types_fields.specs.indices.Text.{index_text}
 use Rattle.wasm_types_fields.specs.Text.{array_text, struct_text, func_text, cont_text}
 use Rattle.wasm_types_groups.specs.declared.composite.CompositeInnerType.{CompositeInnerType}
 use Rattle.wasm_types_groups.specs.declared.composite.CompositeInnerType.TheVariants.{Func, Array, Struct, Cont}

@@ -1,20 +1,20 @@
 -- Laws: each tree that bytes spell is declared by a value, and so is read.
 use Rattle.std.proofs.Common.{◌≡◌, ℕ, zero, suc, List, [], ◌∷◌, refl, sym, ap, map, Bool, true, false, inl, inr, ◌∙◌, length}
-use Rattle.wasm_types_decoding.specs.Decoder.{Many}
-use Rattle.wasm_types_limits.specs.Settings.{Settings}
-use Rattle.wasm_types_indices.specs.declared.index.UnpackedIndex.{UnpackedIndex}
-use Rattle.wasm_types_trees.specs.Rows as tree
-use Rattle.wasm_types_trees.specs.Rows.{Abstract, HeapOf, ValueOf, StorageOf, FieldOf, InnerOf}
-use Rattle.wasm_types_values.specs.declared.heap.AbstractHeapType.{AbstractHeapType}
-use Rattle.wasm_types_values.specs.declared.heap.AbstractHeapType.TheVariants as heap
-use Rattle.wasm_types_values.specs.declared.heap.HeapType.{HeapType}
-use Rattle.wasm_types_values.specs.declared.heap.HeapType.TheVariants as heap_type
-use Rattle.wasm_types_values.specs.declared.value.ValType.{ValType}
-use Rattle.wasm_types_values.specs.declared.value.ValType.TheVariants.{I32, I64, F32, F64, V128, Ref}
-use Rattle.wasm_types_values.specs.declared.value.StorageType.{StorageType}
-use Rattle.wasm_types_values.specs.declared.value.StorageType.TheVariants.{I8, I16, Val}
-use Rattle.wasm_types_values.specs.Trees.{abstract_of, heap_of}
-use Rattle.wasm_types_values.specs.Values.{value_of, storage_of}
+use Rattle.wasm_types_fields.specs.decoding.Decoder.{Many}
+use Rattle.wasm_types_fields.specs.limits.Settings.{Settings}
+use Rattle.wasm_types_fields.specs.indices.declared.index.UnpackedIndex.{UnpackedIndex}
+use Rattle.wasm_types_fields.specs.trees.Rows as tree
+use Rattle.wasm_types_fields.specs.trees.Rows.{Abstract, HeapOf, ValueOf, StorageOf, FieldOf, InnerOf}
+use Rattle.wasm_types_fields.specs.values.declared.heap.AbstractHeapType.{AbstractHeapType}
+use Rattle.wasm_types_fields.specs.values.declared.heap.AbstractHeapType.TheVariants as heap
+use Rattle.wasm_types_fields.specs.values.declared.heap.HeapType.{HeapType}
+use Rattle.wasm_types_fields.specs.values.declared.heap.HeapType.TheVariants as heap_type
+use Rattle.wasm_types_fields.specs.values.declared.value.ValType.{ValType}
+use Rattle.wasm_types_fields.specs.values.declared.value.ValType.TheVariants.{I32, I64, F32, F64, V128, Ref}
+use Rattle.wasm_types_fields.specs.values.declared.value.StorageType.{StorageType}
+use Rattle.wasm_types_fields.specs.values.declared.value.StorageType.TheVariants.{I8, I16, Val}
+use Rattle.wasm_types_fields.specs.values.Trees.{abstract_of, heap_of}
+use Rattle.wasm_types_fields.specs.values.Values.{value_of, storage_of}
 use Rattle.wasm_types_fields.specs.declared.field.FieldType.{FieldType}
 use Rattle.wasm_types_fields.specs.Fields.{field_of}
 use Rattle.wasm_types_groups.specs.Rows.{first_of, Declared}

@@ -1,14 +1,14 @@
 -- The readers of composite types and subtypes are lawful, and read what the bytes spell.
 use Rattle.std.proofs.Common.{◌≡◌, ℕ, List, [], ◌∷◌, ◌++◌, refl, sym, ap, subst, arith, eqb, Bool, true, false, Option, Some, None, inl, inr}
 use Rattle.std.proofs.lemmas.Bool.{eqb-true, eqb-false}
-use Rattle.wasm_types_decoding.specs.declared.Refusal.TheVariants.{Other}
-use Rattle.wasm_types_decoding.specs.Decoder.{Decoder, Grammar, ◌>>=◌, pure, refuse, byte, IsLawful, Decides, Then}
-use Rattle.wasm_types_decoding.specs.Laws.{lawful-byte, lawful->>=, lawful-pure, lawful-refuse, lawful-choice, lawful-if}
-use Rattle.wasm_types_decoding.specs.Exact.{decides->>=, decides-same, decides-pure, decides-refuse, decides-if, decides-map, decides-byte, Mapped}
-use Rattle.wasm_types_decoding.specs.Lists.{listed_within, IsListedWithin}
-use Rattle.wasm_types_decoding.specs.ListLaws.{lawful-listed_within, decides-listed_within}
-use Rattle.wasm_types_limits.specs.Settings.{Settings}
-use Rattle.wasm_types_indices.specs.declared.index.UnpackedIndex.{UnpackedIndex}
+use Rattle.wasm_types_fields.specs.decoding.declared.Refusal.TheVariants.{Other}
+use Rattle.wasm_types_fields.specs.decoding.Decoder.{Decoder, Grammar, ◌>>=◌, pure, refuse, byte, IsLawful, Decides, Then}
+use Rattle.wasm_types_fields.specs.decoding.Laws.{lawful-byte, lawful->>=, lawful-pure, lawful-refuse, lawful-choice, lawful-if}
+use Rattle.wasm_types_fields.specs.decoding.Exact.{decides->>=, decides-same, decides-pure, decides-refuse, decides-if, decides-map, decides-byte, Mapped}
+use Rattle.wasm_types_fields.specs.decoding.Lists.{listed_within, IsListedWithin}
+use Rattle.wasm_types_fields.specs.decoding.ListLaws.{lawful-listed_within, decides-listed_within}
+use Rattle.wasm_types_fields.specs.limits.Settings.{Settings}
+use Rattle.wasm_types_fields.specs.indices.declared.index.UnpackedIndex.{UnpackedIndex}
 use Rattle.wasm_types_fields.specs.Spells.{SpelledField, SpelledFields, SpelledSignature, SpelledIndex}
 use Rattle.wasm_types_fields.specs.Decode.{field_type, fields, signature, module_index}
 use Rattle.wasm_types_fields.specs.DecodeLaws.{lawful-field_type, decides-field_type, lawful-fields, decides-fields, lawful-signature, decides-signature, lawful-module_index, decides-module_index}

@@ -2,19 +2,19 @@
 use Rattle.std.proofs.Common.{◌≡◌, ℕ, ◌++◌, List, [], ◌∷◌, refl, true, false, Option, Some, None}
 use Rattle.std.specs.Prelude.{codes}
 use Rattle.std.specs.Fmt.{decimal}
-use Rattle.wasm_types_decoding.specs.declared.Refusal.TheVariants.{Other}
-use Rattle.wasm_types_decoding.specs.Decoder.{Done, Short, Fault, repeated}
-use Rattle.wasm_types_decoding.specs.Leb.{unsigned}
-use Rattle.wasm_types_decoding.specs.Lists.{size_within, listed_within}
-use Rattle.wasm_types_limits.specs.Limits.{default_limits}
-use Rattle.wasm_types_limits.specs.Settings.{no_features}
-use Rattle.wasm_types_indices.specs.declared.index.UnpackedIndex.{UnpackedIndex}
-use Rattle.wasm_types_indices.specs.declared.index.UnpackedIndex.TheVariants.{Module}
-use Rattle.wasm_types_values.specs.declared.value.ValType.TheVariants.{I32}
-use Rattle.wasm_types_values.specs.declared.value.StorageType.TheVariants.{Val}
-use Rattle.wasm_types_values.specs.Decode.{reference_after}
-use Rattle.wasm_types_values.specs.DecodeValues.{value_type, value_type_after, storage_type_after, storage_type}
-use Rattle.wasm_types_values.specs.WorkedTypeLaws.{start_of, behind}
+use Rattle.wasm_types_fields.specs.decoding.declared.Refusal.TheVariants.{Other}
+use Rattle.wasm_types_fields.specs.decoding.Decoder.{Done, Short, Fault, repeated}
+use Rattle.wasm_types_fields.specs.decoding.Leb.{unsigned}
+use Rattle.wasm_types_fields.specs.decoding.Lists.{size_within, listed_within}
+use Rattle.wasm_types_fields.specs.limits.Limits.{default_limits}
+use Rattle.wasm_types_fields.specs.limits.Settings.{no_features}
+use Rattle.wasm_types_fields.specs.indices.declared.index.UnpackedIndex.{UnpackedIndex}
+use Rattle.wasm_types_fields.specs.indices.declared.index.UnpackedIndex.TheVariants.{Module}
+use Rattle.wasm_types_fields.specs.values.declared.value.ValType.TheVariants.{I32}
+use Rattle.wasm_types_fields.specs.values.declared.value.StorageType.TheVariants.{Val}
+use Rattle.wasm_types_fields.specs.values.Decode.{reference_after}
+use Rattle.wasm_types_fields.specs.values.DecodeValues.{value_type, value_type_after, storage_type_after, storage_type}
+use Rattle.wasm_types_fields.specs.values.WorkedTypeLaws.{start_of, behind}
 use Rattle.wasm_types_fields.specs.declared.field.ArrayType.{ArrayType}
 use Rattle.wasm_types_fields.specs.declared.field.StructType.{StructType}
 use Rattle.wasm_types_fields.specs.declared.func.FuncType.{FuncType}

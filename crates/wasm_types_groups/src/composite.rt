@@ -5,8 +5,7 @@ ghost use Rattle.std.specs.Fmt.{DisplaysOnOk};
 ghost use Rattle.wasm_types_groups.specs.Text.{prefix_text, described_text};
 
 use std::fmt::{self, Display};
-use wasm_types_fields::{ArrayType, ContType, FuncType, StructType};
-use wasm_types_values::PackedIndex;
+use wasm_types_fields::{ArrayType, ContType, FuncType, PackedIndex, StructType};
 
 /// A composite type by its constructor (WebAssembly 3.0, structure, composite types).
 #[derive(Clone, Debug, Drop, PartialEq, Eq, PartialOrd, Ord, Hash)]

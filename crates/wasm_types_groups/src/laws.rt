@@ -3,7 +3,7 @@
 ghost use Rattle.wasm_types_groups.specs.Laws.{SubTypesAreToldApart, GroupsAreToldApart, GroupsAreOrderedByTypes, TiesDeclareTheSame, GroupsAreHashedByTypes, SubTypesAreCloned, GroupsAreCloned, ValuesDeclareTheSame, GroupValuesDeclareTheSame, CompositeTypesAreSpelledAsTrees, SubTypesAreSpelledAsTrees, GroupsAreSpelledAsTrees, GroupTreesAreRead, ShapesAndIndicesAreAll};
 ghost use Rattle.wasm_types_groups.specs.WorkedGroupLaws.{CompositeTypesAreRead, SubTypesAreRead, GroupsAreRead, KindsAreTold, TextsAreWritten};
 
-use wasm_types_values::laws::equality_is_identity;
+use wasm_types_fields::equality_is_identity;
 
 /// `==` of subtypes and of groups compares what they declare, and nothing else.
 pub fn equality_is_of_declarations()

@@ -16,4 +16,10 @@ mod sub_type;
 pub use composite::{CompositeInnerType, CompositeType};
 pub use rec_group::{RecGroup, TypesAndOffsets};
 pub use sub_type::SubType;
-pub use wasm_types_fields::{ArrayType, ContType, FieldType, FuncType, StructType};
+pub use wasm_types_fields::{
+    AbstractHeapType, ArrayType, BinaryReader, BinaryReaderError, BinaryReaderIter, ContType,
+    CoreTypeId, Error, ErrorKind, FieldType, FromReader, FuncType, HeapType, Ieee32, Ieee64,
+    Limits, PackedIndex, RefType, Result, StorageType, StructType, UnpackedIndex, ValType,
+    WasmFeatures, WasmFeaturesInflated, equality_is_identity, index_error, limits, read_list,
+    read_many,
+};

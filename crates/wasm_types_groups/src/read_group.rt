@@ -1,8 +1,8 @@
 //! Recursion groups from their bytes (WebAssembly 3.0, binary format, types).
 
 ghost use Rattle.std.specs.Prelude.{◌≡◌, ◌∷◌, [], length, map, true, IfOk};
-ghost use Rattle.wasm_types_decoding.specs.Decoder.{Done, Reaches, repeated};
-ghost use Rattle.wasm_types_reader.specs.Reading.{Gives};
+ghost use Rattle.wasm_types_fields.specs.decoding.Decoder.{Done, Reaches, repeated};
+ghost use Rattle.wasm_types_fields.specs.reader.Reading.{Gives};
 ghost use Rattle.wasm_types_groups.specs.SpellsTypes.{sub_value, group_value};
 ghost use Rattle.wasm_types_groups.specs.DecodeTypes.{sub_type, explicit_group};
 ghost use Rattle.wasm_types_groups.specs.Places.{place_of, places};
@@ -10,10 +10,10 @@ ghost use Rattle.wasm_types_groups.specs.Places.{place_of, places};
 use crate::read_types::sub_after_byte;
 use crate::{RecGroup, SubType};
 use std::alloc::Global;
-use wasm_types_reader::{BinaryReader, FromReader, Result};
+use wasm_types_fields::{BinaryReader, FromReader, Result};
 
 // As many subtypes as are asked for, and their offsets. The lists grow as they are read.
-#[tactic(auto, using(wasm_types_decoding::specs::Laws::reaches_self, wasm_types_decoding::specs::Laws::reaches_then))]
+#[tactic(auto, using(wasm_types_fields::specs::Laws::reaches_self, wasm_types_fields::specs::Laws::reaches_then))]
 fn read_subtypes<'a>(
     alloc: Global,
     count: usize,
@@ -36,7 +36,7 @@ fn read_subtypes<'a>(
 }
 
 // The subtypes of a group that was written as one.
-#[tactic(auto, using(wasm_types_decoding::specs::Laws::reaches_self, wasm_types_decoding::specs::Laws::reaches_then), unfolding(crate::specs::DecodeTypes::explicit_group, crate::specs::Places::places, wasm_types_decoding::specs::Lists::listed_within))]
+#[tactic(auto, using(wasm_types_fields::specs::Laws::reaches_self, wasm_types_fields::specs::Laws::reaches_then), unfolding(crate::specs::DecodeTypes::explicit_group, crate::specs::Places::places, wasm_types_fields::specs::Laws::listed_within))]
 fn read_explicit<'a>(alloc: Global, reader: &mut BinaryReader<'a>) -> Result<RecGroup>
     ensures answer { Gives group_value result reader.new (explicit_group reader.old.settings reader.old) }
     ensures places { IfOk result (λ g. places reader.old.settings reader.old ≡ Done g.offsets.items reader.new) }
@@ -68,7 +68,7 @@ impl<'a> FromReader<'a> for RecGroup {
 
     ghost exact = { decides-rec_group };
 
-    #[tactic(auto, using(wasm_types_decoding::specs::Laws::reaches_self, wasm_types_decoding::specs::Laws::reaches_then, wasm_types_values::proofs::Places::beyond_0), unfolding(crate::specs::DecodeTypes::rec_group, crate::specs::DecodeTypes::group_after, crate::specs::Places::group_places))]
+    #[tactic(auto, using(wasm_types_fields::specs::Laws::reaches_self, wasm_types_fields::specs::Laws::reaches_then, wasm_types_values::proofs::Places::beyond_0), unfolding(crate::specs::DecodeTypes::rec_group, crate::specs::DecodeTypes::group_after, crate::specs::Places::group_places))]
     fn from_reader(alloc: Global, reader: &mut BinaryReader<'a>) -> Result<RecGroup>
         ensures answer { Gives group_value result reader.new (rec_group reader.old.settings reader.old) }
         ensures forward { Reaches reader.old reader.new }

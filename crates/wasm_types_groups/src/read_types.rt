@@ -4,19 +4,20 @@
 
 ghost use Rattle.std.specs.Prelude.{◌≡◌, ◌<◌, Bool, true, false, Option, Some, None, IsTrue};
 ghost use Rattle.std.specs.Option.{is_some};
-ghost use Rattle.wasm_types_decoding.specs.Decoder.{Reaches, repeated};
-ghost use Rattle.wasm_types_error.specs.declared.error.ErrorKind.TheVariants.{Other};
-ghost use Rattle.wasm_types_reader.specs.Reading.{Gives};
+ghost use Rattle.wasm_types_fields.specs.decoding.Decoder.{Reaches, repeated};
+ghost use Rattle.wasm_types_fields.specs.error.declared.error.ErrorKind.TheVariants.{Other};
+ghost use Rattle.wasm_types_fields.specs.reader.Reading.{Gives};
 ghost use Rattle.wasm_types_groups.specs.SpellsTypes.{inner_value, composite_value, sub_value, marked};
 ghost use Rattle.wasm_types_fields.specs.Decode.{module_index};
 ghost use Rattle.wasm_types_groups.specs.DecodeTypes.{inner_after, last_after, descriptor_after, describes_after, composite_after, sub_after, supertypes, declared_sub};
 
 use crate::{CompositeInnerType, CompositeType, SubType};
 use std::alloc::Global;
-use wasm_types_fields::{ArrayType, ContType, FuncType, StructType, read_index};
-use wasm_types_reader::limits::MAX_WASM_SUPERTYPES;
-use wasm_types_reader::{BinaryReader, Error, FromReader, Result};
-use wasm_types_values::PackedIndex;
+use wasm_types_fields::limits::MAX_WASM_SUPERTYPES;
+use wasm_types_fields::{
+    ArrayType, BinaryReader, ContType, Error, FromReader, FuncType, PackedIndex, Result,
+    StructType, read_index,
+};
 
 // The error of a byte that begins no type.
 #[cold]
@@ -31,7 +32,7 @@ fn leading_byte_error(byte: u8, offset: u64) -> Error
 }
 
 // The type itself.
-#[tactic(auto, using(wasm_types_decoding::specs::Laws::reaches_self, wasm_types_decoding::specs::Laws::reaches_then), unfolding(crate::specs::DecodeTypes::inner_after))]
+#[tactic(auto, using(wasm_types_fields::specs::Laws::reaches_self, wasm_types_fields::specs::Laws::reaches_then), unfolding(crate::specs::DecodeTypes::inner_after))]
 fn inner_after_byte<'a>(
     byte: u8,
     alloc: Global,
@@ -63,7 +64,7 @@ fn inner_after_byte<'a>(
 }
 
 // The type, with what was read before it.
-#[tactic(auto, using(wasm_types_decoding::specs::Laws::reaches_self, wasm_types_decoding::specs::Laws::reaches_then), unfolding(crate::specs::DecodeTypes::last_after))]
+#[tactic(auto, using(wasm_types_fields::specs::Laws::reaches_self, wasm_types_fields::specs::Laws::reaches_then), unfolding(crate::specs::DecodeTypes::last_after))]
 fn last_after_byte<'a>(
     shared: bool,
     describes_idx: Option<PackedIndex>,
@@ -86,7 +87,7 @@ fn last_after_byte<'a>(
 }
 
 // Its descriptor, if one is named.
-#[tactic(auto, using(wasm_types_decoding::specs::Laws::reaches_self, wasm_types_decoding::specs::Laws::reaches_then, wasm_types_values::proofs::Places::beyond_0), unfolding(crate::specs::DecodeTypes::descriptor_after))]
+#[tactic(auto, using(wasm_types_fields::specs::Laws::reaches_self, wasm_types_fields::specs::Laws::reaches_then, wasm_types_values::proofs::Places::beyond_0), unfolding(crate::specs::DecodeTypes::descriptor_after))]
 fn descriptor_after_byte<'a>(
     shared: bool,
     describes_idx: Option<PackedIndex>,
@@ -107,7 +108,7 @@ fn descriptor_after_byte<'a>(
 }
 
 // The type that it describes, if one is named.
-#[tactic(auto, using(wasm_types_decoding::specs::Laws::reaches_self, wasm_types_decoding::specs::Laws::reaches_then, wasm_types_values::proofs::Places::beyond_0), unfolding(crate::specs::DecodeTypes::describes_after))]
+#[tactic(auto, using(wasm_types_fields::specs::Laws::reaches_self, wasm_types_fields::specs::Laws::reaches_then, wasm_types_values::proofs::Places::beyond_0), unfolding(crate::specs::DecodeTypes::describes_after))]
 fn describes_after_byte<'a>(
     shared: bool,
     byte: u8,
@@ -127,7 +128,7 @@ fn describes_after_byte<'a>(
 }
 
 // Whether it is shared.
-#[tactic(auto, using(wasm_types_decoding::specs::Laws::reaches_self, wasm_types_decoding::specs::Laws::reaches_then, wasm_types_values::proofs::Places::beyond_0), unfolding(crate::specs::DecodeTypes::composite_after))]
+#[tactic(auto, using(wasm_types_fields::specs::Laws::reaches_self, wasm_types_fields::specs::Laws::reaches_then, wasm_types_values::proofs::Places::beyond_0), unfolding(crate::specs::DecodeTypes::composite_after))]
 fn composite_after_byte<'a>(
     byte: u8,
     alloc: Global,
@@ -164,7 +165,7 @@ impl<'a> FromReader<'a> for CompositeType {
 
     ghost exact = { decides-composite };
 
-    #[tactic(auto, using(wasm_types_decoding::specs::Laws::reaches_self, wasm_types_decoding::specs::Laws::reaches_then, wasm_types_values::proofs::Places::beyond_0), unfolding(crate::specs::DecodeTypes::composite))]
+    #[tactic(auto, using(wasm_types_fields::specs::Laws::reaches_self, wasm_types_fields::specs::Laws::reaches_then, wasm_types_values::proofs::Places::beyond_0), unfolding(crate::specs::DecodeTypes::composite))]
     fn from_reader(alloc: Global, reader: &mut BinaryReader<'a>) -> Result<CompositeType> {
         let byte = reader.read_u8()?;
         composite_after_byte(byte, alloc, reader)
@@ -172,7 +173,7 @@ impl<'a> FromReader<'a> for CompositeType {
 }
 
 // One index, as a list.
-#[tactic(auto, using(wasm_types_decoding::specs::Laws::reaches_self, wasm_types_decoding::specs::Laws::reaches_then), unfolding(wasm_types_decoding::specs::Decoder::repeated))]
+#[tactic(auto, using(wasm_types_fields::specs::Laws::reaches_self, wasm_types_fields::specs::Laws::reaches_then), unfolding(wasm_types_fields::specs::Laws::repeated))]
 fn read_one<'a>(alloc: Global, reader: &mut BinaryReader<'a>) -> Result<Vec<PackedIndex>>
     ensures answer { Gives (λ v. v.items) result reader.new (repeated 1 module_index reader.old) }
     ensures forward { Reaches reader.old reader.new }
@@ -184,7 +185,7 @@ fn read_one<'a>(alloc: Global, reader: &mut BinaryReader<'a>) -> Result<Vec<Pack
 }
 
 // The declared supertypes, of which there is at most one.
-#[tactic(auto, using(wasm_types_decoding::specs::Laws::reaches_self, wasm_types_decoding::specs::Laws::reaches_then, crate::proofs::Counts::only_one), unfolding(crate::specs::DecodeTypes::supertypes, wasm_types_decoding::specs::Lists::listed_within))]
+#[tactic(auto, using(wasm_types_fields::specs::Laws::reaches_self, wasm_types_fields::specs::Laws::reaches_then, crate::proofs::Counts::only_one), unfolding(crate::specs::DecodeTypes::supertypes, wasm_types_fields::specs::Laws::listed_within))]
 fn read_supertypes<'a>(alloc: Global, reader: &mut BinaryReader<'a>) -> Result<Vec<PackedIndex>>
     ensures answer { Gives (λ v. v.items) result reader.new (supertypes reader.old) }
     ensures forward { Reaches reader.old reader.new }
@@ -197,7 +198,7 @@ fn read_supertypes<'a>(alloc: Global, reader: &mut BinaryReader<'a>) -> Result<V
 }
 
 // The supertypes and the composite type.
-#[tactic(auto, using(wasm_types_decoding::specs::Laws::reaches_self, wasm_types_decoding::specs::Laws::reaches_then), unfolding(crate::specs::DecodeTypes::declared_sub))]
+#[tactic(auto, using(wasm_types_fields::specs::Laws::reaches_self, wasm_types_fields::specs::Laws::reaches_then), unfolding(crate::specs::DecodeTypes::declared_sub))]
 fn read_declared<'a>(
     is_final: bool,
     alloc: Global,
@@ -216,7 +217,7 @@ fn read_declared<'a>(
 }
 
 // A subtype.
-#[tactic(auto, using(wasm_types_decoding::specs::Laws::reaches_self, wasm_types_decoding::specs::Laws::reaches_then), unfolding(crate::specs::DecodeTypes::sub_after))]
+#[tactic(auto, using(wasm_types_fields::specs::Laws::reaches_self, wasm_types_fields::specs::Laws::reaches_then), unfolding(crate::specs::DecodeTypes::sub_after))]
 pub(crate) fn sub_after_byte<'a>(
     byte: u8,
     alloc: Global,
@@ -260,7 +261,7 @@ impl<'a> FromReader<'a> for SubType {
 
     ghost exact = { decides-sub_type };
 
-    #[tactic(auto, using(wasm_types_decoding::specs::Laws::reaches_self, wasm_types_decoding::specs::Laws::reaches_then, wasm_types_values::proofs::Places::beyond_0), unfolding(crate::specs::DecodeTypes::sub_type))]
+    #[tactic(auto, using(wasm_types_fields::specs::Laws::reaches_self, wasm_types_fields::specs::Laws::reaches_then, wasm_types_values::proofs::Places::beyond_0), unfolding(crate::specs::DecodeTypes::sub_type))]
     fn from_reader(alloc: Global, reader: &mut BinaryReader<'a>) -> Result<SubType> {
         let byte = reader.read_u8()?;
         sub_after_byte(byte, alloc, reader)

@@ -7,8 +7,7 @@ use crate::remap::remap_types;
 use std::alloc::{AllocError, Global};
 use std::iter::Zip;
 use std::vec::IntoIter;
-use wasm_types_reader::Result as Reading;
-use wasm_types_values::PackedIndex;
+use wasm_types_fields::{PackedIndex, Result as Reading};
 
 /// The types of a group, in order, each with its offset.
 pub type TypesAndOffsets = Zip<IntoIter<u64>, IntoIter<SubType>>;
@@ -47,7 +46,7 @@ impl Clone for RecGroup {
 impl RecGroup {
     ghost use Rattle.std.specs.Prelude.{[], ◌∷◌, true, false, IfOk, map};
     ghost use Rattle.std.specs.List.{flat_map};
-    ghost use Rattle.wasm_types_values.specs.Remap.{Remapped};
+    ghost use Rattle.wasm_types_fields.specs.values.Remap.{Remapped};
     ghost use Rattle.wasm_types_groups.specs.Remap.{declared_shape, declared_indices};
     ghost use Rattle.std.specs.Iterator.Adapters.{zip_first, zip_second};
     ghost use Rattle.wasm_types_groups.specs.Rows.{subtypes, declared_types};

@@ -2,14 +2,13 @@
 
 ghost use Rattle.std.specs.Prelude.{◌≡◌, ◌++◌, map};
 ghost use Rattle.std.specs.List.{flat_map};
-ghost use Rattle.wasm_types_values.specs.Remap.{Remapped, IsWalked};
+ghost use Rattle.wasm_types_fields.specs.values.Remap.{Remapped, IsWalked};
 ghost use Rattle.wasm_types_fields.specs.Remap.{inner_shape, inner_indices};
 ghost use Rattle.wasm_types_groups.specs.Rows.{inner_of, composite_of, declared_of};
 ghost use Rattle.wasm_types_groups.specs.Remap.{list_shape, row_shape, row_indices, declared_shape, declared_indices, OptionRemapped};
 
 use crate::{CompositeInnerType, CompositeType, SubType};
-use wasm_types_reader::Result;
-use wasm_types_values::PackedIndex;
+use wasm_types_fields::{PackedIndex, Result};
 
 // An index that may be absent, replaced.
 fn remap_option<F: Fn(PackedIndex) -> Result<PackedIndex>>(

@@ -8,8 +8,7 @@ ghost use Rattle.wasm_types_groups.specs.Text.{supertype_text};
 use crate::{CompositeInnerType, CompositeType};
 use std::alloc::Global;
 use std::fmt::{self, Display};
-use wasm_types_fields::{ArrayType, ContType, FuncType, StructType};
-use wasm_types_values::PackedIndex;
+use wasm_types_fields::{ArrayType, ContType, FuncType, PackedIndex, StructType};
 
 /// A composite type in the order of types (WebAssembly 3.0, structure, recursive types).
 #[derive(Clone, Debug, Drop, PartialEq, Eq, PartialOrd, Ord, Hash)]

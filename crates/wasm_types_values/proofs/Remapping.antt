@@ -1,7 +1,7 @@
 -- The index of a value type is replaced, or refused.
 use Rattle.std.proofs.Common.{◌≡◌, refl, sym, subst, Some, Bool, true, false}
 use Rattle.std.specs.Prelude.{Result, Ok, Err}
-use Rattle.wasm_types_error.specs.ErrorValue.{ErrorValue}
+use Rattle.wasm_types_reader.specs.error.ErrorValue.{ErrorValue}
 use Rattle.wasm_types_indices.specs.declared.index.UnpackedIndex.{UnpackedIndex}
 use Rattle.wasm_types_trees.specs.Rows as tree
 use Rattle.wasm_types_trees.specs.Rows.{HeapOf}

@@ -1,9 +1,9 @@
 -- How the bytes of heap types and reference types are read.
 use Rattle.std.specs.Prelude.{ℕ, ◌==◌, List, [], ◌∷◌, Option, Some, None, Bool, true, false, nat_lt, if◌then◌else◌, ℤ, pos, negsuc}
-use Rattle.wasm_types_decoding.specs.declared.Refusal.TheVariants.{Other}
-use Rattle.wasm_types_decoding.specs.Decoder.{Decoder, ◌>>=◌, pure, refuse, byte, look}
-use Rattle.wasm_types_decoding.specs.Lists.{refuse_at}
-use Rattle.wasm_types_decoding.specs.Leb.{u32, s33}
+use Rattle.wasm_types_reader.specs.decoding.declared.Refusal.TheVariants.{Other}
+use Rattle.wasm_types_reader.specs.decoding.Decoder.{Decoder, ◌>>=◌, pure, refuse, byte, look}
+use Rattle.wasm_types_reader.specs.decoding.Lists.{refuse_at}
+use Rattle.wasm_types_reader.specs.decoding.Leb.{u32, s33}
 use Rattle.wasm_types_indices.specs.declared.index.UnpackedIndex.TheVariants.{Module}
 use Rattle.wasm_types_values.specs.declared.heap.AbstractHeapType.{AbstractHeapType}
 use Rattle.wasm_types_values.specs.declared.heap.AbstractHeapType.TheVariants as heap

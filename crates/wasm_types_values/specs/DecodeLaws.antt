@@ -1,13 +1,13 @@
 -- The readers of types are lawful.
 use Rattle.std.proofs.Common.{◌≡◌, ℕ, suc, ◌-◌, refl, sym, subst, cond, Option, Some, None, Bool, true, false}
 use Rattle.std.specs.Prelude.{◌==◌, nat_lt, ℤ, pos, negsuc, ◌*ℤ◌, ◌+ℤ◌}
-use Rattle.wasm_types_decoding.specs.declared.Refusal.TheVariants.{Other}
-use Rattle.wasm_types_decoding.specs.Decoder.{Outcome, Done, Short, Fault, Decoder, continue_with, ◌>>=◌, pure, byte, IsLawful, TakesOne, IsBeyond}
-use Rattle.wasm_types_decoding.specs.Laws.{lawful-byte, lawful->>=, lawful-pure, lawful-refuse, lawful-if, lawful-look, lawful-choice_or, TakesOne-byte}
-use Rattle.wasm_types_decoding.specs.ListLaws.{lawful-from_place, lawful-refuse_at}
-use Rattle.wasm_types_decoding.specs.Leb.{u32, s33, signed, seven_bits}
-use Rattle.wasm_types_decoding.specs.LebLaws.{lawful-unsigned}
-use Rattle.wasm_types_decoding.specs.SignedLaws.{lawful-signed}
+use Rattle.wasm_types_reader.specs.decoding.declared.Refusal.TheVariants.{Other}
+use Rattle.wasm_types_reader.specs.decoding.Decoder.{Outcome, Done, Short, Fault, Decoder, continue_with, ◌>>=◌, pure, byte, IsLawful, TakesOne, IsBeyond}
+use Rattle.wasm_types_reader.specs.decoding.Laws.{lawful-byte, lawful->>=, lawful-pure, lawful-refuse, lawful-if, lawful-look, lawful-choice_or, TakesOne-byte}
+use Rattle.wasm_types_reader.specs.decoding.ListLaws.{lawful-from_place, lawful-refuse_at}
+use Rattle.wasm_types_reader.specs.decoding.Leb.{u32, s33, signed, seven_bits}
+use Rattle.wasm_types_reader.specs.decoding.LebLaws.{lawful-unsigned}
+use Rattle.wasm_types_reader.specs.decoding.SignedLaws.{lawful-signed}
 use Rattle.wasm_types_indices.specs.declared.index.UnpackedIndex.TheVariants.{Module}
 use Rattle.wasm_types_values.specs.declared.heap.AbstractHeapType.{AbstractHeapType}
 use Rattle.wasm_types_values.specs.declared.heap.HeapType.TheVariants.{Abstract, Concrete, Exact}

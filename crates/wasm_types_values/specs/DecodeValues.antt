@@ -1,6 +1,6 @@
 -- How the bytes of value types and storage types are read.
 use Rattle.std.specs.Prelude.{ℕ, ◌==◌, List, [], ◌∷◌, if◌then◌else◌}
-use Rattle.wasm_types_decoding.specs.Decoder.{Decoder, ◌>>=◌, pure, byte, choice_or}
+use Rattle.wasm_types_reader.specs.decoding.Decoder.{Decoder, ◌>>=◌, pure, byte, choice_or}
 use Rattle.wasm_types_values.specs.declared.value.ValType.{ValType}
 use Rattle.wasm_types_values.specs.declared.value.ValType.TheVariants.{I32, I64, F32, F64, V128, Ref}
 use Rattle.wasm_types_values.specs.declared.value.StorageType.{StorageType}

@@ -4,13 +4,13 @@ use Rattle.std.specs.Prelude.{◌==◌, ℤ, pos, negsuc, ◌-ℤ◌}
 use Rattle.std.proofs.lemmas.Int.{ints}
 use Rattle.std.proofs.lemmas.Bool.{eqb-true, eqb-false, ltb-true, ltb-false, lt-ltb, le-ltb}
 use Rattle.std.proofs.lemmas.List.{append-nil}
-use Rattle.wasm_types_decoding.specs.declared.Refusal.TheVariants.{Other}
-use Rattle.wasm_types_decoding.specs.Decoder.{State, Done, Decoder, Grammar, ◌>>=◌, pure, byte, Takes, Decides, Then}
-use Rattle.wasm_types_decoding.specs.Exact.{Mapped, Sound, decides->>=, decides-same, decides-pure, decides-refuse, decides-if, decides-map, decides-byte, decides-look_apart}
-use Rattle.wasm_types_decoding.specs.ListLaws.{decides-from_place, decides-refuse_at}
-use Rattle.wasm_types_decoding.specs.Leb.{u32, s33, IsUnsigned, IsSigned, nonnegative, negative, longer}
-use Rattle.wasm_types_decoding.specs.LebLaws.{decides-u32}
-use Rattle.wasm_types_decoding.specs.SignedLaws.{decides-s33}
+use Rattle.wasm_types_reader.specs.decoding.declared.Refusal.TheVariants.{Other}
+use Rattle.wasm_types_reader.specs.decoding.Decoder.{State, Done, Decoder, Grammar, ◌>>=◌, pure, byte, Takes, Decides, Then}
+use Rattle.wasm_types_reader.specs.decoding.Exact.{Mapped, Sound, decides->>=, decides-same, decides-pure, decides-refuse, decides-if, decides-map, decides-byte, decides-look_apart}
+use Rattle.wasm_types_reader.specs.decoding.ListLaws.{decides-from_place, decides-refuse_at}
+use Rattle.wasm_types_reader.specs.decoding.Leb.{u32, s33, IsUnsigned, IsSigned, nonnegative, negative, longer}
+use Rattle.wasm_types_reader.specs.decoding.LebLaws.{decides-u32}
+use Rattle.wasm_types_reader.specs.decoding.SignedLaws.{decides-s33}
 use Rattle.wasm_types_indices.specs.declared.index.UnpackedIndex.TheVariants.{Module, RecGroup, Id}
 use Rattle.wasm_types_values.specs.declared.heap.AbstractHeapType.{AbstractHeapType}
 use Rattle.wasm_types_values.specs.declared.heap.AbstractHeapType.TheVariants as heap

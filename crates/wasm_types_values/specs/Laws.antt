@@ -1,4 +1,6 @@
 -- What `==` and the order of types mean.
+pub use Rattle.wasm_types_reader.specs.Laws.{reaches_self, reaches_then}
+unfoldable pub use Rattle.wasm_types_reader.specs.Laws.{listed_within, repeated}
 use Rattle.std.proofs.Common.{◌≡◌, ◌↔◌, ℕ, IsTrue}
 use Rattle.std.specs.Ordering.{nat_cmp}
 use Rattle.wasm_types_values.specs.declared.heap.AbstractHeapType.{AbstractHeapType}

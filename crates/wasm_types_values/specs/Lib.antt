@@ -24,3 +24,12 @@ pub mod ReferenceExact
 pub mod ValueExact
 pub mod RemapLaws
 pub mod WorkedTypeLaws
+-- The rules and laws of the crates below, under their names: crates above cite them here.
+pub use Rattle.wasm_types_reader.specs.limits as limits
+pub use Rattle.wasm_types_reader.specs.decoding as decoding
+pub use Rattle.wasm_types_reader.specs.features as features
+pub use Rattle.wasm_types_reader.specs.error as error
+pub use Rattle.wasm_types_reader.specs.numbers as numbers
+pub use Rattle.wasm_types_reader.specs as reader
+pub use Rattle.wasm_types_indices.specs as indices
+pub use Rattle.wasm_types_trees.specs as trees

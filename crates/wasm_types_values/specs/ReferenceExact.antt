@@ -1,8 +1,8 @@
 -- Reference types are read exactly where bytes spell them.
 use Rattle.std.proofs.Common.{◌≡◌, ℕ, ◌≤◌, List, [], ◌∷◌, refl, sym, ap, subst, arith, eqb, Bool, true, false, inl, inr}
 use Rattle.std.proofs.lemmas.Bool.{eqb-true, eqb-false}
-use Rattle.wasm_types_decoding.specs.Decoder.{Grammar, ◌>>=◌, pure, Decides}
-use Rattle.wasm_types_decoding.specs.Exact.{Mapped, decides-same, decides-if, decides-map, decides-byte}
+use Rattle.wasm_types_reader.specs.decoding.Decoder.{Grammar, ◌>>=◌, pure, Decides}
+use Rattle.wasm_types_reader.specs.decoding.Exact.{Mapped, decides-same, decides-if, decides-map, decides-byte}
 use Rattle.wasm_types_values.specs.declared.heap.AbstractHeapType.{AbstractHeapType}
 use Rattle.wasm_types_values.specs.declared.heap.HeapType.{HeapType}
 use Rattle.wasm_types_values.specs.declared.heap.HeapType.TheVariants.{Abstract, Concrete, Exact}

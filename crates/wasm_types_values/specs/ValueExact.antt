@@ -1,8 +1,8 @@
 -- Value types and storage types are read exactly where bytes spell them.
 use Rattle.std.proofs.Common.{◌≡◌, ℕ, List, [], ◌∷◌, refl, sym, subst, arith, eqb, true, false}
 use Rattle.std.proofs.lemmas.Bool.{eqb-true, eqb-false}
-use Rattle.wasm_types_decoding.specs.Decoder.{Grammar, pure, Decides}
-use Rattle.wasm_types_decoding.specs.Exact.{Mapped, decides-same, decides-pure, decides-if, decides-map, decides-byte}
+use Rattle.wasm_types_reader.specs.decoding.Decoder.{Grammar, pure, Decides}
+use Rattle.wasm_types_reader.specs.decoding.Exact.{Mapped, decides-same, decides-pure, decides-if, decides-map, decides-byte}
 use Rattle.wasm_types_values.specs.declared.value.ValType.{ValType}
 use Rattle.wasm_types_values.specs.declared.value.ValType.TheVariants.{I32, I64, F32, F64, V128, Ref}
 use Rattle.wasm_types_values.specs.declared.value.StorageType.{StorageType}

@@ -3,10 +3,10 @@ use Rattle.std.proofs.Common.{◌≡◌, ℕ, ◌++◌, List, [], ◌∷◌, ref
 use Rattle.std.specs.Prelude.{codes}
 use Rattle.std.specs.Fmt.{decimal}
 use Rattle.std.specs.declared.cmp.Ordering.TheVariants.{Less, Greater}
-use Rattle.wasm_types_decoding.specs.declared.Refusal.TheVariants.{Other}
-use Rattle.wasm_types_decoding.specs.Decoder.{State, Done, Short, Fault}
-use Rattle.wasm_types_decoding.specs.Leb.{unsigned, signed, last_bits}
-use Rattle.wasm_types_limits.specs.Settings.{no_features}
+use Rattle.wasm_types_reader.specs.decoding.declared.Refusal.TheVariants.{Other}
+use Rattle.wasm_types_reader.specs.decoding.Decoder.{State, Done, Short, Fault}
+use Rattle.wasm_types_reader.specs.decoding.Leb.{unsigned, signed, last_bits}
+use Rattle.wasm_types_reader.specs.limits.Settings.{no_features}
 use Rattle.wasm_types_indices.specs.declared.index.UnpackedIndex.TheVariants.{Module, RecGroup}
 use Rattle.wasm_types_values.specs.declared.heap.AbstractHeapType.{AbstractHeapType}
 use Rattle.wasm_types_values.specs.declared.heap.AbstractHeapType.TheVariants as heap

@@ -1,7 +1,7 @@
 //! Heap types from their bytes (WebAssembly 3.0, binary format, types).
 ghost use Rattle.std.specs.Prelude.{◌≡◌, ◌<◌};
-ghost use Rattle.wasm_types_decoding.specs.Decoder.{Reaches};
-ghost use Rattle.wasm_types_error.specs.declared.error.ErrorKind.TheVariants.{Other};
+ghost use Rattle.wasm_types_reader.specs.decoding.Decoder.{Reaches};
+ghost use Rattle.wasm_types_reader.specs.error.declared.error.ErrorKind.TheVariants.{Other};
 ghost use Rattle.wasm_types_reader.specs.Reading.{Gives, NeedsNoMemory};
 ghost use Rattle.wasm_types_values.specs.Decode.{type_of_byte, concrete_heap_type, exact_heap_type};
 
@@ -58,7 +58,7 @@ impl<'a> FromReader<'a> for AbstractHeapType {
 
     ghost exact = { λ z. decides-abstract_heap_type };
 
-    #[tactic(auto, using(wasm_types_decoding::specs::Laws::reaches_self, wasm_types_decoding::specs::Laws::reaches_then), unfolding(crate::specs::Decode::abstract_heap_type))]
+    #[tactic(auto, using(wasm_types_reader::specs::Laws::reaches_self, wasm_types_reader::specs::Laws::reaches_then), unfolding(crate::specs::Decode::abstract_heap_type))]
     fn from_reader(_alloc: Global, reader: &mut BinaryReader<'a>) -> Result<AbstractHeapType>
         ensures answer { Gives (λ ty. ty) result reader.new (abstract_heap_type reader.old) }
         ensures forward { Reaches reader.old reader.new }
@@ -82,7 +82,7 @@ pub fn index_error(offset: u64) -> Error
 }
 
 // A heap type that is an index in a number with a sign.
-#[tactic(auto, using(wasm_types_decoding::specs::Laws::reaches_self, wasm_types_decoding::specs::Laws::reaches_then), unfolding(crate::specs::Decode::concrete_heap_type))]
+#[tactic(auto, using(wasm_types_reader::specs::Laws::reaches_self, wasm_types_reader::specs::Laws::reaches_then), unfolding(crate::specs::Decode::concrete_heap_type))]
 fn read_concrete<'a>(reader: &mut BinaryReader<'a>) -> Result<HeapType>
     ensures answer { Gives (λ h. h) result reader.new (concrete_heap_type reader.old) }
     ensures no_memory { NeedsNoMemory result }
@@ -100,7 +100,7 @@ fn read_concrete<'a>(reader: &mut BinaryReader<'a>) -> Result<HeapType>
 }
 
 // A heap type that is exactly the type at an index.
-#[tactic(auto, using(wasm_types_decoding::specs::Laws::reaches_self, wasm_types_decoding::specs::Laws::reaches_then), unfolding(crate::specs::Decode::exact_heap_type))]
+#[tactic(auto, using(wasm_types_reader::specs::Laws::reaches_self, wasm_types_reader::specs::Laws::reaches_then), unfolding(crate::specs::Decode::exact_heap_type))]
 fn read_exact<'a>(reader: &mut BinaryReader<'a>) -> Result<HeapType>
     ensures answer { Gives (λ h. h) result reader.new (exact_heap_type reader.old) }
     ensures no_memory { NeedsNoMemory result }
@@ -135,7 +135,7 @@ impl<'a> FromReader<'a> for HeapType {
 
     ghost exact = { λ z. decides-heap_type };
 
-    #[tactic(auto, using(wasm_types_decoding::specs::Laws::reaches_self, wasm_types_decoding::specs::Laws::reaches_then), unfolding(crate::specs::Decode::heap_type, crate::specs::Decode::heap_type_after))]
+    #[tactic(auto, using(wasm_types_reader::specs::Laws::reaches_self, wasm_types_reader::specs::Laws::reaches_then), unfolding(crate::specs::Decode::heap_type, crate::specs::Decode::heap_type_after))]
     fn from_reader(alloc: Global, reader: &mut BinaryReader<'a>) -> Result<HeapType>
         ensures answer { Gives (λ ty. ty) result reader.new (heap_type reader.old) }
         ensures forward { Reaches reader.old reader.new }

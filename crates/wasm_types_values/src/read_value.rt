@@ -1,6 +1,6 @@
 //! Reference types, value types and storage types from their bytes (WebAssembly 3.0, binary format, types).
 ghost use Rattle.std.specs.Prelude.{◌≡◌, ◌<◌};
-ghost use Rattle.wasm_types_decoding.specs.Decoder.{Reaches};
+ghost use Rattle.wasm_types_reader.specs.decoding.Decoder.{Reaches};
 ghost use Rattle.wasm_types_reader.specs.Reading.{Gives, NeedsNoMemory};
 ghost use Rattle.wasm_types_values.specs.Decode.{long_reference, reference_after};
 ghost use Rattle.wasm_types_values.specs.DecodeValues.{value_type_after};
@@ -13,7 +13,7 @@ use std::alloc::Global;
 use wasm_types_reader::{BinaryReader, Error, FromReader, Result};
 
 // The reference type that begins with a byte, which was read. What begins none is refused with this message.
-#[tactic(auto, using(wasm_types_decoding::specs::Laws::reaches_self, wasm_types_decoding::specs::Laws::reaches_then), unfolding(crate::specs::Decode::reference_after))]
+#[tactic(auto, using(wasm_types_reader::specs::Laws::reaches_self, wasm_types_reader::specs::Laws::reaches_then), unfolding(crate::specs::Decode::reference_after))]
 fn reference_after_byte<'a>(
     byte: u8,
     message: &str,
@@ -75,7 +75,7 @@ impl<'a> FromReader<'a> for RefType {
 
     ghost exact = { λ z. decides-reference_type };
 
-    #[tactic(auto, using(wasm_types_decoding::specs::Laws::reaches_self, wasm_types_decoding::specs::Laws::reaches_then, crate::proofs::Places::beyond_0), unfolding(crate::specs::Decode::reference_type))]
+    #[tactic(auto, using(wasm_types_reader::specs::Laws::reaches_self, wasm_types_reader::specs::Laws::reaches_then, crate::proofs::Places::beyond_0), unfolding(crate::specs::Decode::reference_type))]
     fn from_reader(alloc: Global, reader: &mut BinaryReader<'a>) -> Result<RefType>
         ensures answer { Gives (λ ty. ty) result reader.new (reference_type reader.old) }
         ensures forward { Reaches reader.old reader.new }
@@ -87,7 +87,7 @@ impl<'a> FromReader<'a> for RefType {
 }
 
 // The value type that begins with a byte, which was read.
-#[tactic(auto, using(wasm_types_decoding::specs::Laws::reaches_self, wasm_types_decoding::specs::Laws::reaches_then), unfolding(crate::specs::DecodeValues::value_type_after))]
+#[tactic(auto, using(wasm_types_reader::specs::Laws::reaches_self, wasm_types_reader::specs::Laws::reaches_then), unfolding(crate::specs::DecodeValues::value_type_after))]
 fn value_after_byte<'a>(byte: u8, alloc: Global, reader: &mut BinaryReader<'a>) -> Result<ValType>
     requires { 0 < reader.old.place }
     ensures answer { Gives (λ v. v) result reader.new (value_type_after byte reader.old) }
@@ -128,7 +128,7 @@ impl<'a> FromReader<'a> for ValType {
 
     ghost exact = { λ z. decides-value_type };
 
-    #[tactic(auto, using(wasm_types_decoding::specs::Laws::reaches_self, wasm_types_decoding::specs::Laws::reaches_then, crate::proofs::Places::beyond_0), unfolding(crate::specs::DecodeValues::value_type))]
+    #[tactic(auto, using(wasm_types_reader::specs::Laws::reaches_self, wasm_types_reader::specs::Laws::reaches_then, crate::proofs::Places::beyond_0), unfolding(crate::specs::DecodeValues::value_type))]
     fn from_reader(alloc: Global, reader: &mut BinaryReader<'a>) -> Result<ValType>
         ensures answer { Gives (λ ty. ty) result reader.new (value_type reader.old) }
         ensures forward { Reaches reader.old reader.new }
@@ -160,7 +160,7 @@ impl<'a> FromReader<'a> for StorageType {
 
     ghost exact = { λ z. decides-storage_type };
 
-    #[tactic(auto, using(wasm_types_decoding::specs::Laws::reaches_self, wasm_types_decoding::specs::Laws::reaches_then, crate::proofs::Places::beyond_0), unfolding(crate::specs::DecodeValues::storage_type, crate::specs::DecodeValues::storage_type_after))]
+    #[tactic(auto, using(wasm_types_reader::specs::Laws::reaches_self, wasm_types_reader::specs::Laws::reaches_then, crate::proofs::Places::beyond_0), unfolding(crate::specs::DecodeValues::storage_type, crate::specs::DecodeValues::storage_type_after))]
     fn from_reader(alloc: Global, reader: &mut BinaryReader<'a>) -> Result<StorageType>
         ensures answer { Gives (λ ty. ty) result reader.new (storage_type reader.old) }
         ensures forward { Reaches reader.old reader.new }

@@ -2,9 +2,9 @@
 use Rattle.std.proofs.Common.{map, arith, subst, sym, ap, ◌∙◌}
 use Rattle.std.proofs.lemmas.Result.{err_from_is_err_and}
 use Rattle.std.proofs.lemmas.List.{map-append}
-use Rattle.wasm_types_decoding.specs.Laws.{reaches_then}
-use Rattle.wasm_types_limits.specs.Settings.{Settings}
-use Rattle.wasm_types_reader.specs.Reading.{Fails}
+use Rattle.wasm_types_fields.specs.decoding.Laws.{reaches_then}
+use Rattle.wasm_types_fields.specs.limits.Settings.{Settings}
+use Rattle.wasm_types_fields.specs.reader.Reading.{Fails}
 use Rattle.wasm_types_reader.proofs.Rows.{goes_on, ends, is_done}
 use Rattle.wasm_types_groups.specs.SpellsTypes.{sub_value}
 use Rattle.wasm_types_groups.specs.DecodeTypes.{sub_type}

@@ -1,5 +1,5 @@
 use Rattle.std.proofs.Common.{◌≡◌, ◌-◌, length, map}
-use Rattle.wasm_types_decoding.specs.Decoder.{repeated, Reaches}
+use Rattle.wasm_types_fields.specs.decoding.Decoder.{repeated, Reaches}
 use Rattle.wasm_types_reader.proofs.Rows.{with_front}
 use Rattle.wasm_types_groups.specs.SpellsTypes.{sub_value}
 use Rattle.wasm_types_groups.specs.DecodeTypes.{sub_type}

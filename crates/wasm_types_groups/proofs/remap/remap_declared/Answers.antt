@@ -1,6 +1,6 @@
 -- One of the supertypes is refused; they are replaced, and then the composite type.
 use Rattle.std.proofs.lemmas.Result.{err_from_is_err_and}
-use Rattle.wasm_types_values.specs.RemapLaws.{walked_next, cut_before}
+use Rattle.wasm_types_fields.specs.values.RemapLaws.{walked_next, cut_before}
 use Rattle.wasm_types_groups.specs.Rows.{composite_of}
 use Rattle.wasm_types_groups.specs.Remap.{row_indices}
 use Rattle.wasm_types_groups.proofs.remap.remap_declared.Given as given

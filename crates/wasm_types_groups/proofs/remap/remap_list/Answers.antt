@@ -3,7 +3,7 @@ use Rattle.std.proofs.Common.{◌∙◌, refl, subst, [], ◌∷◌, arith}
 use Rattle.std.specs.Prelude.{Ok, Err}
 use Rattle.std.proofs.lemmas.List.{length-set}
 use Rattle.std.proofs.lemmas.Result.{err_from_is_err_and}
-use Rattle.wasm_types_indices.specs.declared.index.UnpackedIndex.{UnpackedIndex}
+use Rattle.wasm_types_fields.specs.indices.declared.index.UnpackedIndex.{UnpackedIndex}
 use Rattle.wasm_types_fields.proofs.Remapping.{step, whole}
 use Rattle.wasm_types_groups.proofs.Remapping.{as_indices, cut_alone}
 use Rattle.wasm_types_groups.proofs.remap.remap_list.Given as given
