@@ -15,9 +15,7 @@
 //! expression in `wasm_operators_expression`.
 #![tactic(auto)]
 
-pub use wasm_operators_bodies::{
-    ConstExpr, FunctionBody, LocalsIterator, LocalsReader, MAX_WASM_FUNCTION_LOCALS,
-};
+pub use wasm_operators_bodies::{ConstExpr, FunctionBody, LocalsIterator, LocalsReader};
 pub use wasm_operators_control::{
     ContinuationOperator, ControlOperator, ExceptionOperator, ParametricOperator,
 };
