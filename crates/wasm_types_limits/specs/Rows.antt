@@ -30,7 +30,29 @@ pub record DefaultRows : Type 0 where
 
 -- the most of each is within the ceilings, and one more of any is not
 pub record CeilingRows : Type 0 where
-  pub most : IsWithinCeilings ceilings
+  pub most : IsWithinCeilings (record {
+    types = 1048576;
+    params = 1000;
+    results = 1000;
+    fields = 1000000;
+    string_bytes = 1000000;
+    imports = 1000000;
+    exports = 1000000;
+    functions = 1000000;
+    globals = 1000000;
+    tags = 1000000;
+    tables = 100000;
+    memories = 100000;
+    element_segments = 1000000;
+    data_segments = 1000000;
+    segment_items = 10000000;
+    body_bytes = 7654321;
+    select_types = 1000;
+    locals = 1000000;
+    catches = 100000;
+    subtyping_depth = 254;
+    type_size = 16777215;
+  })
   pub types : IsWithinCeilings (record ceilings { types = 1048577 }) → ⊥
   pub params : IsWithinCeilings (record ceilings { params = 1001 }) → ⊥
   pub results : IsWithinCeilings (record ceilings { results = 1001 }) → ⊥
