@@ -5,7 +5,7 @@ use Rattle.wasm_types.specs.features.Features.{has}
 use Rattle.wasm_types.specs.trees.Rows.{i32, i64, number, ref, abstract, func}
 use Rattle.wasm_types.specs.trees.Trees.{opened}
 use Rattle.wasm_types.specs.trees.AbstractOrder.{same}
-use Rattle.wasm_operators_immediates.specs.declared.frames.FrameKind.TheVariants as frames
+use Rattle.wasm_operators_expression.specs.immediates.declared.frames.FrameKind.TheVariants as frames
 use Rattle.wasm_operators_expression.specs.Code.{plain}
 use Rattle.wasm_operator_validator_rules.specs.Operands.{ValueType, Operand, known, AllBelow}
 use Rattle.wasm_operator_validator_rules.specs.Context.{Initialised}

@@ -2,13 +2,13 @@
 use Rattle.std.specs.Prelude.{Bool, true, false, List, [], ◌∷◌, ◌+◌, ◌^◌, ◌==◌, ◌&&◌, ◌||◌, Option, Some, None, nat_lt}
 use Rattle.wasm_types.specs.trees.Rows.{Number, i32, i64, f32, f64}
 use Rattle.wasm_types.specs.externs.declared.memory.MemoryType.{MemoryType}
-use Rattle.wasm_operators_immediates.specs.declared.memory.MemArg.{MemArg}
-use Rattle.wasm_operators_immediates.specs.declared.memory.MemArgTarget.{MemArgTarget}
-use Rattle.wasm_operators_immediates.specs.declared.memory.MemArgTarget.TheVariants as target
-use Rattle.wasm_operators_memory.specs.declared.memory.MemoryOperator.{MemoryOperator}
-use Rattle.wasm_operators_memory.specs.declared.memory.MemoryOperator.TheVariants as memory
-use Rattle.wasm_operators_threads.specs.declared.atomic.AtomicOperator.{AtomicOperator}
-use Rattle.wasm_operators_threads.specs.declared.atomic.AtomicOperator.TheVariants as atomic
+use Rattle.wasm_operators_expression.specs.immediates.declared.memory.MemArg.{MemArg}
+use Rattle.wasm_operators_expression.specs.immediates.declared.memory.MemArgTarget.{MemArgTarget}
+use Rattle.wasm_operators_expression.specs.immediates.declared.memory.MemArgTarget.TheVariants as target
+use Rattle.wasm_operators_expression.specs.memory.declared.memory.MemoryOperator.{MemoryOperator}
+use Rattle.wasm_operators_expression.specs.memory.declared.memory.MemoryOperator.TheVariants as memory
+use Rattle.wasm_operators_expression.specs.threads.declared.atomic.AtomicOperator.{AtomicOperator}
+use Rattle.wasm_operators_expression.specs.threads.declared.atomic.AtomicOperator.TheVariants as atomic
 use Rattle.wasm_operator_validator_rules.specs.Numbers.{is_float}
 
 -- what is done with a number at an address: it is read; it is written; it is replaced by what it and another make, and given

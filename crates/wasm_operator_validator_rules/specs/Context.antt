@@ -12,10 +12,10 @@ use Rattle.wasm_types.specs.trees.ValidGroup.{type_at}
 use Rattle.wasm_types.specs.values.declared.value.ValType.{ValType}
 use Rattle.wasm_types.specs.values.Values.{value_of}
 use Rattle.wasm_types.specs.externs.declared.memory.MemoryType.{MemoryType}
-use Rattle.wasm_operators_immediates.specs.declared.block.BlockType.{BlockType}
-use Rattle.wasm_operators_immediates.specs.declared.block.BlockType.TheVariants as block
-use Rattle.wasm_operators_immediates.specs.declared.frames.FrameKind.{FrameKind}
-use Rattle.wasm_operators_immediates.specs.declared.frames.FrameKind.TheVariants as frames
+use Rattle.wasm_operators_expression.specs.immediates.declared.block.BlockType.{BlockType}
+use Rattle.wasm_operators_expression.specs.immediates.declared.block.BlockType.TheVariants as block
+use Rattle.wasm_operators_expression.specs.immediates.declared.frames.FrameKind.{FrameKind}
+use Rattle.wasm_operators_expression.specs.immediates.declared.frames.FrameKind.TheVariants as frames
 use Rattle.wasm_operator_validator_rules.specs.Operands.{ValueType}
 
 -- ---- the module

@@ -4,14 +4,14 @@
 use Rattle.std.specs.Prelude.{ℕ, Bool, true, false, List, [], ◌∷◌, ◌&&◌, Option, Some, None, slice_get, nat_lt, if◌then◌else◌}
 use Rattle.wasm_types.specs.trees.Rows.{i32, number}
 use Rattle.wasm_types.specs.externs.declared.memory.MemoryType.{MemoryType}
-use Rattle.wasm_operators_memory.specs.declared.memory.MemoryOperator.{MemoryOperator}
-use Rattle.wasm_operators_memory.specs.declared.memory.MemoryOperator.TheVariants as memory
-use Rattle.wasm_operators_memory.specs.declared.bulk.BulkOperator.{BulkOperator}
-use Rattle.wasm_operators_memory.specs.declared.bulk.BulkOperator.TheVariants as bulk
-use Rattle.wasm_operators_threads.specs.declared.atomic.AtomicOperator.{AtomicOperator}
-use Rattle.wasm_operators_threads.specs.declared.atomic.AtomicOperator.TheVariants as atomic
-use Rattle.wasm_operators_operator.specs.Op as op
-use Rattle.wasm_operators_operator.specs.Op.{Op}
+use Rattle.wasm_operators_expression.specs.memory.declared.memory.MemoryOperator.{MemoryOperator}
+use Rattle.wasm_operators_expression.specs.memory.declared.memory.MemoryOperator.TheVariants as memory
+use Rattle.wasm_operators_expression.specs.memory.declared.bulk.BulkOperator.{BulkOperator}
+use Rattle.wasm_operators_expression.specs.memory.declared.bulk.BulkOperator.TheVariants as bulk
+use Rattle.wasm_operators_expression.specs.threads.declared.atomic.AtomicOperator.{AtomicOperator}
+use Rattle.wasm_operators_expression.specs.threads.declared.atomic.AtomicOperator.TheVariants as atomic
+use Rattle.wasm_operators_expression.specs.operator.Op as op
+use Rattle.wasm_operators_expression.specs.operator.Op.{Op}
 use Rattle.wasm_operator_validator_rules.specs.Operands.{ValueType}
 use Rattle.wasm_operator_validator_rules.specs.Context.{Context, Table, Global, address_type}
 use Rattle.wasm_operator_validator_rules.specs.Numbers.{numbers, class_of, taken_by, given_by, constant_type}

@@ -1,10 +1,10 @@
 -- Operators on numbers by class (WebAssembly 3.0, validation, numeric instructions).
 use Rattle.std.specs.Prelude.{List, [], ◌∷◌, Bool, true, false, ◌||◌, map}
 use Rattle.wasm_types.specs.trees.Rows.{Number, i32, i64, f32, f64, v128, number}
-use Rattle.wasm_operators_numbers.specs.declared.numeric.NumericOperator.{NumericOperator}
-use Rattle.wasm_operators_numbers.specs.declared.numeric.NumericOperator.TheVariants as numeric
-use Rattle.wasm_operators_memory.specs.declared.constant.ConstOperator.{ConstOperator}
-use Rattle.wasm_operators_memory.specs.declared.constant.ConstOperator.TheVariants as const
+use Rattle.wasm_operators_expression.specs.numbers.declared.numeric.NumericOperator.{NumericOperator}
+use Rattle.wasm_operators_expression.specs.numbers.declared.numeric.NumericOperator.TheVariants as numeric
+use Rattle.wasm_operators_expression.specs.memory.declared.constant.ConstOperator.{ConstOperator}
+use Rattle.wasm_operators_expression.specs.memory.declared.constant.ConstOperator.TheVariants as const
 use Rattle.wasm_operator_validator_rules.specs.Operands.{ValueType}
 
 -- what an operator does with numbers of a type; sums and products of 128 bits by the proposal on wide arithmetic

@@ -8,16 +8,16 @@ use Rattle.wasm_types.specs.trees.Trees.{TypeTree}
 use Rattle.wasm_types.specs.trees.Below.{Below, is_shared, value_is_shared}
 use Rattle.wasm_types.specs.trees.Gates.{Has}
 use Rattle.wasm_types.specs.values.declared.value.ValType.TheVariants as value
-use Rattle.wasm_operators_info.specs.Info.{features_of}
-use Rattle.wasm_operators_control.specs.declared.control.ControlOperator.{ControlOperator}
-use Rattle.wasm_operators_control.specs.declared.control.ControlOperator.TheVariants as control
-use Rattle.wasm_operators_memory.specs.declared.memory.MemoryOperator.{MemoryOperator}
-use Rattle.wasm_operators_memory.specs.declared.memory.MemoryOperator.TheVariants as memory
-use Rattle.wasm_operators_memory.specs.declared.bulk.BulkOperator.{BulkOperator}
-use Rattle.wasm_operators_memory.specs.declared.bulk.BulkOperator.TheVariants as bulk
-use Rattle.wasm_operators_operator.specs.Op as op
-use Rattle.wasm_operators_operator.specs.Op.{Op, ParametricTree}
-use Rattle.wasm_operators_operator.specs.Table.{info_of}
+use Rattle.wasm_operators_expression.specs.info.Info.{features_of}
+use Rattle.wasm_operators_expression.specs.control.declared.control.ControlOperator.{ControlOperator}
+use Rattle.wasm_operators_expression.specs.control.declared.control.ControlOperator.TheVariants as control
+use Rattle.wasm_operators_expression.specs.memory.declared.memory.MemoryOperator.{MemoryOperator}
+use Rattle.wasm_operators_expression.specs.memory.declared.memory.MemoryOperator.TheVariants as memory
+use Rattle.wasm_operators_expression.specs.memory.declared.bulk.BulkOperator.{BulkOperator}
+use Rattle.wasm_operators_expression.specs.memory.declared.bulk.BulkOperator.TheVariants as bulk
+use Rattle.wasm_operators_expression.specs.operator.Op as op
+use Rattle.wasm_operators_expression.specs.operator.Op.{Op, ParametricTree}
+use Rattle.wasm_operators_expression.specs.operator.Table.{info_of}
 use Rattle.wasm_operator_validator_rules.specs.Operands.{ValueType, Operand, bottom, some_reference, known, IsReference, AllBelow, all_known}
 use Rattle.wasm_operator_validator_rules.specs.Context.{Context, Table, Initialised, Signature, IsFunctionType, IsType, MayUse, address_type}
 use Rattle.wasm_operator_validator_rules.specs.Numbers.{class_of, has_float, constant_type, is_float}

@@ -6,15 +6,15 @@ use Rattle.wasm_types.specs.decoding.Laws.{takes_none, Takes-then}
 use Rattle.wasm_types.specs.decoding.Exact.{same_state}
 use Rattle.wasm_types.specs.error.ErrorValue.{ErrorValue}
 use Rattle.wasm_types.specs.reader.Reading.{IsNotMemory}
-use Rattle.wasm_operators_immediates.specs.declared.frames.FrameKind.{FrameKind}
-use Rattle.wasm_operators_immediates.specs.declared.frames.FrameKind.TheVariants.{Block}
-use Rattle.wasm_operators_operator.specs.Op.{Op}
-use Rattle.wasm_operators_expression.specs.Code.{walk}
-use Rattle.wasm_operators_expression.specs.Spelling.{SpelledOperators}
-use Rattle.wasm_operators_expression.specs.Frames.{Closes}
-use Rattle.wasm_operators_expression.specs.FrameLaws.{closes_step, closes_more}
-use Rattle.wasm_operators_expression.specs.SpellingLaws.{spelled_read, read_spelled}
-use Rattle.wasm_operators_expression.specs.Stack.{innermost}
+use Rattle.wasm_operators_reader.specs.immediates.declared.frames.FrameKind.{FrameKind}
+use Rattle.wasm_operators_reader.specs.immediates.declared.frames.FrameKind.TheVariants.{Block}
+use Rattle.wasm_operators_reader.specs.operator.Op.{Op}
+use Rattle.wasm_operators_reader.specs.expression.Code.{walk}
+use Rattle.wasm_operators_reader.specs.expression.Spelling.{SpelledOperators}
+use Rattle.wasm_operators_reader.specs.expression.Frames.{Closes}
+use Rattle.wasm_operators_reader.specs.expression.FrameLaws.{closes_step, closes_more}
+use Rattle.wasm_operators_reader.specs.expression.SpellingLaws.{spelled_read, read_spelled}
+use Rattle.wasm_operators_reader.specs.expression.Stack.{innermost}
 use Rattle.wasm_operators_reader.specs.Standing.{Standing, at_start, Reads, Runs}
 use Rattle.wasm_operators_reader.specs.RunLaws.{run_more, closes_at}
 use Rattle.wasm_operators_reader.specs.MeetLaws.{meets_end, meets_refusal}

@@ -4,12 +4,12 @@ use Rattle.std.specs.Prelude.{◌≡◌, ◌⊎◌, ℕ, Bool, true, false, List
 use Rattle.wasm_types.specs.limits.Settings.{Settings}
 use Rattle.wasm_types.specs.error.declared.error.ErrorKind.TheVariants.{Other}
 use Rattle.wasm_types.specs.error.ErrorValue.{ErrorValue}
-use Rattle.wasm_operators_operator.specs.Op.{Op}
-use Rattle.wasm_operators_operator.specs.declared.role.Role.{Role}
-use Rattle.wasm_operators_operator.specs.declared.role.Role.TheVariants.{End}
-use Rattle.wasm_operators_operator.specs.Roles.{role_of}
-use Rattle.wasm_operators_expression.specs.Code.{Code, walk}
-use Rattle.wasm_operators_expression.specs.Spelling.{SpelledExpression}
+use Rattle.wasm_operators_reader.specs.operator.Op.{Op}
+use Rattle.wasm_operators_reader.specs.operator.declared.role.Role.{Role}
+use Rattle.wasm_operators_reader.specs.operator.declared.role.Role.TheVariants.{End}
+use Rattle.wasm_operators_reader.specs.operator.Roles.{role_of}
+use Rattle.wasm_operators_reader.specs.expression.Code.{Code, walk}
+use Rattle.wasm_operators_reader.specs.expression.Spelling.{SpelledExpression}
 use Rattle.wasm_operators_reader.specs.Standing.{Standing, Reads, Refuses, Runs}
 
 -- of all roles that of `end`

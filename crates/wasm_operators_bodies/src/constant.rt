@@ -5,16 +5,16 @@ ghost use Rattle.wasm_types.specs.decoding.Decoder.{State, Takes};
 ghost use Rattle.wasm_types.specs.error.declared.error.ErrorKind.TheVariants.{Other};
 ghost use Rattle.wasm_types.specs.reader.Parts.{part_at};
 ghost use Rattle.wasm_types.specs.reader.Reading.{IsNotMemory};
-ghost use Rattle.wasm_operators_operator.specs.Op.{Op, op_of};
+ghost use Rattle.wasm_operators_reader.specs.operator.Op.{Op, op_of};
 ghost use Rattle.wasm_operators_reader.specs.Standing.{at_start, Reads, Refuses};
 ghost use Rattle.wasm_operators_bodies.specs.Constants.{is_end, SpelledConstant, PassesTo, StopsConstant};
 
 use crate::part::front;
 use std::alloc::Global;
 use std::marker::Model;
-use wasm_operators_immediates::FrameStack;
-use wasm_operators_operator::{Operator, Role};
 use wasm_operators_reader::OperatorsReader;
+use wasm_operators_reader::immediates::FrameStack;
+use wasm_operators_reader::operator::{Operator, Role};
 use wasm_types::{BinaryReader, Error, Result};
 
 /// The bytes of a constant expression, such as the value of a global (WebAssembly 3.0, binary format, expressions).

@@ -11,3 +11,7 @@ mod read;
 mod refusal;
 
 pub use read::read_operator;
+pub use wasm_operators_decode_encoding::operator;
+pub use wasm_operators_decode_numbers::numbers;
+pub use wasm_operators_decode_threads::threads;
+pub use wasm_operators_decode_vectors::vectors;

@@ -2,8 +2,8 @@
 
 ghost use Rattle.std.specs.Prelude.{◌≡◌, IfOk, IsTrue, false};
 ghost use Rattle.wasm_types.specs.reader.Reading.{Gives, NeedsNoMemory};
-ghost use Rattle.wasm_operators_operator.specs.Op.{op_of};
-ghost use Rattle.wasm_operators_operator.specs.Immediates.{is_canonical};
+ghost use Rattle.wasm_operators_decode_encoding.specs.operator.Op.{op_of};
+ghost use Rattle.wasm_operators_decode_encoding.specs.operator.Immediates.{is_canonical};
 ghost use Rattle.wasm_operators_decode_encoding.specs.Opcodes.{plain};
 ghost use Rattle.wasm_operators_decode_encoding.specs.Coded.{behind, carried_by, plain_kinds};
 ghost use Rattle.wasm_operators_decode_encoding.specs.Operators.{coded_of};
@@ -16,12 +16,12 @@ use wasm_operators_decode_control::{
     continuation_shape, control_shape, exception_shape, parametric_shape, read_continuation,
     read_control, read_exception, read_parametric,
 };
+use wasm_operators_decode_encoding::operator::Operator;
 use wasm_operators_decode_gc::gc_plain_of;
 use wasm_operators_decode_memory::{
     bulk_plain_shape, const_shape, memory_shape, read_bulk_plain, read_const, read_memory,
 };
 use wasm_operators_decode_numbers::numeric_of;
-use wasm_operators_operator::Operator;
 use wasm_types::{BinaryReader, Result};
 
 /// What stands behind a code of one byte.

@@ -2,8 +2,8 @@
 
 ghost use Rattle.std.specs.Prelude.{◌≡◌, IfOk, IsTrue, false};
 ghost use Rattle.wasm_types.specs.reader.Reading.{Answers, Gives, NeedsNoMemory};
-ghost use Rattle.wasm_operators_operator.specs.Op.{op_of};
-ghost use Rattle.wasm_operators_operator.specs.Immediates.{is_canonical};
+ghost use Rattle.wasm_operators_decode_encoding.specs.operator.Op.{op_of};
+ghost use Rattle.wasm_operators_decode_encoding.specs.operator.Immediates.{is_canonical};
 ghost use Rattle.wasm_operators_decode_encoding.specs.Opcodes.{is_prefix, prefixed};
 ghost use Rattle.wasm_operators_decode_encoding.specs.Coded.{behind, operator};
 ghost use Rattle.wasm_operators_decode_encoding.specs.Operators.{coded_of};
@@ -12,7 +12,7 @@ ghost use Rattle.wasm_operators_decode.specs.Memory.{keeps_list_at};
 use crate::plain::read_plain;
 use crate::prefixed::{read_fb, read_fc, read_fd, read_fe};
 use std::alloc::Global;
-use wasm_operators_operator::Operator;
+use wasm_operators_decode_encoding::operator::Operator;
 use wasm_types::{BinaryReader, Result};
 
 // Whether a code follows this byte.

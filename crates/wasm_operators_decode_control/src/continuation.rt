@@ -2,20 +2,20 @@
 
 ghost use Rattle.std.specs.Prelude.{◌≡◌, ◌≢◌, IfOk, option_map, Some, None, [], ◌∷◌};
 ghost use Rattle.wasm_types.specs.reader.Reading.{Gives, NeedsNoMemory};
-ghost use Rattle.wasm_operators_info.specs.Info.{Info};
-ghost use Rattle.wasm_operators_immediates.specs.Kinds.{Tags, Types};
-ghost use Rattle.wasm_operators_immediates.specs.Immediates.{Handlers, Index};
-ghost use Rattle.wasm_operators_control.specs.Immediates.{continuation_immediates};
-ghost use Rattle.wasm_operators_control.specs.Table.{continuation_info};
-ghost use Rattle.wasm_operators_control.specs.Trees.{continuation_of};
+ghost use Rattle.wasm_operators_decode_encoding.specs.info.Info.{Info};
+ghost use Rattle.wasm_operators_decode_immediates.specs.immediates.Kinds.{Tags, Types};
+ghost use Rattle.wasm_operators_decode_immediates.specs.immediates.Immediates.{Handlers, Index};
+ghost use Rattle.wasm_operators_decode_encoding.specs.control.Immediates.{continuation_immediates};
+ghost use Rattle.wasm_operators_decode_encoding.specs.control.Table.{continuation_info};
+ghost use Rattle.wasm_operators_decode_encoding.specs.control.Trees.{continuation_of};
 ghost use Rattle.wasm_operators_decode_encoding.specs.Groups.{continuation_kinds};
 ghost use Rattle.wasm_operators_decode_encoding.specs.Sequences.{immediates};
 ghost use Rattle.wasm_operators_decode_control.specs.declared.continuation.ContinuationShape.TheVariants as ContinuationShape;
 ghost use Rattle.wasm_operators_decode_control.specs.Continuation.{continuation_shape_kinds};
 
 use std::alloc::Global;
-use wasm_operators_control::ContinuationOperator;
-use wasm_operators_immediates::ResumeTable;
+use wasm_operators_decode_encoding::control::ContinuationOperator;
+use wasm_operators_decode_immediates::immediates::ResumeTable;
 use wasm_types::{BinaryReader, FromReader, Result};
 
 /// What stands behind an opcode of the group.

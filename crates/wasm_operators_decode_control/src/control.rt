@@ -2,20 +2,20 @@
 
 ghost use Rattle.std.specs.Prelude.{◌≡◌, IfOk, option_map, Some, None, [], ◌∷◌};
 ghost use Rattle.wasm_types.specs.reader.Reading.{Gives, NeedsNoMemory};
-ghost use Rattle.wasm_operators_info.specs.Info.{Info};
-ghost use Rattle.wasm_operators_immediates.specs.Kinds.{Functions, Tables, Types};
-ghost use Rattle.wasm_operators_immediates.specs.Immediates.{Block, BranchTable, Index, IndexOrZero, Label};
-ghost use Rattle.wasm_operators_control.specs.Immediates.{control_immediates};
-ghost use Rattle.wasm_operators_control.specs.Table.{control_info};
+ghost use Rattle.wasm_operators_decode_encoding.specs.info.Info.{Info};
+ghost use Rattle.wasm_operators_decode_immediates.specs.immediates.Kinds.{Functions, Tables, Types};
+ghost use Rattle.wasm_operators_decode_immediates.specs.immediates.Immediates.{Block, BranchTable, Index, IndexOrZero, Label};
+ghost use Rattle.wasm_operators_decode_encoding.specs.control.Immediates.{control_immediates};
+ghost use Rattle.wasm_operators_decode_encoding.specs.control.Table.{control_info};
 ghost use Rattle.wasm_operators_decode_encoding.specs.Groups.{control_kinds};
 ghost use Rattle.wasm_operators_decode_encoding.specs.Sequences.{immediates};
 ghost use Rattle.wasm_operators_decode_control.specs.declared.control.ControlShape.TheVariants as ControlShape;
 ghost use Rattle.wasm_operators_decode_control.specs.Control.{control_shape_kinds};
 
 use std::alloc::Global;
-use wasm_operators_control::ControlOperator;
+use wasm_operators_decode_encoding::control::ControlOperator;
+use wasm_operators_decode_immediates::immediates::{BlockType, BrTable};
 use wasm_operators_decode_immediates::read_table_or_zero;
-use wasm_operators_immediates::{BlockType, BrTable};
 use wasm_types::{BinaryReader, FromReader, Result};
 
 /// What stands behind an opcode of the group.

@@ -2,22 +2,22 @@
 
 ghost use Rattle.std.specs.Prelude.{◌≡◌, ◌≢◌, IfOk, option_map, Some, None, [], ◌∷◌};
 ghost use Rattle.wasm_types.specs.reader.Reading.{Gives, NeedsNoMemory};
-ghost use Rattle.wasm_operators_info.specs.Info.{Info};
-ghost use Rattle.wasm_operators_immediates.specs.Kinds.{Tags};
-ghost use Rattle.wasm_operators_immediates.specs.Immediates as carried;
-ghost use Rattle.wasm_operators_immediates.specs.Immediates.{Block, Index, Label};
-ghost use Rattle.wasm_operators_immediates.specs.Tables.{catch_table_of};
-ghost use Rattle.wasm_operators_control.specs.Immediates.{exception_immediates};
-ghost use Rattle.wasm_operators_control.specs.Table.{exception_info};
-ghost use Rattle.wasm_operators_control.specs.Trees.{exception_of};
+ghost use Rattle.wasm_operators_decode_encoding.specs.info.Info.{Info};
+ghost use Rattle.wasm_operators_decode_immediates.specs.immediates.Kinds.{Tags};
+ghost use Rattle.wasm_operators_decode_immediates.specs.immediates.Immediates as carried;
+ghost use Rattle.wasm_operators_decode_immediates.specs.immediates.Immediates.{Block, Index, Label};
+ghost use Rattle.wasm_operators_decode_immediates.specs.immediates.Tables.{catch_table_of};
+ghost use Rattle.wasm_operators_decode_encoding.specs.control.Immediates.{exception_immediates};
+ghost use Rattle.wasm_operators_decode_encoding.specs.control.Table.{exception_info};
+ghost use Rattle.wasm_operators_decode_encoding.specs.control.Trees.{exception_of};
 ghost use Rattle.wasm_operators_decode_encoding.specs.Groups.{exception_kinds};
 ghost use Rattle.wasm_operators_decode_encoding.specs.Sequences.{immediates};
 ghost use Rattle.wasm_operators_decode_control.specs.declared.exception.ExceptionShape.TheVariants as ExceptionShape;
 ghost use Rattle.wasm_operators_decode_control.specs.Exception.{exception_shape_kinds};
 
 use std::alloc::Global;
-use wasm_operators_control::ExceptionOperator;
-use wasm_operators_immediates::{BlockType, TryTable};
+use wasm_operators_decode_encoding::control::ExceptionOperator;
+use wasm_operators_decode_immediates::immediates::{BlockType, TryTable};
 use wasm_types::{BinaryReader, FromReader, Result};
 
 /// What stands behind an opcode of the group.

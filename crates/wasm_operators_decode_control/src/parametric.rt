@@ -2,18 +2,18 @@
 
 ghost use Rattle.std.specs.Prelude.{◌≡◌, ◌≢◌, IfOk, IsTrue, option_map, Some, None, [], ◌∷◌};
 ghost use Rattle.wasm_types.specs.reader.Reading.{Gives, NeedsNoMemory};
-ghost use Rattle.wasm_operators_info.specs.Info.{Info};
-ghost use Rattle.wasm_operators_immediates.specs.Immediates.{ValueTypes};
-ghost use Rattle.wasm_operators_control.specs.Immediates.{parametric_immediates, is_canonical};
-ghost use Rattle.wasm_operators_control.specs.Table.{parametric_info};
-ghost use Rattle.wasm_operators_control.specs.Trees.{parametric_of};
+ghost use Rattle.wasm_operators_decode_encoding.specs.info.Info.{Info};
+ghost use Rattle.wasm_operators_decode_immediates.specs.immediates.Immediates.{ValueTypes};
+ghost use Rattle.wasm_operators_decode_encoding.specs.control.Immediates.{parametric_immediates, is_canonical};
+ghost use Rattle.wasm_operators_decode_encoding.specs.control.Table.{parametric_info};
+ghost use Rattle.wasm_operators_decode_encoding.specs.control.Trees.{parametric_of};
 ghost use Rattle.wasm_operators_decode_encoding.specs.Groups.{parametric_kinds};
 ghost use Rattle.wasm_operators_decode_encoding.specs.Sequences.{immediates};
 ghost use Rattle.wasm_operators_decode_control.specs.declared.parametric.ParametricShape.TheVariants as ParametricShape;
 ghost use Rattle.wasm_operators_decode_control.specs.Parametric.{parametric_shape_kinds};
 
 use std::alloc::Global;
-use wasm_operators_control::ParametricOperator;
+use wasm_operators_decode_encoding::control::ParametricOperator;
 use wasm_operators_decode_immediates::read_select_types;
 use wasm_types::{BinaryReader, Result, ValType};
 

@@ -5,8 +5,8 @@ use Rattle.wasm_types.specs.decoding.declared.Refusal.TheVariants.{Other}
 use Rattle.wasm_types.specs.decoding.Decoder.{Decoder, ◌>>=◌, pure}
 use Rattle.wasm_types.specs.decoding.Lists.{refuse_at}
 use Rattle.wasm_types.specs.limits.Settings.{Settings}
-use Rattle.wasm_operators_immediates.specs.Kinds.{Kind}
-use Rattle.wasm_operators_immediates.specs.Immediates.{Immediate, kind_of}
+use Rattle.wasm_operators_decode_immediates.specs.immediates.Kinds.{Kind}
+use Rattle.wasm_operators_decode_immediates.specs.immediates.Immediates.{Immediate, kind_of}
 use Rattle.wasm_operators_decode_encoding.specs.Opcodes.{Opcode, opcode, SpelledOpcode}
 use Rattle.wasm_operators_decode_encoding.specs.Sequences.{immediates, SpelledImmediates}
 use Rattle.wasm_operators_decode_encoding.specs.Groups.{control_kinds, parametric_kinds, exception_kinds, memory_kinds, const_kinds, numeric_kinds, bulk_plain_kinds, gc_plain_kinds, continuation_kinds, gc_kinds, descriptor_kinds, numeric_prefixed_kinds, bulk_kinds, simd_kinds, simd_numeric_kinds, atomic_kinds, shared_kinds}

@@ -6,8 +6,8 @@ use Rattle.wasm_types.specs.decoding.Laws.{lawful->>=, lawful-pure}
 use Rattle.wasm_types.specs.decoding.ListLaws.{lawful-from_place, decides-from_place, lawful-refuse_at, decides-refuse_at}
 use Rattle.wasm_types.specs.decoding.Exact.{decides->>=, decides-same, decides-map, Mapped}
 use Rattle.wasm_types.specs.limits.Settings.{Settings}
-use Rattle.wasm_operators_immediates.specs.Kinds.{Kind}
-use Rattle.wasm_operators_immediates.specs.Immediates.{kind_of}
+use Rattle.wasm_operators_decode_immediates.specs.immediates.Kinds.{Kind}
+use Rattle.wasm_operators_decode_immediates.specs.immediates.Immediates.{kind_of}
 use Rattle.wasm_operators_decode_encoding.specs.Opcodes.{Opcode, opcode, SpelledOpcode}
 use Rattle.wasm_operators_decode_encoding.specs.OpcodeLaws.{lawful-opcode, decides-opcode}
 use Rattle.wasm_operators_decode_encoding.specs.Sequences.{immediates, SpelledImmediates, OfKinds}

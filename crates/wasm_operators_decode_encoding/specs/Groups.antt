@@ -1,31 +1,31 @@
 -- Which kinds of immediates stand behind a code, by prefix and group of operators (WebAssembly 3.0, appendix, index of
 -- instructions).
 use Rattle.std.specs.Prelude.{ℕ, List, Option, Some, None}
-use Rattle.wasm_operators_immediates.specs.Kinds.{Kind}
-use Rattle.wasm_operators_control.specs.Table.{control_info, parametric_info, exception_info}
-use Rattle.wasm_operators_memory.specs.Table.{memory_info, const_info}
-use Rattle.wasm_operators_numbers.specs.Table.{numeric_info}
-use Rattle.wasm_operators_control.specs.Immediates.{control_immediates, parametric_immediates, exception_immediates}
-use Rattle.wasm_operators_memory.specs.Immediates.{memory_immediates, const_immediates}
-use Rattle.wasm_operators_numbers.specs.Immediates.{numeric_immediates}
-use Rattle.wasm_operators_control.proofs.Codes.{control_list, parametric_list, exception_list}
-use Rattle.wasm_operators_memory.proofs.Codes.{memory_list, const_list}
-use Rattle.wasm_operators_numbers.proofs.Codes.{numeric_list}
-use Rattle.wasm_operators_memory.specs.Table.{bulk_info}
-use Rattle.wasm_operators_gc.specs.Table.{gc_info, descriptor_info}
-use Rattle.wasm_operators_threads.specs.Table.{atomic_info, shared_info}
-use Rattle.wasm_operators_control.specs.Table.{continuation_info}
-use Rattle.wasm_operators_memory.specs.Immediates.{bulk_immediates}
-use Rattle.wasm_operators_gc.specs.Immediates.{gc_immediates, descriptor_immediates}
-use Rattle.wasm_operators_threads.specs.Immediates.{atomic_immediates, shared_immediates}
-use Rattle.wasm_operators_control.specs.Immediates.{continuation_immediates}
-use Rattle.wasm_operators_memory.proofs.Codes.{bulk_list}
-use Rattle.wasm_operators_gc.proofs.Codes.{gc_list, descriptor_list}
-use Rattle.wasm_operators_threads.proofs.Codes.{atomic_list, shared_list}
-use Rattle.wasm_operators_control.proofs.Codes.{continuation_list}
-use Rattle.wasm_operators_vectors.specs.Table.{simd_info, simd_numeric_info}
-use Rattle.wasm_operators_vectors.specs.Immediates.{simd_immediates, simd_numeric_immediates}
-use Rattle.wasm_operators_vectors.proofs.Codes.{simd_list, simd_numeric_list}
+use Rattle.wasm_operators_decode_immediates.specs.immediates.Kinds.{Kind}
+use Rattle.wasm_operators_operator.specs.control.Table.{control_info, parametric_info, exception_info}
+use Rattle.wasm_operators_operator.specs.memory.Table.{memory_info, const_info}
+use Rattle.wasm_operators_operator.specs.numbers.Table.{numeric_info}
+use Rattle.wasm_operators_operator.specs.control.Immediates.{control_immediates, parametric_immediates, exception_immediates}
+use Rattle.wasm_operators_operator.specs.memory.Immediates.{memory_immediates, const_immediates}
+use Rattle.wasm_operators_operator.specs.numbers.Immediates.{numeric_immediates}
+use Rattle.wasm_operators_operator.specs.control_codes.{control_list, parametric_list, exception_list}
+use Rattle.wasm_operators_operator.specs.memory_codes.{memory_list, const_list}
+use Rattle.wasm_operators_operator.specs.numbers_codes.{numeric_list}
+use Rattle.wasm_operators_operator.specs.memory.Table.{bulk_info}
+use Rattle.wasm_operators_operator.specs.gc.Table.{gc_info, descriptor_info}
+use Rattle.wasm_operators_operator.specs.threads.Table.{atomic_info, shared_info}
+use Rattle.wasm_operators_operator.specs.control.Table.{continuation_info}
+use Rattle.wasm_operators_operator.specs.memory.Immediates.{bulk_immediates}
+use Rattle.wasm_operators_operator.specs.gc.Immediates.{gc_immediates, descriptor_immediates}
+use Rattle.wasm_operators_operator.specs.threads.Immediates.{atomic_immediates, shared_immediates}
+use Rattle.wasm_operators_operator.specs.control.Immediates.{continuation_immediates}
+use Rattle.wasm_operators_operator.specs.memory_codes.{bulk_list}
+use Rattle.wasm_operators_operator.specs.gc_codes.{gc_list, descriptor_list}
+use Rattle.wasm_operators_operator.specs.threads_codes.{atomic_list, shared_list}
+use Rattle.wasm_operators_operator.specs.control_codes.{continuation_list}
+use Rattle.wasm_operators_operator.specs.vectors.Table.{simd_info, simd_numeric_info}
+use Rattle.wasm_operators_operator.specs.vectors.Immediates.{simd_immediates, simd_numeric_immediates}
+use Rattle.wasm_operators_operator.specs.vectors_codes.{simd_list, simd_numeric_list}
 use Rattle.wasm_operators_decode_encoding.specs.Rows.{kinds_by, rows}
 
 -- ---- codes that are bytes

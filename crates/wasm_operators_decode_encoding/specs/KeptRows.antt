@@ -2,7 +2,7 @@
 use Rattle.std.proofs.Common.{◌≡◌, ◌≤◌, ◌∙◌, ℕ, Bool, true, false, ◌&&◌, leb, List, [], ◌∷◌, Some, refl, sym, ap}
 use Rattle.std.specs.Prelude.{◌==◌, if◌then◌else◌}
 use Rattle.std.proofs.lemmas.Bool.{eqb-true, le-leb, and_parts, both_ways}
-use Rattle.wasm_operators_immediates.specs.Kinds.{Kind}
+use Rattle.wasm_operators_decode_immediates.specs.immediates.Kinds.{Kind}
 use Rattle.wasm_operators_decode_encoding.specs.Rows.{Row, kinds_by}
 
 -- ---- rows by their codes

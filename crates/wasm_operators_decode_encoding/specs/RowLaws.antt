@@ -2,10 +2,10 @@
 use Rattle.std.proofs.Common.{◌≡◌, ◌∙◌, ℕ, zero, suc, Bool, true, false, ◌&&◌, ◌||◌, eqb, List, [], ◌∷◌, map, Option, Some, None, option_map, refl, sym, ap, subst, ◌⊎◌, inl, inr}
 use Rattle.std.specs.Prelude.{◌==◌, if◌then◌else◌, is_none}
 use Rattle.std.proofs.lemmas.Bool.{eqb-true, eqb-false, eq-eqb}
-use Rattle.wasm_operators_info.specs.Info.{Info}
-use Rattle.wasm_operators_info.proofs.Codes.{key_of, key, find, Told, left, right}
-use Rattle.wasm_operators_immediates.specs.Kinds.{Kind}
-use Rattle.wasm_operators_immediates.specs.Immediates.{Immediate, kind_of}
+use Rattle.wasm_operators_operator.specs.info.Info.{Info}
+use Rattle.wasm_operators_operator.specs.info_codes.{key_of, key, find, Told, left, right}
+use Rattle.wasm_operators_decode_immediates.specs.immediates.Kinds.{Kind}
+use Rattle.wasm_operators_decode_immediates.specs.immediates.Immediates.{Immediate, kind_of}
 use Rattle.wasm_operators_decode_encoding.specs.Rows.{Row, kinds_by, same_prefix, row, rows}
 use Rattle.wasm_operators_decode_encoding.specs.Coded.{or_else}
 

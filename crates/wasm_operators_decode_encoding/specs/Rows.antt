@@ -1,8 +1,8 @@
 -- Which kinds of immediates stand behind a code, by the rows of the table of opcodes.
 use Rattle.std.specs.Prelude.{◌==◌, if◌then◌else◌, ℕ, Bool, true, false, List, [], ◌∷◌, map, Option, Some, None}
-use Rattle.wasm_operators_info.specs.Info.{Info}
-use Rattle.wasm_operators_immediates.specs.Kinds.{Kind}
-use Rattle.wasm_operators_immediates.specs.Immediates.{Immediate, kind_of}
+use Rattle.wasm_operators_operator.specs.info.Info.{Info}
+use Rattle.wasm_operators_decode_immediates.specs.immediates.Kinds.{Kind}
+use Rattle.wasm_operators_decode_immediates.specs.immediates.Immediates.{Immediate, kind_of}
 
 -- a code, and the kinds of what stands behind it
 abbrev pub Row : Type 0

@@ -4,8 +4,8 @@ use Rattle.wasm_types.specs.decoding.Decoder.{Grammar, IsLawful, Decides, Then}
 use Rattle.wasm_types.specs.decoding.Laws.{lawful->>=, lawful-pure}
 use Rattle.wasm_types.specs.decoding.Exact.{decides->>=, decides-same, decides-map, decides-pure, Mapped}
 use Rattle.wasm_types.specs.limits.Settings.{Settings}
-use Rattle.wasm_operators_immediates.specs.Kinds.{Kind}
-use Rattle.wasm_operators_immediates.specs.Immediates.{Immediate, kind_of}
+use Rattle.wasm_operators_decode_immediates.specs.immediates.Kinds.{Kind}
+use Rattle.wasm_operators_decode_immediates.specs.immediates.Immediates.{Immediate, kind_of}
 use Rattle.wasm_operators_decode_immediates.specs.Immediates.{immediate, OfKind}
 use Rattle.wasm_operators_decode_immediates.specs.ImmediateLaws.{lawful-immediate, decides-immediate}
 use Rattle.wasm_operators_decode_encoding.specs.Sequences.{immediates, OfKinds}

@@ -2,8 +2,8 @@
 use Rattle.std.specs.Prelude.{◌≡◌, ℕ, List, [], ◌∷◌, ◌++◌, map}
 use Rattle.wasm_types.specs.decoding.Decoder.{Decoder, Grammar, ◌>>=◌, pure}
 use Rattle.wasm_types.specs.limits.Settings.{Settings}
-use Rattle.wasm_operators_immediates.specs.Kinds.{Kind}
-use Rattle.wasm_operators_immediates.specs.Immediates.{Immediate, kind_of}
+use Rattle.wasm_operators_decode_immediates.specs.immediates.Kinds.{Kind}
+use Rattle.wasm_operators_decode_immediates.specs.immediates.Immediates.{Immediate, kind_of}
 use Rattle.wasm_operators_decode_immediates.specs.Immediates.{immediate, SpelledImmediate}
 
 -- an immediate of each of these kinds

@@ -1,29 +1,29 @@
 -- At an operator's opcode the table of opcodes has the kinds of this operator.
 use Rattle.std.proofs.Common.{◌≡◌, List, [], ◌∷◌, Some, None, refl}
-use Rattle.wasm_operators_control.specs.Table.{control_info, parametric_info, exception_info}
-use Rattle.wasm_operators_memory.specs.Table.{memory_info, const_info}
-use Rattle.wasm_operators_numbers.specs.Table.{numeric_info}
-use Rattle.wasm_operators_control.specs.Immediates.{control_immediates, parametric_immediates, exception_immediates}
-use Rattle.wasm_operators_memory.specs.Immediates.{memory_immediates, const_immediates}
-use Rattle.wasm_operators_numbers.specs.Immediates.{numeric_immediates}
-use Rattle.wasm_operators_control.proofs.Codes.{control_list, control_told, parametric_list, parametric_told, exception_list, exception_told}
-use Rattle.wasm_operators_memory.proofs.Codes.{memory_list, memory_told, const_list, const_told}
-use Rattle.wasm_operators_numbers.proofs.Codes.{numeric_list, numeric_told}
-use Rattle.wasm_operators_memory.specs.Table.{bulk_info}
-use Rattle.wasm_operators_gc.specs.Table.{gc_info, descriptor_info}
-use Rattle.wasm_operators_threads.specs.Table.{atomic_info, shared_info}
-use Rattle.wasm_operators_control.specs.Table.{continuation_info}
-use Rattle.wasm_operators_memory.specs.Immediates.{bulk_immediates}
-use Rattle.wasm_operators_gc.specs.Immediates.{gc_immediates, descriptor_immediates}
-use Rattle.wasm_operators_threads.specs.Immediates.{atomic_immediates, shared_immediates}
-use Rattle.wasm_operators_control.specs.Immediates.{continuation_immediates}
-use Rattle.wasm_operators_memory.proofs.Codes.{bulk_list, bulk_told}
-use Rattle.wasm_operators_gc.proofs.Codes.{gc_list, gc_told, descriptor_list, descriptor_told}
-use Rattle.wasm_operators_threads.proofs.Codes.{atomic_list, atomic_told, shared_list, shared_told}
-use Rattle.wasm_operators_control.proofs.Codes.{continuation_list, continuation_told}
-use Rattle.wasm_operators_vectors.specs.Table.{simd_info, simd_numeric_info}
-use Rattle.wasm_operators_vectors.specs.Immediates.{simd_immediates, simd_numeric_immediates}
-use Rattle.wasm_operators_vectors.proofs.Codes.{simd_list, simd_told, simd_numeric_list, simd_numeric_told}
+use Rattle.wasm_operators_operator.specs.control.Table.{control_info, parametric_info, exception_info}
+use Rattle.wasm_operators_operator.specs.memory.Table.{memory_info, const_info}
+use Rattle.wasm_operators_operator.specs.numbers.Table.{numeric_info}
+use Rattle.wasm_operators_operator.specs.control.Immediates.{control_immediates, parametric_immediates, exception_immediates}
+use Rattle.wasm_operators_operator.specs.memory.Immediates.{memory_immediates, const_immediates}
+use Rattle.wasm_operators_operator.specs.numbers.Immediates.{numeric_immediates}
+use Rattle.wasm_operators_operator.specs.control_codes.{control_list, control_told, parametric_list, parametric_told, exception_list, exception_told}
+use Rattle.wasm_operators_operator.specs.memory_codes.{memory_list, memory_told, const_list, const_told}
+use Rattle.wasm_operators_operator.specs.numbers_codes.{numeric_list, numeric_told}
+use Rattle.wasm_operators_operator.specs.memory.Table.{bulk_info}
+use Rattle.wasm_operators_operator.specs.gc.Table.{gc_info, descriptor_info}
+use Rattle.wasm_operators_operator.specs.threads.Table.{atomic_info, shared_info}
+use Rattle.wasm_operators_operator.specs.control.Table.{continuation_info}
+use Rattle.wasm_operators_operator.specs.memory.Immediates.{bulk_immediates}
+use Rattle.wasm_operators_operator.specs.gc.Immediates.{gc_immediates, descriptor_immediates}
+use Rattle.wasm_operators_operator.specs.threads.Immediates.{atomic_immediates, shared_immediates}
+use Rattle.wasm_operators_operator.specs.control.Immediates.{continuation_immediates}
+use Rattle.wasm_operators_operator.specs.memory_codes.{bulk_list, bulk_told}
+use Rattle.wasm_operators_operator.specs.gc_codes.{gc_list, gc_told, descriptor_list, descriptor_told}
+use Rattle.wasm_operators_operator.specs.threads_codes.{atomic_list, atomic_told, shared_list, shared_told}
+use Rattle.wasm_operators_operator.specs.control_codes.{continuation_list, continuation_told}
+use Rattle.wasm_operators_operator.specs.vectors.Table.{simd_info, simd_numeric_info}
+use Rattle.wasm_operators_operator.specs.vectors.Immediates.{simd_immediates, simd_numeric_immediates}
+use Rattle.wasm_operators_operator.specs.vectors_codes.{simd_list, simd_told, simd_numeric_list, simd_numeric_told}
 use Rattle.wasm_operators_operator.specs.Op as op
 use Rattle.wasm_operators_operator.specs.Op.{Op}
 use Rattle.wasm_operators_operator.specs.Immediates.{kinds_of}

@@ -10,13 +10,17 @@
 ghost use Rattle.std.specs.Prelude.{◌≡◌, IsTrue, ℕ, List, Some};
 ghost use Rattle.wasm_types.specs.limits.Settings.{Settings};
 ghost use Rattle.wasm_types.specs.decoding.Decoder.{IsLawful, Decides};
-ghost use Rattle.wasm_operators_immediates.specs.Kinds.{Kind};
+ghost use Rattle.wasm_operators_decode_immediates.specs.immediates.Kinds.{Kind};
 ghost use Rattle.wasm_operators_operator.specs.Op.{Op};
 ghost use Rattle.wasm_operators_operator.specs.Immediates.{is_canonical, kinds_of};
 ghost use Rattle.wasm_operators_decode_encoding.specs.Sequences.{immediates, OfKinds};
 ghost use Rattle.wasm_operators_decode_encoding.specs.Opcodes.{opcode, SpelledOpcode};
 ghost use Rattle.wasm_operators_decode_encoding.specs.Coded.{operator, kinds_at, SpelledCoded};
 ghost use Rattle.wasm_operators_decode_encoding.specs.Operators.{opcode_of, coded_of, SpelledOperator};
+
+pub use wasm_operators_decode_immediates::immediates;
+pub use wasm_operators_operator as operator;
+pub use wasm_operators_operator::{control, gc, info, memory};
 
 /// Opcodes, and immediates one after the other, whatever features are allowed and limits hold: a value and a fault stay whatever bytes
 /// follow, the hint of an end of data is exact, and a value is read exactly where a front of the bytes spells it.

@@ -2,11 +2,11 @@
 
 ghost use Rattle.std.specs.Prelude.{◌≡◌, IfOk, option_map, Some, None, [], ◌∷◌};
 ghost use Rattle.wasm_types.specs.reader.Reading.{Gives, NeedsNoMemory};
-ghost use Rattle.wasm_operators_info.specs.Info.{Info};
-ghost use Rattle.wasm_operators_immediates.specs.Kinds.{Types};
-ghost use Rattle.wasm_operators_immediates.specs.Immediates.{Heap, Index};
-ghost use Rattle.wasm_operators_gc.specs.Immediates.{descriptor_immediates};
-ghost use Rattle.wasm_operators_gc.specs.Table.{descriptor_info};
+ghost use Rattle.wasm_operators_decode_encoding.specs.info.Info.{Info};
+ghost use Rattle.wasm_operators_decode_immediates.specs.immediates.Kinds.{Types};
+ghost use Rattle.wasm_operators_decode_immediates.specs.immediates.Immediates.{Heap, Index};
+ghost use Rattle.wasm_operators_decode_encoding.specs.gc.Immediates.{descriptor_immediates};
+ghost use Rattle.wasm_operators_decode_encoding.specs.gc.Table.{descriptor_info};
 ghost use Rattle.wasm_operators_decode_immediates.specs.Immediates.{of_branch};
 ghost use Rattle.wasm_operators_decode_encoding.specs.Groups.{descriptor_kinds};
 ghost use Rattle.wasm_operators_decode_encoding.specs.Sequences.{immediates};
@@ -14,8 +14,8 @@ ghost use Rattle.wasm_operators_decode_gc.specs.declared.descriptor.DescriptorSh
 ghost use Rattle.wasm_operators_decode_gc.specs.Descriptor.{descriptor_shape_kinds};
 
 use std::alloc::Global;
+use wasm_operators_decode_encoding::gc::DescriptorOperator;
 use wasm_operators_decode_immediates::{CastBranch, read_cast_branch};
-use wasm_operators_gc::DescriptorOperator;
 use wasm_types::{BinaryReader, FromReader, HeapType, Result};
 
 /// What stands behind an opcode of the group.

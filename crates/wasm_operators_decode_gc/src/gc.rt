@@ -2,11 +2,11 @@
 
 ghost use Rattle.std.specs.Prelude.{◌≡◌, IfOk, option_map, Some, None, [], ◌∷◌};
 ghost use Rattle.wasm_types.specs.reader.Reading.{Gives, NeedsNoMemory};
-ghost use Rattle.wasm_operators_info.specs.Info.{Info};
-ghost use Rattle.wasm_operators_immediates.specs.Kinds.{DataSegments, Elements, Fields, Types};
-ghost use Rattle.wasm_operators_immediates.specs.Immediates.{Count, Heap, Index};
-ghost use Rattle.wasm_operators_gc.specs.Immediates.{gc_immediates};
-ghost use Rattle.wasm_operators_gc.specs.Table.{gc_info};
+ghost use Rattle.wasm_operators_decode_encoding.specs.info.Info.{Info};
+ghost use Rattle.wasm_operators_decode_immediates.specs.immediates.Kinds.{DataSegments, Elements, Fields, Types};
+ghost use Rattle.wasm_operators_decode_immediates.specs.immediates.Immediates.{Count, Heap, Index};
+ghost use Rattle.wasm_operators_decode_encoding.specs.gc.Immediates.{gc_immediates};
+ghost use Rattle.wasm_operators_decode_encoding.specs.gc.Table.{gc_info};
 ghost use Rattle.wasm_operators_decode_immediates.specs.Immediates.{of_branch};
 ghost use Rattle.wasm_operators_decode_encoding.specs.Groups.{gc_kinds};
 ghost use Rattle.wasm_operators_decode_encoding.specs.Sequences.{immediates};
@@ -14,8 +14,8 @@ ghost use Rattle.wasm_operators_decode_gc.specs.declared.gc.GcShape.TheVariants 
 ghost use Rattle.wasm_operators_decode_gc.specs.Gc.{gc_shape_kinds};
 
 use std::alloc::Global;
+use wasm_operators_decode_encoding::gc::GcOperator;
 use wasm_operators_decode_immediates::{CastBranch, read_cast_branch};
-use wasm_operators_gc::GcOperator;
 use wasm_types::{BinaryReader, FromReader, HeapType, Result};
 
 /// What stands behind an opcode of the group.

@@ -1,11 +1,11 @@
 //! The comparison of references.
 
 ghost use Rattle.std.specs.Prelude.{◌≡◌, IfSome, option_map, Some, None, []};
-ghost use Rattle.wasm_operators_info.specs.Info.{Info};
-ghost use Rattle.wasm_operators_gc.specs.Table.{gc_info};
+ghost use Rattle.wasm_operators_decode_encoding.specs.info.Info.{Info};
+ghost use Rattle.wasm_operators_decode_encoding.specs.gc.Table.{gc_info};
 ghost use Rattle.wasm_operators_decode_encoding.specs.Groups.{gc_plain_kinds};
 
-use wasm_operators_gc::GcOperator;
+use wasm_operators_decode_encoding::gc::GcOperator;
 
 /// The operator with this code, if there is one in the group. It carries nothing.
 pub fn gc_plain_of(code: u32) -> Option<GcOperator>

@@ -10,3 +10,5 @@ pub mod FlagLaws
 pub mod MemoryLaws
 pub mod CastLaws
 pub mod ImmediateLaws
+-- The rules and laws of the crates below, under their names: crates above cite them here.
+pub use Rattle.wasm_operators_immediates.specs as immediates

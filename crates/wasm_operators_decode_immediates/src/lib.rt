@@ -16,3 +16,4 @@ pub use bytes::{
 };
 pub use cast::{CastBranch, read_cast_branch};
 pub use memory_argument::{Access, read_memarg};
+pub use wasm_operators_immediates as immediates;

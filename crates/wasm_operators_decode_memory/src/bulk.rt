@@ -2,17 +2,17 @@
 
 ghost use Rattle.std.specs.Prelude.{◌≡◌, IfOk, option_map, Some, [], ◌∷◌};
 ghost use Rattle.wasm_types.specs.reader.Reading.{Gives, NeedsNoMemory};
-ghost use Rattle.wasm_operators_info.specs.Info.{Info};
-ghost use Rattle.wasm_operators_immediates.specs.Kinds.{DataSegments, Elements, Memories, Tables};
-ghost use Rattle.wasm_operators_immediates.specs.Immediates.{Index};
-ghost use Rattle.wasm_operators_memory.specs.Immediates.{bulk_immediates};
-ghost use Rattle.wasm_operators_memory.specs.Table.{bulk_info};
+ghost use Rattle.wasm_operators_decode_encoding.specs.info.Info.{Info};
+ghost use Rattle.wasm_operators_decode_immediates.specs.immediates.Kinds.{DataSegments, Elements, Memories, Tables};
+ghost use Rattle.wasm_operators_decode_immediates.specs.immediates.Immediates.{Index};
+ghost use Rattle.wasm_operators_decode_encoding.specs.memory.Immediates.{bulk_immediates};
+ghost use Rattle.wasm_operators_decode_encoding.specs.memory.Table.{bulk_info};
 ghost use Rattle.wasm_operators_decode_encoding.specs.Groups.{bulk_kinds};
 ghost use Rattle.wasm_operators_decode_encoding.specs.Sequences.{immediates};
 ghost use Rattle.wasm_operators_decode_memory.specs.declared.bulk.BulkShape.TheVariants as BulkShape;
 ghost use Rattle.wasm_operators_decode_memory.specs.Bulk.{bulk_shape_kinds};
 
-use wasm_operators_memory::BulkOperator;
+use wasm_operators_decode_encoding::memory::BulkOperator;
 use wasm_types::{BinaryReader, Result};
 
 /// What stands behind an opcode of the group.

@@ -2,19 +2,19 @@
 
 ghost use Rattle.std.specs.Prelude.{◌≡◌, IfOk, option_map, Some, None, [], ◌∷◌};
 ghost use Rattle.wasm_types.specs.reader.Reading.{Gives, NeedsNoMemory};
-ghost use Rattle.wasm_operators_info.specs.Info.{Info};
-ghost use Rattle.wasm_operators_immediates.specs.Kinds.{Globals, Locals, Memories, Plain};
-ghost use Rattle.wasm_operators_immediates.specs.Immediates.{Index, IndexOrZero, MemoryArgument};
-ghost use Rattle.wasm_operators_memory.specs.Immediates.{memory_immediates};
-ghost use Rattle.wasm_operators_memory.specs.Table.{memory_info};
+ghost use Rattle.wasm_operators_decode_encoding.specs.info.Info.{Info};
+ghost use Rattle.wasm_operators_decode_immediates.specs.immediates.Kinds.{Globals, Locals, Memories, Plain};
+ghost use Rattle.wasm_operators_decode_immediates.specs.immediates.Immediates.{Index, IndexOrZero, MemoryArgument};
+ghost use Rattle.wasm_operators_decode_encoding.specs.memory.Immediates.{memory_immediates};
+ghost use Rattle.wasm_operators_decode_encoding.specs.memory.Table.{memory_info};
 ghost use Rattle.wasm_operators_decode_encoding.specs.Groups.{memory_kinds};
 ghost use Rattle.wasm_operators_decode_encoding.specs.Sequences.{immediates};
 ghost use Rattle.wasm_operators_decode_memory.specs.declared.memory.MemoryShape.TheVariants as MemoryShape;
 ghost use Rattle.wasm_operators_decode_memory.specs.Memory.{memory_shape_kinds};
 
+use wasm_operators_decode_encoding::memory::MemoryOperator;
+use wasm_operators_decode_immediates::immediates::MemArg;
 use wasm_operators_decode_immediates::{Access, read_memarg, read_memory_or_zero};
-use wasm_operators_immediates::MemArg;
-use wasm_operators_memory::MemoryOperator;
 use wasm_types::{BinaryReader, Result};
 
 /// What stands behind an opcode of the group.

@@ -1,7 +1,7 @@
 //! Operators on numbers from codes of one byte.
 
 ghost use Rattle.std.specs.Prelude.{◌≡◌, ◌≤◌, IfSome, option_map, None, []};
-ghost use Rattle.wasm_operators_info.specs.Info.{Info};
+ghost use Rattle.wasm_operators_numbers.specs.info.Info.{Info};
 ghost use Rattle.wasm_operators_numbers.specs.Table.{numeric_info};
 ghost use Rattle.wasm_operators_decode_encoding.specs.Groups.{numeric_kinds};
 

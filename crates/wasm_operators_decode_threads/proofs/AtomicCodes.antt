@@ -1,8 +1,8 @@
 -- Where the codes of atomic accesses are, by runs and by what stands behind them.
 use Rattle.std.proofs.Common.{◌≡◌, ◌≤◌, ◌<◌, ◌∙◌, ℕ, Bool, true, false, ◌||◌, leb, eqb, List, [], ◌∷◌, Some, None, refl, sym, ap}
 use Rattle.std.proofs.lemmas.Bool.{le-leb, lt-leb, leb-true, eqb-true}
-use Rattle.wasm_operators_immediates.specs.Kinds as kind
-use Rattle.wasm_operators_immediates.specs.Kinds.{Kind, Atomic, ReadModifyWrite}
+use Rattle.wasm_operators_decode_immediates.specs.immediates.Kinds as kind
+use Rattle.wasm_operators_decode_immediates.specs.immediates.Kinds.{Kind, Atomic, ReadModifyWrite}
 use Rattle.wasm_operators_threads.specs.Table.{atomic_info}
 use Rattle.wasm_operators_threads.specs.Immediates.{atomic_immediates}
 use Rattle.wasm_operators_threads.proofs.Codes.{atomic_list}

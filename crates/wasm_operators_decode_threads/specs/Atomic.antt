@@ -1,7 +1,7 @@
 -- What stands behind the opcodes of the group, by shape.
 use Rattle.std.specs.Prelude.{ℕ, List, [], ◌∷◌, Option, Some}
-use Rattle.wasm_operators_immediates.specs.Kinds as kind
-use Rattle.wasm_operators_immediates.specs.Kinds.{Kind, Atomic, ReadModifyWrite}
+use Rattle.wasm_operators_decode_immediates.specs.immediates.Kinds as kind
+use Rattle.wasm_operators_decode_immediates.specs.immediates.Kinds.{Kind, Atomic, ReadModifyWrite}
 use Rattle.wasm_operators_threads.specs.Table.{atomic_info}
 use Rattle.wasm_operators_threads.specs.Immediates.{atomic_immediates}
 use Rattle.wasm_operators_threads.proofs.Codes.{atomic_list}

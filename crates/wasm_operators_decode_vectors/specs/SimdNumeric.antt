@@ -1,6 +1,6 @@
 -- Which kinds stand behind a code, by the rows of a run of codes alone.
 use Rattle.std.specs.Prelude.{ℕ, List, Option, Some}
-use Rattle.wasm_operators_immediates.specs.Kinds.{Kind}
+use Rattle.wasm_operators_decode_immediates.specs.immediates.Kinds.{Kind}
 use Rattle.wasm_operators_vectors.specs.Table.{simd_numeric_info}
 use Rattle.wasm_operators_vectors.specs.Immediates.{simd_numeric_immediates}
 use Rattle.wasm_operators_vectors.proofs.Codes.{simd_numeric_list}

@@ -12,3 +12,4 @@ mod simd_numeric;
 
 pub use simd::{SimdShape, read_simd, simd_shape};
 pub use simd_numeric::simd_numeric_of;
+pub use wasm_operators_vectors as vectors;

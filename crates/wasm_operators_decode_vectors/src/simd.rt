@@ -2,9 +2,9 @@
 
 ghost use Rattle.std.specs.Prelude.{◌≡◌, IfOk, option_map, Some, None, [], ◌∷◌};
 ghost use Rattle.wasm_types.specs.reader.Reading.{Gives, NeedsNoMemory};
-ghost use Rattle.wasm_operators_info.specs.Info.{Info};
-ghost use Rattle.wasm_operators_immediates.specs.Kinds.{Plain};
-ghost use Rattle.wasm_operators_immediates.specs.Immediates.{Lane, Lanes, MemoryArgument, V128Constant};
+ghost use Rattle.wasm_operators_vectors.specs.info.Info.{Info};
+ghost use Rattle.wasm_operators_decode_immediates.specs.immediates.Kinds.{Plain};
+ghost use Rattle.wasm_operators_decode_immediates.specs.immediates.Immediates.{Lane, Lanes, MemoryArgument, V128Constant};
 ghost use Rattle.wasm_operators_vectors.specs.Immediates.{simd_immediates};
 ghost use Rattle.wasm_operators_vectors.specs.Table.{simd_info};
 ghost use Rattle.wasm_operators_decode_encoding.specs.Groups.{simd_kinds};
@@ -12,8 +12,8 @@ ghost use Rattle.wasm_operators_decode_encoding.specs.Sequences.{immediates};
 ghost use Rattle.wasm_operators_decode_vectors.specs.declared.simd.SimdShape.TheVariants as SimdShape;
 ghost use Rattle.wasm_operators_decode_vectors.specs.Simd.{simd_shape_kinds};
 
+use wasm_operators_decode_immediates::immediates::{MemArg, V128};
 use wasm_operators_decode_immediates::{Access, read_lane, read_memarg, read_shuffle, read_vector};
-use wasm_operators_immediates::{MemArg, V128};
 use wasm_operators_vectors::SimdOperator;
 use wasm_types::{BinaryReader, Result};
 

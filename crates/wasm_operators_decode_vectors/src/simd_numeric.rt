@@ -1,7 +1,7 @@
 //! Vector operators on numbers from codes behind `fd`.
 
 ghost use Rattle.std.specs.Prelude.{◌≡◌, IfSome, option_map, Some, None, []};
-ghost use Rattle.wasm_operators_info.specs.Info.{Info};
+ghost use Rattle.wasm_operators_vectors.specs.info.Info.{Info};
 ghost use Rattle.wasm_operators_vectors.specs.Table.{simd_numeric_info};
 ghost use Rattle.wasm_operators_decode_encoding.specs.Groups.{simd_numeric_kinds};
 ghost use Rattle.wasm_operators_decode_vectors.specs.SimdNumeric.{simd_numeric_run};

@@ -1,10 +1,10 @@
 -- Instructions as a tree (WebAssembly 3.0, structure, instructions and expressions).
 use Rattle.std.specs.Prelude.{◌≡◌, List, [], ◌∷◌, ◌++◌, Some}
-use Rattle.wasm_operators_immediates.specs.declared.frames.FrameKind.{FrameKind}
-use Rattle.wasm_operators_immediates.specs.declared.frames.FrameKind.TheVariants.{Block}
-use Rattle.wasm_operators_operator.specs.Op.{Op}
-use Rattle.wasm_operators_operator.specs.declared.role.Effect.TheVariants as effects
-use Rattle.wasm_operators_operator.specs.Roles.{role_of, effect}
+use Rattle.wasm_operators_decode_encoding.specs.immediates.declared.frames.FrameKind.{FrameKind}
+use Rattle.wasm_operators_decode_encoding.specs.immediates.declared.frames.FrameKind.TheVariants.{Block}
+use Rattle.wasm_operators_decode_encoding.specs.operator.Op.{Op}
+use Rattle.wasm_operators_decode_encoding.specs.operator.declared.role.Effect.TheVariants as effects
+use Rattle.wasm_operators_decode_encoding.specs.operator.Roles.{role_of, effect}
 
 -- The instructions of a frame up to its end: what ends it; a plain operator and more; a block, that is its opener and the
 -- instructions within, and more; or what turns the frame, as `else` does, and more.

@@ -1,13 +1,13 @@
 -- What an operator makes of the frames is fixed by its place in a tree, and a tree by its operators in order.
 use Rattle.std.proofs.Common.{◌≡◌, ◌↔◌, ◌⊎◌, inl, inr, ◌+◌, ◌<◌, ◌≤◌, List, [], ◌∷◌, ◌++◌, length, Option, Some, None, IsTrue, true, is_some, refl, sym, ◌∙◌, ap, subst, append_assoc, arith}
-use Rattle.wasm_operators_immediates.specs.declared.frames.FrameKind.{FrameKind}
-use Rattle.wasm_operators_immediates.specs.declared.frames.FrameKind.TheVariants as frames
-use Rattle.wasm_operators_operator.specs.Op.{Op}
-use Rattle.wasm_operators_operator.specs.declared.role.Role.{Role}
-use Rattle.wasm_operators_operator.specs.declared.role.Role.TheVariants.{Plain, Opens, Else, Catch, CatchAll, Delegate, End}
-use Rattle.wasm_operators_operator.specs.declared.role.Effect.{Effect}
-use Rattle.wasm_operators_operator.specs.declared.role.Effect.TheVariants as effects
-use Rattle.wasm_operators_operator.specs.Roles.{role_of, clause, effect, fits}
+use Rattle.wasm_operators_decode_encoding.specs.immediates.declared.frames.FrameKind.{FrameKind}
+use Rattle.wasm_operators_decode_encoding.specs.immediates.declared.frames.FrameKind.TheVariants as frames
+use Rattle.wasm_operators_decode_encoding.specs.operator.Op.{Op}
+use Rattle.wasm_operators_decode_encoding.specs.operator.declared.role.Role.{Role}
+use Rattle.wasm_operators_decode_encoding.specs.operator.declared.role.Role.TheVariants.{Plain, Opens, Else, Catch, CatchAll, Delegate, End}
+use Rattle.wasm_operators_decode_encoding.specs.operator.declared.role.Effect.{Effect}
+use Rattle.wasm_operators_decode_encoding.specs.operator.declared.role.Effect.TheVariants as effects
+use Rattle.wasm_operators_decode_encoding.specs.operator.Roles.{role_of, clause, effect, fits}
 use Rattle.wasm_operators_expression.specs.Code.{Code, close, plain, nested, turn, walk, IsIn}
 use Rattle.wasm_operators_expression.specs.Frames.{Closes, frames_behind, after}
 

@@ -1,12 +1,12 @@
 -- What is left to read where frames are open.
 use Rattle.std.specs.Prelude.{◌≡◌, ℕ, List, [], ◌∷◌, ◌++◌, Option, Some, None}
 use Rattle.wasm_types.specs.limits.Settings.{Settings}
-use Rattle.wasm_operators_immediates.specs.declared.frames.FrameKind.{FrameKind}
-use Rattle.wasm_operators_operator.specs.Op.{Op}
-use Rattle.wasm_operators_operator.specs.declared.role.Role.{Role}
-use Rattle.wasm_operators_operator.specs.declared.role.Effect.{Effect}
-use Rattle.wasm_operators_operator.specs.declared.role.Effect.TheVariants as effects
-use Rattle.wasm_operators_operator.specs.Roles.{role_of, effect}
+use Rattle.wasm_operators_decode_encoding.specs.immediates.declared.frames.FrameKind.{FrameKind}
+use Rattle.wasm_operators_decode_encoding.specs.operator.Op.{Op}
+use Rattle.wasm_operators_decode_encoding.specs.operator.declared.role.Role.{Role}
+use Rattle.wasm_operators_decode_encoding.specs.operator.declared.role.Effect.{Effect}
+use Rattle.wasm_operators_decode_encoding.specs.operator.declared.role.Effect.TheVariants as effects
+use Rattle.wasm_operators_decode_encoding.specs.operator.Roles.{role_of, effect}
 use Rattle.wasm_operators_expression.specs.Code.{Code, walk, IsIn}
 use Rattle.wasm_operators_expression.specs.Spelling.{SpelledOperators}
 

@@ -2,10 +2,10 @@
 use Rattle.std.proofs.Common.{◌≡◌, ◌↔◌, ℕ, ◌+◌, List, [], ◌∷◌, ◌++◌, length, Some, None, IsTrue, refl, sym, ◌∙◌, ap, subst, append-nil}
 use Rattle.wasm_types.specs.decoding.Decoder.{State, Done, Takes}
 use Rattle.wasm_types.specs.limits.Settings.{Settings}
-use Rattle.wasm_operators_immediates.specs.declared.frames.FrameKind.{FrameKind}
-use Rattle.wasm_operators_immediates.specs.declared.frames.FrameKind.TheVariants.{Block}
-use Rattle.wasm_operators_operator.specs.Op.{Op}
-use Rattle.wasm_operators_operator.specs.Immediates.{is_canonical}
+use Rattle.wasm_operators_decode_encoding.specs.immediates.declared.frames.FrameKind.{FrameKind}
+use Rattle.wasm_operators_decode_encoding.specs.immediates.declared.frames.FrameKind.TheVariants.{Block}
+use Rattle.wasm_operators_decode_encoding.specs.operator.Op.{Op}
+use Rattle.wasm_operators_decode_encoding.specs.operator.Immediates.{is_canonical}
 use Rattle.wasm_operators_decode_encoding.specs.Coded.{Coded, operator}
 use Rattle.wasm_operators_decode_encoding.specs.CodedLaws.{decides-operator}
 use Rattle.wasm_operators_decode_encoding.specs.Operators.{coded_of, SpelledOperator}

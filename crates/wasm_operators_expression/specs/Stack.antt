@@ -1,6 +1,6 @@
 -- The open frames as `ControlStack` holds them.
 use Rattle.std.specs.Prelude.{◌≡◌, ℕ, List, [], ◌∷◌, reverse, Option, Some, None}
-use Rattle.wasm_operators_immediates.specs.declared.frames.FrameKind.{FrameKind}
+use Rattle.wasm_operators_decode_encoding.specs.immediates.declared.frames.FrameKind.{FrameKind}
 
 -- the frames that are open, the innermost first, and how many may be open before more memory is asked for
 pub record OpenFrames : Type 0 where

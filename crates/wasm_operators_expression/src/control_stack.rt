@@ -1,15 +1,15 @@
 //! The frames that are open.
 
 ghost use Rattle.std.specs.Prelude.{◌≡◌, ◌+◌, ◌<◌, ◌≤◌, ◌∷◌, [], List, length, is_ok, if◌then◌else◌, IsOk, OnOk, OnErr, IfOk, IsFalse, Some, None, ◌==◌};
-ghost use Rattle.wasm_operators_immediates.specs.declared.frames.FrameKind.{FrameKind as Kind};
-ghost use Rattle.wasm_operators_operator.specs.Op.{op_of};
+ghost use Rattle.wasm_operators_decode_encoding.specs.immediates.declared.frames.FrameKind.{FrameKind as Kind};
+ghost use Rattle.wasm_operators_decode_encoding.specs.operator.Op.{op_of};
 ghost use Rattle.wasm_operators_expression.specs.Frames.{behind, after};
 ghost use Rattle.wasm_operators_expression.specs.Stack.{innermost, around};
 
 use std::alloc::{AllocError, Global};
 use std::marker::Model;
-use wasm_operators_immediates::{FrameKind, FrameStack};
-use wasm_operators_operator::{Effect, Operator, Role};
+use wasm_operators_decode_encoding::immediates::{FrameKind, FrameStack};
+use wasm_operators_decode_encoding::operator::{Effect, Operator, Role};
 
 /// The frames that are open, the innermost first, and room for more. Closing a frame gives no room back.
 #[derive(Drop)]

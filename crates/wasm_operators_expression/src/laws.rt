@@ -2,15 +2,15 @@
 
 ghost use Rattle.std.specs.Prelude.{◌≡◌, ◌↔◌, ◌+◌, ◌≤◌, ◌<◌, IsTrue, ℕ, List, [], ◌∷◌, length, Some};
 ghost use Rattle.wasm_types.specs.limits.Settings.{Settings};
-ghost use Rattle.wasm_operators_immediates.specs.declared.frames.FrameKind.{FrameKind as Kind};
-ghost use Rattle.wasm_operators_immediates.specs.declared.frames.FrameKind.TheVariants.{Block};
+ghost use Rattle.wasm_operators_decode_encoding.specs.immediates.declared.frames.FrameKind.{FrameKind as Kind};
+ghost use Rattle.wasm_operators_decode_encoding.specs.immediates.declared.frames.FrameKind.TheVariants.{Block};
 ghost use Rattle.wasm_types.specs.decoding.Decoder.{State, Done};
-ghost use Rattle.wasm_operators_operator.specs.Op.{Op};
-ghost use Rattle.wasm_operators_operator.specs.Immediates.{is_canonical};
+ghost use Rattle.wasm_operators_decode_encoding.specs.operator.Op.{Op};
+ghost use Rattle.wasm_operators_decode_encoding.specs.operator.Immediates.{is_canonical};
 ghost use Rattle.wasm_operators_decode_encoding.specs.Coded.{Coded, operator};
 ghost use Rattle.wasm_operators_decode_encoding.specs.Operators.{coded_of};
-ghost use Rattle.wasm_operators_operator.specs.declared.role.Role.TheVariants.{Opens};
-ghost use Rattle.wasm_operators_operator.specs.Roles.{role_of, fits};
+ghost use Rattle.wasm_operators_decode_encoding.specs.operator.declared.role.Role.TheVariants.{Opens};
+ghost use Rattle.wasm_operators_decode_encoding.specs.operator.Roles.{role_of, fits};
 ghost use Rattle.wasm_operators_expression.specs.Code.{Code};
 ghost use Rattle.wasm_operators_expression.specs.Spelling.{SpelledExpression};
 ghost use Rattle.wasm_operators_expression.specs.Frames.{Closes, after, BytesClose};

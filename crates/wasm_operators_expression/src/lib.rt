@@ -10,3 +10,4 @@ mod control_stack;
 pub mod laws;
 
 pub use control_stack::ControlStack;
+pub use wasm_operators_decode_encoding::{control, gc, immediates, info, memory, operator};

@@ -1,8 +1,8 @@
 -- Operators of control, exceptions and continuations, as the list has them (written by docs/operators/make_list_rows.py).
 use Rattle.std.specs.Prelude.{List, [], ◌∷◌, codes, None}
-use Rattle.wasm_operators_info.specs.declared.proposal.Proposal.TheVariants as proposal
-use Rattle.wasm_operators_immediates.specs.Kinds.{Index, IndexOrZero, Label, Block, BranchTable, ValueTypes, TryTable, Handlers, Types, Functions, Tables, Tags}
-use Rattle.wasm_operators_control.specs.declared.control.ControlOperator.TheVariants as control
+use Rattle.wasm_operators_operator.specs.info.declared.proposal.Proposal.TheVariants as proposal
+use Rattle.wasm_operators_operator.specs.immediates.Kinds.{Index, IndexOrZero, Label, Block, BranchTable, ValueTypes, TryTable, Handlers, Types, Functions, Tables, Tags}
+use Rattle.wasm_operators_operator.specs.control.declared.control.ControlOperator.TheVariants as control
 use Rattle.wasm_operators_operator.specs.Op as op
 use Rattle.wasm_operators_list_tests.specs.Listed.{Carried, Listed, listed}
 

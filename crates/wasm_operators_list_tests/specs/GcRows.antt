@@ -1,9 +1,9 @@
 -- Operators of aggregates, casts and descriptors, as the list has them (written by docs/operators/make_list_rows.py).
 use Rattle.std.specs.Prelude.{List, [], ◌∷◌, codes, Some, None}
-use Rattle.wasm_operators_info.specs.declared.proposal.Proposal.TheVariants as proposal
-use Rattle.wasm_operators_immediates.specs.Kinds.{Index, Heap, CastBranch, Count, Types, Elements, DataSegments, Fields}
-use Rattle.wasm_operators_gc.specs.declared.gc.GcOperator.TheVariants as gc
-use Rattle.wasm_operators_gc.specs.declared.gc.DescriptorOperator.TheVariants as descriptor
+use Rattle.wasm_operators_operator.specs.info.declared.proposal.Proposal.TheVariants as proposal
+use Rattle.wasm_operators_operator.specs.immediates.Kinds.{Index, Heap, CastBranch, Count, Types, Elements, DataSegments, Fields}
+use Rattle.wasm_operators_operator.specs.gc.declared.gc.GcOperator.TheVariants as gc
+use Rattle.wasm_operators_operator.specs.gc.declared.gc.DescriptorOperator.TheVariants as descriptor
 use Rattle.wasm_operators_operator.specs.Op as op
 use Rattle.wasm_operators_list_tests.specs.Listed.{Carried, Listed, listed}
 

@@ -1,9 +1,9 @@
 -- Operators of atomic accesses, as the list has them (written by docs/operators/make_list_rows.py).
 use Rattle.std.specs.Prelude.{List, [], ◌∷◌, codes, Some}
-use Rattle.wasm_operators_info.specs.declared.proposal.Proposal.TheVariants as proposal
-use Rattle.wasm_operators_immediates.specs.Kinds.{Index, MemoryArgument, MemoryOrdering, ZeroByte, Types, Tables, Globals, Fields, Atomic, ReadModifyWrite}
-use Rattle.wasm_operators_threads.specs.declared.atomic.AtomicOperator.TheVariants as atomic
-use Rattle.wasm_operators_threads.specs.declared.atomic.SharedOperator.TheVariants as shared
+use Rattle.wasm_operators_operator.specs.info.declared.proposal.Proposal.TheVariants as proposal
+use Rattle.wasm_operators_operator.specs.immediates.Kinds.{Index, MemoryArgument, MemoryOrdering, ZeroByte, Types, Tables, Globals, Fields, Atomic, ReadModifyWrite}
+use Rattle.wasm_operators_operator.specs.threads.declared.atomic.AtomicOperator.TheVariants as atomic
+use Rattle.wasm_operators_operator.specs.threads.declared.atomic.SharedOperator.TheVariants as shared
 use Rattle.wasm_operators_operator.specs.Op as op
 use Rattle.wasm_operators_list_tests.specs.Listed.{Carried, Listed, listed}
 

@@ -1,7 +1,7 @@
 -- Operators on vectors, without immediates, as the list has them (written by docs/operators/make_list_rows.py).
 use Rattle.std.specs.Prelude.{List, [], ◌∷◌, codes, Some}
-use Rattle.wasm_operators_info.specs.declared.proposal.Proposal.TheVariants as proposal
-use Rattle.wasm_operators_vectors.specs.declared.vector_numeric.SimdNumericOperator.TheVariants as simd_numeric
+use Rattle.wasm_operators_operator.specs.info.declared.proposal.Proposal.TheVariants as proposal
+use Rattle.wasm_operators_operator.specs.vectors.declared.vector_numeric.SimdNumericOperator.TheVariants as simd_numeric
 use Rattle.wasm_operators_operator.specs.Op as op
 use Rattle.wasm_operators_list_tests.specs.Listed.{Carried, Listed, listed}
 

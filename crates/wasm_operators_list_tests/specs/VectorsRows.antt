@@ -1,8 +1,8 @@
 -- Operators on vectors, with immediates, as the list has them (written by docs/operators/make_list_rows.py).
 use Rattle.std.specs.Prelude.{List, [], ◌∷◌, codes, Some}
-use Rattle.wasm_operators_info.specs.declared.proposal.Proposal.TheVariants as proposal
-use Rattle.wasm_operators_immediates.specs.Kinds.{MemoryArgument, V128Constant, Lane, Lanes, Plain}
-use Rattle.wasm_operators_vectors.specs.declared.vector.SimdOperator.TheVariants as simd
+use Rattle.wasm_operators_operator.specs.info.declared.proposal.Proposal.TheVariants as proposal
+use Rattle.wasm_operators_operator.specs.immediates.Kinds.{MemoryArgument, V128Constant, Lane, Lanes, Plain}
+use Rattle.wasm_operators_operator.specs.vectors.declared.vector.SimdOperator.TheVariants as simd
 use Rattle.wasm_operators_operator.specs.Op as op
 use Rattle.wasm_operators_list_tests.specs.Listed.{Carried, Listed, listed}
 

@@ -12,3 +12,11 @@ mod role;
 
 pub use operator::Operator;
 pub use role::{Effect, Role};
+pub use wasm_operators_control as control;
+pub use wasm_operators_gc as gc;
+pub use wasm_operators_immediates as immediates;
+pub use wasm_operators_info as info;
+pub use wasm_operators_memory as memory;
+pub use wasm_operators_numbers as numbers;
+pub use wasm_operators_threads as threads;
+pub use wasm_operators_vectors as vectors;

@@ -3,7 +3,7 @@
 use Rattle.std.proofs.Common.{◌≡◌, List, [], ◌∷◌, ◌++◌, refl, sym, ◌∙◌, ap, subst}
 use Rattle.wasm_types.specs.error.ErrorValue.{ErrorValue}
 use Rattle.wasm_types.specs.reader.Reading.{IsNotMemory}
-use Rattle.wasm_operators_operator.specs.Op.{Op}
+use Rattle.wasm_operators_expression.specs.operator.Op.{Op}
 use Rattle.wasm_operators_reader.specs.Standing.{Standing, Reads, Refuses, Runs}
 use Rattle.wasm_operators_reader.specs.StandingLaws.{one_step, nothing_follows, refused_no_step}
 

@@ -5,10 +5,10 @@ use Rattle.wasm_types.specs.decoding.Decoder.{State, Done}
 use Rattle.wasm_types.specs.limits.Settings.{Settings}
 use Rattle.wasm_types.specs.error.ErrorValue.{ErrorValue}
 use Rattle.wasm_types.specs.reader.Reading.{IsNotMemory}
-use Rattle.wasm_operators_immediates.specs.declared.frames.FrameKind.{FrameKind}
-use Rattle.wasm_operators_immediates.specs.declared.frames.FrameKind.TheVariants.{Block}
-use Rattle.wasm_operators_operator.specs.Op.{Op}
-use Rattle.wasm_operators_decode_encoding.specs.Coded.{Coded, operator}
+use Rattle.wasm_operators_expression.specs.immediates.declared.frames.FrameKind.{FrameKind}
+use Rattle.wasm_operators_expression.specs.immediates.declared.frames.FrameKind.TheVariants.{Block}
+use Rattle.wasm_operators_expression.specs.operator.Op.{Op}
+use Rattle.wasm_operators_expression.specs.decode_encoding.Coded.{Coded, operator}
 use Rattle.wasm_operators_expression.specs.Code.{Code, walk}
 use Rattle.wasm_operators_expression.specs.Spelling.{SpelledOperators, SpelledExpression}
 use Rattle.wasm_operators_expression.specs.Frames.{Closes, after, BytesClose}

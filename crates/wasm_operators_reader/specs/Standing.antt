@@ -4,12 +4,12 @@ use Rattle.wasm_types.specs.decoding.Decoder.{State, Done}
 use Rattle.wasm_types.specs.error.declared.error.ErrorKind.TheVariants.{Other}
 use Rattle.wasm_types.specs.error.ErrorValue.{ErrorValue}
 use Rattle.wasm_types.specs.reader.Reading.{Fails}
-use Rattle.wasm_operators_immediates.specs.declared.frames.FrameKind.{FrameKind}
-use Rattle.wasm_operators_immediates.specs.declared.frames.FrameKind.TheVariants.{Block}
-use Rattle.wasm_operators_operator.specs.Op.{Op}
-use Rattle.wasm_operators_operator.specs.Immediates.{is_canonical}
-use Rattle.wasm_operators_decode_encoding.specs.Coded.{operator}
-use Rattle.wasm_operators_decode_encoding.specs.Operators.{coded_of}
+use Rattle.wasm_operators_expression.specs.immediates.declared.frames.FrameKind.{FrameKind}
+use Rattle.wasm_operators_expression.specs.immediates.declared.frames.FrameKind.TheVariants.{Block}
+use Rattle.wasm_operators_expression.specs.operator.Op.{Op}
+use Rattle.wasm_operators_expression.specs.operator.Immediates.{is_canonical}
+use Rattle.wasm_operators_expression.specs.decode_encoding.Coded.{operator}
+use Rattle.wasm_operators_expression.specs.decode_encoding.Operators.{coded_of}
 use Rattle.wasm_operators_decode.specs.Memory.{keeps_list_at}
 use Rattle.wasm_operators_expression.specs.Frames.{after}
 

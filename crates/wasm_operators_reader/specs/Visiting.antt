@@ -2,8 +2,8 @@
 use Rattle.std.specs.Prelude.{◌≡◌, ◌⊎◌, true, false}
 use Rattle.wasm_types.specs.error.declared.error.ErrorKind.TheVariants.{Other}
 use Rattle.wasm_types.specs.error.ErrorValue.{ErrorValue}
-use Rattle.wasm_operators_operator.specs.Op.{Op}
-use Rattle.wasm_operators_visit_operator.specs.Vectors.{is_simd}
+use Rattle.wasm_operators_expression.specs.operator.Op.{Op}
+use Rattle.wasm_operators_visit_simd_operator.specs.visit_operator.Vectors.{is_simd}
 use Rattle.wasm_operators_reader.specs.Standing.{Standing, Reads, Refuses}
 
 -- an operator is read here, and the visitor, which has this relation, is told of it

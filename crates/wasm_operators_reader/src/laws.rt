@@ -4,7 +4,7 @@ ghost use Rattle.std.specs.Prelude.{◌≡◌, List, []};
 ghost use Rattle.wasm_types.specs.decoding.Decoder.{State};
 ghost use Rattle.wasm_types.specs.error.ErrorValue.{ErrorValue};
 ghost use Rattle.wasm_types.specs.reader.Reading.{IsNotMemory};
-ghost use Rattle.wasm_operators_operator.specs.Op.{Op};
+ghost use Rattle.wasm_operators_expression.specs.operator.Op.{Op};
 ghost use Rattle.wasm_operators_expression.specs.Code.{Code, walk};
 ghost use Rattle.wasm_operators_expression.specs.Spelling.{SpelledExpression};
 ghost use Rattle.wasm_operators_reader.specs.Standing.{Standing, at_start, IsFinished, Reads, Refuses, Runs};

@@ -3,15 +3,15 @@
 ghost use Rattle.std.specs.Prelude.{◌≡◌, ◌↔◌, ◌==◌, ◌+◌, ◌<◌, [], ◌∷◌, IsTrue, IfOk, IfErr, length};
 ghost use Rattle.wasm_types.specs.error.declared.error.ErrorKind.TheVariants.{Other};
 ghost use Rattle.wasm_types.specs.reader.Reading.{NeedsNoMemory};
-ghost use Rattle.wasm_operators_operator.specs.Op.{op_of};
+ghost use Rattle.wasm_operators_expression.specs.operator.Op.{op_of};
 ghost use Rattle.wasm_operators_reader.specs.Standing.{at_start, IsFinished, Reads, Refuses, WantsMemory};
 
 use std::alloc::Global;
 use std::marker::Model;
 use wasm_operators_decode::read_operator;
 use wasm_operators_expression::ControlStack;
-use wasm_operators_immediates::{FrameKind, FrameStack};
-use wasm_operators_operator::{Operator, Role};
+use wasm_operators_expression::immediates::{FrameKind, FrameStack};
+use wasm_operators_expression::operator::{Operator, Role};
 use wasm_types::{BinaryReader, Error, Result};
 
 /// The memory of a reader's frames.

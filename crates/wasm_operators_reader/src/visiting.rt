@@ -3,15 +3,15 @@
 ghost use Rattle.std.specs.Prelude.{◌≡◌, false, IfOk, IfErr};
 ghost use Rattle.wasm_types.specs.error.declared.error.ErrorKind.TheVariants.{Other};
 ghost use Rattle.wasm_types.specs.reader.Reading.{NeedsNoMemory};
-ghost use Rattle.wasm_operators_operator.specs.Op.{op_of};
-ghost use Rattle.wasm_operators_visit_operator.specs.Vectors.{is_simd};
+ghost use Rattle.wasm_operators_expression.specs.operator.Op.{op_of};
+ghost use Rattle.wasm_operators_visit_simd_operator.specs.visit_operator.Vectors.{is_simd};
 ghost use Rattle.wasm_operators_reader.specs.Standing.{Reads, Refuses, WantsMemory};
 ghost use Rattle.wasm_operators_reader.specs.Visiting.{Visits, VisitsPlain, RefusesPlain};
 
 use crate::OperatorsReader;
-use wasm_operators_operator::Operator;
-use wasm_operators_visit_operator::{VisitOperator, is_simd};
+use wasm_operators_expression::operator::Operator;
 use wasm_operators_visit_simd_operator::VisitSimdOperator;
+use wasm_operators_visit_simd_operator::visit_operator::{VisitOperator, is_simd};
 use wasm_types::{Error, Result};
 
 impl<'a> OperatorsReader<'a> {

@@ -8,6 +8,9 @@
 
 ghost use Rattle.wasm_operators_operator.specs.Op.{Op};
 
+pub use wasm_operators_operator as operator;
+pub use wasm_operators_operator::{control, gc, immediates, memory, numbers, threads, vectors};
+
 /// What a visitor answers, and what its visits promise.
 pub trait Visitor<'a> {
     /// What each visit answers.

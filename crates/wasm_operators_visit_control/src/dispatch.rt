@@ -1,9 +1,9 @@
 //! The visit that belongs to an operator.
 
-ghost use Rattle.wasm_operators_operator.specs.Op.{Op, parametric_of, exception_of, continuation_of};
+ghost use Rattle.wasm_operators_visit.specs.operator.Op.{Op, parametric_of, exception_of, continuation_of};
 
 use crate::VisitControl;
-use wasm_operators_control::{
+use wasm_operators_visit::control::{
     ContinuationOperator, ControlOperator, ExceptionOperator, ParametricOperator,
 };
 

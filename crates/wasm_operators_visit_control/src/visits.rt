@@ -1,11 +1,11 @@
 //! One visit for each operator.
 
-ghost use Rattle.wasm_operators_operator.specs.Op.{Op, ParametricTree, ExceptionTree, ContinuationTree};
-ghost use Rattle.wasm_operators_immediates.specs.Tables.{catch_table_of};
-ghost use Rattle.wasm_operators_control.specs.declared.control.ControlOperator.{ControlOperator};
+ghost use Rattle.wasm_operators_visit.specs.operator.Op.{Op, ParametricTree, ExceptionTree, ContinuationTree};
+ghost use Rattle.wasm_operators_visit.specs.immediates.Tables.{catch_table_of};
+ghost use Rattle.wasm_operators_visit.specs.control.declared.control.ControlOperator.{ControlOperator};
 
-use wasm_operators_immediates::{BlockType, BrTable, ResumeTable, TryTable};
 use wasm_operators_visit::Visitor;
+use wasm_operators_visit::immediates::{BlockType, BrTable, ResumeTable, TryTable};
 use wasm_types::ValType;
 
 /// A visit for each operator of control, of exceptions and of continuations, and for what takes operands of any type

@@ -1,9 +1,9 @@
 //! The visit that belongs to an operator.
 
-ghost use Rattle.wasm_operators_operator.specs.Op.{Op};
+ghost use Rattle.wasm_operators_visit.specs.operator.Op.{Op};
 
 use crate::VisitGc;
-use wasm_operators_gc::{DescriptorOperator, GcOperator};
+use wasm_operators_visit::gc::{DescriptorOperator, GcOperator};
 
 /// Tells a visitor of this operator on structs, arrays or `i31`, or cast, by the visit that belongs to it.
 #[inline]

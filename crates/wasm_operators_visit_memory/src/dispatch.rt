@@ -1,9 +1,9 @@
 //! The visit that belongs to an operator.
 
-ghost use Rattle.wasm_operators_operator.specs.Op.{Op};
+ghost use Rattle.wasm_operators_visit.specs.operator.Op.{Op};
 
 use crate::VisitMemory;
-use wasm_operators_memory::{BulkOperator, ConstOperator, MemoryOperator};
+use wasm_operators_visit::memory::{BulkOperator, ConstOperator, MemoryOperator};
 
 /// Tells a visitor of this operator on variables or memories, by the visit that belongs to it.
 #[inline]

@@ -1,12 +1,12 @@
 //! One visit for each operator.
 
-ghost use Rattle.wasm_operators_operator.specs.Op.{Op};
-ghost use Rattle.wasm_operators_memory.specs.declared.memory.MemoryOperator.{MemoryOperator};
-ghost use Rattle.wasm_operators_memory.specs.declared.bulk.BulkOperator.{BulkOperator};
-ghost use Rattle.wasm_operators_memory.specs.declared.constant.ConstOperator.{ConstOperator};
+ghost use Rattle.wasm_operators_visit.specs.operator.Op.{Op};
+ghost use Rattle.wasm_operators_visit.specs.memory.declared.memory.MemoryOperator.{MemoryOperator};
+ghost use Rattle.wasm_operators_visit.specs.memory.declared.bulk.BulkOperator.{BulkOperator};
+ghost use Rattle.wasm_operators_visit.specs.memory.declared.constant.ConstOperator.{ConstOperator};
 
-use wasm_operators_immediates::MemArg;
 use wasm_operators_visit::Visitor;
+use wasm_operators_visit::immediates::MemArg;
 use wasm_types::{HeapType, Ieee32, Ieee64};
 
 /// A visit for each operator on variables, memories and tables, for what makes and tests references, and for constants

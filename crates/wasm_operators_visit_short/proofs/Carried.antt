@@ -11,13 +11,13 @@ use Rattle.wasm_types.specs.values.DecodeValues.{value_type, value_type_after}
 use Rattle.wasm_types_numbers.specs.Numbers.{behind, GivesAt}
 use Rattle.wasm_types.specs.values.declared.value.ValType.TheVariants.{I32, I64, F32, F64}
 use Rattle.wasm_types.specs.features.Features.{has, Memory64, MultiMemory}
-use Rattle.wasm_operators_immediates.specs.declared.block.BlockType.{BlockType}
-use Rattle.wasm_operators_immediates.specs.declared.block.BlockType.TheVariants.{Empty, Val, FuncType}
-use Rattle.wasm_operators_immediates.specs.declared.memory.MemArg.{MemArg}
-use Rattle.wasm_operators_immediates.specs.Blocks.{block_type, value_block, empty_block}
-use Rattle.wasm_operators_immediates.specs.Kinds as kind
-use Rattle.wasm_operators_immediates.specs.Kinds.{IndexSpace, Plain}
-use Rattle.wasm_operators_immediates.specs.Immediates.{Immediate, Index, IndexOrZero, Label, Block, MemoryArgument, I32Constant, I64Constant, F32Constant, F64Constant}
+use Rattle.wasm_operators_decode_immediates.specs.immediates.declared.block.BlockType.{BlockType}
+use Rattle.wasm_operators_decode_immediates.specs.immediates.declared.block.BlockType.TheVariants.{Empty, Val, FuncType}
+use Rattle.wasm_operators_decode_immediates.specs.immediates.declared.memory.MemArg.{MemArg}
+use Rattle.wasm_operators_decode_immediates.specs.immediates.Blocks.{block_type, value_block, empty_block}
+use Rattle.wasm_operators_decode_immediates.specs.immediates.Kinds as kind
+use Rattle.wasm_operators_decode_immediates.specs.immediates.Kinds.{IndexSpace, Plain}
+use Rattle.wasm_operators_decode_immediates.specs.immediates.Immediates.{Immediate, Index, IndexOrZero, Label, Block, MemoryArgument, I32Constant, I64Constant, F32Constant, F64Constant}
 use Rattle.wasm_operators_decode_immediates.specs.Immediates.{immediate, may_index}
 use Rattle.wasm_operators_decode_immediates.specs.Bytes.{index_or_zero, zero_byte}
 use Rattle.wasm_operators_decode_immediates.specs.MemoryArguments.{may_order, flags_in, flags_from, flags, named_memory, named_ordering, offset, argument, after_flags, memory_argument}

@@ -3,10 +3,10 @@ use Rattle.std.specs.Prelude.{◌≡◌, ℕ, ◌<◌, List, length, get_or, IsT
 use Rattle.wasm_types.specs.limits.declared.Limits.{Limits}
 use Rattle.wasm_types.specs.limits.Settings.{Settings}
 use Rattle.wasm_types_numbers.specs.Numbers.{GivesAt}
-use Rattle.wasm_operators_operator.specs.Op.{Op}
-use Rattle.wasm_operators_operator.specs.Immediates.{is_canonical}
-use Rattle.wasm_operators_decode_encoding.specs.Coded.{operator}
-use Rattle.wasm_operators_decode_encoding.specs.Operators.{coded_of}
+use Rattle.wasm_operators_visit_control.specs.operator.Op.{Op}
+use Rattle.wasm_operators_visit_control.specs.operator.Immediates.{is_canonical}
+use Rattle.wasm_operators_decode_numbers.specs.decode_encoding.Coded.{operator}
+use Rattle.wasm_operators_decode_numbers.specs.decode_encoding.Operators.{coded_of}
 
 -- these features, within any limits
 abbrev pub within : ℕ → Limits → Settings

@@ -3,12 +3,12 @@
 ghost use Rattle.std.specs.Prelude.{◌≡◌, Bool, ◌≤◌, length, IfSome};
 ghost use Rattle.wasm_types.specs.features.Features.{has, Memory64};
 ghost use Rattle.wasm_types_numbers.specs.Numbers.{GivesAt};
-ghost use Rattle.wasm_operators_immediates.specs.Blocks.{block_type};
-ghost use Rattle.wasm_operators_immediates.specs.Kinds.{Plain};
+ghost use Rattle.wasm_operators_decode_immediates.specs.immediates.Blocks.{block_type};
+ghost use Rattle.wasm_operators_decode_immediates.specs.immediates.Kinds.{Plain};
 ghost use Rattle.wasm_operators_decode_immediates.specs.Bytes.{index_or_zero};
 ghost use Rattle.wasm_operators_decode_immediates.specs.MemoryArguments.{memory_argument, offset as offset_decoder};
 
-use wasm_operators_immediates::{BlockType, MemArg, MemArgTarget};
+use wasm_operators_decode_immediates::immediates::{BlockType, MemArg, MemArgTarget};
 use wasm_types::{ValType, WasmFeatures};
 use wasm_types_numbers::{short_u32_at, short_u64_at};
 

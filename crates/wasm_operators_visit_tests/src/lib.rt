@@ -6,13 +6,13 @@
 #![tactic(auto)]
 
 ghost use Rattle.std.specs.Prelude.{◌≡◌, ◌+◌, ◌%◌, ◌^◌};
-ghost use Rattle.wasm_operators_operator.specs.Table.{info_of};
+ghost use Rattle.wasm_operators_visit_gc.specs.operator.Table.{info_of};
 
 #[cfg(test)]
 mod told;
 mod visits;
 
-use wasm_operators_visit::Visitor;
+use wasm_operators_visit_gc::visit::Visitor;
 
 /// Counts the operators on structs and arrays, casts and descriptors that it is told of, and answers the code of each.
 #[derive(Clone, Copy)]

@@ -2,7 +2,7 @@
 use crate::Counter;
 use std::process::Abort;
 use std::test::Fail;
-use wasm_operators_gc::{DescriptorOperator, GcOperator};
+use wasm_operators_visit_gc::gc::{DescriptorOperator, GcOperator};
 use wasm_operators_visit_gc::{VisitGc, visit_descriptor, visit_gc};
 use wasm_types::HeapType;
 

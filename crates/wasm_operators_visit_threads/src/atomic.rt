@@ -1,9 +1,9 @@
 //! The visit that belongs to an operator.
 
-ghost use Rattle.wasm_operators_operator.specs.Op.{Op};
+ghost use Rattle.wasm_operators_visit_threads_atomic.specs.operator.Op.{Op};
 
-use wasm_operators_threads::AtomicOperator;
 use wasm_operators_visit_threads_atomic::VisitAtomic;
+use wasm_operators_visit_threads_atomic::threads::AtomicOperator;
 
 /// Tells a visitor of this atomic access to a memory, by the visit that belongs to it.
 #[inline]

@@ -10,3 +10,4 @@ mod forwarding;
 mod visits;
 
 pub use visits::VisitAtomic;
+pub use wasm_operators_visit::threads;

@@ -1,10 +1,10 @@
 //! One visit for each operator.
 
-ghost use Rattle.wasm_operators_operator.specs.Op.{Op};
-ghost use Rattle.wasm_operators_threads.specs.declared.atomic.AtomicOperator.{AtomicOperator};
+ghost use Rattle.wasm_operators_visit.specs.operator.Op.{Op};
+ghost use Rattle.wasm_operators_visit.specs.threads.declared.atomic.AtomicOperator.{AtomicOperator};
 
-use wasm_operators_immediates::MemArg;
 use wasm_operators_visit::Visitor;
+use wasm_operators_visit::immediates::MemArg;
 
 /// A visit for each atomic access to a memory (the proposal on threads).
 pub trait VisitAtomic<'a>: Visitor<'a> {

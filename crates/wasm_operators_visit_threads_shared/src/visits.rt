@@ -1,10 +1,10 @@
 //! One visit for each operator.
 
-ghost use Rattle.wasm_operators_operator.specs.Op.{Op};
-ghost use Rattle.wasm_operators_threads.specs.declared.atomic.SharedOperator.{SharedOperator};
+ghost use Rattle.wasm_operators_visit.specs.operator.Op.{Op};
+ghost use Rattle.wasm_operators_visit.specs.threads.declared.atomic.SharedOperator.{SharedOperator};
 
-use wasm_operators_immediates::Ordering;
 use wasm_operators_visit::Visitor;
+use wasm_operators_visit::immediates::Ordering;
 
 /// A visit for each atomic access to globals, tables, structs and arrays (the proposal on shared everything).
 pub trait VisitShared<'a>: Visitor<'a> {

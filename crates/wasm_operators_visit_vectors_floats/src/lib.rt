@@ -10,3 +10,5 @@ mod forwarding;
 mod visits;
 
 pub use visits::VisitSimdFloats;
+pub use wasm_operators_visit as visit;
+pub use wasm_operators_visit::{operator, vectors};

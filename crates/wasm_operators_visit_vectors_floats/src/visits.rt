@@ -1,7 +1,7 @@
 //! One visit for each operator.
 
-ghost use Rattle.wasm_operators_operator.specs.Op.{Op};
-ghost use Rattle.wasm_operators_vectors.specs.declared.vector_numeric.SimdNumericOperator.{SimdNumericOperator};
+ghost use Rattle.wasm_operators_visit.specs.operator.Op.{Op};
+ghost use Rattle.wasm_operators_visit.specs.vectors.declared.vector_numeric.SimdNumericOperator.{SimdNumericOperator};
 
 use wasm_operators_visit::Visitor;
 

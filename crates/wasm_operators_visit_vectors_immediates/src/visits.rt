@@ -1,11 +1,11 @@
 //! One visit for each operator.
 
-ghost use Rattle.wasm_operators_operator.specs.Op.{Op};
-ghost use Rattle.wasm_operators_vectors.specs.declared.vector.SimdOperator.{SimdOperator};
-ghost use Rattle.wasm_operators_vectors.specs.declared.vector_numeric.SimdNumericOperator.{SimdNumericOperator};
+ghost use Rattle.wasm_operators_visit.specs.operator.Op.{Op};
+ghost use Rattle.wasm_operators_visit.specs.vectors.declared.vector.SimdOperator.{SimdOperator};
+ghost use Rattle.wasm_operators_visit.specs.vectors.declared.vector_numeric.SimdNumericOperator.{SimdNumericOperator};
 
-use wasm_operators_immediates::{MemArg, V128};
 use wasm_operators_visit::Visitor;
+use wasm_operators_visit::immediates::{MemArg, V128};
 
 /// A visit for each operator on vectors that carries something, and for those on all 128 bits (WebAssembly 3.0,
 /// structure, vector instructions).

@@ -4,13 +4,13 @@ use Rattle.wasm_types.specs.decoding.Decoder.{State, Done}
 use Rattle.wasm_types.specs.error.declared.error.ErrorKind.TheVariants.{Other}
 use Rattle.wasm_types.specs.error.ErrorValue.{ErrorValue}
 use Rattle.wasm_types.specs.reader.Reading.{Fails}
-use Rattle.wasm_operators_immediates.specs.declared.frames.FrameKind.{FrameKind}
-use Rattle.wasm_operators_operator.specs.Op.{Op}
-use Rattle.wasm_operators_operator.specs.Immediates.{is_canonical}
-use Rattle.wasm_operators_operator.specs.Roles.{fits}
-use Rattle.wasm_operators_decode_encoding.specs.Coded.{operator}
-use Rattle.wasm_operators_decode_encoding.specs.Operators.{coded_of}
-use Rattle.wasm_operators_visit_operator.specs.Vectors.{is_simd}
+use Rattle.wasm_operators_reader.specs.immediates.declared.frames.FrameKind.{FrameKind}
+use Rattle.wasm_operators_reader.specs.operator.Op.{Op}
+use Rattle.wasm_operators_reader.specs.operator.Immediates.{is_canonical}
+use Rattle.wasm_operators_reader.specs.operator.Roles.{fits}
+use Rattle.wasm_operators_reader.specs.decode_encoding.Coded.{operator}
+use Rattle.wasm_operators_reader.specs.decode_encoding.Operators.{coded_of}
+use Rattle.wasm_operators_reader.specs.visit_operator.Vectors.{is_simd}
 
 -- this operator begins here, may come next in this frame, and ends where t stands
 pub record ReadsIn (frame : Option FrameKind) (s : State) (o : Op) (t : State) : Type 0 where

@@ -2,12 +2,12 @@
 use Rattle.std.proofs.Common.{◌≡◌, ◌↔◌, inl, inr, Bool, true, false, List, [], ◌∷◌, Option, Some, None, refl, sym, ◌∙◌}
 use Rattle.wasm_types.specs.decoding.Decoder.{State}
 use Rattle.wasm_types.specs.error.ErrorValue.{ErrorValue}
-use Rattle.wasm_operators_immediates.specs.declared.frames.FrameKind.{FrameKind}
-use Rattle.wasm_operators_operator.specs.Op.{Op}
-use Rattle.wasm_operators_operator.specs.Roles.{fits}
-use Rattle.wasm_operators_expression.specs.Frames.{after}
-use Rattle.wasm_operators_expression.specs.FrameLaws.{fits_after}
-use Rattle.wasm_operators_expression.specs.Stack.{innermost}
+use Rattle.wasm_operators_reader.specs.immediates.declared.frames.FrameKind.{FrameKind}
+use Rattle.wasm_operators_reader.specs.operator.Op.{Op}
+use Rattle.wasm_operators_reader.specs.operator.Roles.{fits}
+use Rattle.wasm_operators_reader.specs.expression.Frames.{after}
+use Rattle.wasm_operators_reader.specs.expression.FrameLaws.{fits_after}
+use Rattle.wasm_operators_reader.specs.expression.Stack.{innermost}
 use Rattle.wasm_operators_reader.specs.Standing.{Reads, Refuses}
 use Rattle.wasm_operators_visiting.specs.InFrame.{ReadsIn, RefusesIn}
 

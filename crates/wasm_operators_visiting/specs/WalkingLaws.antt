@@ -6,10 +6,10 @@ use Rattle.wasm_types.specs.decoding.Decoder.{State}
 use Rattle.wasm_types.specs.error.declared.error.ErrorKind.TheVariants.{Other}
 use Rattle.wasm_types.specs.error.ErrorValue.{ErrorValue}
 use Rattle.wasm_types.specs.reader.Reading.{IsNotMemory}
-use Rattle.wasm_operators_operator.specs.Op.{Op}
-use Rattle.wasm_operators_visit_operator.specs.Vectors.{is_simd}
-use Rattle.wasm_operators_expression.specs.Code.{Code, walk}
-use Rattle.wasm_operators_expression.specs.Spelling.{SpelledExpression}
+use Rattle.wasm_operators_reader.specs.operator.Op.{Op}
+use Rattle.wasm_operators_reader.specs.visit_operator.Vectors.{is_simd}
+use Rattle.wasm_operators_reader.specs.expression.Code.{Code, walk}
+use Rattle.wasm_operators_reader.specs.expression.Spelling.{SpelledExpression}
 use Rattle.wasm_operators_reader.specs.Standing.{Standing, at_start, IsFinished, Reads}
 use Rattle.wasm_operators_reader.specs.Visiting.{VisitsPlain, RefusesVector, RefusesPlain}
 use Rattle.wasm_operators_reader.specs.StandingLaws.{reads_fewer}

@@ -3,9 +3,9 @@
 ghost use Rattle.std.specs.Prelude.{◌↔◌, List};
 ghost use Rattle.wasm_types.specs.decoding.Decoder.{State};
 ghost use Rattle.wasm_types.specs.error.ErrorValue.{ErrorValue};
-ghost use Rattle.wasm_operators_immediates.specs.declared.frames.FrameKind.{FrameKind as Kind};
-ghost use Rattle.wasm_operators_operator.specs.Op.{Op};
-ghost use Rattle.wasm_operators_expression.specs.Stack.{innermost};
+ghost use Rattle.wasm_operators_reader.specs.immediates.declared.frames.FrameKind.{FrameKind as Kind};
+ghost use Rattle.wasm_operators_reader.specs.operator.Op.{Op};
+ghost use Rattle.wasm_operators_reader.specs.expression.Stack.{innermost};
 ghost use Rattle.wasm_operators_reader.specs.Standing.{Reads, Refuses};
 ghost use Rattle.wasm_operators_visiting.specs.InFrame.{ReadsIn, RefusesIn};
 

@@ -12,3 +12,11 @@ mod walking;
 
 pub use read_operators::{ReadOperators, ReadToSimdVisitor, ReadToVisitor};
 pub use walking::visit_expression;
+pub use wasm_operators_reader as reader;
+pub use wasm_operators_reader::{
+    control, gc, immediates, info, memory, numbers, operator, threads, vectors, visit,
+    visit_control, visit_gc, visit_memory, visit_numbers_floats, visit_numbers_integers,
+    visit_operator, visit_simd_operator, visit_threads_atomic, visit_threads_shared,
+    visit_vectors_floats, visit_vectors_immediates, visit_vectors_narrow, visit_vectors_wide,
+    wasm_operators_expression as expression,
+};

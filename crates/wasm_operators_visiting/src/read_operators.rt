@@ -4,18 +4,18 @@ ghost use Rattle.std.specs.Prelude.{◌≡◌, ◌+◌, ◌<◌, false, None, []
 ghost use Rattle.wasm_types.specs.decoding.Decoder.{State};
 ghost use Rattle.wasm_types.specs.error.declared.error.ErrorKind.TheVariants.{Other};
 ghost use Rattle.wasm_types.specs.reader.Reading.{NeedsNoMemory};
-ghost use Rattle.wasm_operators_operator.specs.Op.{Op, op_of};
-ghost use Rattle.wasm_operators_decode.specs.Memory.{keeps_list_at};
-ghost use Rattle.wasm_operators_visit_operator.specs.Vectors.{is_simd};
+ghost use Rattle.wasm_operators_reader.specs.operator.Op.{Op, op_of};
+ghost use Rattle.wasm_operators_reader.specs.decode.Memory.{keeps_list_at};
+ghost use Rattle.wasm_operators_reader.specs.visit_operator.Vectors.{is_simd};
 ghost use Rattle.wasm_operators_visiting.specs.InFrame.{ReadsIn, RefusesIn, RefusesPlainIn};
 
 use std::alloc::Global;
-use wasm_operators_decode::read_operator;
-use wasm_operators_immediates::{FrameKind, FrameStack};
-use wasm_operators_operator::Operator;
+use wasm_operators_reader::decode::read_operator;
+use wasm_operators_reader::immediates::{FrameKind, FrameStack};
+use wasm_operators_reader::operator::Operator;
+use wasm_operators_reader::visit_operator::{VisitOperator, is_simd};
+use wasm_operators_reader::visit_simd_operator::VisitSimdOperator;
 use wasm_operators_reader::{misplaced, unexpected_vector};
-use wasm_operators_visit_operator::{VisitOperator, is_simd};
-use wasm_operators_visit_simd_operator::VisitSimdOperator;
 use wasm_types::{BinaryReader, Error, Result};
 
 /// Looks at operators, where a stack knows which frames are open. With no frame open nothing is read: that is refused before a

@@ -3,8 +3,8 @@ use Rattle.std.proofs.Common.{refl}
 use Rattle.wasm_types.specs.features.Features.{has}
 use Rattle.wasm_types.specs.decoding.Leb.{unsigned}
 use Rattle.wasm_types.specs.decoding.Decoder.{repeated}
-use Rattle.wasm_operators_decode_immediates.specs.Bytes.{index_or_zero, zero_byte, ordering_by, lane, shuffle, vector}
-use Rattle.wasm_operators_decode_immediates.specs.Immediates.{immediate}
+use Rattle.wasm_operators_decode_encoding.specs.decode_immediates.Bytes.{index_or_zero, zero_byte, ordering_by, lane, shuffle, vector}
+use Rattle.wasm_operators_decode_encoding.specs.decode_immediates.Immediates.{immediate}
 use Rattle.wasm_operators_worked_tests.specs.ByteRows.{ByteRows}
 
 pub bytes : ByteRows

@@ -2,7 +2,7 @@
 use Rattle.std.proofs.Common.{refl}
 use Rattle.wasm_types.specs.decoding.Leb.{unsigned, signed, last_bits}
 use Rattle.wasm_types.specs.decoding.Text.{word}
-use Rattle.wasm_operators_decode_immediates.specs.Immediates.{immediate}
+use Rattle.wasm_operators_decode_encoding.specs.decode_immediates.Immediates.{immediate}
 use Rattle.wasm_operators_worked_tests.specs.NumberRows.{NumberRows}
 
 pub numbers : NumberRows

@@ -4,18 +4,18 @@ use Rattle.wasm_types.specs.features.Features.{mask, MultiMemory, CallIndirectOv
 use Rattle.wasm_types.specs.values.declared.heap.HeapType.TheVariants.{Abstract}
 use Rattle.wasm_types.specs.values.declared.heap.AbstractHeapType.TheVariants.{Func}
 use Rattle.wasm_types.specs.values.declared.value.ValType.TheVariants.{I32, I64}
-use Rattle.wasm_operators_immediates.specs.declared.block.BlockType.TheVariants.{Empty}
-use Rattle.wasm_operators_immediates.specs.declared.handlers.Catch.TheVariants.{All}
-use Rattle.wasm_operators_immediates.specs.declared.handlers.Handle.TheVariants.{OnSwitch}
-use Rattle.wasm_operators_immediates.specs.Handlers.{catch_table}
-use Rattle.wasm_operators_decode_immediates.specs.MemoryArguments.{argument}
-use Rattle.wasm_operators_operator.specs.Op as op
-use Rattle.wasm_operators_control.specs.declared.control.ControlOperator.TheVariants as control
-use Rattle.wasm_operators_memory.specs.declared.memory.MemoryOperator.TheVariants as memory
-use Rattle.wasm_operators_memory.specs.declared.constant.ConstOperator.TheVariants as const
-use Rattle.wasm_operators_memory.specs.declared.bulk.BulkOperator.TheVariants as bulk
-use Rattle.wasm_operators_numbers.specs.declared.numeric.NumericOperator.TheVariants as numeric
-use Rattle.wasm_operators_gc.specs.declared.gc.GcOperator.TheVariants as gc
+use Rattle.wasm_operators_decode_encoding.specs.immediates.declared.block.BlockType.TheVariants.{Empty}
+use Rattle.wasm_operators_decode_encoding.specs.immediates.declared.handlers.Catch.TheVariants.{All}
+use Rattle.wasm_operators_decode_encoding.specs.immediates.declared.handlers.Handle.TheVariants.{OnSwitch}
+use Rattle.wasm_operators_decode_encoding.specs.immediates.Handlers.{catch_table}
+use Rattle.wasm_operators_decode_encoding.specs.decode_immediates.MemoryArguments.{argument}
+use Rattle.wasm_operators_decode_encoding.specs.operator.Op as op
+use Rattle.wasm_operators_decode_encoding.specs.control.declared.control.ControlOperator.TheVariants as control
+use Rattle.wasm_operators_decode_encoding.specs.memory.declared.memory.MemoryOperator.TheVariants as memory
+use Rattle.wasm_operators_decode_encoding.specs.memory.declared.constant.ConstOperator.TheVariants as const
+use Rattle.wasm_operators_decode_encoding.specs.memory.declared.bulk.BulkOperator.TheVariants as bulk
+use Rattle.wasm_operators_decode_encoding.specs.numbers.declared.numeric.NumericOperator.TheVariants as numeric
+use Rattle.wasm_operators_decode_encoding.specs.gc.declared.gc.GcOperator.TheVariants as gc
 use Rattle.wasm_operators_worked_tests.specs.Worked.{none, spells, begins, is_none, breaks_off}
 
 pub record PlainRows : Type 0 where

@@ -5,18 +5,18 @@ use Rattle.wasm_types.specs.features.Features.{mask, SharedEverythingThreads}
 use Rattle.wasm_types.specs.values.declared.heap.HeapType.TheVariants.{Abstract}
 use Rattle.wasm_types.specs.values.declared.heap.AbstractHeapType.TheVariants.{Func, Any}
 use Rattle.wasm_types.specs.values.Decode.{reference}
-use Rattle.wasm_operators_immediates.specs.declared.memory.Ordering.TheVariants.{AcqRel}
-use Rattle.wasm_operators_immediates.specs.declared.memory.MemArgOrdering.TheVariants.{Op}
-use Rattle.wasm_operators_decode_immediates.specs.MemoryArguments.{argument}
-use Rattle.wasm_operators_operator.specs.Op as op
-use Rattle.wasm_operators_memory.specs.declared.bulk.BulkOperator.TheVariants as bulk
-use Rattle.wasm_operators_numbers.specs.declared.numeric.NumericOperator.TheVariants as numeric
-use Rattle.wasm_operators_gc.specs.declared.gc.GcOperator.TheVariants as gc
-use Rattle.wasm_operators_gc.specs.declared.gc.DescriptorOperator.TheVariants as descriptor
-use Rattle.wasm_operators_vectors.specs.declared.vector.SimdOperator.TheVariants as simd
-use Rattle.wasm_operators_vectors.specs.declared.vector_numeric.SimdNumericOperator.TheVariants as simd_numeric
-use Rattle.wasm_operators_threads.specs.declared.atomic.AtomicOperator.TheVariants as atomic
-use Rattle.wasm_operators_threads.specs.declared.atomic.SharedOperator.TheVariants as shared
+use Rattle.wasm_operators_decode_encoding.specs.immediates.declared.memory.Ordering.TheVariants.{AcqRel}
+use Rattle.wasm_operators_decode_encoding.specs.immediates.declared.memory.MemArgOrdering.TheVariants.{Op}
+use Rattle.wasm_operators_decode_encoding.specs.decode_immediates.MemoryArguments.{argument}
+use Rattle.wasm_operators_decode_encoding.specs.operator.Op as op
+use Rattle.wasm_operators_decode_encoding.specs.memory.declared.bulk.BulkOperator.TheVariants as bulk
+use Rattle.wasm_operators_decode_encoding.specs.numbers.declared.numeric.NumericOperator.TheVariants as numeric
+use Rattle.wasm_operators_decode_encoding.specs.gc.declared.gc.GcOperator.TheVariants as gc
+use Rattle.wasm_operators_decode_encoding.specs.gc.declared.gc.DescriptorOperator.TheVariants as descriptor
+use Rattle.wasm_operators_decode_encoding.specs.vectors.declared.vector.SimdOperator.TheVariants as simd
+use Rattle.wasm_operators_decode_encoding.specs.vectors.declared.vector_numeric.SimdNumericOperator.TheVariants as simd_numeric
+use Rattle.wasm_operators_decode_encoding.specs.threads.declared.atomic.AtomicOperator.TheVariants as atomic
+use Rattle.wasm_operators_decode_encoding.specs.threads.declared.atomic.SharedOperator.TheVariants as shared
 use Rattle.wasm_operators_worked_tests.specs.Worked.{none, spells, is_none, breaks_off}
 
 pub record PrefixedRows : Type 0 where

@@ -2,14 +2,14 @@
 use Rattle.std.specs.Prelude.{ℕ, ℤ, [], ◌∷◌}
 use Rattle.wasm_types.specs.trees.Rows.{i32, number}
 use Rattle.wasm_types.specs.values.declared.value.ValType.TheVariants as value
-use Rattle.wasm_operators_immediates.specs.declared.block.BlockType.TheVariants as block
-use Rattle.wasm_operators_immediates.specs.declared.frames.FrameKind.TheVariants as frames
-use Rattle.wasm_operators_control.specs.declared.control.ControlOperator.TheVariants as control
-use Rattle.wasm_operators_memory.specs.declared.memory.MemoryOperator.TheVariants as memory
-use Rattle.wasm_operators_memory.specs.declared.constant.ConstOperator.TheVariants as const
-use Rattle.wasm_operators_numbers.specs.declared.numeric.NumericOperator.TheVariants as numeric
-use Rattle.wasm_operators_operator.specs.Op as op
-use Rattle.wasm_operators_operator.specs.Op.{Op}
+use Rattle.wasm_operators_expression.specs.immediates.declared.block.BlockType.TheVariants as block
+use Rattle.wasm_operators_expression.specs.immediates.declared.frames.FrameKind.TheVariants as frames
+use Rattle.wasm_operators_expression.specs.control.declared.control.ControlOperator.TheVariants as control
+use Rattle.wasm_operators_expression.specs.memory.declared.memory.MemoryOperator.TheVariants as memory
+use Rattle.wasm_operators_expression.specs.memory.declared.constant.ConstOperator.TheVariants as const
+use Rattle.wasm_operators_expression.specs.numbers.declared.numeric.NumericOperator.TheVariants as numeric
+use Rattle.wasm_operators_expression.specs.operator.Op as op
+use Rattle.wasm_operators_expression.specs.operator.Op.{Op}
 use Rattle.wasm_operators_expression.specs.Code.{Code, close, plain, nested, turn}
 use Rattle.wasm_operator_validator_rules.specs.Context.{Signature, Frame, Initialised, initialised_at_first}
 use Rattle.wasm_operator_validator_rules.specs.Typed.{Typed}

@@ -4,8 +4,8 @@ use Rattle.wasm_types.specs.trees.Rows.{i32, i64, number, ref, abstract, func, e
 use Rattle.wasm_types.specs.trees.Trees.{TypeTree}
 use Rattle.wasm_types.specs.trees.worked.Types.{alone, declared_row}
 use Rattle.wasm_types.specs.externs.declared.memory.MemoryType.{MemoryType}
-use Rattle.wasm_operators_immediates.specs.declared.memory.MemArg.{MemArg}
-use Rattle.wasm_operators_immediates.specs.declared.memory.MemArgTarget.TheVariants as target
+use Rattle.wasm_operators_expression.specs.immediates.declared.memory.MemArg.{MemArg}
+use Rattle.wasm_operators_expression.specs.immediates.declared.memory.MemArgTarget.TheVariants as target
 use Rattle.wasm_operator_validator_rules.specs.Operands.{ValueType}
 use Rattle.wasm_operator_validator_rules.specs.Context.{Module, Context, Table, Global}
 

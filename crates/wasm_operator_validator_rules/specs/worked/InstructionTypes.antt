@@ -1,14 +1,14 @@
 -- Instruction types by the table, and operators for which it has none.
 use Rattle.std.specs.Prelude.{◌≡◌, ℤ, List, [], ◌∷◌, Some, None}
 use Rattle.wasm_types.specs.trees.Rows.{Number, i32, i64, f32, f64, number}
-use Rattle.wasm_operators_control.specs.declared.control.ControlOperator.TheVariants as control
-use Rattle.wasm_operators_memory.specs.declared.memory.MemoryOperator.TheVariants as memory
-use Rattle.wasm_operators_memory.specs.declared.constant.ConstOperator.TheVariants as const
-use Rattle.wasm_operators_memory.specs.declared.bulk.BulkOperator.TheVariants as bulk
-use Rattle.wasm_operators_numbers.specs.declared.numeric.NumericOperator.TheVariants as numeric
-use Rattle.wasm_operators_threads.specs.declared.atomic.AtomicOperator.TheVariants as atomic
-use Rattle.wasm_operators_operator.specs.Op as op
-use Rattle.wasm_operators_operator.specs.Op.{Op}
+use Rattle.wasm_operators_expression.specs.control.declared.control.ControlOperator.TheVariants as control
+use Rattle.wasm_operators_expression.specs.memory.declared.memory.MemoryOperator.TheVariants as memory
+use Rattle.wasm_operators_expression.specs.memory.declared.constant.ConstOperator.TheVariants as const
+use Rattle.wasm_operators_expression.specs.memory.declared.bulk.BulkOperator.TheVariants as bulk
+use Rattle.wasm_operators_expression.specs.numbers.declared.numeric.NumericOperator.TheVariants as numeric
+use Rattle.wasm_operators_expression.specs.threads.declared.atomic.AtomicOperator.TheVariants as atomic
+use Rattle.wasm_operators_expression.specs.operator.Op as op
+use Rattle.wasm_operators_expression.specs.operator.Op.{Op}
 use Rattle.wasm_operator_validator_rules.specs.Context.{Context}
 use Rattle.wasm_operator_validator_rules.specs.Numbers.{numbers}
 use Rattle.wasm_operator_validator_rules.specs.InstructionTypes.{◌⟶◌, instruction_type}

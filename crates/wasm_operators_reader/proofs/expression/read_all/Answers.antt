@@ -1,4 +1,4 @@
-use Rattle.wasm_operators_operator.specs.Op.{op_of}
+use Rattle.wasm_operators_expression.specs.operator.Op.{op_of}
 use Rattle.wasm_operators_reader.specs.StandingLaws.{reads_fewer}
 use Rattle.wasm_operators_reader.specs.RunLaws.{run_pushed}
 use Rattle.wasm_operators_reader.proofs.expression.read_all.Goals as goal

@@ -1,5 +1,5 @@
 use Rattle.std.proofs.Common.{inr, sym, ◌∙◌, ◌+◌, ap, subst}
-use Rattle.wasm_operators_operator.specs.Op.{op_of}
+use Rattle.wasm_operators_expression.specs.operator.Op.{op_of}
 use Rattle.wasm_types.specs.decoding.Decoder.{State}
 use Rattle.wasm_operators_expression.specs.Stack.{OpenFrames}
 use Rattle.wasm_operators_reader.specs.Standing.{Standing, Refuses, IsUnfit, IsOpening, WantsMemory}
