@@ -1,7 +1,7 @@
 -- The worked rows of operators.
 use Rattle.std.proofs.Common.{◌≡◌, List, [], ◌∷◌, ◌++◌, true, false, refl, sym, inl, rules}
 use Rattle.wasm_types.specs.features.Features.{has}
-use Rattle.wasm_types.specs.trees.Rows.{i32, i64, number, concrete}
+use Rattle.wasm_types.specs.trees.Types.{i32, i64, number, concrete}
 use Rattle.wasm_types.specs.trees.Trees.{opened}
 use Rattle.wasm_types.specs.trees.AbstractOrder.{same}
 use Rattle.wasm_operator_validator_rules.specs.Operands.{Operand, AllBelow, all_known}

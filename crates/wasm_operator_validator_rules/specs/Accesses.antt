@@ -1,6 +1,6 @@
 -- Accesses to memories by class (WebAssembly 3.0, validation, memory instructions; atomic ones by the proposal on threads).
 use Rattle.std.specs.Prelude.{Bool, true, false, List, [], ◌∷◌, ◌+◌, ◌^◌, ◌==◌, ◌&&◌, ◌||◌, Option, Some, None, nat_lt}
-use Rattle.wasm_types.specs.trees.Rows.{Number, i32, i64, f32, f64}
+use Rattle.wasm_types.specs.trees.Types.{Number, i32, i64, f32, f64}
 use Rattle.wasm_types.specs.externs.declared.memory.MemoryType.{MemoryType}
 use Rattle.wasm_operators_expression.specs.immediates.declared.memory.MemArg.{MemArg}
 use Rattle.wasm_operators_expression.specs.immediates.declared.memory.MemArgTarget.{MemArgTarget}

@@ -3,7 +3,7 @@ use Rattle.std.specs.Prelude.{◌≡◌, ◌<◌, ℕ, Bool, true, false, IsTrue
 use Rattle.wasm_types.specs.features.Features.{MultiValue}
 use Rattle.wasm_types.specs.indices.declared.index.UnpackedIndex.{UnpackedIndex}
 use Rattle.wasm_types.specs.indices.declared.index.UnpackedIndex.TheVariants as index
-use Rattle.wasm_types.specs.trees.Rows.{i32, i64, number, ref, function, value_map}
+use Rattle.wasm_types.specs.trees.Types.{i32, i64, number, ref, function, value_map}
 use Rattle.wasm_types.specs.trees.Each.{EachValue}
 use Rattle.wasm_types.specs.trees.Gates.{Has, ValueIsAllowed}
 use Rattle.wasm_types.specs.trees.Trees.{TypeTree}

@@ -1,6 +1,6 @@
 -- Operators on numbers by class (WebAssembly 3.0, validation, numeric instructions).
 use Rattle.std.specs.Prelude.{List, [], ◌∷◌, Bool, true, false, ◌||◌, map}
-use Rattle.wasm_types.specs.trees.Rows.{Number, i32, i64, f32, f64, v128, number}
+use Rattle.wasm_types.specs.trees.Types.{Number, i32, i64, f32, f64, v128, number}
 use Rattle.wasm_operators_expression.specs.numbers.declared.numeric.NumericOperator.{NumericOperator}
 use Rattle.wasm_operators_expression.specs.numbers.declared.numeric.NumericOperator.TheVariants as numeric
 use Rattle.wasm_operators_expression.specs.memory.declared.constant.ConstOperator.{ConstOperator}

@@ -1,6 +1,6 @@
 -- What the rules know of an operand (WebAssembly 3.0, validation, instructions; its appendix on a validation algorithm).
 use Rattle.std.specs.Prelude.{List, [], ◌∷◌, map, reverse}
-use Rattle.wasm_types.specs.trees.Rows.{ValueOf, number, ref}
+use Rattle.wasm_types.specs.trees.Types.{ValueOf, number, ref}
 use Rattle.wasm_types.specs.trees.Trees.{TypeTree}
 use Rattle.wasm_types.specs.trees.Below.{Below}
 

@@ -3,7 +3,7 @@
 use Rattle.std.specs.Prelude.{◌≡◌, ℕ, Bool, true, false, IsTrue, List, [], ◌∷◌, ◌++◌, Option, Some, None, slice_get, if◌then◌else◌, ◌==◌, ◌⊎◌}
 use Rattle.std.specs.Int.RustNames.{bit_and}
 use Rattle.wasm_types.specs.features.Features.{Floats, CustomDescriptors}
-use Rattle.wasm_types.specs.trees.Rows.{number, ref, HeapOf, abstract, concrete, exact, func}
+use Rattle.wasm_types.specs.trees.Types.{number, ref, HeapOf, abstract, concrete, exact, func}
 use Rattle.wasm_types.specs.trees.Trees.{TypeTree}
 use Rattle.wasm_types.specs.trees.Below.{Below, is_shared, value_is_shared}
 use Rattle.wasm_types.specs.trees.Gates.{Has}

@@ -4,8 +4,8 @@ use Rattle.std.specs.Prelude.{Result, Ok, Err, Vec}
 use Rattle.std.specs.List.{flat_map}
 use Rattle.std.specs.Vec.{with_items}
 use Rattle.std.proofs.lemmas.List.{with_items_is}
-use Rattle.wasm_types_values.specs.trees.Rows as tree
-use Rattle.wasm_types_values.specs.trees.Rows.{ValueOf, InnerOf}
+use Rattle.wasm_types_values.specs.trees.Types as tree
+use Rattle.wasm_types_values.specs.trees.Types.{ValueOf, InnerOf}
 use Rattle.wasm_types_values.specs.Remap.{Remapped, value_shape, value_indices}
 use Rattle.wasm_types_values.specs.RemapLaws.{walked_next, cut_before}
 use Rattle.wasm_types_fields.specs.Remap.{inner_shape, inner_indices}

@@ -19,8 +19,8 @@ use Rattle.wasm_types_values.specs.contracts.value.StorageTypePartialEq.TheImpl 
 use Rattle.wasm_types_values.specs.Trees.{abstract_of, heap_of}
 use Rattle.wasm_types_values.specs.Values.{value_of, storage_of}
 use Rattle.wasm_types_values.specs.Laws.{ValueEqualityIsIdentity, StorageEqualityIsIdentity}
-use Rattle.wasm_types_values.specs.trees.Rows as tree
-use Rattle.wasm_types_values.specs.trees.Rows.{Abstract, HeapOf, ValueOf, StorageOf}
+use Rattle.wasm_types_values.specs.trees.Types as tree
+use Rattle.wasm_types_values.specs.trees.Types.{Abstract, HeapOf, ValueOf, StorageOf}
 
 -- ---- trees give types back
 

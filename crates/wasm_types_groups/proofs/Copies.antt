@@ -3,7 +3,7 @@ use Rattle.std.proofs.Common.{◌≡◌, List, [], ◌∷◌, refl, ap, map, Opt
 use Rattle.std.specs.List.{AllZip, each_same}
 use Rattle.wasm_types_fields.specs.indices.declared.index.UnpackedIndex.{UnpackedIndex}
 use Rattle.wasm_types_fields.specs.values.Values.{value_of}
-use Rattle.wasm_types_fields.specs.trees.Rows as tree
+use Rattle.wasm_types_fields.specs.trees.Types as tree
 use Rattle.wasm_types_fields.specs.declared.field.FieldType.{FieldType}
 use Rattle.wasm_types_fields.specs.declared.field.ArrayType.{ArrayType}
 use Rattle.wasm_types_fields.specs.declared.cont.ContType.{ContType}
@@ -17,7 +17,7 @@ use Rattle.wasm_types_groups.specs.contracts.composite.CompositeTypeClone.TheImp
 use Rattle.wasm_types_groups.specs.contracts.sub_type.SubTypeClone.TheImpl as subtype
 use Rattle.wasm_types_groups.specs.contracts.rec_group.RecGroupClone.TheImpl as group
 use Rattle.wasm_types_fields.specs.Fields.{field_of}
-use Rattle.wasm_types_groups.specs.Rows.{inner_of, first_of, declared_of, declared_types}
+use Rattle.wasm_types_groups.specs.Entries.{inner_of, first_of, declared_of, declared_types}
 
 inner_copied : (x y : CompositeInnerType) → inner.ghosts.is_clone x y → inner_of y ≡ inner_of x
 inner_copied (Func f) (Func g) h =
@@ -67,7 +67,7 @@ subtype_copied x y h =
     let e6 = describes_copied a b a.describes_idx b.describes_idx c in
     λ i. record {
       supertypes = e2 i;
-      row = record { is_final = e1 i; supertype = first_of (e2 i); shared = e4 i; descriptor = e5 i; describes = e6 i; inner = e3 i };
+      entry = record { is_final = e1 i; supertype = first_of (e2 i); shared = e4 i; descriptor = e5 i; describes = e6 i; inner = e3 i };
     }
 
 subtypes_copied : (xs ys : List SubType) → AllZip subtype.ghosts.is_clone xs ys → map declared_of ys ≡ map declared_of xs

@@ -8,8 +8,8 @@ use Rattle.wasm_types_fields.specs.indices.contracts.packed.PackedIndexPartialEq
 use Rattle.wasm_types_fields.specs.values.contracts.value.ValTypePartialEq.TheImpl as value_type
 use Rattle.wasm_types_fields.specs.values.contracts.value.StorageTypePartialEq.TheImpl as storage_type
 use Rattle.wasm_types_fields.specs.values.Laws.{ValueEqualityIsIdentity, StorageEqualityIsIdentity}
-use Rattle.wasm_types_fields.specs.trees.Rows as tree
-use Rattle.wasm_types_fields.specs.trees.Rows.{ValueOf, FieldOf, InnerOf, RowOf}
+use Rattle.wasm_types_fields.specs.trees.Types as tree
+use Rattle.wasm_types_fields.specs.trees.Types.{ValueOf, FieldOf, InnerOf, EntryOf}
 use Rattle.wasm_types_fields.specs.declared.field.FieldType.{FieldType}
 use Rattle.wasm_types_groups.specs.declared.composite.CompositeInnerType.{CompositeInnerType}
 use Rattle.wasm_types_groups.specs.declared.composite.CompositeInnerType.TheVariants.{Func, Array, Struct, Cont}
@@ -20,7 +20,7 @@ use Rattle.wasm_types_groups.specs.contracts.composite.CompositeInnerTypePartial
 use Rattle.wasm_types_groups.specs.contracts.sub_type.SubTypePartialEq.TheImpl as subtype
 use Rattle.wasm_types_groups.specs.contracts.rec_group.RecGroupPartialEq.TheImpl as group
 use Rattle.wasm_types_fields.specs.Fields.{field_of}
-use Rattle.wasm_types_groups.specs.Rows.{inner_of, row_of, first_of, Declared, declared_of, declared_types}
+use Rattle.wasm_types_groups.specs.Entries.{inner_of, entry_of, first_of, Declared, declared_of, declared_types}
 use Rattle.wasm_types_fields.proofs.Telling.{Tells, first, second, both, lists, options, map_id, option_id, flags, indices, values, storages}
 
 module _ (same_value : ValueEqualityIsIdentity) (same_storage : StorageEqualityIsIdentity) where
@@ -102,21 +102,21 @@ module _ (same_value : ValueEqualityIsIdentity) (same_storage : StorageEqualityI
       let e6 = simp option_id at ((options indices).sound a.describes_idx b.describes_idx (second t5 t6 r4)) in
       λ i. record {
         supertypes = e2 i;
-        row = record { is_final = e1 i; supertype = first_of (e2 i); shared = e4 i; descriptor = e5 i; describes = e6 i; inner = e3 i };
+        entry = record { is_final = e1 i; supertype = first_of (e2 i); shared = e4 i; descriptor = e5 i; describes = e6 i; inner = e3 i };
       }
 
   subtype_complete : (x y : SubType) → declared_of x ≡ declared_of y → subtype.ghosts.eq x y ≡ true
   subtype_complete x y e =
       let a = x.composite_type in
       let b = y.composite_type in
-      let r : row_of x ≡ row_of y = ap (λ (d : Declared). d.row) e in
+      let r : entry_of x ≡ entry_of y = ap (λ (d : Declared). d.entry) e in
       let e2 = (lists indices).complete x.supertype_idxs.items y.supertype_idxs.items (ap (λ (d : Declared). map (λ i. i) d.supertypes) e) in
-      both _ _ (flags.complete x.is_final y.is_final (ap (λ (z : RowOf UnpackedIndex). z.is_final) r))
+      both _ _ (flags.complete x.is_final y.is_final (ap (λ (z : EntryOf UnpackedIndex). z.is_final) r))
       (both _ _ e2
-      (both _ _ (inner_complete a.inner b.inner (ap (λ (z : RowOf UnpackedIndex). z.inner) r))
-      (both _ _ (flags.complete a.shared b.shared (ap (λ (z : RowOf UnpackedIndex). z.shared) r))
-      (both _ _ ((options indices).complete a.descriptor_idx b.descriptor_idx (ap (λ (z : RowOf UnpackedIndex). option_map (λ i. i) z.descriptor) r))
-      ((options indices).complete a.describes_idx b.describes_idx (ap (λ (z : RowOf UnpackedIndex). option_map (λ i. i) z.describes) r))))))
+      (both _ _ (inner_complete a.inner b.inner (ap (λ (z : EntryOf UnpackedIndex). z.inner) r))
+      (both _ _ (flags.complete a.shared b.shared (ap (λ (z : EntryOf UnpackedIndex). z.shared) r))
+      (both _ _ ((options indices).complete a.descriptor_idx b.descriptor_idx (ap (λ (z : EntryOf UnpackedIndex). option_map (λ i. i) z.descriptor) r))
+      ((options indices).complete a.describes_idx b.describes_idx (ap (λ (z : EntryOf UnpackedIndex). option_map (λ i. i) z.describes) r))))))
 
   subtypes_tell : Tells subtype.ghosts.eq declared_of
   subtypes_tell = record { sound = subtype_sound; complete = subtype_complete }

@@ -4,13 +4,13 @@ use Rattle.std.specs.Prelude.{Result, Ok, Err}
 use Rattle.std.specs.List.{flat_map}
 use Rattle.std.proofs.lemmas.List.{set-get_or}
 use Rattle.std.specs.Option.{option_map}
-use Rattle.wasm_types_fields.specs.trees.Rows.{InnerOf, RowOf}
+use Rattle.wasm_types_fields.specs.trees.Types.{InnerOf, EntryOf}
 use Rattle.wasm_types_fields.specs.values.Remap.{AreAnswered, IsCutShort, IsWalked, Remapped}
 use Rattle.wasm_types_fields.specs.values.RemapLaws.{refused_alone, walked_next, cut_before}
 use Rattle.wasm_types_fields.specs.Remap.{inner_indices, inner_shape}
 use Rattle.wasm_types_fields.proofs.Remapping.{SoFar, cut}
-use Rattle.wasm_types_groups.specs.Rows.{first_of, declared_with}
-use Rattle.wasm_types_groups.specs.Remap.{list_shape, option_indices, row_indices, row_shape, declared_shape, IsOptionAnswered}
+use Rattle.wasm_types_groups.specs.Entries.{first_of, declared_with}
+use Rattle.wasm_types_groups.specs.Remap.{list_shape, option_indices, entry_indices, entry_shape, declared_shape, IsOptionAnswered}
 
 -- ---- indices alone
 
@@ -59,39 +59,39 @@ module _ {R E : Type 0} (answers : R → Result R E → Type 0) where
 
   -- ---- composite types
 
-  abbrev row : Bool → InnerOf R → Option R → Option R → RowOf R
-  row s x d e = record { is_final = true; supertype = None; shared = s; descriptor = d; describes = e; inner = x }
+  abbrev entry : Bool → InnerOf R → Option R → Option R → EntryOf R
+  entry s x d e = record { is_final = true; supertype = None; shared = s; descriptor = d; describes = e; inner = x }
 
   abbrev Inner : Result (Unit {0}) E → InnerOf R → InnerOf R → Type 0
   Inner r = Remapped inner_shape inner_indices answers r
 
-  abbrev Row : Result (Unit {0}) E → RowOf R → RowOf R → Type 0
-  Row r = Remapped row_shape row_indices answers r
+  abbrev Entry : Result (Unit {0}) E → EntryOf R → EntryOf R → Type 0
+  Entry r = Remapped entry_shape entry_indices answers r
 
   module _ (s : Bool) (x y : InnerOf R) (d e : Option R) where
-    same_row : (p q : Option R) → inner_shape y ≡ inner_shape x → option_map (λ i. tt {0}) p ≡ option_map (λ i. tt {0}) d → option_map (λ i. tt {0}) q ≡ option_map (λ i. tt {0}) e
-        → row_shape (row s y p q) ≡ row_shape (row s x d e)
-    same_row p q a b c = λ i. record { is_final = true; supertype = None; shared = s; descriptor = b i; describes = c i; inner = a i }
+    same_entry : (p q : Option R) → inner_shape y ≡ inner_shape x → option_map (λ i. tt {0}) p ≡ option_map (λ i. tt {0}) d → option_map (λ i. tt {0}) q ≡ option_map (λ i. tt {0}) e
+        → entry_shape (entry s y p q) ≡ entry_shape (entry s x d e)
+    same_entry p q a b c = λ i. record { is_final = true; supertype = None; shared = s; descriptor = b i; describes = c i; inner = a i }
 
-    pub cut_inner : (err : E) → Inner (Err err) x y → Row (Err err) (row s x d e) (row s y d e)
-    cut_inner err h = record { same = same_row d e h.same refl refl; walked = cut_before answers err (inner_indices x) (inner_indices y) (option_indices d ++ option_indices e) h.walked }
+    pub cut_inner : (err : E) → Inner (Err err) x y → Entry (Err err) (entry s x d e) (entry s y d e)
+    cut_inner err h = record { same = same_entry d e h.same refl refl; walked = cut_before answers err (inner_indices x) (inner_indices y) (option_indices d ++ option_indices e) h.walked }
 
-    pub cut_descriptor : (err : E) (i : R) → Inner (Ok (tt {0})) x y → d ≡ Some i → answers i (Err err) → Row (Err err) (row s x d e) (row s y d e)
+    pub cut_descriptor : (err : E) (i : R) → Inner (Ok (tt {0})) x y → d ≡ Some i → answers i (Err err) → Entry (Err err) (entry s x d e) (entry s y d e)
     cut_descriptor err i h p t = record {
-      same = same_row d e h.same refl refl;
+      same = same_entry d e h.same refl refl;
       walked = walked_next answers {U = Unit {0}} (Err err) (inner_indices x) (inner_indices y) _ _ h.walked (cut_before answers err (option_indices d) (option_indices d) (option_indices e) (refused_option d i err p t));
     }
 
-    pub cut_describes : (err : E) (i : R) (p : Option R) → Inner (Ok (tt {0})) x y → IsOptionAnswered answers d p → e ≡ Some i → answers i (Err err) → Row (Err err) (row s x d e) (row s y p e)
+    pub cut_describes : (err : E) (i : R) (p : Option R) → Inner (Ok (tt {0})) x y → IsOptionAnswered answers d p → e ≡ Some i → answers i (Err err) → Entry (Err err) (entry s x d e) (entry s y p e)
     cut_describes err i p h a q t = record {
-      same = same_row p e h.same (option_same d p a) refl;
+      same = same_entry p e h.same (option_same d p a) refl;
       walked = walked_next answers {U = Unit {0}} (Err err) (inner_indices x) (inner_indices y) _ _ h.walked
           (walked_next answers {U = Unit {0}} (Err err) (option_indices d) (option_indices p) (option_indices e) (option_indices e) (option_answered d p a) (refused_option e i err q t));
     }
 
-    pub whole_row : (p q : Option R) → Inner (Ok (tt {0})) x y → IsOptionAnswered answers d p → IsOptionAnswered answers e q → Row (Ok (tt {0})) (row s x d e) (row s y p q)
-    whole_row p q h a b = record {
-      same = same_row p q h.same (option_same d p a) (option_same e q b);
+    pub whole_entry : (p q : Option R) → Inner (Ok (tt {0})) x y → IsOptionAnswered answers d p → IsOptionAnswered answers e q → Entry (Ok (tt {0})) (entry s x d e) (entry s y p q)
+    whole_entry p q h a b = record {
+      same = same_entry p q h.same (option_same d p a) (option_same e q b);
       walked = walked_next answers (Ok (tt {0})) (inner_indices x) (inner_indices y) _ _ h.walked
           (walked_next answers (Ok (tt {0})) (option_indices d) (option_indices p) (option_indices e) (option_indices q) (option_answered d p a) (option_answered e q b));
     }
@@ -102,7 +102,7 @@ first_map : {R : Type 0} (is : List R) → option_map (λ i. tt {0}) (first_of i
 first_map [] = refl
 first_map (i ∷ is) = refl
 
-pub same_declared : {R : Type 0} (f : Bool) (is js : List R) (c d : RowOf R) → list_shape js ≡ list_shape is → row_shape d ≡ row_shape c → declared_shape (declared_with f js d) ≡ declared_shape (declared_with f is c)
+pub same_declared : {R : Type 0} (f : Bool) (is js : List R) (c d : EntryOf R) → list_shape js ≡ list_shape is → entry_shape d ≡ entry_shape c → declared_shape (declared_with f js d) ≡ declared_shape (declared_with f is c)
 same_declared f is js c d a e =
     let first : option_map (λ i. tt {0}) (first_of js) ≡ option_map (λ i. tt {0}) (first_of is) = first_map js ∙ ap first_of a ∙ sym (first_map is) in
-    λ i. record { supertypes = a i; row = record { is_final = f; supertype = first i; shared = (e i).shared; descriptor = (e i).descriptor; describes = (e i).describes; inner = (e i).inner } }
+    λ i. record { supertypes = a i; entry = record { is_final = f; supertype = first i; shared = (e i).shared; descriptor = (e i).descriptor; describes = (e i).describes; inner = (e i).inner } }

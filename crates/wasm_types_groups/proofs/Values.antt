@@ -4,7 +4,7 @@ use Rattle.wasm_types_groups.specs.declared.composite.CompositeInnerType.{Compos
 use Rattle.wasm_types_groups.specs.declared.composite.CompositeInnerType.TheVariants.{Func, Array, Struct, Cont}
 use Rattle.wasm_types_groups.specs.declared.sub_type.SubType.{SubType}
 use Rattle.wasm_types_groups.specs.declared.rec_group.RecGroup.{RecGroup}
-use Rattle.wasm_types_groups.specs.Rows.{inner_of, first_of, declared_of, declared_types}
+use Rattle.wasm_types_groups.specs.Entries.{inner_of, first_of, declared_of, declared_types}
 use Rattle.wasm_types_groups.specs.SpellsTypes.{inner_value, inner_tree, sub_value, declared_by, group_value}
 
 same_inner : (x : CompositeInnerType) → inner_tree (inner_value x) ≡ inner_of x
@@ -16,7 +16,7 @@ same_inner (Cont c) = refl
 pub same_declared : (x : SubType) → declared_by (sub_value x) ≡ declared_of x
 same_declared x = λ i. record {
   supertypes = x.supertype_idxs.items;
-  row = record {
+  entry = record {
     is_final = x.is_final;
     supertype = first_of x.supertype_idxs.items;
     shared = x.composite_type.shared;

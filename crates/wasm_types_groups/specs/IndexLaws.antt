@@ -4,12 +4,12 @@ use Rattle.std.proofs.Common.{◌≡◌, suc, List, [], ◌∷◌, ◌++◌, ref
 use Rattle.std.specs.List.{flat_map}
 use Rattle.std.specs.Option.{option_map}
 use Rattle.std.proofs.lemmas.List.{length-append}
-use Rattle.wasm_types_fields.specs.trees.Rows as tree
-use Rattle.wasm_types_fields.specs.trees.Rows.{HeapOf, ValueOf, StorageOf, FieldOf, InnerOf, RowOf, heap_map, value_map, storage_map, field_map, inner_map, row_map}
+use Rattle.wasm_types_fields.specs.trees.Types as tree
+use Rattle.wasm_types_fields.specs.trees.Types.{HeapOf, ValueOf, StorageOf, FieldOf, InnerOf, EntryOf, heap_map, value_map, storage_map, field_map, inner_map, entry_map}
 use Rattle.wasm_types_fields.specs.values.Remap.{heap_indices, value_indices, storage_indices, value_shape, storage_shape}
 use Rattle.wasm_types_fields.specs.Remap.{field_indices, field_shape, inner_indices, inner_shape}
-use Rattle.wasm_types_groups.specs.Rows.{first_of, DeclaredOf, declared_with}
-use Rattle.wasm_types_groups.specs.Remap.{option_indices, row_indices, list_shape, declared_indices, declared_shape, declared_map}
+use Rattle.wasm_types_groups.specs.Entries.{first_of, DeclaredOf, declared_with}
+use Rattle.wasm_types_groups.specs.Remap.{option_indices, entry_indices, list_shape, declared_indices, declared_shape, declared_map}
 
 -- ---- lists
 
@@ -212,16 +212,16 @@ module _ {R S : Type 0} (m : R → S) where
   same_lengths : (is : List R) (js : List S) → list_shape js ≡ list_shape is → length js ≡ length is
   same_lengths is js e = sym (length_map (λ j. tt {0}) js) ∙ ap length e ∙ length_map (λ i. tt {0}) is
 
-  pub mapped_declared : (f g : Bool) (is : List R) (js : List S) (c : RowOf R) (d : RowOf S) → declared_shape (declared_with g js d) ≡ declared_shape (declared_with f is c)
+  pub mapped_declared : (f g : Bool) (is : List R) (js : List S) (c : EntryOf R) (d : EntryOf S) → declared_shape (declared_with g js d) ≡ declared_shape (declared_with f is c)
       → declared_indices (declared_with g js d) ≡ map m (declared_indices (declared_with f is c)) → declared_with g js d ≡ declared_map m (declared_with f is c)
   mapped_declared f g is js c d e h =
       let a : list_shape js ≡ list_shape is = ap (λ (z : DeclaredOf (Unit {0})). z.supertypes) e in
-      let final = ap (λ (z : DeclaredOf (Unit {0})). z.row.is_final) e in
-      let shared = ap (λ (z : DeclaredOf (Unit {0})). z.row.shared) e in
-      let s1 = ap (λ (z : DeclaredOf (Unit {0})). z.row.inner) e in
-      let s2 = ap (λ (z : DeclaredOf (Unit {0})). z.row.descriptor) e in
-      let s3 = ap (λ (z : DeclaredOf (Unit {0})). z.row.describes) e in
-      let p0 = halves m is (row_indices c) js (row_indices d) (same_lengths is js a) h in
+      let final = ap (λ (z : DeclaredOf (Unit {0})). z.entry.is_final) e in
+      let shared = ap (λ (z : DeclaredOf (Unit {0})). z.entry.shared) e in
+      let s1 = ap (λ (z : DeclaredOf (Unit {0})). z.entry.inner) e in
+      let s2 = ap (λ (z : DeclaredOf (Unit {0})). z.entry.descriptor) e in
+      let s3 = ap (λ (z : DeclaredOf (Unit {0})). z.entry.describes) e in
+      let p0 = halves m is (entry_indices c) js (entry_indices d) (same_lengths is js a) h in
       let p1 = halves m (inner_indices c.inner) (option_indices c.descriptor ++ option_indices c.describes) (inner_indices d.inner) (option_indices d.descriptor ++ option_indices d.describes) (count_inner c.inner d.inner s1) p0.1 in
       let p2 = halves m (option_indices c.descriptor) (option_indices c.describes) (option_indices d.descriptor) (option_indices d.describes) (count_option c.descriptor d.descriptor s2) p1.1 in
       let supers = p0.0 in
@@ -229,4 +229,4 @@ module _ {R S : Type 0} (m : R → S) where
       let inner = mapped_inner c.inner d.inner s1 p1.0 in
       let descriptor = mapped_option c.descriptor d.descriptor s2 p2.0 in
       let describes = mapped_option c.describes d.describes s3 p2.1 in
-      λ i. record { supertypes = supers i; row = record { is_final = final i; supertype = first i; shared = shared i; descriptor = descriptor i; describes = describes i; inner = inner i } }
+      λ i. record { supertypes = supers i; entry = record { is_final = final i; supertype = first i; shared = shared i; descriptor = descriptor i; describes = describes i; inner = inner i } }

@@ -18,7 +18,7 @@ use Rattle.wasm_types_groups.specs.SpellsTypes.{CompositeValue, SubValue, GroupV
 use Rattle.wasm_types_groups.specs.Spells.{SpellsParts, SpellsSub, SpellsGroup}
 use Rattle.wasm_types_fields.specs.indices.declared.index.UnpackedIndex.{UnpackedIndex}
 use Rattle.wasm_types_groups.specs.Remap.{declared_shape, declared_indices, declared_map}
-use Rattle.wasm_types_groups.specs.Rows.{Declared, subtypes, declared_of, declared_types}
+use Rattle.wasm_types_groups.specs.Entries.{Declared, subtypes, declared_of, declared_types}
 
 -- `==` holds of subtypes that declare the same
 abbrev pub SubTypesAreToldApart : Type 0

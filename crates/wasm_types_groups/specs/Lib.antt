@@ -1,5 +1,5 @@
 -- Rules: types as plain trees, which bytes spell them, how they are written, copied and remapped.
-pub mod Rows
+pub mod Entries
 pub mod Spells
 pub mod Kinds
 pub mod Text

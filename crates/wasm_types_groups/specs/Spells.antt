@@ -4,11 +4,11 @@ use Rattle.std.specs.Prelude.{◌≡◌, ◌⊎◌, ℕ, List, [], ◌∷◌, �
 use Rattle.wasm_types_fields.specs.decoding.Lists.{IsListedWithin}
 use Rattle.wasm_types_fields.specs.limits.Settings.{Settings}
 use Rattle.wasm_types_fields.specs.indices.declared.index.UnpackedIndex.{UnpackedIndex}
-use Rattle.wasm_types_fields.specs.trees.Rows as tree
-use Rattle.wasm_types_fields.specs.trees.Rows.{ValueOf, FieldOf, InnerOf, RowOf}
+use Rattle.wasm_types_fields.specs.trees.Types as tree
+use Rattle.wasm_types_fields.specs.trees.Types.{ValueOf, FieldOf, InnerOf, EntryOf}
 use Rattle.wasm_types_fields.specs.values.Spells.{SpellsValue, SpellsStorage, SpellsExactIndex}
 use Rattle.wasm_types_fields.specs.Spells.{IsMutability}
-use Rattle.wasm_types_groups.specs.Rows.{first_of, Declared}
+use Rattle.wasm_types_groups.specs.Entries.{first_of, Declared}
 
 -- ---- composite types
 
@@ -62,7 +62,7 @@ pub record SpellsParts (z : Settings) (s : Bool) (e d : Option UnpackedIndex) (x
   pub whole : text ≡ shared ++ (describes ++ (descriptor ++ inner))
 
 -- comptype with what may stand before it (binary format, types, composite types)
-abbrev pub SpellsComposite : Settings → RowOf UnpackedIndex → List ℕ → Type 0
+abbrev pub SpellsComposite : Settings → EntryOf UnpackedIndex → List ℕ → Type 0
 SpellsComposite z x text = SpellsParts z x.shared x.describes x.descriptor x.inner text
 
 -- ---- subtypes and groups
@@ -76,17 +76,17 @@ final_byte false = 0x50
 pub record SpellsLong (z : Settings) (x : Declared) (text : List ℕ) : Type 0 where
   pub supertypes : List ℕ
   pub composite : List ℕ
-  pub first : x.row.supertype ≡ first_of x.supertypes
+  pub first : x.entry.supertype ≡ first_of x.supertypes
   pub above : IsListedWithin 1 SpellsExactIndex x.supertypes supertypes
-  pub itself : SpellsComposite z x.row composite
-  pub whole : text ≡ final_byte x.row.is_final ∷ (supertypes ++ composite)
+  pub itself : SpellsComposite z x.entry composite
+  pub whole : text ≡ final_byte x.entry.is_final ∷ (supertypes ++ composite)
 
 -- a composite type alone: final, and without a supertype
 pub record SpellsShort (z : Settings) (x : Declared) (text : List ℕ) : Type 0 where
-  pub is_final : x.row.is_final ≡ true
+  pub is_final : x.entry.is_final ≡ true
   pub alone : x.supertypes ≡ []
-  pub none : x.row.supertype ≡ None
-  pub itself : SpellsComposite z x.row text
+  pub none : x.entry.supertype ≡ None
+  pub itself : SpellsComposite z x.entry text
 
 -- subtype: the short form or the full one (binary format, types, recursive types)
 abbrev pub SpellsSub : Settings → Declared → List ℕ → Type 0

@@ -13,7 +13,7 @@ use Rattle.wasm_types_fields.specs.values.ValueExact.{SpelledValue}
 use Rattle.wasm_types_fields.specs.Fields.{field_of}
 use Rattle.wasm_types_fields.specs.declared.field.FieldType.{FieldType}
 use Rattle.wasm_types_fields.specs.Spells.{SpelledField}
-use Rattle.wasm_types_groups.specs.Rows.{Declared}
+use Rattle.wasm_types_groups.specs.Entries.{Declared}
 use Rattle.wasm_types_groups.specs.SpellsTypes.{InnerValue, CompositeValue, SubValue, GroupValue, function, array_of, struct_of, continuation, inner_tree, declared_by, composite_with, group_with, SpelledInner, SpelledDescriptor, SpelledDescribes, SpelledComposite, SpelledSub, SpelledGroup}
 use Rattle.wasm_types_groups.specs.Spells.{SpellsField, SpellsInner, SpellsShared, SpellsOption, SpellsParts, SpellsSub, SpellsGroup}
 

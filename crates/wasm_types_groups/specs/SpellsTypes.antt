@@ -7,11 +7,11 @@ use Rattle.wasm_types_fields.specs.decoding.Exact.{Mapped}
 use Rattle.wasm_types_fields.specs.decoding.Lists.{IsListedWithin}
 use Rattle.wasm_types_fields.specs.limits.Settings.{Settings}
 use Rattle.wasm_types_fields.specs.indices.declared.index.UnpackedIndex.{UnpackedIndex}
-use Rattle.wasm_types_fields.specs.trees.Rows as tree
-use Rattle.wasm_types_fields.specs.trees.Rows.{InnerOf}
+use Rattle.wasm_types_fields.specs.trees.Types as tree
+use Rattle.wasm_types_fields.specs.trees.Types.{InnerOf}
 use Rattle.wasm_types_fields.specs.values.Values.{value_of}
 use Rattle.wasm_types_fields.specs.Fields.{field_of}
-use Rattle.wasm_types_groups.specs.Rows.{first_of, Declared}
+use Rattle.wasm_types_groups.specs.Entries.{first_of, Declared}
 use Rattle.wasm_types_groups.specs.Spells.{final_byte}
 use Rattle.wasm_types_fields.specs.declared.field.FieldType.{FieldType}
 use Rattle.wasm_types_groups.specs.declared.composite.CompositeInnerType.{CompositeInnerType}
@@ -69,7 +69,7 @@ inner_tree (continuation i) = tree.continuation i
 abbrev pub declared_by : SubValue → Declared
 declared_by x = record {
   supertypes = x.supertypes;
-  row = record {
+  entry = record {
     is_final = x.is_final;
     supertype = first_of x.supertypes;
     shared = x.composite.shared;

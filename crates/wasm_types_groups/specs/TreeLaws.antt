@@ -3,8 +3,8 @@ use Rattle.std.proofs.Common.{◌≡◌, ℕ, zero, suc, List, [], ◌∷◌, re
 use Rattle.wasm_types_fields.specs.decoding.Decoder.{Many}
 use Rattle.wasm_types_fields.specs.limits.Settings.{Settings}
 use Rattle.wasm_types_fields.specs.indices.declared.index.UnpackedIndex.{UnpackedIndex}
-use Rattle.wasm_types_fields.specs.trees.Rows as tree
-use Rattle.wasm_types_fields.specs.trees.Rows.{Abstract, HeapOf, ValueOf, StorageOf, FieldOf, InnerOf}
+use Rattle.wasm_types_fields.specs.trees.Types as tree
+use Rattle.wasm_types_fields.specs.trees.Types.{Abstract, HeapOf, ValueOf, StorageOf, FieldOf, InnerOf}
 use Rattle.wasm_types_fields.specs.values.declared.heap.AbstractHeapType.{AbstractHeapType}
 use Rattle.wasm_types_fields.specs.values.declared.heap.AbstractHeapType.TheVariants as heap
 use Rattle.wasm_types_fields.specs.values.declared.heap.HeapType.{HeapType}
@@ -17,7 +17,7 @@ use Rattle.wasm_types_fields.specs.values.Trees.{abstract_of, heap_of}
 use Rattle.wasm_types_fields.specs.values.Values.{value_of, storage_of}
 use Rattle.wasm_types_fields.specs.declared.field.FieldType.{FieldType}
 use Rattle.wasm_types_fields.specs.Fields.{field_of}
-use Rattle.wasm_types_groups.specs.Rows.{first_of, Declared}
+use Rattle.wasm_types_groups.specs.Entries.{first_of, Declared}
 use Rattle.wasm_types_groups.specs.SpellsTypes.{InnerValue, SubValue, GroupValue, function, array_of, struct_of, continuation, inner_tree, declared_by}
 use Rattle.wasm_types_groups.specs.Spells.{SpellsSub, SpellsGroup}
 
@@ -118,17 +118,17 @@ same_inner (tree.continuation i) = refl
 abbrev IsDeclared : Declared → Type 0
 IsDeclared d = (x : SubValue) × (declared_by x ≡ d)
 
-declared : (d : Declared) → d.row.supertype ≡ first_of d.supertypes → IsDeclared d
+declared : (d : Declared) → d.entry.supertype ≡ first_of d.supertypes → IsDeclared d
 declared d e =
     let x : SubValue = record {
-      is_final = d.row.is_final;
+      is_final = d.entry.is_final;
       supertypes = d.supertypes;
-      composite = record { inner = inner_from d.row.inner; shared = d.row.shared; descriptor = d.row.descriptor; describes = d.row.describes };
+      composite = record { inner = inner_from d.entry.inner; shared = d.entry.shared; descriptor = d.entry.descriptor; describes = d.entry.describes };
     } in (
       x,
       (λ i. record {
         supertypes = d.supertypes;
-        row = record { is_final = d.row.is_final; supertype = sym e i; shared = d.row.shared; descriptor = d.row.descriptor; describes = d.row.describes; inner = same_inner d.row.inner i };
+        entry = record { is_final = d.entry.is_final; supertype = sym e i; shared = d.entry.shared; descriptor = d.entry.descriptor; describes = d.entry.describes; inner = same_inner d.entry.inner i };
       }),
     )
 

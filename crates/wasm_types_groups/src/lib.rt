@@ -1,6 +1,6 @@
 //! The types that a module defines: composite types, subtypes and recursion groups.
 //!
-//! `specs/Rows.antt` gives each the plain tree that the rules of types speak of, which does not show where it lies in
+//! `specs/Entries.antt` gives each the plain tree that the rules of types speak of, which does not show where it lies in
 //! memory. `specs/Spells.antt` defines which bytes spell each tree; a type is read exactly there. A [`RecGroup`] also
 //! keeps the offset of each of its types (`specs/Places.antt`); equality, order and hash leave the offsets out.
 #![tactic(auto)]

@@ -49,7 +49,7 @@ impl RecGroup {
     ghost use Rattle.wasm_types_fields.specs.values.Remap.{Remapped};
     ghost use Rattle.wasm_types_groups.specs.Remap.{declared_shape, declared_indices};
     ghost use Rattle.std.specs.Iterator.Adapters.{zip_first, zip_second};
-    ghost use Rattle.wasm_types_groups.specs.Rows.{subtypes, declared_types};
+    ghost use Rattle.wasm_types_groups.specs.Entries.{subtypes, declared_types};
     ghost use Rattle.std.specs.Vec.Iter.{into_iter_items, into_iter_len};
 
     /// A group that was written as one, of these types and their offsets.

@@ -4,8 +4,8 @@ ghost use Rattle.std.specs.Prelude.{◌≡◌, ◌++◌, map};
 ghost use Rattle.std.specs.List.{flat_map};
 ghost use Rattle.wasm_types_fields.specs.values.Remap.{Remapped, IsWalked};
 ghost use Rattle.wasm_types_fields.specs.Remap.{inner_shape, inner_indices};
-ghost use Rattle.wasm_types_groups.specs.Rows.{inner_of, composite_of, declared_of};
-ghost use Rattle.wasm_types_groups.specs.Remap.{list_shape, row_shape, row_indices, declared_shape, declared_indices, OptionRemapped};
+ghost use Rattle.wasm_types_groups.specs.Entries.{inner_of, composite_of, declared_of};
+ghost use Rattle.wasm_types_groups.specs.Remap.{list_shape, entry_shape, entry_indices, declared_shape, declared_indices, OptionRemapped};
 
 use crate::{CompositeInnerType, CompositeType, SubType};
 use wasm_types_fields::{PackedIndex, Result};
@@ -49,8 +49,8 @@ fn remap_declared<F: Fn(PackedIndex) -> Result<PackedIndex>>(
 ) -> Result<()>
     requires { F.IsAlwaysCallable f.now }
     ensures supertypes { list_shape supertypes.new ≡ list_shape supertypes.old }
-    ensures composite { row_shape (composite_of composite.new) ≡ row_shape (composite_of composite.old) }
-    ensures walked { IsWalked (F.post f.now) result (supertypes.old ++ row_indices (composite_of composite.old)) (supertypes.new ++ row_indices (composite_of composite.new)) }
+    ensures composite { entry_shape (composite_of composite.new) ≡ entry_shape (composite_of composite.old) }
+    ensures walked { IsWalked (F.post f.now) result (supertypes.old ++ entry_indices (composite_of composite.old)) (supertypes.new ++ entry_indices (composite_of composite.new)) }
 {
     remap_list(supertypes, f)?;
     composite.remap_indices(f)
@@ -77,7 +77,7 @@ impl CompositeType {
     /// are replaced, and it and those behind it stay.
     pub fn remap_indices<F: Fn(PackedIndex) -> Result<PackedIndex>>(&mut self, f: &F) -> Result<()>
         requires { F.IsAlwaysCallable f.now }
-        ensures remapped { Remapped row_shape row_indices (F.post f.now) result (composite_of self.old) (composite_of self.new) }
+        ensures remapped { Remapped entry_shape entry_indices (F.post f.now) result (composite_of self.old) (composite_of self.new) }
     {
         self.inner.remap_indices(f)?;
         self.descriptor_idx = remap_option(self.descriptor_idx, f)?;

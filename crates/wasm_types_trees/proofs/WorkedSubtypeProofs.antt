@@ -1,6 +1,6 @@
 -- The worked rows of subtyping.
 use Rattle.std.proofs.Common.{◌≡◌, Bool, true, false, Some, None, refl, ap, subst, rules}
-use Rattle.wasm_types_trees.specs.Rows.{Abstract, func, any, none, nofunc, struct, array, cont, nocont}
+use Rattle.wasm_types_trees.specs.Types.{Abstract, func, any, none, nofunc, struct, array, cont, nocont}
 use Rattle.wasm_types_trees.specs.Trees.{TypeTree, opened}
 use Rattle.wasm_types_trees.specs.AbstractOrder.{AbstractBelow, same, eq_any, i31_any, struct_any, array_any, none_any, i31_eq, struct_eq, array_eq, none_eq, none_i31, none_array, nofunc_func, noextern_extern, noexn_exn, nocont_cont}
 use Rattle.wasm_types_trees.specs.Below.{expanded, is_shared, supertype, abstract_of, bottom_of, DeclaredBelow, itself, declared}

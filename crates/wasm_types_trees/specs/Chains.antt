@@ -1,6 +1,6 @@
 -- What holds of the chains of declared supertypes above the types of valid groups.
 use Rattle.std.specs.Prelude.{◌≡◌, List, All, Contains, Some}
-use Rattle.wasm_types_trees.specs.Each.{EachRow}
+use Rattle.wasm_types_trees.specs.Each.{EachEntry}
 use Rattle.wasm_types_trees.specs.Trees.{TypeTree, opened}
 use Rattle.wasm_types_trees.specs.Below.{expanded, is_shared, supertype, abstract_of, DeclaredBelow}
 use Rattle.wasm_types_trees.specs.Matches.{Matches}
@@ -24,7 +24,7 @@ HasNoCycle t = (u : TypeTree) → supertype t ≡ Some u → DeclaredBelow u t �
 
 -- each type refers to types of the list alone
 abbrev pub AreClosed : List TypeTree → Type 0
-AreClosed space = All (λ t. EachRow (Contains space) (opened t)) space
+AreClosed space = All (λ t. EachEntry (Contains space) (opened t)) space
 
 -- all of this holds of each type of the list
 pub record AreSound (space : List TypeTree) : Type 0 where

@@ -1,5 +1,5 @@
 -- The rules of types: definitions, in the order in which they are read.
-pub mod Rows
+pub mod Types
 pub mod Each
 pub mod Trees
 pub mod Unfold

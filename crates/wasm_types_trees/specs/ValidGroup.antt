@@ -3,8 +3,8 @@
 use Rattle.std.specs.Prelude.{◌≡◌, ℕ, zero, suc, ◌+◌, ◌-◌, ◌<◌, ◌≤◌, nat_lt, if◌then◌else◌, Bool, true, false, IsTrue, List, [], ◌∷◌, ◌++◌, length, map, get_or, All, Option, Some, None, ◌⊎◌}
 use Rattle.wasm_types_limits.specs.Settings.{Settings}
 use Rattle.wasm_types_features.specs.Features.{MultiValue, SharedEverythingThreads, Gc, GcTypes, StackSwitching, CustomDescriptors}
-use Rattle.wasm_types_trees.specs.Rows.{ValueOf, StorageOf, i8, i16, value, FieldOf, InnerOf, function, array_of, struct_of, continuation, SubtypeOf, RowOf, row_of_subtype, row_map}
-use Rattle.wasm_types_trees.specs.Each.{EachOption, EachRow}
+use Rattle.wasm_types_trees.specs.Types.{ValueOf, StorageOf, i8, i16, value, FieldOf, InnerOf, function, array_of, struct_of, continuation, SubtypeOf, EntryOf, entry_of_subtype, entry_map}
+use Rattle.wasm_types_trees.specs.Each.{EachOption, EachEntry}
 use Rattle.wasm_types_trees.specs.Trees.{GroupTree, TypeTree, group_tree, opened}
 use Rattle.wasm_types_trees.specs.Unfold.{Reference, Local, Earlier, unfolded}
 use Rattle.wasm_types_trees.specs.Below.{expanded, supertype, value_is_shared}
@@ -27,8 +27,8 @@ abbrev pub IsWithinSupertypes : SubtypeOf ℕ → Type 0
 IsWithinSupertypes x = length x.supertypes ≤ max_supertypes
 
 -- its subtypes with one supertype at most: all of them, where the group is valid
-abbrev pub written_rows : Written → List (RowOf ℕ)
-written_rows g = map row_of_subtype g.types
+abbrev pub written_entries : Written → List (EntryOf ℕ)
+written_entries g = map entry_of_subtype g.types
 
 -- what an index means in a group whose first type has the index `start`
 abbrev pub reference_at : ℕ → ℕ → Reference
@@ -40,7 +40,7 @@ type_at space i = get_or space i (record { group = group_tree []; place = i })
 
 -- the tree of a group that is written behind the types of `space`
 abbrev pub written_tree : List TypeTree → Written → GroupTree
-written_tree space g = unfolded (type_at space) (map (row_map (reference_at (length space))) (written_rows g))
+written_tree space g = unfolded (type_at space) (map (entry_map (reference_at (length space))) (written_entries g))
 
 -- what an index means where the types are known by ids, those of the index space so far in order: the canonical form
 abbrev pub canonical_at : List ℕ → ℕ → Reference
@@ -57,14 +57,14 @@ types_of space g = types_from (written_tree space g) 0 (length g.types)
 
 -- Of the subtype with the index `own`: its supertype and what it describes have lower indices; each index is below `end`,
 -- and where the group's indices begin at `start` it reaches its own group by the features of garbage collection alone.
-pub record IsWellReferenced (bits start end own : ℕ) (x : RowOf ℕ) : Type 0 where
+pub record IsWellReferenced (bits start end own : ℕ) (x : EntryOf ℕ) : Type 0 where
   pub supertype : EachOption (λ i. i < own) x.supertype
   pub describes : EachOption (λ i. i < own) x.describes
-  pub known : EachRow (λ i. i < end) x
-  pub outside : EachRow (λ i. start ≤ i → Has bits Gc) x
+  pub known : EachEntry (λ i. i < end) x
+  pub outside : EachEntry (λ i. start ≤ i → Has bits Gc) x
 
 -- the same of each subtype, in order
-abbrev pub AreWellReferenced : ℕ → ℕ → ℕ → ℕ → List (RowOf ℕ) → Type 0
+abbrev pub AreWellReferenced : ℕ → ℕ → ℕ → ℕ → List (EntryOf ℕ) → Type 0
 AreWellReferenced bits start end own [] = Unit {0}
 AreWellReferenced bits start end own (x ∷ xs) = IsWellReferenced bits start end own x × AreWellReferenced bits start end (suc own) xs
 
@@ -109,7 +109,7 @@ IsValidInner bits s (struct_of xs) = Has bits Gc × Has bits GcTypes × AreValid
 IsValidInner bits s (continuation f) = Has bits StackSwitching × Has bits GcTypes × IsFunction (expanded f)
 
 -- a composite type, shared or not
-abbrev pub IsValidComposite : ℕ → RowOf TypeTree → Type 0
+abbrev pub IsValidComposite : ℕ → EntryOf TypeTree → Type 0
 IsValidComposite bits x = (IsTrue x.shared → Has bits SharedEverythingThreads) × IsValidInner bits x.shared x.inner
 
 -- ---- a subtype (validation, types, sub types)
@@ -126,12 +126,12 @@ IsWithinDepth zero (Some t) = ⊥
 IsWithinDepth (suc n) (Some t) = IsWithinDepth n (supertype t)
 
 -- what is asked of a declared supertype: it is open, and the subtype matches it
-abbrev pub IsValidSupertype : RowOf TypeTree → Option TypeTree → Type 0
+abbrev pub IsValidSupertype : EntryOf TypeTree → Option TypeTree → Type 0
 IsValidSupertype x None = Unit {0}
 IsValidSupertype x (Some u) = ((opened u).is_final ≡ false) × Matches x (opened u)
 
 -- a subtype that is open or has a supertype needs the features of garbage collection
-abbrev pub NeedsNoSubtyping : RowOf TypeTree → Type 0
+abbrev pub NeedsNoSubtyping : EntryOf TypeTree → Type 0
 NeedsNoSubtyping x = (x.is_final ≡ true) × (x.supertype ≡ None)
 
 -- ---- descriptors (the proposal on custom descriptors)
@@ -145,7 +145,7 @@ GoAlong None (Some e) = ⊥
 GoAlong (Some d) None = ⊥
 
 -- the descriptor of a subtype goes along with that of its supertype, and so does what the two describe
-abbrev pub DescriptorsGoAlong : RowOf TypeTree → Option TypeTree → Type 0
+abbrev pub DescriptorsGoAlong : EntryOf TypeTree → Option TypeTree → Type 0
 DescriptorsGoAlong x None = Unit {0}
 DescriptorsGoAlong x (Some u) = GoAlong x.descriptor (opened u).descriptor × GoAlong x.describes (opened u).describes
 
@@ -160,7 +160,7 @@ Describes t None = Unit {0}
 Describes t (Some e) = (opened e).descriptor ≡ Some t
 
 -- only a struct has a descriptor or describes a type
-abbrev pub IsJoined : RowOf TypeTree → Type 0
+abbrev pub IsJoined : EntryOf TypeTree → Type 0
 IsJoined x = IsSome x.descriptor ⊎ IsSome x.describes
 
 -- ---- a group
@@ -185,7 +185,7 @@ AreValidTypes z (t ∷ ts) = IsValidType z t × AreValidTypes z ts
 pub record IsValidGroup (z : Settings) (space : List TypeTree) (g : Written) : Type 0 where
   pub explicit : IsTrue g.is_explicit → Has z.features Gc
   pub supertypes : All IsWithinSupertypes g.types
-  pub references : AreWellReferenced z.features (length space) (length space + length g.types) (length space) (written_rows g)
+  pub references : AreWellReferenced z.features (length space) (length space + length g.types) (length space) (written_entries g)
   pub types : AreValidTypes z (types_of space g)
 
 -- groups are valid one after the other, each behind the types of those before it, and leave these types

@@ -1,7 +1,7 @@
 -- What the functions of src/laws.rt promise.
 pub mod Statements
 -- The proofs, for the crates above: nobody needs them to understand a rule.
-pub mod Rows
+pub mod Types
 pub mod Trees
 pub mod Unfold
 pub mod Abstract

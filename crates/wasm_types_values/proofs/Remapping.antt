@@ -3,8 +3,8 @@ use Rattle.std.proofs.Common.{◌≡◌, refl, sym, subst, Some, Bool, true, fal
 use Rattle.std.specs.Prelude.{Result, Ok, Err}
 use Rattle.wasm_types_reader.specs.error.ErrorValue.{ErrorValue}
 use Rattle.wasm_types_indices.specs.declared.index.UnpackedIndex.{UnpackedIndex}
-use Rattle.wasm_types_trees.specs.Rows as tree
-use Rattle.wasm_types_trees.specs.Rows.{HeapOf}
+use Rattle.wasm_types_trees.specs.Types as tree
+use Rattle.wasm_types_trees.specs.Types.{HeapOf}
 use Rattle.wasm_types_values.specs.declared.heap.HeapType.{HeapType}
 use Rattle.wasm_types_values.specs.declared.heap.HeapType.TheVariants.{Abstract, Concrete, Exact}
 use Rattle.wasm_types_values.specs.declared.value.ValType.{ValType}

@@ -1,7 +1,7 @@
 -- The answers of `is_subtype_of` as a table. A law promises that they are the order of abstract heap types, which is defined
 -- in `wasm_types_trees`.
 use Rattle.std.specs.Prelude.{Bool, true, false}
-use Rattle.wasm_types_trees.specs.Rows.{Abstract, func, extern, any, none, noextern, nofunc, eq, struct, array, i31, exn, noexn, cont, nocont}
+use Rattle.wasm_types_trees.specs.Types.{Abstract, func, extern, any, none, noextern, nofunc, eq, struct, array, i31, exn, noexn, cont, nocont}
 
 -- whether the first is below the second
 abbrev pub is_below : Abstract → Abstract → Bool

@@ -1,8 +1,8 @@
 -- Rules: types whose indices a function replaces. A type is its shape, which is all but its indices, and its indices in order.
 use Rattle.std.specs.Prelude.{◌≡◌, List, [], ◌∷◌, ◌++◌, Result, Ok, Err, MatchResult}
 use Rattle.std.specs.List.{AllZip}
-use Rattle.wasm_types_trees.specs.Rows as tree
-use Rattle.wasm_types_trees.specs.Rows.{HeapOf, ValueOf, StorageOf, value_map, storage_map}
+use Rattle.wasm_types_trees.specs.Types as tree
+use Rattle.wasm_types_trees.specs.Types.{HeapOf, ValueOf, StorageOf, value_map, storage_map}
 
 -- each index stands as an answer to it
 abbrev pub AreAnswered : {R E : Type 0} → (R → Result R E → Type 0) → List R → List R → Type 0

@@ -3,8 +3,8 @@ use Rattle.std.specs.Prelude.{◌≡◌, ℕ, ◌<◌, ◌^◌, ◌⊎◌, List,
 use Rattle.wasm_types_reader.specs.decoding.Leb.{IsUnsigned, IsSigned}
 use Rattle.wasm_types_indices.specs.declared.index.UnpackedIndex.{UnpackedIndex}
 use Rattle.wasm_types_indices.specs.declared.index.UnpackedIndex.TheVariants.{Module, RecGroup, Id}
-use Rattle.wasm_types_trees.specs.Rows as tree
-use Rattle.wasm_types_trees.specs.Rows.{Number, Abstract, HeapOf, ValueOf, StorageOf}
+use Rattle.wasm_types_trees.specs.Types as tree
+use Rattle.wasm_types_trees.specs.Types.{Number, Abstract, HeapOf, ValueOf, StorageOf}
 
 -- numtype and vectype: a byte each (binary format, types, number types and vector types)
 abbrev pub number_byte : Number → ℕ

@@ -1,7 +1,7 @@
 -- The plain trees of heap types.
 use Rattle.wasm_types_indices.specs.declared.index.UnpackedIndex.{UnpackedIndex}
-use Rattle.wasm_types_trees.specs.Rows as tree
-use Rattle.wasm_types_trees.specs.Rows.{Abstract, HeapOf}
+use Rattle.wasm_types_trees.specs.Types as tree
+use Rattle.wasm_types_trees.specs.Types.{Abstract, HeapOf}
 use Rattle.wasm_types_values.specs.declared.heap.AbstractHeapType.{AbstractHeapType}
 use Rattle.wasm_types_values.specs.declared.heap.AbstractHeapType.TheVariants as heap
 use Rattle.wasm_types_values.specs.declared.heap.HeapType.{HeapType}

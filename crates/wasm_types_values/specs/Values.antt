@@ -1,7 +1,7 @@
 -- The plain trees of value types and of storage types.
 use Rattle.wasm_types_indices.specs.declared.index.UnpackedIndex.{UnpackedIndex}
-use Rattle.wasm_types_trees.specs.Rows as tree
-use Rattle.wasm_types_trees.specs.Rows.{ValueOf, StorageOf}
+use Rattle.wasm_types_trees.specs.Types as tree
+use Rattle.wasm_types_trees.specs.Types.{ValueOf, StorageOf}
 use Rattle.wasm_types_values.specs.Trees.{heap_of}
 use Rattle.wasm_types_values.specs.declared.value.ValType.{ValType}
 use Rattle.wasm_types_values.specs.declared.value.ValType.TheVariants.{I32, I64, F32, F64, V128, Ref}

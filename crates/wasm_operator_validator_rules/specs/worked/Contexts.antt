@@ -1,6 +1,6 @@
 -- The contexts that the worked rows speak of.
 use Rattle.std.specs.Prelude.{ℕ, Bool, true, false, List, [], ◌∷◌, Some, None}
-use Rattle.wasm_types.specs.trees.Rows.{i32, i64, number, ref, abstract, func, extern, function}
+use Rattle.wasm_types.specs.trees.Types.{i32, i64, number, ref, abstract, func, extern, function}
 use Rattle.wasm_types.specs.trees.Trees.{TypeTree}
 use Rattle.wasm_types.specs.trees.worked.Types.{alone, declared_row}
 use Rattle.wasm_types.specs.externs.declared.memory.MemoryType.{MemoryType}

@@ -1,6 +1,6 @@
 -- Matching is a preorder, and a chain of links that match keeps sharedness and constructor.
 use Rattle.std.proofs.Common.{◌≡◌, ◌∙◌, List, [], ◌∷◌, refl, subst, IsTrue}
-use Rattle.wasm_types_trees.specs.Rows.{ValueOf, StorageOf, i8, i16, value, FieldOf, InnerOf, function, array_of, struct_of, continuation, RowOf}
+use Rattle.wasm_types_trees.specs.Types.{ValueOf, StorageOf, i8, i16, value, FieldOf, InnerOf, function, array_of, struct_of, continuation, EntryOf}
 use Rattle.wasm_types_trees.specs.Trees.{TypeTree, opened}
 use Rattle.wasm_types_trees.specs.Below.{abstract_of, DeclaredBelow, itself, declared}
 use Rattle.wasm_types_trees.specs.Matches.{StorageMatches, FieldMatches, FieldsMatch, ResultsMatch, InnerMatches, Matches}
@@ -31,7 +31,7 @@ inner_reflexive (array_of x) = field_reflexive x
 inner_reflexive (struct_of xs) = fields_reflexive xs
 inner_reflexive (continuation f) = itself
 
-pub matches_reflexive : (x : RowOf TypeTree) → Matches x x
+pub matches_reflexive : (x : EntryOf TypeTree) → Matches x x
 matches_reflexive x = (refl, inner_reflexive x.inner)
 
 -- ---- one after the other
@@ -103,7 +103,7 @@ inner_transitive (continuation f) (continuation g) (array_of z) p q = absurd q
 inner_transitive (continuation f) (continuation g) (struct_of zs) p q = absurd q
 inner_transitive (continuation f) (continuation g) (continuation h) p q = declared_transitive f g h p q
 
-pub matches_transitive : (x y z : RowOf TypeTree) → Matches x y → Matches y z → Matches x z
+pub matches_transitive : (x y z : EntryOf TypeTree) → Matches x y → Matches y z → Matches x z
 matches_transitive x y z p q = (p.0 ∙ q.0, inner_transitive x.inner y.inner z.inner p.1 q.1)
 
 -- ---- chains of links that match

@@ -1,6 +1,6 @@
 -- `Below` is the standard's subtyping on types whose chains are sound.
 use Rattle.std.proofs.Common.{◌≡◌, ◌↔◌, ◌∙◌, Bool, Some, refl, sym, subst, subst₂}
-use Rattle.wasm_types_trees.specs.Rows.{Abstract, func, extern, any, none, noextern, nofunc, exn, noexn, cont, nocont, HeapOf, abstract, concrete, exact, ValueOf, number, ref, InnerOf, function, array_of, struct_of, continuation}
+use Rattle.wasm_types_trees.specs.Types.{Abstract, func, extern, any, none, noextern, nofunc, exn, noexn, cont, nocont, HeapOf, abstract, concrete, exact, ValueOf, number, ref, InnerOf, function, array_of, struct_of, continuation}
 use Rattle.wasm_types_trees.specs.Each.{EachHeap, EachValue}
 use Rattle.wasm_types_trees.specs.Trees.{TypeTree}
 use Rattle.wasm_types_trees.specs.AbstractOrder as order

@@ -1,25 +1,25 @@
 -- Laws of the rules: what the functions of src/laws.rt promise.
 use Rattle.std.specs.Prelude.{◌≡◌, ◌↔◌, ◌⊎◌, ℕ, ◌<◌, Bool, false, List, [], ◌∷◌, map, Contains, get_or}
 use Rattle.wasm_types_limits.specs.Settings.{Settings}
-use Rattle.wasm_types_trees.specs.Rows.{Abstract, HeapOf, exact, abstract, ValueOf, ref, RowOf, row_map}
-use Rattle.wasm_types_trees.specs.Each.{EachHeap, EachValue, EachRows}
-use Rattle.wasm_types_trees.specs.Trees.{GroupTree, RefTree, TypeTree, group_tree, rows_of, opened}
-use Rattle.wasm_types_trees.specs.Unfold.{Row, unfolded, type_count, type_tree, numbered_rows, IsKnown, AreWithin}
+use Rattle.wasm_types_trees.specs.Types.{Abstract, HeapOf, exact, abstract, ValueOf, ref, EntryOf, entry_map}
+use Rattle.wasm_types_trees.specs.Each.{EachHeap, EachValue, EachEntries}
+use Rattle.wasm_types_trees.specs.Trees.{GroupTree, RefTree, TypeTree, group_tree, entries_of, opened}
+use Rattle.wasm_types_trees.specs.Unfold.{Entry, unfolded, type_count, type_tree, numbered_entries, IsKnown, AreWithin}
 use Rattle.wasm_types_trees.specs.AbstractOrder.{AbstractBelow, top_of}
 use Rattle.wasm_types_trees.specs.Below.{expanded, is_shared, bottom_of, heap_is_shared, HeapBelow, Below}
 use Rattle.wasm_types_trees.specs.Matches.{Matches}
 use Rattle.wasm_types_trees.specs.Chains.{IsSound, LinksMatch, HasNoCycle, AreSound}
 use Rattle.wasm_types_trees.specs.Standard.{ValueMatches}
-use Rattle.wasm_types_trees.specs.ValidGroup.{Written, written_rows, canonical_at, written_tree, AreValidGroups}
+use Rattle.wasm_types_trees.specs.ValidGroup.{Written, written_entries, canonical_at, written_tree, AreValidGroups}
 
 -- ---- trees
 
--- rows and trees are two forms of one thing
-abbrev pub TreesGiveRowsBack : Type 0
-TreesGiveRowsBack = (xs : List (RowOf RefTree)) → rows_of (group_tree xs) ≡ xs
+-- entries and trees are two forms of one thing
+abbrev pub TreesGiveEntriesBack : Type 0
+TreesGiveEntriesBack = (xs : List (EntryOf RefTree)) → entries_of (group_tree xs) ≡ xs
 
-abbrev pub RowsGiveTreesBack : Type 0
-RowsGiveTreesBack = (g : GroupTree) → group_tree (rows_of g) ≡ g
+abbrev pub EntriesGiveTreesBack : Type 0
+EntriesGiveTreesBack = (g : GroupTree) → group_tree (entries_of g) ≡ g
 
 -- ---- unfolding
 
@@ -29,17 +29,17 @@ AreApart tree known = (i j : ℕ) → i < known → j < known → tree i ≡ tre
 
 -- groups are told apart by their trees, where the numbers that they name are
 abbrev pub GroupsAreApart : Type 0
-GroupsAreApart = (tree : ℕ → TypeTree) (known : ℕ) (g h : List Row) → AreApart tree known
-    → EachRows (IsKnown known) g → EachRows (IsKnown known) h → unfolded tree g ≡ unfolded tree h → g ≡ h
+GroupsAreApart = (tree : ℕ → TypeTree) (known : ℕ) (g h : List Entry) → AreApart tree known
+    → EachEntries (IsKnown known) g → EachEntries (IsKnown known) h → unfolded tree g ≡ unfolded tree h → g ≡ h
 
 -- a type stays what it is as further groups come
 abbrev pub TypesStay : Type 0
-TypesStay = (g : List Row) (earlier : List (List Row)) (id : ℕ) → id < type_count earlier → type_tree (g ∷ earlier) id ≡ type_tree earlier id
+TypesStay = (g : List Entry) (earlier : List (List Entry)) (id : ℕ) → id < type_count earlier → type_tree (g ∷ earlier) id ≡ type_tree earlier id
 
 -- a type, opened, is its subtype with each number replaced by its type
 abbrev pub TypesOpen : Type 0
-TypesOpen = (groups : List (List Row)) (id : ℕ) (d : RowOf ℕ) → AreWithin groups → id < type_count groups
-    → opened (type_tree groups id) ≡ row_map (type_tree groups) (get_or (numbered_rows groups) id d)
+TypesOpen = (groups : List (List Entry)) (id : ℕ) (d : EntryOf ℕ) → AreWithin groups → id < type_count groups
+    → opened (type_tree groups id) ≡ entry_map (type_tree groups) (get_or (numbered_entries groups) id d)
 
 -- ---- the order of abstract heap types
 
@@ -101,17 +101,17 @@ BelowIsTheStandardsInGroups = (settings : Settings) (gs : List Written) (space :
 -- ---- matching
 
 abbrev pub MatchesIsReflexive : Type 0
-MatchesIsReflexive = (x : RowOf TypeTree) → Matches x x
+MatchesIsReflexive = (x : EntryOf TypeTree) → Matches x x
 
 abbrev pub MatchesIsTransitive : Type 0
-MatchesIsTransitive = (x y z : RowOf TypeTree) → Matches x y → Matches y z → Matches x z
+MatchesIsTransitive = (x y z : EntryOf TypeTree) → Matches x y → Matches y z → Matches x z
 
 -- ---- canonical forms
 
 -- the canonical form of a written group unfolds to what the group does
 abbrev pub CanonicalFormsUnfold : Type 0
 CanonicalFormsUnfold = (tree : ℕ → TypeTree) (ids : List ℕ) (g : Written)
-    → unfolded tree (map (row_map (canonical_at ids)) (written_rows g)) ≡ written_tree (map tree ids) g
+    → unfolded tree (map (entry_map (canonical_at ids)) (written_entries g)) ≡ written_tree (map tree ids) g
 
 -- ---- valid groups
 

@@ -5,15 +5,15 @@ use Rattle.std.proofs.lemmas.Bool.{lt-ltb, le-ltb, cases_lt}
 use Rattle.std.proofs.lemmas.List.{length-map, get_or-map}
 use Rattle.std.proofs.lemmas.List.Elements.{All-nil, All-cons, All-from_get_or, All-append, All-weaker, All-contains, All-contains_itself, Contains-get_or, Contains-append_left, Contains-append_right}
 use Rattle.wasm_types_limits.specs.Settings.{Settings}
-use Rattle.wasm_types_trees.specs.Rows.{ValueOf, RowOf, row_of_subtype, row_map}
-use Rattle.wasm_types_trees.specs.Each.{EachOption, EachValue, EachRow}
+use Rattle.wasm_types_trees.specs.Types.{ValueOf, EntryOf, entry_of_subtype, entry_map}
+use Rattle.wasm_types_trees.specs.Each.{EachOption, EachValue, EachEntry}
 use Rattle.wasm_types_trees.specs.Trees.{GroupTree, local, type_of, group_tree, TypeTree, type_meant, past_the_end, opened}
-use Rattle.wasm_types_trees.specs.Unfold.{Reference, Local, Earlier, Row, reference_tree, unfolded}
+use Rattle.wasm_types_trees.specs.Unfold.{Reference, Local, Earlier, Entry, reference_tree, unfolded}
 use Rattle.wasm_types_trees.specs.Below.{supertype, DeclaredBelow, itself, declared, Below}
 use Rattle.wasm_types_trees.specs.Matches.{Matches}
-use Rattle.wasm_types_trees.specs.ValidGroup.{Written, written_rows, canonical_at, reference_at, type_at, written_tree, types_from, types_of, AreWellReferenced, IsWithinDepth, IsValidSupertype, IsValidType, AreValidTypes, IsValidGroup, AreValidGroups, done, next}
+use Rattle.wasm_types_trees.specs.ValidGroup.{Written, written_entries, canonical_at, reference_at, type_at, written_tree, types_from, types_of, AreWellReferenced, IsWithinDepth, IsValidSupertype, IsValidType, AreValidTypes, IsValidGroup, AreValidGroups, done, next}
 use Rattle.wasm_types_trees.specs.Chains.{IsSound, LinksMatch, HasNoCycle, AreClosed, AreSound}
-use Rattle.wasm_types_trees.specs.laws.Rows.{row_twice, rows_twice, each_row, row_of_each}
+use Rattle.wasm_types_trees.specs.laws.Types.{entry_twice, entries_twice, each_entry, entry_of_each}
 use Rattle.wasm_types_trees.specs.laws.Unfold.{open_place}
 use Rattle.wasm_types_trees.specs.Standard.{ValueMatches}
 use Rattle.wasm_types_trees.specs.laws.Matches.{links_are_sound}
@@ -38,12 +38,12 @@ module _ (tree : ℕ → TypeTree) (ids : List ℕ) where
       ap (reference_tree tree) a ∙ ap (λ (n : ℕ). local (i - n)) (sym (length-map ids tree)) ∙ ap (reference_tree (type_at space_of)) (sym b))
       (cases_lt i (length ids))
 
-  pub canonical_unfolds : (g : Written) → unfolded tree (map (row_map (canonical_at ids)) (written_rows g)) ≡ written_tree space_of g
+  pub canonical_unfolds : (g : Written) → unfolded tree (map (entry_map (canonical_at ids)) (written_entries g)) ≡ written_tree space_of g
   canonical_unfolds g =
       ap group_tree
-      (rows_twice (reference_tree tree) (canonical_at ids) (written_rows g)
-      ∙ (λ k. map (row_map (λ i. same_reference i k)) (written_rows g))
-      ∙ sym (rows_twice (reference_tree (type_at space_of)) (reference_at (length space_of)) (written_rows g)))
+      (entries_twice (reference_tree tree) (canonical_at ids) (written_entries g)
+      ∙ (λ k. map (entry_map (λ i. same_reference i k)) (written_entries g))
+      ∙ sym (entries_twice (reference_tree (type_at space_of)) (reference_at (length space_of)) (written_entries g)))
 
 -- ---- a chain of at most n types has no cycle
 
@@ -78,8 +78,8 @@ get_types g place (suc n) zero d lt = ap (λ (p : ℕ). record { group = g; plac
 get_types g place (suc n) (suc k) d lt =
     get_types g (suc place) n k d (omega arith) ∙ ap (λ (p : ℕ). record { group = g; place = p }) (omega arith)
 
-length_rows : (g : Written) → length (written_rows g) ≡ length g.types
-length_rows g = length-map g.types row_of_subtype
+length_entries : (g : Written) → length (written_entries g) ≡ length g.types
+length_entries g = length-map g.types entry_of_subtype
 
 module _ (space : List TypeTree) (g : Written) where
   -- the type that an index means in the group
@@ -109,17 +109,17 @@ module _ (space : List TypeTree) (g : Written) where
   meant_known i lt = ⊎_elim (λ old. meant_old i old) (λ new. meant_new i new lt) (cases_lt i (length space))
 
   -- a type of the group, opened
-  opens_written : (p : ℕ) → p < length g.types → opened (record { group = written_tree space g; place = p }) ≡ row_map meant (get_or (written_rows g) p past_the_end)
+  opens_written : (p : ℕ) → p < length g.types → opened (record { group = written_tree space g; place = p }) ≡ entry_map meant (get_or (written_entries g) p past_the_end)
   opens_written p lt =
-      let x : RowOf ℕ = get_or (written_rows g) p past_the_end in
-      let rows = length_rows g in
-      let f : RowOf ℕ → Row = row_map (reference_at (length space)) in
-      open_place (type_at space) (map f (written_rows g)) p (omega (arith, length-map (written_rows g) f))
-      ∙ ap (λ (r : Row). row_map (type_meant (written_tree space g)) (row_map (reference_tree (type_at space)) r)) (get_or-map f (written_rows g) p past_the_end past_the_end (omega arith))
-      ∙ ap (row_map (type_meant (written_tree space g))) (row_twice (reference_tree (type_at space)) (reference_at (length space)) x)
-      ∙ row_twice (type_meant (written_tree space g)) (λ i. reference_tree (type_at space) (reference_at (length space) i)) x
+      let x : EntryOf ℕ = get_or (written_entries g) p past_the_end in
+      let entries = length_entries g in
+      let f : EntryOf ℕ → Entry = entry_map (reference_at (length space)) in
+      open_place (type_at space) (map f (written_entries g)) p (omega (arith, length-map (written_entries g) f))
+      ∙ ap (λ (r : Entry). entry_map (type_meant (written_tree space g)) (entry_map (reference_tree (type_at space)) r)) (get_or-map f (written_entries g) p past_the_end past_the_end (omega arith))
+      ∙ ap (entry_map (type_meant (written_tree space g))) (entry_twice (reference_tree (type_at space)) (reference_at (length space)) x)
+      ∙ entry_twice (type_meant (written_tree space g)) (λ i. reference_tree (type_at space) (reference_at (length space) i)) x
 
-known_at : (bits start end own : ℕ) (xs : List (RowOf ℕ)) (p : ℕ) (d : RowOf ℕ) → AreWellReferenced bits start end own xs → p < length xs → EachRow (λ i. i < end) (get_or xs p d)
+known_at : (bits start end own : ℕ) (xs : List (EntryOf ℕ)) (p : ℕ) (d : EntryOf ℕ) → AreWellReferenced bits start end own xs → p < length xs → EachEntry (λ i. i < end) (get_or xs p d)
 known_at bits start end own [] p d w lt = absurd (omega arith)
 known_at bits start end own (x ∷ xs) zero d w lt = w.0.known
 known_at bits start end own (x ∷ xs) (suc p) d w lt = known_at bits start end (suc own) xs p d w.1 (omega arith)
@@ -129,28 +129,28 @@ nowhere g = record { group = g; place = 0 }
 
 -- a new type refers to the types that are there behind the group
 closed_new : (settings : Settings) (space : List TypeTree) (g : Written) → IsValidGroup settings space g → (p : ℕ) → p < length g.types
-    → EachRow (Contains (space ++ types_of space g)) (opened (record { group = written_tree space g; place = p }))
+    → EachEntry (Contains (space ++ types_of space g)) (opened (record { group = written_tree space g; place = p }))
 closed_new settings space g v p lt =
-    let x : RowOf ℕ = get_or (written_rows g) p past_the_end in
-    let rows = length_rows g in
-    subst (EachRow (Contains (space ++ types_of space g))) (sym (opens_written space g p lt))
-    (row_of_each (meant space g) (Contains (space ++ types_of space g)) x
-    (each_row (λ i. i < length space + length g.types) (λ i. Contains (space ++ types_of space g) (meant space g i)) (meant_known space g) x
-    (known_at settings.features (length space) (length space + length g.types) (length space) (written_rows g) p past_the_end v.references (omega arith))))
+    let x : EntryOf ℕ = get_or (written_entries g) p past_the_end in
+    let entries = length_entries g in
+    subst (EachEntry (Contains (space ++ types_of space g))) (sym (opens_written space g p lt))
+    (entry_of_each (meant space g) (Contains (space ++ types_of space g)) x
+    (each_entry (λ i. i < length space + length g.types) (λ i. Contains (space ++ types_of space g) (meant space g i)) (meant_known space g) x
+    (known_at settings.features (length space) (length space + length g.types) (length space) (written_entries g) p past_the_end v.references (omega arith))))
 
-closed_group : (settings : Settings) (space : List TypeTree) (g : Written) → IsValidGroup settings space g → All (λ t. EachRow (Contains (space ++ types_of space g)) (opened t)) (types_of space g)
+closed_group : (settings : Settings) (space : List TypeTree) (g : Written) → IsValidGroup settings space g → All (λ t. EachEntry (Contains (space ++ types_of space g)) (opened t)) (types_of space g)
 closed_group settings space g v =
     let whole : GroupTree = written_tree space g in
     let n : ℕ = length g.types in
-    All-from_get_or (λ t. EachRow (Contains (space ++ types_of space g)) (opened t)) (types_of space g) (nowhere whole) (λ i lt.
+    All-from_get_or (λ t. EachEntry (Contains (space ++ types_of space g)) (opened t)) (types_of space g) (nowhere whole) (λ i lt.
     let lt' : i < n = omega (arith, length_types whole 0 n) in
     let e : get_or (types_of space g) i (nowhere whole) ≡ record { group = whole; place = i } = get_types whole 0 n i (nowhere whole) lt' ∙ ap (λ (p : ℕ). record { group = whole; place = p }) (omega arith) in
-    subst (λ (t : TypeTree). EachRow (Contains (space ++ types_of space g)) (opened t)) (sym e) (closed_new settings space g v i lt'))
+    subst (λ (t : TypeTree). EachEntry (Contains (space ++ types_of space g)) (opened t)) (sym e) (closed_new settings space g v i lt'))
 
 pub closed_push : (settings : Settings) (space : List TypeTree) (g : Written) → IsValidGroup settings space g → AreClosed space → AreClosed (space ++ types_of space g)
 closed_push settings space g v c =
-    All-append (λ t. EachRow (Contains (space ++ types_of space g)) (opened t)) space (types_of space g)
-    (All-weaker (λ t. EachRow (Contains space) (opened t)) (λ t. EachRow (Contains (space ++ types_of space g)) (opened t)) (λ t w. each_row (Contains space) (Contains (space ++ types_of space g)) (λ r. Contains-append_left space (types_of space g) r) (opened t) w) space c)
+    All-append (λ t. EachEntry (Contains (space ++ types_of space g)) (opened t)) space (types_of space g)
+    (All-weaker (λ t. EachEntry (Contains space) (opened t)) (λ t. EachEntry (Contains (space ++ types_of space g)) (opened t)) (λ t w. each_entry (Contains space) (Contains (space ++ types_of space g)) (λ r. Contains-append_left space (types_of space g) r) (opened t) w) space c)
     (closed_group settings space g v)
 
 valid_types : (settings : Settings) (ts : List TypeTree) → AreValidTypes settings ts → All (IsValidType settings) ts
@@ -179,7 +179,7 @@ module _ (settings : Settings) (space : List TypeTree) (a : AreValid settings sp
   stays_inside : (t u : TypeTree) → Contains space t → DeclaredBelow t u → Contains space u
   stays_inside t u c itself = c
   stays_inside t u c (declared e p) =
-      stays_inside _ u (subst (EachOption (Contains space)) e (All-contains (λ x. EachRow (Contains space) (opened x)) space t a.closed c).supertype) p
+      stays_inside _ u (subst (EachOption (Contains space)) e (All-contains (λ x. EachEntry (Contains space) (opened x)) space t a.closed c).supertype) p
 
   link : (u v : TypeTree) → Contains space u → supertype u ≡ Some v → Matches (opened u) (opened v)
   link u v c e = (subst (IsValidSupertype (opened u)) e (All-contains (IsValidType settings) space u a.valid c).above).1
@@ -197,7 +197,7 @@ module _ (settings : Settings) (space : List TypeTree) (a : AreValid settings sp
 
 pub valid_groups_are_sound : (settings : Settings) (gs : List Written) (space : List TypeTree) → AreValidGroups settings [] gs space → AreSound space
 valid_groups_are_sound settings gs space v =
-    sound_space settings space (valid_after settings [] space gs (record { closed = All-nil (λ t. EachRow (Contains []) (opened t)); valid = All-nil (IsValidType settings) }) v)
+    sound_space settings space (valid_after settings [] space gs (record { closed = All-nil (λ t. EachEntry (Contains []) (opened t)); valid = All-nil (IsValidType settings) }) v)
 
 -- ---- subtyping on the types of valid groups
 
@@ -206,4 +206,4 @@ pub below_is_in_groups : (settings : Settings) (gs : List Written) (space : List
 below_is_in_groups settings gs space v w valid =
     let sound = valid_groups_are_sound settings gs space valid in
     below_is (Contains space) (λ t c. All-contains IsSound space t sound.sound c)
-    (λ t u c e. subst (EachOption (Contains space)) e (All-contains (λ x. EachRow (Contains space) (opened x)) space t sound.closed c).supertype) v w
+    (λ t u c e. subst (EachOption (Contains space)) e (All-contains (λ x. EachEntry (Contains space) (opened x)) space t sound.closed c).supertype) v w

@@ -3,7 +3,7 @@
 use Rattle.std.specs.Prelude.{ℕ, ◌-◌, true, false, List, [], ◌∷◌}
 use Rattle.wasm_types_features.specs.Features.{Feature, ReferenceTypes, Simd, SharedEverythingThreads, Floats, Exceptions, FunctionReferences, Gc, GcTypes, StackSwitching, CustomDescriptors, mask}
 use Rattle.wasm_types_features.specs.Sets.{bits_of}
-use Rattle.wasm_types_trees.specs.Rows.{i32, i64, f32, f64, v128, Abstract, func, extern, any, none, noextern, nofunc, eq, struct, array, i31, exn, noexn, cont, nocont, abstract, concrete, exact, ValueOf, number, ref}
+use Rattle.wasm_types_trees.specs.Types.{i32, i64, f32, f64, v128, Abstract, func, extern, any, none, noextern, nofunc, eq, struct, array, i31, exn, noexn, cont, nocont, abstract, concrete, exact, ValueOf, number, ref}
 use Rattle.wasm_types_trees.specs.Gates.{ValueIsAllowed}
 
 -- every feature but one

@@ -4,10 +4,10 @@ use Rattle.wasm_types_features.specs.Features.{Feature, ReferenceTypes, MultiVal
 use Rattle.wasm_types_features.specs.Sets.{bits_of}
 use Rattle.wasm_types_limits.specs.Limits.{default_limits}
 use Rattle.wasm_types_limits.specs.Settings.{Settings}
-use Rattle.wasm_types_trees.specs.Rows.{i32, i64, f32, v128, func, any, eq, exn, abstract, concrete, ValueOf, number, ref, i8, InnerOf, function, array_of, struct_of, continuation, SubtypeOf}
+use Rattle.wasm_types_trees.specs.Types.{i32, i64, f32, v128, func, any, eq, exn, abstract, concrete, ValueOf, number, ref, i8, InnerOf, function, array_of, struct_of, continuation, SubtypeOf}
 use Rattle.wasm_types_trees.specs.Trees.{TypeTree}
 use Rattle.wasm_types_trees.specs.ValidGroup.{Written, written_tree, types_of, IsValidType, IsValidGroup, AreValidGroups}
-use Rattle.wasm_types_trees.specs.worked.Types.{constant, variable, declared_row, alone}
+use Rattle.wasm_types_trees.specs.worked.Types.{constant, variable, declared_entry, alone}
 use Rattle.wasm_types_trees.specs.worked.Gates.{all_but}
 
 -- ---- groups as they are written
@@ -102,8 +102,8 @@ mutual_structs first second v w = together (open_type [] (struct_type (v ∷ to 
 
 -- the type above which n are declared, one above the other
 unfoldable pub deep : ℕ → TypeTree
-deep zero = alone (declared_row None false (struct_of []))
-deep (suc n) = alone (declared_row (Some (deep n)) false (struct_of []))
+deep zero = alone (declared_entry None false (struct_of []))
+deep (suc n) = alone (declared_entry (Some (deep n)) false (struct_of []))
 
 -- ---- the rows
 

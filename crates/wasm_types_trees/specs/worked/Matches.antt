@@ -1,13 +1,13 @@
 -- Composite types that match one another and composite types that don't.
 use Rattle.std.specs.Prelude.{true, false, [], ◌∷◌, Some, None}
-use Rattle.wasm_types_trees.specs.Rows.{i32, i64, concrete, ValueOf, number, ref, i8, i16, FieldOf, InnerOf, function, array_of, struct_of, continuation}
+use Rattle.wasm_types_trees.specs.Types.{i32, i64, concrete, ValueOf, number, ref, i8, i16, FieldOf, InnerOf, function, array_of, struct_of, continuation}
 use Rattle.wasm_types_trees.specs.Trees.{TypeTree}
 use Rattle.wasm_types_trees.specs.Matches.{Matches}
-use Rattle.wasm_types_trees.specs.worked.Types.{constant, variable, declared_row, base, derived, routine}
+use Rattle.wasm_types_trees.specs.worked.Types.{constant, variable, declared_entry, base, derived, routine}
 
 -- of types that are not shared and declare no supertype
 abbrev pub InnerDoes : InnerOf TypeTree → InnerOf TypeTree → Type 0
-InnerDoes x y = Matches (declared_row None false x) (declared_row None false y)
+InnerDoes x y = Matches (declared_entry None false x) (declared_entry None false y)
 
 abbrev pub InnerDoesNot : InnerOf TypeTree → InnerOf TypeTree → Type 0
 InnerDoesNot x y = InnerDoes x y → ⊥
@@ -77,7 +77,7 @@ pub record MatchesWorked : Type 0 where
   pub structs_alone : InnerDoesNot (one (constant integer)) (array_of (constant integer)) × InnerDoesNot (struct_of []) (function [] [])
   pub continuations_alone : InnerDoesNot (continuation routine) (function [] []) × InnerDoesNot (continuation routine) (struct_of [])
   -- one sharedness; finality and supertypes don't count
-  pub shared : Matches (declared_row None true (function [] [])) (declared_row None true (function [] []))
-  pub shared_not : Matches (declared_row None true (function [] [])) (declared_row None false (function [] [])) → ⊥
-  pub unshared_not : Matches (declared_row None false (function [] [])) (declared_row None true (function [] [])) → ⊥
-  pub finality : Matches (record (declared_row (Some base) false (struct_of [])) { is_final = true }) (declared_row None false (struct_of []))
+  pub shared : Matches (declared_entry None true (function [] [])) (declared_entry None true (function [] []))
+  pub shared_not : Matches (declared_entry None true (function [] [])) (declared_entry None false (function [] [])) → ⊥
+  pub unshared_not : Matches (declared_entry None false (function [] [])) (declared_entry None true (function [] [])) → ⊥
+  pub finality : Matches (record (declared_entry (Some base) false (struct_of [])) { is_final = true }) (declared_entry None false (struct_of []))

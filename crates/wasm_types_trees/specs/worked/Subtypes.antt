@@ -1,6 +1,6 @@
 -- Types that are below one another and types that are not.
 use Rattle.std.specs.Prelude.{true, false, List, [], ◌∷◌}
-use Rattle.wasm_types_trees.specs.Rows.{i32, i64, f32, f64, v128, Abstract, func, extern, any, none, noextern, nofunc, eq, struct, array, i31, exn, noexn, cont, nocont, HeapOf, abstract, concrete, exact, ValueOf, number, ref}
+use Rattle.wasm_types_trees.specs.Types.{i32, i64, f32, f64, v128, Abstract, func, extern, any, none, noextern, nofunc, eq, struct, array, i31, exn, noexn, cont, nocont, HeapOf, abstract, concrete, exact, ValueOf, number, ref}
 use Rattle.wasm_types_trees.specs.Trees.{TypeTree}
 use Rattle.wasm_types_trees.specs.Below.{Below}
 use Rattle.wasm_types_trees.specs.worked.Types.{base, derived, leaf, unrelated, shared_struct, routine, numbers, suspended, broken}

@@ -1,4 +1,4 @@
-use Rattle.wasm_types_groups.specs.Rows.{composite_of}
+use Rattle.wasm_types_groups.specs.Entries.{composite_of}
 use Rattle.wasm_types_groups.specs.IndexLaws.{mapped_declared}
 use Rattle.wasm_types_groups.proofs.laws.indices_and_shape_are_all.Goals as goal
 

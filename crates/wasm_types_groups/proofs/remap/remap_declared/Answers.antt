@@ -1,8 +1,8 @@
 -- One of the supertypes is refused; they are replaced, and then the composite type.
 use Rattle.std.proofs.lemmas.Result.{err_from_is_err_and}
 use Rattle.wasm_types_fields.specs.values.RemapLaws.{walked_next, cut_before}
-use Rattle.wasm_types_groups.specs.Rows.{composite_of}
-use Rattle.wasm_types_groups.specs.Remap.{row_indices}
+use Rattle.wasm_types_groups.specs.Entries.{composite_of}
+use Rattle.wasm_types_groups.specs.Remap.{entry_indices}
 use Rattle.wasm_types_groups.proofs.remap.remap_declared.Given as given
 use Rattle.wasm_types_groups.proofs.remap.remap_declared.Goals as goal
 
@@ -13,5 +13,5 @@ returns-in_err-remap_list-clause-walked g c =
 
 pub returns-clause-walked : goal.returns-clause-walked
 returns-clause-walked g c =
-    walked_next (given.F-post g c.args.f.now) c.remap_indices.result c.args.supertypes.now c.remap_list.new.indices (row_indices (composite_of c.args.composite.now)) (row_indices (composite_of c.remap_indices.new.self))
+    walked_next (given.F-post g c.args.f.now) c.remap_indices.result c.args.supertypes.now c.remap_list.new.indices (entry_indices (composite_of c.args.composite.now)) (entry_indices (composite_of c.remap_indices.new.self))
     c.in_ok-remap_list.ensures.remapped.walked c.remap_indices.ensures.remapped.walked

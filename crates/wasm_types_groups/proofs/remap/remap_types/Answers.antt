@@ -2,7 +2,7 @@
 use Rattle.std.proofs.Common.{◌∙◌, arith}
 use Rattle.std.proofs.lemmas.List.{length-set}
 use Rattle.std.proofs.lemmas.Result.{err_from_is_err_and}
-use Rattle.wasm_types_groups.specs.Rows.{declared_of}
+use Rattle.wasm_types_groups.specs.Entries.{declared_of}
 use Rattle.wasm_types_groups.specs.Remap.{declared_shape, declared_indices}
 use Rattle.wasm_types_fields.proofs.Remapping.{step, cut, whole}
 use Rattle.wasm_types_groups.proofs.remap.remap_types.Goals as goal

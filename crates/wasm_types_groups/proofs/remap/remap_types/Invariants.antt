@@ -1,6 +1,6 @@
 -- Those before the place are replaced.
 use Rattle.std.proofs.Common.{◌≡◌, length}
-use Rattle.wasm_types_groups.specs.Rows.{declared_of}
+use Rattle.wasm_types_groups.specs.Entries.{declared_of}
 use Rattle.wasm_types_groups.specs.Remap.{declared_shape, declared_indices}
 use Rattle.wasm_types_fields.proofs.Remapping.{SoFar}
 use Rattle.wasm_types_groups.proofs.remap.remap_types.Given as goal

@@ -1,6 +1,6 @@
 -- The last index is refused; all are replaced.
 use Rattle.std.proofs.lemmas.Result.{err_from_is_err_and}
-use Rattle.wasm_types_groups.proofs.Remapping.{cut_describes, whole_row}
+use Rattle.wasm_types_groups.proofs.Remapping.{cut_describes, whole_entry}
 use Rattle.wasm_types_groups.proofs.composite.CompositeType.remap_indices.Goals as goal
 
 pub returns-in_err-self-2 : goal.returns-in_err-self-2
@@ -14,5 +14,5 @@ returns-in_err-self-2 g c =
 
 pub returns : goal.returns
 returns g c = record {
-  remapped = whole_row _ c.args.self.now.shared _ _ _ _ c.in_ok-self.field-0 c.in_ok-self-2.field-0 c.in_ok-remap_indices.ensures.remapped c.in_ok-self.ensures.remapped c.in_ok-self-2.ensures.remapped;
+  remapped = whole_entry _ c.args.self.now.shared _ _ _ _ c.in_ok-self.field-0 c.in_ok-self-2.field-0 c.in_ok-remap_indices.ensures.remapped c.in_ok-self.ensures.remapped c.in_ok-self-2.ensures.remapped;
 }

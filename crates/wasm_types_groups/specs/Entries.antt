@@ -1,7 +1,7 @@
 -- Types as plain trees over the indices that they hold, without where they lie in memory.
 use Rattle.std.specs.Prelude.{List, [], ◌∷◌, map, Option, Some, None, Bool, true}
 use Rattle.wasm_types_fields.specs.indices.declared.index.UnpackedIndex.{UnpackedIndex}
-use Rattle.wasm_types_fields.specs.trees.Rows.{InnerOf, RowOf}
+use Rattle.wasm_types_fields.specs.trees.Types.{InnerOf, EntryOf}
 use Rattle.wasm_types_fields.specs.Fields.{function_tree, array_tree, struct_tree, continuation_tree}
 use Rattle.wasm_types_groups.specs.declared.composite.CompositeInnerType.{CompositeInnerType}
 use Rattle.wasm_types_groups.specs.declared.composite.CompositeInnerType.TheVariants.{Func, Array, Struct, Cont}
@@ -16,7 +16,7 @@ inner_of (Struct s) = struct_tree s
 inner_of (Cont c) = continuation_tree c
 
 -- a composite type alone: final, and without a supertype
-abbrev pub composite_of : CompositeType → RowOf UnpackedIndex
+abbrev pub composite_of : CompositeType → EntryOf UnpackedIndex
 composite_of t = record {
   is_final = true;
   supertype = None;
@@ -31,8 +31,8 @@ abbrev pub first_of : {A : Type 0} → List A → Option A
 first_of [] = None
 first_of (x ∷ xs) = Some x
 
-abbrev pub row_of : SubType → RowOf UnpackedIndex
-row_of t = record {
+abbrev pub entry_of : SubType → EntryOf UnpackedIndex
+entry_of t = record {
   is_final = t.is_final;
   supertype = first_of t.supertype_idxs.items;
   shared = t.composite_type.shared;
@@ -41,30 +41,30 @@ row_of t = record {
   inner = inner_of t.composite_type.inner;
 }
 
--- all that a type declares: its row, and every supertype
+-- all that a type declares: its entry, and every supertype
 pub record DeclaredOf (R : Type 0) : Type 0 where
   pub supertypes : List R
-  pub row : RowOf R
+  pub entry : EntryOf R
 
 abbrev pub Declared : Type 0
 Declared = DeclaredOf UnpackedIndex
 
 -- what a composite type declares with these supertypes, final or not
-abbrev pub declared_with : {R : Type 0} → Bool → List R → RowOf R → DeclaredOf R
+abbrev pub declared_with : {R : Type 0} → Bool → List R → EntryOf R → DeclaredOf R
 declared_with f is c = record {
   supertypes = is;
-  row = record { is_final = f; supertype = first_of is; shared = c.shared; descriptor = c.descriptor; describes = c.describes; inner = c.inner };
+  entry = record { is_final = f; supertype = first_of is; shared = c.shared; descriptor = c.descriptor; describes = c.describes; inner = c.inner };
 }
 
 abbrev pub declared_of : SubType → Declared
-declared_of t = record { supertypes = t.supertype_idxs.items; row = row_of t }
+declared_of t = record { supertypes = t.supertype_idxs.items; entry = entry_of t }
 
 -- the types of a group, in order
 abbrev pub subtypes : RecGroup → List SubType
 subtypes g = g.types.items
 
-abbrev pub rows_of : RecGroup → List (RowOf UnpackedIndex)
-rows_of g = map row_of (subtypes g)
+abbrev pub entries_of : RecGroup → List (EntryOf UnpackedIndex)
+entries_of g = map entry_of (subtypes g)
 
 abbrev pub declared_types : RecGroup → List Declared
 declared_types g = map declared_of (subtypes g)
