@@ -9,7 +9,10 @@ use Rattle.wasm_operators_decode_immediates.specs.immediates.Kinds.{Kind}
 use Rattle.wasm_operators_decode_immediates.specs.immediates.Immediates.{Immediate, kind_of}
 use Rattle.wasm_operators_decode_encoding.specs.Opcodes.{Opcode, opcode, SpelledOpcode}
 use Rattle.wasm_operators_decode_encoding.specs.Sequences.{immediates, SpelledImmediates}
-use Rattle.wasm_operators_decode_encoding.specs.Groups.{control_kinds, parametric_kinds, exception_kinds, memory_kinds, const_kinds, numeric_kinds, bulk_plain_kinds, gc_plain_kinds, continuation_kinds, gc_kinds, descriptor_kinds, numeric_prefixed_kinds, bulk_kinds, simd_kinds, simd_numeric_kinds, atomic_kinds, shared_kinds}
+use Rattle.wasm_operators_decode_encoding.specs.Groups.{control_kinds, parametric_kinds, exception_kinds, memory_kinds, const_kinds, numeric_kinds}
+use Rattle.wasm_operators_decode_encoding.specs.Groups.{bulk_plain_kinds, gc_plain_kinds, continuation_kinds, gc_kinds, descriptor_kinds}
+use Rattle.wasm_operators_decode_encoding.specs.Groups.{numeric_prefixed_kinds, bulk_kinds, simd_kinds, simd_numeric_kinds, atomic_kinds}
+use Rattle.wasm_operators_decode_encoding.specs.Groups.{shared_kinds}
 
 -- ---- the kinds of what stands behind an opcode
 
@@ -20,7 +23,9 @@ or_else None other = other
 
 -- behind an opcode of one byte
 abbrev pub plain_kinds : ℕ → Option (List Kind)
-plain_kinds code = or_else (control_kinds code) (or_else (parametric_kinds code) (or_else (exception_kinds code) (or_else (memory_kinds code) (or_else (const_kinds code) (or_else (numeric_kinds code) (or_else (bulk_plain_kinds code) (or_else (gc_plain_kinds code) (continuation_kinds code))))))))
+plain_kinds code = or_else (control_kinds code) (or_else (parametric_kinds code)
+  (or_else (exception_kinds code) (or_else (memory_kinds code)
+  (or_else (const_kinds code) (or_else (numeric_kinds code) (or_else (bulk_plain_kinds code) (or_else (gc_plain_kinds code) (continuation_kinds code))))))))
 
 -- behind a code that follows 0xfb
 abbrev pub fb_kinds : ℕ → Option (List Kind)
@@ -40,7 +45,8 @@ fe_kinds code = or_else (atomic_kinds code) (shared_kinds code)
 
 -- behind a code that follows this byte
 abbrev pub prefixed_kinds : ℕ → ℕ → Option (List Kind)
-prefixed_kinds p code = if p == 0xfb then fb_kinds code else (if p == 0xfc then fc_kinds code else (if p == 0xfd then fd_kinds code else (if p == 0xfe then fe_kinds code else None)))
+prefixed_kinds p code = if p == 0xfb then fb_kinds code else
+  (if p == 0xfc then fc_kinds code else (if p == 0xfd then fd_kinds code else (if p == 0xfe then fe_kinds code else None)))
 
 -- behind a code, with the byte before it if there is one
 abbrev pub kinds_behind : Option ℕ → ℕ → Option (List Kind)

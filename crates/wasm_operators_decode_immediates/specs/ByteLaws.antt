@@ -5,7 +5,8 @@ use Rattle.std.proofs.lemmas.Bool.{eqb-true, eqb-false, ltb-true, ltb-false}
 use Rattle.wasm_types.specs.decoding.declared.Refusal.TheVariants.{Other}
 use Rattle.wasm_types.specs.decoding.Decoder.{refuse, byte, bytes, choice, IsLawful, Decides}
 use Rattle.wasm_types.specs.decoding.Laws.{lawful-byte, lawful->>=, lawful-pure, lawful-refuse, lawful-if, lawful-bytes, lawful-repeated, lawful-choice}
-use Rattle.wasm_types.specs.decoding.Exact.{Exactly, Mapped, ReadsTagged, decides-same, decides-pure, decides-refuse, decides-if, decides-map, decides-byte, decides-bytes, decides-repeated, decides-table, sound-pure, reads-pure}
+use Rattle.wasm_types.specs.decoding.Exact.{Exactly, Mapped, ReadsTagged, decides-same, decides-pure, decides-refuse, decides-if, decides-map}
+use Rattle.wasm_types.specs.decoding.Exact.{decides-byte, decides-bytes, decides-repeated, decides-table, sound-pure, reads-pure}
 use Rattle.wasm_types.specs.decoding.LebLaws.{lawful-unsigned, decides-u32}
 use Rattle.wasm_types.specs.decoding.ListLaws.{lawful-listed_within, decides-listed_within}
 use Rattle.wasm_types.specs.limits.Settings.{Settings}
@@ -16,7 +17,9 @@ use Rattle.wasm_types.specs.values.ValueExact.{SpelledValue, decides-value_type}
 use Rattle.wasm_operators_immediates.specs.declared.memory.Ordering.{Ordering}
 use Rattle.wasm_operators_immediates.specs.declared.memory.Ordering.TheVariants.{AcqRel, SeqCst}
 use Rattle.wasm_operators_immediates.specs.declared.vector.V128.{V128}
-use Rattle.wasm_operators_decode_immediates.specs.Bytes.{zero_after, zero_byte, index_or_zero, orderings, ordering_by, lane_after, lane, shuffle, vector_of, vector, select_types, IsZero, IsIndexOrZero, SpelledOrdering, IsLane, IsShuffle, SpelledVector, SpelledTypes}
+use Rattle.wasm_operators_decode_immediates.specs.Bytes.{zero_after, zero_byte, index_or_zero, orderings, ordering_by, lane_after, lane, shuffle}
+use Rattle.wasm_operators_decode_immediates.specs.Bytes.{vector_of, vector, select_types, IsZero, IsIndexOrZero, SpelledOrdering, IsLane, IsShuffle}
+use Rattle.wasm_operators_decode_immediates.specs.Bytes.{SpelledVector, SpelledTypes}
 
 -- ---- zero, or an index
 

@@ -13,9 +13,12 @@ use Rattle.wasm_operators_immediates.specs.Kinds.{Kind, IndexSpace, Memories, Ta
 use Rattle.wasm_operators_immediates.specs.Labels.{labels, SpelledLabels}
 use Rattle.wasm_operators_immediates.specs.Blocks.{block_type, SpelledBlock}
 use Rattle.wasm_operators_immediates.specs.Handlers.{try_table, handlers, SpelledTryTable, SpelledHandlers}
-use Rattle.wasm_operators_immediates.specs.Immediates.{Immediate, kind_of, Index, IndexOrZero, Label, Block, BranchTable, MemoryArgument, MemoryOrdering, Heap, CastBranch, ValueTypes, I32Constant, I64Constant, F32Constant, F64Constant, V128Constant, Lane, Lanes, Count, TryTable, Handlers, ZeroByte}
+use Rattle.wasm_operators_immediates.specs.Immediates.{Immediate, kind_of, Index, IndexOrZero, Label, Block, BranchTable, MemoryArgument}
+use Rattle.wasm_operators_immediates.specs.Immediates.{MemoryOrdering, Heap, CastBranch, ValueTypes, I32Constant, I64Constant, F32Constant}
+use Rattle.wasm_operators_immediates.specs.Immediates.{F64Constant, V128Constant, Lane, Lanes, Count, TryTable, Handlers, ZeroByte}
 use Rattle.wasm_operators_decode_immediates.specs.declared.cast.CastBranch.{CastBranch as Branch}
-use Rattle.wasm_operators_decode_immediates.specs.Bytes.{zero_byte, index_or_zero, ordering_by, lane, shuffle, vector, select_types, IsZero, IsIndexOrZero, SpelledOrdering, IsLane, IsShuffle, SpelledVector, SpelledTypes}
+use Rattle.wasm_operators_decode_immediates.specs.Bytes.{zero_byte, index_or_zero, ordering_by, lane, shuffle, vector, select_types, IsZero}
+use Rattle.wasm_operators_decode_immediates.specs.Bytes.{IsIndexOrZero, SpelledOrdering, IsLane, IsShuffle, SpelledVector, SpelledTypes}
 use Rattle.wasm_operators_decode_immediates.specs.MemoryArguments.{memory_argument, SpelledMemArg}
 use Rattle.wasm_operators_decode_immediates.specs.Casts.{branch, cast_branch, SpelledCast}
 

@@ -16,7 +16,9 @@ use Rattle.wasm_operators_immediates.specs.BlockLaws.{lawful-refuse_here, decide
 use Rattle.wasm_operators_decode_immediates.specs.declared.memory_argument.Flags.{Flags}
 use Rattle.wasm_operators_decode_immediates.specs.Bytes.{ordering_by, SpelledOrdering}
 use Rattle.wasm_operators_decode_immediates.specs.ByteLaws.{lawful-ordering_by, decides-ordering_by}
-use Rattle.wasm_operators_decode_immediates.specs.MemoryArguments.{may_order, flags, named_memory, access_ordering, named_ordering, offset, argument, after_flags, memory_argument, SpelledFlags, NamedMemory, SpelledAccessOrdering, NamedOrdering, offset_bits, SpelledMemArg}
+use Rattle.wasm_operators_decode_immediates.specs.MemoryArguments.{may_order, flags, named_memory, access_ordering, named_ordering, offset, argument}
+use Rattle.wasm_operators_decode_immediates.specs.MemoryArguments.{after_flags, memory_argument, SpelledFlags, NamedMemory, SpelledAccessOrdering}
+use Rattle.wasm_operators_decode_immediates.specs.MemoryArguments.{NamedOrdering, offset_bits, SpelledMemArg}
 use Rattle.wasm_operators_decode_immediates.specs.FlagLaws.{lawful-flags, decides-flags}
 
 -- ---- lawful
@@ -53,7 +55,8 @@ module _ (features : ℕ) (access : Access) (natural : ℕ) where
 
   pub lawful-memory_argument : IsLawful (memory_argument features access natural)
   unfolding memory_argument
-  lawful-memory_argument = lawful->>= (flags (may_order features access) (has MultiMemory features)) _ (lawful-flags (may_order features access) (has MultiMemory features)) lawful-after_flags
+  lawful-memory_argument = lawful->>= (flags (may_order features access) (has MultiMemory features)) _
+    (lawful-flags (may_order features access) (has MultiMemory features)) lawful-after_flags
 
 -- ---- exact
 
@@ -130,7 +133,8 @@ module _ (features : ℕ) (access : Access) (natural : ℕ) where
   unfolding after_flags
   decides-after_flags f =
       decides->>= (named_memory f.has_memory) _ (NamedMemory f.has_memory) (ordering_behind f) (decides-named_memory f.has_memory) (λ memory.
-      decides->>= (named_ordering access f.has_ordering) _ (NamedOrdering access f.has_ordering) (offset_behind f memory) (decides-named_ordering access f.has_ordering) (λ ordering.
+      decides->>= (named_ordering access f.has_ordering) _ (NamedOrdering access f.has_ordering) (offset_behind f memory)
+        (decides-named_ordering access f.has_ordering) (λ ordering.
       decides-map (offset wide) (argument f.align natural memory ordering) (IsUnsigned (offset_bits wide)) (decides-offset wide)))
 
   argument_to : (m : MemArg) (text : List ℕ) → Then (SpelledFlags order name) memory_behind m text → SpelledMemArg features access natural m text

@@ -4,7 +4,8 @@ ghost use Rattle.std.specs.Prelude.{◌≡◌};
 ghost use Rattle.wasm_types.specs.decoding.Decoder.{Reaches};
 ghost use Rattle.wasm_types.specs.error.declared.error.ErrorKind.TheVariants.{Other};
 ghost use Rattle.wasm_types.specs.reader.Reading.{Gives, NeedsNoMemory};
-ghost use Rattle.wasm_operators_decode_immediates.specs.MemoryArguments.{is_atomic, flags, named_memory, access_ordering, named_ordering, offset as offset_decoder, after_flags, memory_argument};
+ghost use Rattle.wasm_operators_decode_immediates.specs.MemoryArguments.{is_atomic, flags, named_memory, access_ordering, named_ordering};
+ghost use Rattle.wasm_operators_decode_immediates.specs.MemoryArguments.{offset as offset_decoder, after_flags, memory_argument};
 ghost use Rattle.wasm_operators_decode_immediates.specs.Accesses.{access_of};
 
 use crate::bytes::read_ordering_by;

@@ -15,7 +15,9 @@ use Rattle.wasm_operators_immediates.specs.declared.memory.MemArgTarget.TheVaria
 use Rattle.wasm_operators_immediates.specs.declared.memory.Ordering.{Ordering}
 use Rattle.wasm_operators_immediates.specs.declared.vector.V128.{V128}
 use Rattle.wasm_operators_immediates.specs.Tables.{Labels, CatchTable}
-use Rattle.wasm_operators_immediates.specs.Immediates.{Immediate, Index, IndexOrZero, Label, Block, BranchTable, MemoryArgument, MemoryOrdering, Heap, CastBranch, ValueTypes, I32Constant, I64Constant, F32Constant, F64Constant, V128Constant, Lane, Lanes, Count, TryTable, Handlers}
+use Rattle.wasm_operators_immediates.specs.Immediates.{Immediate, Index, IndexOrZero, Label, Block, BranchTable, MemoryArgument, MemoryOrdering, Heap}
+use Rattle.wasm_operators_immediates.specs.Immediates.{CastBranch, ValueTypes, I32Constant, I64Constant, F32Constant, F64Constant, V128Constant, Lane}
+use Rattle.wasm_operators_immediates.specs.Immediates.{Lanes, Count, TryTable, Handlers}
 
 -- ---- what an immediate carries
 

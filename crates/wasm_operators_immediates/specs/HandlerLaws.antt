@@ -17,7 +17,9 @@ use Rattle.wasm_operators_immediates.specs.declared.block.BlockType.{BlockType}
 use Rattle.wasm_operators_immediates.specs.Tables.{CatchTable}
 use Rattle.wasm_operators_immediates.specs.Blocks.{block_type, SpelledBlock}
 use Rattle.wasm_operators_immediates.specs.BlockLaws.{lawful-block_type, decides-block_type}
-use Rattle.wasm_operators_immediates.specs.Handlers.{one_index, two_indices, clauses, clause_after, clause, catch_table, try_table, handles, handle_after, handle, handlers, TagAndLabel, Behind, SpelledCatch, SpelledTryTable, SpelledHandle, SpelledHandlers}
+use Rattle.wasm_operators_immediates.specs.Handlers.{one_index, two_indices, clauses, clause_after, clause, catch_table, try_table, handles}
+use Rattle.wasm_operators_immediates.specs.Handlers.{handle_after, handle, handlers, TagAndLabel, Behind, SpelledCatch, SpelledTryTable}
+use Rattle.wasm_operators_immediates.specs.Handlers.{SpelledHandle, SpelledHandlers}
 
 -- ---- indices
 
@@ -42,10 +44,12 @@ module _ {A : Type 0} where
   sound-two f g to s t x e =
       let p = (decides-two_indices f).sound s t x e in
       let h = p.2 in
-      (p.0, p.1, subst (λ (y : A). g y p.0) (sym h.second.2) (to h.value h.second.0 p.0 (record { front = h.front; back = h.back; first = h.first; second = h.second.1; whole = h.whole })))
+      (p.0, p.1, subst (λ (y : A). g y p.0) (sym h.second.2)
+        (to h.value h.second.0 p.0 (record { front = h.front; back = h.back; first = h.first; second = h.second.1; whole = h.whole })))
 
   reads-two : (f : ℕ → ℕ → A) (tag label : ℕ) (text : List ℕ) → TagAndLabel tag label text → Reads (two_indices f) (f tag label) text
-  reads-two f tag label text h s t p = (decides-two_indices f).complete s t (f tag label) text p (record { value = tag; front = h.front; back = h.back; first = h.first; second = (label, h.second, refl); whole = h.whole })
+  reads-two f tag label text h s t p = (decides-two_indices f).complete s t (f tag label) text p
+    (record { value = tag; front = h.front; back = h.back; first = h.first; second = (label, h.second, refl); whole = h.whole })
 
   sound-one : (f : ℕ → A) (g : Grammar A) → ((n : ℕ) (text : List ℕ) → IsUnsigned 32 n text → g (f n) text) → Sound (one_index f) g
   sound-one f g to = sound-map u32 f (IsUnsigned 32) g decides-u32 to
@@ -60,7 +64,8 @@ behind b g text h = record { rest = text; spelled = h; whole = refl }
 
 lawful-clause_after : (b : ℕ) → IsLawful (clause_after b)
 unfolding clause_after
-lawful-clause_after b = lawful-choice clauses (refuse Other 1) b (lawful-two_indices One, (lawful-two_indices OneRef, (lawful-one_index All, (lawful-one_index AllRef, tt)))) (lawful-refuse Other 1)
+lawful-clause_after b = lawful-choice clauses (refuse Other 1) b
+  (lawful-two_indices One, (lawful-two_indices OneRef, (lawful-one_index All, (lawful-one_index AllRef, tt)))) (lawful-refuse Other 1)
 
 pub lawful-clause : IsLawful clause
 unfolding clause
@@ -91,7 +96,9 @@ decides-clause = decides-table Other SpelledCatch clauses (
 module _ (settings : Settings) where
   pub lawful-try_table : IsLawful (try_table settings)
   unfolding try_table
-  lawful-try_table = lawful->>= block_type _ lawful-block_type (λ ty. lawful->>= (listed_within settings.limits.catches clause) _ (lawful-listed_within settings.limits.catches clause lawful-clause) (λ catches. lawful-pure (catch_table ty catches)))
+  lawful-try_table = lawful->>= block_type _ lawful-block_type
+    (λ ty. lawful->>= (listed_within settings.limits.catches clause) _ (lawful-listed_within settings.limits.catches clause lawful-clause)
+    (λ catches. lawful-pure (catch_table ty catches)))
 
   abbrev IsClauses : Grammar (List Catch)
   IsClauses = IsListedWithin settings.limits.catches SpelledCatch
@@ -116,7 +123,8 @@ module _ (settings : Settings) where
   unfolding try_table
   decides-try_table = decides-same (try_table settings) (Then SpelledBlock clauses_behind) (SpelledTryTable settings)
       (decides->>= block_type (λ ty. listed_within settings.limits.catches clause >>= λ catches. pure (catch_table ty catches)) SpelledBlock clauses_behind decides-block_type
-      (λ ty. decides-map (listed_within settings.limits.catches clause) (catch_table ty) IsClauses (decides-listed_within settings.limits.catches clause SpelledCatch decides-clause)))
+      (λ ty. decides-map (listed_within settings.limits.catches clause) (catch_table ty) IsClauses
+        (decides-listed_within settings.limits.catches clause SpelledCatch decides-clause)))
       table_to table_from
 
 -- ---- handlers

@@ -14,7 +14,9 @@ use Rattle.wasm_operators_immediates.specs.Labels.{with_default, labels, Spelled
 module _ (settings : Settings) where
   pub lawful-labels : IsLawful (labels settings)
   unfolding labels
-  lawful-labels = lawful->>= (listed_within settings.limits.body_bytes u32) _ (lawful-listed_within settings.limits.body_bytes u32 (lawful-unsigned 4 4)) (λ targets. lawful->>= u32 _ (lawful-unsigned 4 4) (λ default. lawful-pure (with_default targets default)))
+  lawful-labels = lawful->>= (listed_within settings.limits.body_bytes u32) _
+    (lawful-listed_within settings.limits.body_bytes u32 (lawful-unsigned 4 4))
+    (λ targets. lawful->>= u32 _ (lawful-unsigned 4 4) (λ default. lawful-pure (with_default targets default)))
 
   -- a default behind these targets
   abbrev behind : List ℕ → Grammar Labels
@@ -35,7 +37,8 @@ module _ (settings : Settings) where
   pub decides-labels : Decides (labels settings) (SpelledLabels settings)
   unfolding labels
   decides-labels = decides-same (labels settings) (Then (IsListedWithin settings.limits.body_bytes (IsUnsigned 32)) behind) (SpelledLabels settings)
-      (decides->>= (listed_within settings.limits.body_bytes u32) (λ targets. u32 >>= λ default. pure (with_default targets default)) (IsListedWithin settings.limits.body_bytes (IsUnsigned 32)) behind
+      (decides->>= (listed_within settings.limits.body_bytes u32) (λ targets. u32 >>= λ default. pure (with_default targets default))
+        (IsListedWithin settings.limits.body_bytes (IsUnsigned 32)) behind
       (decides-listed_within settings.limits.body_bytes u32 (IsUnsigned 32) decides-u32)
       (λ targets. decides-map u32 (with_default targets) (IsUnsigned 32) decides-u32))
       labels_to labels_from

@@ -1,7 +1,9 @@
 //! Laws of immediates, each the contract of a function that does nothing.
 
 ghost use Rattle.wasm_operators_immediates.specs.Laws.{LabelEqualityIsIdentity, NumbersAreKept, BytesAreKept};
-ghost use Rattle.wasm_operators_immediates.specs.Laws.{ArgumentEqualityIsIdentity, OrderingEqualityIsIdentity, BlockEqualityIsIdentity, VectorEqualityIsIdentity, CatchEqualityIsIdentity, HandleEqualityIsIdentity, TryTableEqualityIsOfTrees, ResumeTableEqualityIsOfTrees};
+ghost use Rattle.wasm_operators_immediates.specs.Laws.{ArgumentEqualityIsIdentity, OrderingEqualityIsIdentity, BlockEqualityIsIdentity};
+ghost use Rattle.wasm_operators_immediates.specs.Laws.{VectorEqualityIsIdentity, CatchEqualityIsIdentity, HandleEqualityIsIdentity};
+ghost use Rattle.wasm_operators_immediates.specs.Laws.{TryTableEqualityIsOfTrees, ResumeTableEqualityIsOfTrees};
 
 use wasm_types::equality_is_identity;
 

@@ -3,7 +3,11 @@ use Rattle.std.specs.Prelude.{ℕ, List, Option}
 use Rattle.wasm_types.specs.features.Features as feature
 use Rattle.wasm_types.specs.features.Features.{mask}
 use Rattle.wasm_operators_info.specs.declared.proposal.Proposal.{Proposal}
-use Rattle.wasm_operators_info.specs.declared.proposal.Proposal.TheVariants.{Mvp, SignExtension, SaturatingFloatToInt, BulkMemory, BulkMemoryOpt, ReferenceTypes, TailCall, FunctionReferences, Exceptions, LegacyExceptions, Gc, Simd, RelaxedSimd, Threads, SharedEverythingThreads, MemoryControl, WideArithmetic, StackSwitching, CustomDescriptors}
+use Rattle.wasm_operators_info.specs.declared.proposal.Proposal.TheVariants.{Mvp, SignExtension, SaturatingFloatToInt, BulkMemory, BulkMemoryOpt}
+use Rattle.wasm_operators_info.specs.declared.proposal.Proposal.TheVariants.{ReferenceTypes, TailCall, FunctionReferences, Exceptions}
+use Rattle.wasm_operators_info.specs.declared.proposal.Proposal.TheVariants.{LegacyExceptions, Gc, Simd, RelaxedSimd, Threads}
+use Rattle.wasm_operators_info.specs.declared.proposal.Proposal.TheVariants.{SharedEverythingThreads, MemoryControl, WideArithmetic, StackSwitching}
+use Rattle.wasm_operators_info.specs.declared.proposal.Proposal.TheVariants.{CustomDescriptors}
 use Rattle.wasm_operators_info.specs.declared.info.OperatorInfo.{OperatorInfo}
 
 -- the proposal, the bytes of the name in the text format, the prefix if there is one, and the code behind it

@@ -3,7 +3,8 @@
 use Rattle.std.specs.Prelude.{Bool, true, List, map}
 use Rattle.wasm_operators_immediates.specs.Kinds.{Kind}
 use Rattle.wasm_operators_immediates.specs.Immediates.{Immediate, kind_of}
-use Rattle.wasm_operators_control.specs.Immediates.{control_immediates, parametric_immediates, exception_immediates, is_canonical as parametric_is_canonical, continuation_immediates}
+use Rattle.wasm_operators_control.specs.Immediates.{control_immediates, parametric_immediates, exception_immediates}
+use Rattle.wasm_operators_control.specs.Immediates.{is_canonical as parametric_is_canonical, continuation_immediates}
 use Rattle.wasm_operators_memory.specs.Immediates.{memory_immediates, const_immediates, bulk_immediates}
 use Rattle.wasm_operators_numbers.specs.Immediates.{numeric_immediates}
 use Rattle.wasm_operators_gc.specs.Immediates.{gc_immediates, descriptor_immediates}

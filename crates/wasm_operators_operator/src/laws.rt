@@ -2,7 +2,11 @@
 
 ghost use Rattle.wasm_operators_operator.specs.Laws.{ClonesHaveTheTree, RowsFollowFromCodes, KindsFollowFromCodes, CodesTellOperatorsApart};
 ghost use Rattle.wasm_operators_operator.specs.RoleRows.{FitsAsWorked, EffectsAsWorked};
-ghost use Rattle.wasm_operators_operator.specs.EqualityLaws.{EqualOperatorsHaveEqualTrees, ControlEqualityIsIdentity, ParametricEqualityIsOfTrees, ExceptionEqualityIsOfTrees, MemoryEqualityIsIdentity, ConstEqualityIsIdentity, NumericEqualityIsIdentity, BulkEqualityIsIdentity, GcEqualityIsIdentity, DescriptorEqualityIsIdentity, SimdEqualityIsIdentity, SimdNumericEqualityIsIdentity, AtomicEqualityIsIdentity, SharedEqualityIsIdentity, ContinuationEqualityIsOfTrees};
+ghost use Rattle.wasm_operators_operator.specs.EqualityLaws.{EqualOperatorsHaveEqualTrees, ControlEqualityIsIdentity, ParametricEqualityIsOfTrees};
+ghost use Rattle.wasm_operators_operator.specs.EqualityLaws.{ExceptionEqualityIsOfTrees, MemoryEqualityIsIdentity, ConstEqualityIsIdentity};
+ghost use Rattle.wasm_operators_operator.specs.EqualityLaws.{NumericEqualityIsIdentity, BulkEqualityIsIdentity, GcEqualityIsIdentity};
+ghost use Rattle.wasm_operators_operator.specs.EqualityLaws.{DescriptorEqualityIsIdentity, SimdEqualityIsIdentity, SimdNumericEqualityIsIdentity};
+ghost use Rattle.wasm_operators_operator.specs.EqualityLaws.{AtomicEqualityIsIdentity, SharedEqualityIsIdentity, ContinuationEqualityIsOfTrees};
 
 use wasm_types::equality_is_identity;
 

@@ -4,7 +4,11 @@ use Rattle.std.proofs.lemmas.Nat.Bits.{bit_at-zero}
 use Rattle.std.proofs.lemmas.Bool.{and_parts, ltb-true}
 use Rattle.std.proofs.lemmas.Nat.{or_lt, and_le_l}
 use Rattle.wasm_types_features.specs.declared.inflated.WasmFeaturesInflated.{WasmFeaturesInflated}
-use Rattle.wasm_types_features.specs.Features.{Feature, mask, place, has_bit, has_own, MutableGlobal, SaturatingFloatToInt, SignExtension, ReferenceTypes, MultiValue, BulkMemory, Simd, RelaxedSimd, Threads, SharedEverythingThreads, TailCall, Floats, MultiMemory, Exceptions, Memory64, ExtendedConst, ComponentModel, FunctionReferences, MemoryControl, Gc, CustomPageSizes, LegacyExceptions, GcTypes, StackSwitching, WideArithmetic, CallIndirectOverlong, BulkMemoryOpt, CustomDescriptors}
+use Rattle.wasm_types_features.specs.Features.{Feature, mask, place, has_bit, has_own, MutableGlobal, SaturatingFloatToInt, SignExtension}
+use Rattle.wasm_types_features.specs.Features.{ReferenceTypes, MultiValue, BulkMemory, Simd, RelaxedSimd, Threads, SharedEverythingThreads, TailCall}
+use Rattle.wasm_types_features.specs.Features.{Floats, MultiMemory, Exceptions, Memory64, ExtendedConst, ComponentModel, FunctionReferences}
+use Rattle.wasm_types_features.specs.Features.{MemoryControl, Gc, CustomPageSizes, LegacyExceptions, GcTypes, StackSwitching, WideArithmetic}
+use Rattle.wasm_types_features.specs.Features.{CallIndirectOverlong, BulkMemoryOpt, CustomDescriptors}
 use Rattle.wasm_types_features.specs.Inflated.{field, setting, Packs}
 use Rattle.wasm_types_features.proofs.Bits.{setting_bit}
 

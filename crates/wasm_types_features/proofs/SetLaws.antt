@@ -6,7 +6,11 @@ use Rattle.std.proofs.lemmas.Bool.{agree_below_at, eq-eqb, eqb-true}
 use Rattle.std.proofs.lemmas.Nat.{and_assoc, and_le_r}
 use Rattle.std.proofs.lemmas.Nat.Bits.{bit_at-lt, same_from_bits_below}
 use Rattle.wasm_types_features.specs.declared.inflated.WasmFeaturesInflated.{WasmFeaturesInflated}
-use Rattle.wasm_types_features.specs.Features.{Feature, mask, place, has, has_bit, has_each, MutableGlobal, SaturatingFloatToInt, SignExtension, ReferenceTypes, MultiValue, BulkMemory, Simd, RelaxedSimd, Threads, SharedEverythingThreads, TailCall, Floats, MultiMemory, Exceptions, Memory64, ExtendedConst, ComponentModel, FunctionReferences, MemoryControl, Gc, CustomPageSizes, LegacyExceptions, GcTypes, StackSwitching, WideArithmetic, CallIndirectOverlong, BulkMemoryOpt, CustomDescriptors}
+use Rattle.wasm_types_features.specs.Features.{Feature, mask, place, has, has_bit, has_each, MutableGlobal, SaturatingFloatToInt, SignExtension}
+use Rattle.wasm_types_features.specs.Features.{ReferenceTypes, MultiValue, BulkMemory, Simd, RelaxedSimd, Threads, SharedEverythingThreads, TailCall}
+use Rattle.wasm_types_features.specs.Features.{Floats, MultiMemory, Exceptions, Memory64, ExtendedConst, ComponentModel, FunctionReferences}
+use Rattle.wasm_types_features.specs.Features.{MemoryControl, Gc, CustomPageSizes, LegacyExceptions, GcTypes, StackSwitching, WideArithmetic}
+use Rattle.wasm_types_features.specs.Features.{CallIndirectOverlong, BulkMemoryOpt, CustomDescriptors}
 use Rattle.wasm_types_features.specs.Inflated.{field, Packs, settled}
 use Rattle.wasm_types_features.specs.Laws.{AllowedByBits, LargerAllowsMore, OwnInUnion, OwnInIntersection, OwnInDifference, PackedOnce, InflatedAgain}
 use Rattle.wasm_types_features.proofs.Bits.{or_bit, and_bit, without_bit, one_bit, two_bits}
@@ -42,7 +46,9 @@ same_digit x y p q e = grind arith
 
 -- every feature, in the order of their places
 every : List Feature
-every = MutableGlobal ∷ SaturatingFloatToInt ∷ SignExtension ∷ ReferenceTypes ∷ MultiValue ∷ BulkMemory ∷ Simd ∷ RelaxedSimd ∷ Threads ∷ SharedEverythingThreads ∷ TailCall ∷ Floats ∷ MultiMemory ∷ Exceptions ∷ Memory64 ∷ ExtendedConst ∷ ComponentModel ∷ FunctionReferences ∷ MemoryControl ∷ Gc ∷ CustomPageSizes ∷ LegacyExceptions ∷ GcTypes ∷ StackSwitching ∷ WideArithmetic ∷ CallIndirectOverlong ∷ BulkMemoryOpt ∷ CustomDescriptors ∷ []
+every = MutableGlobal ∷ SaturatingFloatToInt ∷ SignExtension ∷ ReferenceTypes ∷ MultiValue ∷ BulkMemory ∷ Simd ∷ RelaxedSimd ∷ Threads
+  ∷ SharedEverythingThreads ∷ TailCall ∷ Floats ∷ MultiMemory ∷ Exceptions ∷ Memory64 ∷ ExtendedConst ∷ ComponentModel ∷ FunctionReferences
+  ∷ MemoryControl ∷ Gc ∷ CustomPageSizes ∷ LegacyExceptions ∷ GcTypes ∷ StackSwitching ∷ WideArithmetic ∷ CallIndirectOverlong ∷ BulkMemoryOpt ∷ CustomDescriptors ∷ []
 
 at_place : ℕ → Feature
 at_place k = get_or every k MutableGlobal

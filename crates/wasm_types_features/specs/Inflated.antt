@@ -3,7 +3,11 @@ use Rattle.std.specs.Prelude.{ℕ, Bool, ◌≡◌, ◌<◌, ◌^◌, ◌&&◌, 
 use Rattle.std.specs.Int.RustNames.{bit_or}
 use Rattle.bitflags.specs.Sets.{without}
 use Rattle.wasm_types_features.specs.declared.inflated.WasmFeaturesInflated.{WasmFeaturesInflated}
-use Rattle.wasm_types_features.specs.Features.{Feature, has, has_own, MutableGlobal, SaturatingFloatToInt, SignExtension, ReferenceTypes, MultiValue, BulkMemory, Simd, RelaxedSimd, Threads, SharedEverythingThreads, TailCall, Floats, MultiMemory, Exceptions, Memory64, ExtendedConst, ComponentModel, FunctionReferences, MemoryControl, Gc, CustomPageSizes, LegacyExceptions, GcTypes, StackSwitching, WideArithmetic, CallIndirectOverlong, BulkMemoryOpt, CustomDescriptors}
+use Rattle.wasm_types_features.specs.Features.{Feature, has, has_own, MutableGlobal, SaturatingFloatToInt, SignExtension, ReferenceTypes, MultiValue}
+use Rattle.wasm_types_features.specs.Features.{BulkMemory, Simd, RelaxedSimd, Threads, SharedEverythingThreads, TailCall, Floats, MultiMemory}
+use Rattle.wasm_types_features.specs.Features.{Exceptions, Memory64, ExtendedConst, ComponentModel, FunctionReferences, MemoryControl, Gc}
+use Rattle.wasm_types_features.specs.Features.{CustomPageSizes, LegacyExceptions, GcTypes, StackSwitching, WideArithmetic, CallIndirectOverlong}
+use Rattle.wasm_types_features.specs.Features.{BulkMemoryOpt, CustomDescriptors}
 
 -- the field of a feature
 abbrev pub field : Feature → WasmFeaturesInflated → Bool

@@ -1,6 +1,10 @@
 -- Sets of features worked by hand: the bits of each name and of each named set, and what some sets allow.
 use Rattle.std.specs.Prelude.{◌≡◌, true, false}
-use Rattle.wasm_types_features.specs.Features.{MutableGlobal, SaturatingFloatToInt, SignExtension, ReferenceTypes, MultiValue, BulkMemory, Simd, RelaxedSimd, Threads, SharedEverythingThreads, TailCall, Floats, MultiMemory, Exceptions, Memory64, ExtendedConst, ComponentModel, FunctionReferences, MemoryControl, Gc, CustomPageSizes, LegacyExceptions, GcTypes, StackSwitching, WideArithmetic, CallIndirectOverlong, BulkMemoryOpt, CustomDescriptors, mask, has, needs_canonical_types}
+use Rattle.wasm_types_features.specs.Features.{MutableGlobal, SaturatingFloatToInt, SignExtension, ReferenceTypes, MultiValue, BulkMemory, Simd}
+use Rattle.wasm_types_features.specs.Features.{RelaxedSimd, Threads, SharedEverythingThreads, TailCall, Floats, MultiMemory, Exceptions, Memory64}
+use Rattle.wasm_types_features.specs.Features.{ExtendedConst, ComponentModel, FunctionReferences, MemoryControl, Gc, CustomPageSizes}
+use Rattle.wasm_types_features.specs.Features.{LegacyExceptions, GcTypes, StackSwitching, WideArithmetic, CallIndirectOverlong, BulkMemoryOpt}
+use Rattle.wasm_types_features.specs.Features.{CustomDescriptors, mask, has, needs_canonical_types}
 use Rattle.wasm_types_features.specs.Sets.{bits_of, mvp, wasm1, wasm2, wasm3, lime1, default_features}
 
 pub record MaskRows : Type 0 where

@@ -2,7 +2,9 @@
 -- What each release added: WebAssembly 3.0, appendix, change history.
 use Rattle.std.specs.Prelude.{ℕ, ◌≡◌, List, [], ◌∷◌, ◌++◌}
 use Rattle.std.specs.Int.RustNames.{bit_and, bit_or}
-use Rattle.wasm_types_features.specs.Features.{Feature, MutableGlobal, SaturatingFloatToInt, SignExtension, ReferenceTypes, MultiValue, BulkMemory, Simd, RelaxedSimd, Threads, TailCall, Floats, MultiMemory, Exceptions, Memory64, ExtendedConst, ComponentModel, FunctionReferences, Gc, GcTypes, CallIndirectOverlong, BulkMemoryOpt, mask}
+use Rattle.wasm_types_features.specs.Features.{Feature, MutableGlobal, SaturatingFloatToInt, SignExtension, ReferenceTypes, MultiValue, BulkMemory}
+use Rattle.wasm_types_features.specs.Features.{Simd, RelaxedSimd, Threads, TailCall, Floats, MultiMemory, Exceptions, Memory64, ExtendedConst}
+use Rattle.wasm_types_features.specs.Features.{ComponentModel, FunctionReferences, Gc, GcTypes, CallIndirectOverlong, BulkMemoryOpt, mask}
 
 -- the bits of all the features of a list
 abbrev pub bits_of : List Feature → ℕ

@@ -1,7 +1,11 @@
 // For each feature, whether a set allows it.
 
 ghost use Rattle.std.specs.Prelude.{◌≡◌};
-ghost use Rattle.wasm_types_features.specs.Features.{has, needs_canonical_types, MutableGlobal, SaturatingFloatToInt, SignExtension, ReferenceTypes, MultiValue, BulkMemory, Simd, RelaxedSimd, Threads, SharedEverythingThreads, TailCall, Floats, MultiMemory, Exceptions, Memory64, ExtendedConst, ComponentModel, FunctionReferences, MemoryControl, Gc, CustomPageSizes, LegacyExceptions, GcTypes, StackSwitching, WideArithmetic, CallIndirectOverlong, BulkMemoryOpt, CustomDescriptors};
+ghost use Rattle.wasm_types_features.specs.Features.{has, needs_canonical_types, MutableGlobal, SaturatingFloatToInt, SignExtension, ReferenceTypes};
+ghost use Rattle.wasm_types_features.specs.Features.{MultiValue, BulkMemory, Simd, RelaxedSimd, Threads, SharedEverythingThreads, TailCall, Floats};
+ghost use Rattle.wasm_types_features.specs.Features.{MultiMemory, Exceptions, Memory64, ExtendedConst, ComponentModel, FunctionReferences};
+ghost use Rattle.wasm_types_features.specs.Features.{MemoryControl, Gc, CustomPageSizes, LegacyExceptions, GcTypes, StackSwitching, WideArithmetic};
+ghost use Rattle.wasm_types_features.specs.Features.{CallIndirectOverlong, BulkMemoryOpt, CustomDescriptors};
 
 use crate::features::WasmFeatures;
 use bitflags::Flags;

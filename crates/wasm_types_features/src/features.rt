@@ -1,7 +1,11 @@
 // The set of features: its bits, the named sets and the operations of `bitflags`.
 
 ghost use Rattle.std.specs.Prelude.{◌≡◌, ⊤, List, [], ◌∷◌, codes};
-ghost use Rattle.wasm_types_features.specs.Features.{mask, MutableGlobal, SaturatingFloatToInt, SignExtension, ReferenceTypes, MultiValue, BulkMemory, Simd, RelaxedSimd, Threads, SharedEverythingThreads, TailCall, Floats, MultiMemory, Exceptions, Memory64, ExtendedConst, ComponentModel, FunctionReferences, MemoryControl, Gc, CustomPageSizes, LegacyExceptions, GcTypes, StackSwitching, WideArithmetic, CallIndirectOverlong, BulkMemoryOpt, CustomDescriptors};
+ghost use Rattle.wasm_types_features.specs.Features.{mask, MutableGlobal, SaturatingFloatToInt, SignExtension, ReferenceTypes, MultiValue, BulkMemory};
+ghost use Rattle.wasm_types_features.specs.Features.{Simd, RelaxedSimd, Threads, SharedEverythingThreads, TailCall, Floats, MultiMemory, Exceptions};
+ghost use Rattle.wasm_types_features.specs.Features.{Memory64, ExtendedConst, ComponentModel, FunctionReferences, MemoryControl, Gc, CustomPageSizes};
+ghost use Rattle.wasm_types_features.specs.Features.{LegacyExceptions, GcTypes, StackSwitching, WideArithmetic, CallIndirectOverlong, BulkMemoryOpt};
+ghost use Rattle.wasm_types_features.specs.Features.{CustomDescriptors};
 ghost use Rattle.wasm_types_features.specs.Sets.{bits_of, default_features};
 
 use bitflags::{Flag, Flags, bitflag_items};

@@ -1,6 +1,9 @@
 //! The laws of types, each on the contract of a function that does nothing.
 
-ghost use Rattle.wasm_types_groups.specs.Laws.{SubTypesAreToldApart, GroupsAreToldApart, GroupsAreOrderedByTypes, TiesDeclareTheSame, GroupsAreHashedByTypes, SubTypesAreCloned, GroupsAreCloned, ValuesDeclareTheSame, GroupValuesDeclareTheSame, CompositeTypesAreSpelledAsTrees, SubTypesAreSpelledAsTrees, GroupsAreSpelledAsTrees, GroupTreesAreRead, ShapesAndIndicesAreAll};
+ghost use Rattle.wasm_types_groups.specs.Laws.{SubTypesAreToldApart, GroupsAreToldApart, GroupsAreOrderedByTypes, TiesDeclareTheSame};
+ghost use Rattle.wasm_types_groups.specs.Laws.{GroupsAreHashedByTypes, SubTypesAreCloned, GroupsAreCloned, ValuesDeclareTheSame};
+ghost use Rattle.wasm_types_groups.specs.Laws.{GroupValuesDeclareTheSame, CompositeTypesAreSpelledAsTrees, SubTypesAreSpelledAsTrees};
+ghost use Rattle.wasm_types_groups.specs.Laws.{GroupsAreSpelledAsTrees, GroupTreesAreRead, ShapesAndIndicesAreAll};
 ghost use Rattle.wasm_types_groups.specs.WorkedGroupLaws.{CompositeTypesAreRead, SubTypesAreRead, GroupsAreRead, KindsAreTold, TextsAreWritten};
 
 use wasm_types_fields::equality_is_identity;

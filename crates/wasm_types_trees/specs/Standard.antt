@@ -1,7 +1,8 @@
 -- Subtyping by the rules of the standard as they are written (WebAssembly 3.0, validation, matching). No other rule cites it;
 -- a law promises that it is `Below` on valid types. The parameter V is which types are valid.
 use Rattle.std.specs.Prelude.{◌≡◌, Bool, Some}
-use Rattle.wasm_types_trees.specs.Types.{func, extern, any, none, noextern, nofunc, eq, struct, array, i31, exn, noexn, cont, nocont, HeapOf, abstract, concrete, exact, ValueOf, number, ref}
+use Rattle.wasm_types_trees.specs.Types.{func, extern, any, none, noextern, nofunc, eq, struct, array, i31, exn, noexn, cont, nocont, HeapOf}
+use Rattle.wasm_types_trees.specs.Types.{abstract, concrete, exact, ValueOf, number, ref}
 use Rattle.wasm_types_trees.specs.Each.{EachHeap}
 use Rattle.wasm_types_trees.specs.Trees.{TypeTree}
 use Rattle.wasm_types_trees.specs.Below.{expanded, is_shared, supertype, abstract_of, NullBelow}

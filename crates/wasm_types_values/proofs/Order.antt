@@ -1,7 +1,8 @@
 -- The table of abstract heap types is their order.
 use Rattle.std.proofs.Common.{◌≡◌, refl, true}
 use Rattle.wasm_types_trees.specs.Types.{Abstract, func, extern, any, none, noextern, nofunc, eq, struct, array, i31, exn, noexn, cont, nocont}
-use Rattle.wasm_types_trees.specs.AbstractOrder.{AbstractBelow, same, eq_any, i31_any, struct_any, array_any, none_any, i31_eq, struct_eq, array_eq, none_eq, none_i31, none_struct, none_array, nofunc_func, noextern_extern, noexn_exn, nocont_cont}
+use Rattle.wasm_types_trees.specs.AbstractOrder.{AbstractBelow, same, eq_any, i31_any, struct_any, array_any, none_any, i31_eq, struct_eq, array_eq}
+use Rattle.wasm_types_trees.specs.AbstractOrder.{none_eq, none_i31, none_struct, none_array, nofunc_func, noextern_extern, noexn_exn, nocont_cont}
 use Rattle.wasm_types_values.specs.Order.{is_below}
 
 pub table_sound : (a b : Abstract) → is_below a b ≡ true → AbstractBelow a b

@@ -13,7 +13,9 @@ use Rattle.wasm_types_values.specs.declared.heap.AbstractHeapType.{AbstractHeapT
 use Rattle.wasm_types_values.specs.declared.heap.HeapType.TheVariants.{Abstract, Concrete, Exact}
 use Rattle.wasm_types_values.specs.declared.value.ValType.TheVariants.{I32, I64, F32, F64, V128, Ref}
 use Rattle.wasm_types_values.specs.declared.value.StorageType.TheVariants.{I8, I16, Val}
-use Rattle.wasm_types_values.specs.Decode.{type_of_byte, with_type, abstract_heap_type, concrete_from, exact_from, concrete_heap_type, exact_heap_type, heap_type_after, begins_index, heap_type_at, heap_type, reference, reference_after, reference_type}
+use Rattle.wasm_types_values.specs.Decode.{type_of_byte, with_type, abstract_heap_type, concrete_from, exact_from, concrete_heap_type}
+use Rattle.wasm_types_values.specs.Decode.{exact_heap_type, heap_type_after, begins_index, heap_type_at, heap_type, reference, reference_after}
+use Rattle.wasm_types_values.specs.Decode.{reference_type}
 use Rattle.wasm_types_values.specs.DecodeValues.{numbers, reference_value_after, value_type_after, value_type, storage_type_after, storage_type}
 
 lawful-with_type : {A : Type 0} (o : Option AbstractHeapType) (f : AbstractHeapType → A) → IsLawful (with_type o f)
@@ -34,7 +36,8 @@ lawful-concrete_heap_type = lawful-from_place (λ p. s33 >>= concrete_from p) (�
 
 lawful-exact_heap_type : IsLawful exact_heap_type
 unfolding exact_heap_type
-lawful-exact_heap_type = lawful-from_place (λ p. u32 >>= exact_from p) (λ p. lawful->>= u32 (exact_from p) (lawful-unsigned 4 4) (λ n. lawful-if (nat_lt n 0x10_0000) _ _ (lawful-pure (Exact (Module n))) (lawful-refuse_at Other p)))
+lawful-exact_heap_type = lawful-from_place (λ p. u32 >>= exact_from p)
+  (λ p. lawful->>= u32 (exact_from p) (lawful-unsigned 4 4) (λ n. lawful-if (nat_lt n 0x10_0000) _ _ (lawful-pure (Exact (Module n))) (lawful-refuse_at Other p)))
 
 lawful-heap_type_after : (b : ℕ) → IsLawful (heap_type_after b)
 unfolding heap_type_after
@@ -53,7 +56,8 @@ signed_takes : {A : Type 0} (k r : ℕ) (g : ℤ → Decoder A) → ((v : ℤ) �
 unfolding signed
 signed_takes k r g l s h =
     let f : ℕ → Decoder ℤ = λ b. cond (nat_lt b 128) (pure (seven_bits b)) (signed k r >>= λ m. pure (pos 128 *ℤ m +ℤ pos (b - 128))) in
-    let lf : (b : ℕ) → IsLawful (f b) = λ b. lawful-if (nat_lt b 128) (pure (seven_bits b)) (signed k r >>= λ m. pure (pos 128 *ℤ m +ℤ pos (b - 128))) (lawful-pure _) (lawful->>= (signed k r) _ (lawful-signed k r) (λ m. lawful-pure _)) in
+    let lf : (b : ℕ) → IsLawful (f b) = λ b. lawful-if (nat_lt b 128) (pure (seven_bits b)) (signed k r >>= λ m. pure (pos 128 *ℤ m +ℤ pos (b - 128)))
+      (lawful-pure _) (lawful->>= (signed k r) _ (lawful-signed k r) (λ m. lawful-pure _)) in
     subst (IsBeyond s.place) (sym (regroup (byte s) f g)) (TakesOne-byte (λ b. f b >>= g) (λ b. lawful->>= (f b) g (lf b) l) s h)
 
 TakesOne-concrete_heap_type : TakesOne concrete_heap_type

@@ -6,7 +6,8 @@ use Rattle.std.proofs.lemmas.Bool.{eqb-true, eqb-false, ltb-true, ltb-false, lt-
 use Rattle.std.proofs.lemmas.List.{append-nil}
 use Rattle.wasm_types_reader.specs.decoding.declared.Refusal.TheVariants.{Other}
 use Rattle.wasm_types_reader.specs.decoding.Decoder.{State, Done, Decoder, Grammar, ◌>>=◌, pure, byte, Takes, Decides, Then}
-use Rattle.wasm_types_reader.specs.decoding.Exact.{Mapped, Sound, decides->>=, decides-same, decides-pure, decides-refuse, decides-if, decides-map, decides-byte, decides-look_apart}
+use Rattle.wasm_types_reader.specs.decoding.Exact.{Mapped, Sound, decides->>=, decides-same, decides-pure, decides-refuse, decides-if, decides-map}
+use Rattle.wasm_types_reader.specs.decoding.Exact.{decides-byte, decides-look_apart}
 use Rattle.wasm_types_reader.specs.decoding.ListLaws.{decides-from_place, decides-refuse_at}
 use Rattle.wasm_types_reader.specs.decoding.Leb.{u32, s33, IsUnsigned, IsSigned, nonnegative, negative, longer}
 use Rattle.wasm_types_reader.specs.decoding.LebLaws.{decides-u32}
@@ -19,7 +20,8 @@ use Rattle.wasm_types_values.specs.declared.heap.HeapType.TheVariants.{Abstract,
 use Rattle.wasm_types_values.specs.Bits.{Fits}
 use Rattle.wasm_types_values.specs.Trees.{abstract_of, heap_of}
 use Rattle.wasm_types_values.specs.Spells.{abstract_byte, SpellsHeap}
-use Rattle.wasm_types_values.specs.Decode.{find, abstract_types, type_of_byte, with_type, abstract_heap_type, concrete_from, exact_from, concrete_heap_type, exact_heap_type, heap_type_after, begins_index, heap_type_at, heap_type}
+use Rattle.wasm_types_values.specs.Decode.{find, abstract_types, type_of_byte, with_type, abstract_heap_type, concrete_from, exact_from}
+use Rattle.wasm_types_values.specs.Decode.{concrete_heap_type, exact_heap_type, heap_type_after, begins_index, heap_type_at, heap_type}
 
 pub heads : (a b : ℕ) (xs ys : List ℕ) → (a ∷ xs) ≡ (b ∷ ys) → a ≡ b
 heads a b xs ys e = cc
@@ -45,7 +47,8 @@ found P (c ∷ cs) b all x e = go (b == c.0) refl e (found P cs b all.1 x)
     go false q h rest = rest h
 
 byte_is : (b : ℕ) (ty : AbstractHeapType) → type_of_byte b ≡ Some ty → b ≡ abstract_byte (abstract_of ty)
-byte_is b ty e = found (λ n t. n ≡ abstract_byte (abstract_of t)) abstract_types b (refl, (refl, (refl, (refl, (refl, (refl, (refl, (refl, (refl, (refl, (refl, (refl, (refl, (refl, tt)))))))))))))) ty e
+byte_is b ty e = found (λ n t. n ≡ abstract_byte (abstract_of t)) abstract_types b
+  (refl, (refl, (refl, (refl, (refl, (refl, (refl, (refl, (refl, (refl, (refl, (refl, (refl, (refl, tt)))))))))))))) ty e
 
 type_back : (ty : AbstractHeapType) → type_of_byte (abstract_byte (abstract_of ty)) ≡ Some ty
 type_back heap.Func = refl
@@ -124,7 +127,8 @@ module _ {V : Type 0} (d : Decoder V) (g : Grammar V) (f : ℕ → V → Decoder
   numbered_from h text n = record { value = n.0; front = text; back = []; first = n.1; second = (n.2, refl); whole = sym (append-nil text) }
 
   decides-numbered : Decides d g → ((p : ℕ) (v : V) → Decides (f p v) (after v)) → Decides (λ s. (d >>= f s.place) s) Numbered
-  decides-numbered dg each = decides-from_place (λ p. d >>= f p) Numbered (λ p. decides-same _ (Then g after) Numbered (decides->>= d (f p) g after dg (each p)) numbered_to numbered_from)
+  decides-numbered dg each = decides-from_place (λ p. d >>= f p) Numbered
+    (λ p. decides-same _ (Then g after) Numbered (decides->>= d (f p) g after dg (each p)) numbered_to numbered_from)
 
 abbrev ByConcrete : ℤ → HeapType → Type 0
 ByConcrete v h = (n : ℕ) × (v ≡ pos n) × (n < 2 ^ 20) × (h ≡ Concrete (Module n))
@@ -195,7 +199,8 @@ exact_from_other (Exact (Id i)) text e = absurd e.2
 exact_to_other : (h : HeapType) (text : List ℕ) → SpellsExact h text → SpellsOther h (0x62 ∷ text)
 exact_to_other h text m = subst (λ (k : HeapType). SpellsOther k (0x62 ∷ text)) (sym m.2.1) (text, refl, (m.1, m.2.0))
 
-alone_only : (b : ℕ) → b ≢ 0x65 → b ≢ 0x62 → (h : HeapType) (text : List ℕ) → SpellsOther h (b ∷ text) → (ty : AbstractHeapType) × (b ≡ abstract_byte (abstract_of ty)) × (h ≡ Abstract false ty) × (text ≡ [])
+alone_only : (b : ℕ) → b ≢ 0x65 → b ≢ 0x62 → (h : HeapType) (text : List ℕ) → SpellsOther h (b ∷ text) → (ty : AbstractHeapType) ×
+  (b ≡ abstract_byte (abstract_of ty)) × (h ≡ Abstract false ty) × (text ≡ [])
 alone_only b m n (Abstract true ty) text e = absurd (m (heads b 0x65 text (abstract_byte (abstract_of ty) ∷ []) e))
 alone_only b m n (Abstract false ty) text e = (ty, heads b (abstract_byte (abstract_of ty)) text [] e, refl, tails b (abstract_byte (abstract_of ty)) text [] e)
 alone_only b m n (Concrete i) text e = absurd e
@@ -269,7 +274,8 @@ module _ (b : ℕ) (s t : State) (text : List ℕ) (p : Takes s (b ∷ text) t) 
   heap_complete (Abstract false ty) e =
       let is : b ≡ abstract_byte (abstract_of ty) = heads b (abstract_byte (abstract_of ty)) text [] e in
       by_other (Abstract false ty) (omega (arith, byte_range ty)) (omega (arith, byte_range ty)) e
-  heap_complete (Concrete (Module n)) e = rw (index_begins n refl e.0) (decides-concrete_heap_type.complete s t (Concrete (Module n)) (b ∷ text) p (pos n, e.0, (n, refl, e.1, refl)))
+  heap_complete (Concrete (Module n)) e = rw (index_begins n refl e.0)
+    (decides-concrete_heap_type.complete s t (Concrete (Module n)) (b ∷ text) p (pos n, e.0, (n, refl, e.1, refl)))
   heap_complete (Concrete (RecGroup n)) e = absurd e
   heap_complete (Concrete (Id i)) e = absurd e
   heap_complete (Exact i) e = let is : b ≡ 0x62 = heads b 0x62 text e.0 e.1 in by_other (Exact i) (omega arith) (omega arith) e

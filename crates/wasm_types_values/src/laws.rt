@@ -1,7 +1,8 @@
 //! Laws of types, each the contract of a function that does nothing, or of one that makes a type again of its parts.
 ghost use Rattle.std.specs.Prelude.{◌≡◌, Some, true, false};
 ghost use Rattle.wasm_types_values.specs.Constants.{references};
-ghost use Rattle.wasm_types_values.specs.Laws.{AbstractTypesAreOrderedAsDeclared, ReferenceEqualityIsIdentity, ValueEqualityIsIdentity, StorageEqualityIsIdentity, HeapEqualityIsIdentity, AbstractEqualityIsIdentity};
+ghost use Rattle.wasm_types_values.specs.Laws.{AbstractTypesAreOrderedAsDeclared, ReferenceEqualityIsIdentity, ValueEqualityIsIdentity};
+ghost use Rattle.wasm_types_values.specs.Laws.{StorageEqualityIsIdentity, HeapEqualityIsIdentity, AbstractEqualityIsIdentity};
 ghost use Rattle.wasm_types_trees.specs.laws.Statements.{AbstractIsReflexive, AbstractIsTransitive, AbstractIsAntisymmetric};
 ghost use Rattle.wasm_types_values.specs.WorkedTypeLaws.{AbstractBytesAreRead, IndicesAreRead, ReferencesAreRead, ValuesAreRead, KindsAreTold, TextsAreWritten};
 

@@ -1,13 +1,16 @@
 -- `Below` is the standard's subtyping on types whose chains are sound.
 use Rattle.std.proofs.Common.{◌≡◌, ◌↔◌, ◌∙◌, Bool, Some, refl, sym, subst, subst₂}
-use Rattle.wasm_types_trees.specs.Types.{Abstract, func, extern, any, none, noextern, nofunc, exn, noexn, cont, nocont, HeapOf, abstract, concrete, exact, ValueOf, number, ref, InnerOf, function, array_of, struct_of, continuation}
+use Rattle.wasm_types_trees.specs.Types.{Abstract, func, extern, any, none, noextern, nofunc, exn, noexn, cont, nocont, HeapOf, abstract, concrete}
+use Rattle.wasm_types_trees.specs.Types.{exact, ValueOf, number, ref, InnerOf, function, array_of, struct_of, continuation}
 use Rattle.wasm_types_trees.specs.Each.{EachHeap, EachValue}
 use Rattle.wasm_types_trees.specs.Trees.{TypeTree}
 use Rattle.wasm_types_trees.specs.AbstractOrder as order
 use Rattle.wasm_types_trees.specs.AbstractOrder.{AbstractBelow, same}
-use Rattle.wasm_types_trees.specs.Below.{expanded, is_shared, supertype, abstract_of, bottom_of, DeclaredBelow, itself, declared, IsBelowAbstract, IsAboveAbstract, HeapBelow, Below}
+use Rattle.wasm_types_trees.specs.Below.{expanded, is_shared, supertype, abstract_of, bottom_of, DeclaredBelow, itself, declared, IsBelowAbstract}
+use Rattle.wasm_types_trees.specs.Below.{IsAboveAbstract, HeapBelow, Below}
 use Rattle.wasm_types_trees.specs.Chains.{IsSound}
-use Rattle.wasm_types_trees.specs.Standard.{HeapMatches, reflexive, transitive, eq_any, i31_eq, struct_eq, array_eq, expansion, declaration, none_below, nofunc_below, noexn_below, noextern_below, nocont_below, exactly, ValueMatches}
+use Rattle.wasm_types_trees.specs.Standard.{HeapMatches, reflexive, transitive, eq_any, i31_eq, struct_eq, array_eq, expansion, declaration}
+use Rattle.wasm_types_trees.specs.Standard.{none_below, nofunc_below, noexn_below, noextern_below, nocont_below, exactly, ValueMatches}
 use Rattle.wasm_types_trees.specs.laws.Abstract.{bottoms_agree}
 use Rattle.wasm_types_trees.specs.laws.Below.{heap_reflexive, heap_transitive}
 

@@ -3,7 +3,8 @@ use Rattle.std.proofs.Common.{◌≡◌, ◌↔◌, ◌∙◌, ℕ, zero, suc, �
 use Rattle.std.specs.Prelude.{All, Contains}
 use Rattle.std.proofs.lemmas.Bool.{lt-ltb, le-ltb, cases_lt}
 use Rattle.std.proofs.lemmas.List.{length-map, get_or-map}
-use Rattle.std.proofs.lemmas.List.Elements.{All-nil, All-cons, All-from_get_or, All-append, All-weaker, All-contains, All-contains_itself, Contains-get_or, Contains-append_left, Contains-append_right}
+use Rattle.std.proofs.lemmas.List.Elements.{All-nil, All-cons, All-from_get_or, All-append, All-weaker, All-contains, All-contains_itself}
+use Rattle.std.proofs.lemmas.List.Elements.{Contains-get_or, Contains-append_left, Contains-append_right}
 use Rattle.wasm_types_limits.specs.Settings.{Settings}
 use Rattle.wasm_types_trees.specs.Types.{ValueOf, EntryOf, entry_of_subtype, entry_map}
 use Rattle.wasm_types_trees.specs.Each.{EachOption, EachValue, EachEntry}
@@ -11,7 +12,9 @@ use Rattle.wasm_types_trees.specs.Trees.{GroupTree, local, type_of, group_tree, 
 use Rattle.wasm_types_trees.specs.Unfold.{Reference, Local, Earlier, Entry, reference_tree, unfolded}
 use Rattle.wasm_types_trees.specs.Below.{supertype, DeclaredBelow, itself, declared, Below}
 use Rattle.wasm_types_trees.specs.Matches.{Matches}
-use Rattle.wasm_types_trees.specs.ValidGroup.{Written, written_entries, canonical_at, reference_at, type_at, written_tree, types_from, types_of, AreWellReferenced, IsWithinDepth, IsValidSupertype, IsValidType, AreValidTypes, IsValidGroup, AreValidGroups, done, next}
+use Rattle.wasm_types_trees.specs.ValidGroup.{Written, written_entries, canonical_at, reference_at, type_at, written_tree, types_from, types_of}
+use Rattle.wasm_types_trees.specs.ValidGroup.{AreWellReferenced, IsWithinDepth, IsValidSupertype, IsValidType, AreValidTypes, IsValidGroup}
+use Rattle.wasm_types_trees.specs.ValidGroup.{AreValidGroups, done, next}
 use Rattle.wasm_types_trees.specs.Chains.{IsSound, LinksMatch, HasNoCycle, AreClosed, AreSound}
 use Rattle.wasm_types_trees.specs.laws.Types.{entry_twice, entries_twice, each_entry, entry_of_each}
 use Rattle.wasm_types_trees.specs.laws.Unfold.{open_place}
@@ -100,7 +103,8 @@ module _ (space : List TypeTree) (g : Written) where
       let e : reference_at (length space) i ≡ Local (i - length space) = rw (le-ltb i (length space) le) refl in
       let k : ℕ = i - length space in
       let t : TypeTree = record { group = written_tree space g; place = k } in
-      let at : get_or (types_of space g) k t ≡ t = get_types (written_tree space g) 0 (length g.types) k t (omega arith) ∙ ap (λ (p : ℕ). record { group = written_tree space g; place = p }) (omega arith) in
+      let at : get_or (types_of space g) k t ≡ t = get_types (written_tree space g) 0 (length g.types) k t (omega arith) ∙ ap
+        (λ (p : ℕ). record { group = written_tree space g; place = p }) (omega arith) in
       subst (λ (r : Reference). Contains all_types (type_meant (written_tree space g) (reference_tree (type_at space) r))) (sym e)
       (Contains-append_right space (types_of space g) t
       (subst (Contains (types_of space g)) at (Contains-get_or (types_of space g) k t (omega (arith, length_types (written_tree space g) 0 (length g.types))))))
@@ -115,11 +119,13 @@ module _ (space : List TypeTree) (g : Written) where
       let entries = length_entries g in
       let f : EntryOf ℕ → Entry = entry_map (reference_at (length space)) in
       open_place (type_at space) (map f (written_entries g)) p (omega (arith, length-map (written_entries g) f))
-      ∙ ap (λ (r : Entry). entry_map (type_meant (written_tree space g)) (entry_map (reference_tree (type_at space)) r)) (get_or-map f (written_entries g) p past_the_end past_the_end (omega arith))
+      ∙ ap (λ (r : Entry). entry_map (type_meant (written_tree space g)) (entry_map (reference_tree (type_at space)) r))
+        (get_or-map f (written_entries g) p past_the_end past_the_end (omega arith))
       ∙ ap (entry_map (type_meant (written_tree space g))) (entry_twice (reference_tree (type_at space)) (reference_at (length space)) x)
       ∙ entry_twice (type_meant (written_tree space g)) (λ i. reference_tree (type_at space) (reference_at (length space) i)) x
 
-known_at : (bits start end own : ℕ) (xs : List (EntryOf ℕ)) (p : ℕ) (d : EntryOf ℕ) → AreWellReferenced bits start end own xs → p < length xs → EachEntry (λ i. i < end) (get_or xs p d)
+known_at : (bits start end own : ℕ) (xs : List (EntryOf ℕ)) (p : ℕ) (d : EntryOf ℕ) → AreWellReferenced bits start end own xs → p < length xs →
+  EachEntry (λ i. i < end) (get_or xs p d)
 known_at bits start end own [] p d w lt = absurd (omega arith)
 known_at bits start end own (x ∷ xs) zero d w lt = w.0.known
 known_at bits start end own (x ∷ xs) (suc p) d w lt = known_at bits start end (suc own) xs p d w.1 (omega arith)
@@ -138,19 +144,22 @@ closed_new settings space g v p lt =
     (each_entry (λ i. i < length space + length g.types) (λ i. Contains (space ++ types_of space g) (meant space g i)) (meant_known space g) x
     (known_at settings.features (length space) (length space + length g.types) (length space) (written_entries g) p past_the_end v.references (omega arith))))
 
-closed_group : (settings : Settings) (space : List TypeTree) (g : Written) → IsValidGroup settings space g → All (λ t. EachEntry (Contains (space ++ types_of space g)) (opened t)) (types_of space g)
+closed_group : (settings : Settings) (space : List TypeTree) (g : Written) → IsValidGroup settings space g → All
+  (λ t. EachEntry (Contains (space ++ types_of space g)) (opened t)) (types_of space g)
 closed_group settings space g v =
     let whole : GroupTree = written_tree space g in
     let n : ℕ = length g.types in
     All-from_get_or (λ t. EachEntry (Contains (space ++ types_of space g)) (opened t)) (types_of space g) (nowhere whole) (λ i lt.
     let lt' : i < n = omega (arith, length_types whole 0 n) in
-    let e : get_or (types_of space g) i (nowhere whole) ≡ record { group = whole; place = i } = get_types whole 0 n i (nowhere whole) lt' ∙ ap (λ (p : ℕ). record { group = whole; place = p }) (omega arith) in
+    let e : get_or (types_of space g) i (nowhere whole) ≡ record { group = whole; place = i } = get_types whole 0 n i (nowhere whole) lt' ∙ ap
+      (λ (p : ℕ). record { group = whole; place = p }) (omega arith) in
     subst (λ (t : TypeTree). EachEntry (Contains (space ++ types_of space g)) (opened t)) (sym e) (closed_new settings space g v i lt'))
 
 pub closed_push : (settings : Settings) (space : List TypeTree) (g : Written) → IsValidGroup settings space g → AreClosed space → AreClosed (space ++ types_of space g)
 closed_push settings space g v c =
     All-append (λ t. EachEntry (Contains (space ++ types_of space g)) (opened t)) space (types_of space g)
-    (All-weaker (λ t. EachEntry (Contains space) (opened t)) (λ t. EachEntry (Contains (space ++ types_of space g)) (opened t)) (λ t w. each_entry (Contains space) (Contains (space ++ types_of space g)) (λ r. Contains-append_left space (types_of space g) r) (opened t) w) space c)
+    (All-weaker (λ t. EachEntry (Contains space) (opened t)) (λ t. EachEntry (Contains (space ++ types_of space g)) (opened t))
+      (λ t w. each_entry (Contains space) (Contains (space ++ types_of space g)) (λ r. Contains-append_left space (types_of space g) r) (opened t) w) space c)
     (closed_group settings space g v)
 
 valid_types : (settings : Settings) (ts : List TypeTree) → AreValidTypes settings ts → All (IsValidType settings) ts

@@ -1,10 +1,12 @@
 -- Groups that are valid and groups that are not.
 use Rattle.std.specs.Prelude.{◌≡◌, ℕ, zero, suc, true, false, List, [], ◌∷◌, ◌++◌, map, reverse, Some, None}
-use Rattle.wasm_types_features.specs.Features.{Feature, ReferenceTypes, MultiValue, Simd, SharedEverythingThreads, Floats, Exceptions, FunctionReferences, Gc, GcTypes, StackSwitching, CustomDescriptors}
+use Rattle.wasm_types_features.specs.Features.{Feature, ReferenceTypes, MultiValue, Simd, SharedEverythingThreads, Floats, Exceptions}
+use Rattle.wasm_types_features.specs.Features.{FunctionReferences, Gc, GcTypes, StackSwitching, CustomDescriptors}
 use Rattle.wasm_types_features.specs.Sets.{bits_of}
 use Rattle.wasm_types_limits.specs.Limits.{default_limits}
 use Rattle.wasm_types_limits.specs.Settings.{Settings}
-use Rattle.wasm_types_trees.specs.Types.{i32, i64, f32, v128, func, any, eq, exn, abstract, concrete, ValueOf, number, ref, i8, InnerOf, function, array_of, struct_of, continuation, SubtypeOf}
+use Rattle.wasm_types_trees.specs.Types.{i32, i64, f32, v128, func, any, eq, exn, abstract, concrete, ValueOf, number, ref, i8, InnerOf, function}
+use Rattle.wasm_types_trees.specs.Types.{array_of, struct_of, continuation, SubtypeOf}
 use Rattle.wasm_types_trees.specs.Trees.{TypeTree}
 use Rattle.wasm_types_trees.specs.ValidGroup.{Written, written_tree, types_of, IsValidType, IsValidGroup, AreValidGroups}
 use Rattle.wasm_types_trees.specs.worked.Types.{constant, variable, declared_entry, alone}
@@ -133,8 +135,10 @@ pub record GroupsWorked : Type 0 where
   pub covariant_parameter : IsRefused (two_structs ++ single (open_type [] (taking (to 0))) ∷ []) (single (open_type (2 ∷ []) (taking (to 1))))
   pub covariant_result : IsAccepted (ReferenceTypes ∷ gc) (two_structs ++ single (open_type [] (giving (to 0))) ∷ []) (single (open_type (2 ∷ []) (giving (to 1))))
   pub contravariant_result : IsRefused (two_structs ++ single (open_type [] (giving (to 1))) ∷ []) (single (open_type (2 ∷ []) (giving (to 0))))
-  pub immutable_field : IsAccepted (ReferenceTypes ∷ gc) (single (open_type [] (struct_of (constant (ref true (abstract false any)) ∷ []))) ∷ []) (single (open_type (0 ∷ []) (struct_of (constant (ref true (abstract false eq)) ∷ []))))
-  pub mutable_field : IsRefused (single (open_type [] (struct_of (variable (ref true (abstract false any)) ∷ []))) ∷ []) (single (open_type (0 ∷ []) (struct_of (variable (ref true (abstract false eq)) ∷ []))))
+  pub immutable_field : IsAccepted (ReferenceTypes ∷ gc) (single (open_type [] (struct_of (constant (ref true (abstract false any)) ∷ []))) ∷ [])
+    (single (open_type (0 ∷ []) (struct_of (constant (ref true (abstract false eq)) ∷ []))))
+  pub mutable_field : IsRefused (single (open_type [] (struct_of (variable (ref true (abstract false any)) ∷ []))) ∷ [])
+    (single (open_type (0 ∷ []) (struct_of (variable (ref true (abstract false eq)) ∷ []))))
   pub shared_below_unshared : IsRefused (single (open_type [] nothing) ∷ []) (single (record (open_type (0 ∷ []) nothing) { shared = true }))
   -- what a composite type needs
   pub one_result : IsAccepted [] [] (single (final_type [] (giving integer)))
@@ -155,7 +159,8 @@ pub record GroupsWorked : Type 0 where
   pub continuation_needs_too : Needs GcTypes (single (final_type [] nothing) ∷ []) (single (final_type [] (continuation 0)))
   pub continuation_of_struct : IsRefused (single (final_type [] (struct_type [])) ∷ []) (single (final_type [] (continuation 0)))
   -- shared types
-  pub shared_numbers : IsAccepted (SharedEverythingThreads ∷ Simd ∷ gc) [] (single (shared_type (struct_of (record { storage = i8; mutable = true } ∷ constant integer ∷ constant (number v128) ∷ []))))
+  pub shared_numbers : IsAccepted (SharedEverythingThreads ∷ Simd ∷ gc) []
+    (single (shared_type (struct_of (record { storage = i8; mutable = true } ∷ constant integer ∷ constant (number v128) ∷ []))))
   pub shared_function : IsAccepted (SharedEverythingThreads ∷ []) [] (single (shared_type (function (integer ∷ []) (long ∷ []))))
   pub shared_reference : IsAccepted (SharedEverythingThreads ∷ ReferenceTypes ∷ gc) [] (single (shared_type (array_of (constant (ref true (abstract true eq))))))
   pub shared_in_unshared : IsAccepted (SharedEverythingThreads ∷ ReferenceTypes ∷ gc) [] (single (final_type [] (taking (ref true (abstract true eq)))))
@@ -176,12 +181,15 @@ pub record GroupsWorked : Type 0 where
   pub descriptor_of_function : IsRefused [] (together (described_by 1 (final_type [] nothing) ∷ describing 0 (final_type [] (struct_type [])) ∷ []))
   pub function_describes : IsRefused [] (together (described_by 1 (final_type [] (struct_type [])) ∷ describing 0 (final_type [] nothing) ∷ []))
   -- a subtype's descriptor goes along with its supertype's, and what it describes with what its supertype does
-  pub descriptors_along : IsAccepted (CustomDescriptors ∷ gc) (described ∷ []) (together (described_by 3 (open_type (0 ∷ []) (struct_type [])) ∷ describing 2 (open_type (1 ∷ []) (struct_type [])) ∷ []))
+  pub descriptors_along : IsAccepted (CustomDescriptors ∷ gc) (described ∷ [])
+    (together (described_by 3 (open_type (0 ∷ []) (struct_type [])) ∷ describing 2 (open_type (1 ∷ []) (struct_type [])) ∷ []))
   pub descriptor_lost : IsRefused (described ∷ []) (single (open_type (0 ∷ []) (struct_type [])))
-  pub descriptor_added : IsRefused (single (open_type [] (struct_type [])) ∷ []) (together (described_by 2 (open_type (0 ∷ []) (struct_type [])) ∷ describing 1 (open_type [] (struct_type [])) ∷ []))
+  pub descriptor_added : IsRefused (single (open_type [] (struct_type [])) ∷ [])
+    (together (described_by 2 (open_type (0 ∷ []) (struct_type [])) ∷ describing 1 (open_type [] (struct_type [])) ∷ []))
   pub descriptor_apart : IsRefused (described ∷ []) (together (described_by 3 (open_type (0 ∷ []) (struct_type [])) ∷ describing 2 (open_type [] (struct_type [])) ∷ []))
   pub describes_lost : IsRefused (described ∷ []) (single (open_type (1 ∷ []) (struct_type [])))
-  pub describes_added : IsRefused (single (open_type [] (struct_type [])) ∷ []) (together (described_by 2 (open_type [] (struct_type [])) ∷ describing 1 (open_type (0 ∷ []) (struct_type [])) ∷ []))
+  pub describes_added : IsRefused (single (open_type [] (struct_type [])) ∷ [])
+    (together (described_by 2 (open_type [] (struct_type [])) ∷ describing 1 (open_type (0 ∷ []) (struct_type [])) ∷ []))
   pub describes_apart : IsRefused (described ∷ []) (together (described_by 3 (open_type [] (struct_type [])) ∷ describing 2 (open_type (1 ∷ []) (struct_type [])) ∷ []))
   -- at most 63 types above one
   pub depth_63 : IsValidType (allowing (bits_of gc)) (deep 63)

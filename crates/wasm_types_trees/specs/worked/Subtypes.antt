@@ -1,6 +1,7 @@
 -- Types that are below one another and types that are not.
 use Rattle.std.specs.Prelude.{true, false, List, [], ◌∷◌}
-use Rattle.wasm_types_trees.specs.Types.{i32, i64, f32, f64, v128, Abstract, func, extern, any, none, noextern, nofunc, eq, struct, array, i31, exn, noexn, cont, nocont, HeapOf, abstract, concrete, exact, ValueOf, number, ref}
+use Rattle.wasm_types_trees.specs.Types.{i32, i64, f32, f64, v128, Abstract, func, extern, any, none, noextern, nofunc, eq, struct, array, i31, exn}
+use Rattle.wasm_types_trees.specs.Types.{noexn, cont, nocont, HeapOf, abstract, concrete, exact, ValueOf, number, ref}
 use Rattle.wasm_types_trees.specs.Trees.{TypeTree}
 use Rattle.wasm_types_trees.specs.Below.{Below}
 use Rattle.wasm_types_trees.specs.worked.Types.{base, derived, leaf, unrelated, shared_struct, routine, numbers, suspended, broken}
@@ -46,10 +47,12 @@ pub record SubtypesWorked : Type 0 where
   pub function_bottoms_not : HeapIsBelowNone (plain nofunc) (plain any ∷ plain none ∷ concrete base ∷ concrete suspended ∷ [])
   pub continuation_bottoms : HeapIsBelowEach (plain nocont) (plain cont ∷ concrete suspended ∷ [])
   pub other_bottoms : HeapIsBelowEach (plain noextern) (plain extern ∷ []) × HeapIsBelowEach (plain noexn) (plain exn ∷ [])
-  pub other_bottoms_not : HeapIsBelowNone (plain noextern) (plain any ∷ plain exn ∷ concrete base ∷ []) × HeapIsBelowNone (plain noexn) (plain any ∷ plain extern ∷ concrete base ∷ [])
+  pub other_bottoms_not : HeapIsBelowNone (plain noextern) (plain any ∷ plain exn ∷ concrete base ∷ []) × HeapIsBelowNone (plain noexn)
+    (plain any ∷ plain extern ∷ concrete base ∷ [])
   -- types by declaration, and their abstract types
   pub structs : HeapIsBelowEach (concrete leaf) (concrete leaf ∷ concrete derived ∷ concrete base ∷ plain struct ∷ plain eq ∷ plain any ∷ [])
-  pub structs_not : HeapIsBelowNone (concrete derived) (concrete leaf ∷ concrete unrelated ∷ exact derived ∷ exact base ∷ plain array ∷ plain func ∷ plain none ∷ abstract true struct ∷ [])
+  pub structs_not : HeapIsBelowNone (concrete derived) (concrete leaf ∷ concrete unrelated ∷ exact derived ∷ exact base ∷ plain array ∷ plain func
+    ∷ plain none ∷ abstract true struct ∷ [])
   pub undeclared : HeapIsBelowNone (concrete unrelated) (concrete base ∷ concrete derived ∷ [])
   pub shared_structs : HeapIsBelowEach (concrete shared_struct) (abstract true struct ∷ abstract true any ∷ [])
   pub shared_structs_not : HeapIsBelowNone (concrete shared_struct) (plain struct ∷ plain any ∷ concrete base ∷ [])
