@@ -1,12 +1,13 @@
 pub use Rattle.wasm_types_error.specs.ErrorText
 pub use Rattle.wasm_types_error.specs.ErrorValue
 pub use Rattle.wasm_types_numbers.specs.Numbers
--- what contracts cite: what a read answers, values that nobody wants, parts, bytes below 128, the errors of numbers
+-- what contracts cite: what a read answers, values that nobody wants, parts, bytes below 128, the errors of numbers, messages
 pub mod Reading
 pub mod Draining
 pub mod Parts
 pub mod Words
 pub mod Flaws
+pub mod Messages
 -- readings worked by hand
 pub mod Rows
 -- what is proved of them: laws, exactness, rows

@@ -1,5 +1,5 @@
 -- What a read answers, by its decoder.
-use Rattle.std.specs.Prelude.{◌≡◌, ℕ, ◌+◌, ◌<◌, Bool, true, false, Result, Ok, Err, Option, Some, None}
+use Rattle.std.specs.Prelude.{◌≡◌, ℕ, zero, suc, ◌+◌, ◌<◌, Bool, true, false, if◌then◌else◌, Result, Ok, Err, Option, Some, None}
 use Rattle.wasm_types_decoding.specs.declared.Refusal.TheVariants as refusals
 use Rattle.wasm_types_decoding.specs.Decoder.{State, Outcome, Done, Short, Fault, Decoder}
 use Rattle.wasm_types_error.specs.declared.error.ErrorKind.{ErrorKind}
@@ -56,3 +56,23 @@ NeedsNoMemory (Ok x) = Unit {0}
 abbrev pub MemoryOnlyIf : {X : Type 0} → Bool → Result X ErrorValue → Type 0
 MemoryOnlyIf true result = Unit {0}
 MemoryOnlyIf false result = NeedsNoMemory result
+
+-- ---- lists
+
+-- this is a value
+abbrev pub is_read : {Y : Type 0} → Outcome Y → Bool
+is_read (Done x t) = true
+is_read (Short p h) = false
+is_read (Fault k p) = false
+
+-- Whether n values from here may take memory: where there are any, and reading them takes memory or the first is read, and
+-- so has to be kept.
+abbrev pub takes_room : {Y : Type 0} → Bool → Decoder Y → ℕ → State → Bool
+takes_room takes_memory d zero s = false
+takes_room takes_memory d (suc n) s = if takes_memory then true else is_read (d s)
+
+-- the same of as many values as were counted; what is no count takes none
+abbrev pub counted_room : {Y : Type 0} → Bool → Decoder Y → Outcome ℕ → Bool
+counted_room takes_memory d (Done n t) = takes_room takes_memory d n t
+counted_room takes_memory d (Short p h) = false
+counted_room takes_memory d (Fault k p) = false

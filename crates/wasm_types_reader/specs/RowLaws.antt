@@ -9,8 +9,9 @@ use Rattle.wasm_types_error.specs.declared.error.ErrorKind.TheVariants.{EndOfDat
 use Rattle.wasm_types_reader.specs.Reading.{FailsAt, IsNotMemory}
 use Rattle.wasm_types_reader.specs.Draining.{Drains}
 use Rattle.wasm_types_reader.specs.Parts.{counted_part}
+use Rattle.wasm_types_decoding.specs.Lists.{size_within}
 use Rattle.wasm_types_reader.specs.Words.{u7}
-use Rattle.wasm_types_reader.specs.Rows.{PartRows, AnswerRows, ItemRows}
+use Rattle.wasm_types_reader.specs.Rows.{PartRows, AnswerRows, ItemRows, RoomRows, MessageRows}
 
 pub part_rows : PartRows
 unfolding u7 counted_part unsigned
@@ -77,3 +78,11 @@ item_rows = record {
       let place : 9 ≡ 8 = ap (λ (s : State). s.place) e in absurd cc;
   drained_to_the_end = inl (5, behind 1 [], refl, inr (record { kind = EndOfData 1; offset = 8; message = codes "unexpected end-of-file" }, refl, tt, refl));
 }
+
+pub room_rows : RoomRows
+unfolding size_within unsigned
+room_rows = record { none = refl; first = refl; no_first = refl; taken = refl; counted = refl; counted_none = refl; above_limit = refl; no_count = refl }
+
+pub message_rows : MessageRows
+unfolding unsigned
+message_rows = record { above = refl; at_the_limit = refl; no_count = refl; whole = refl; cut_short = refl; whole_above = refl; said = refl; another = λ h. absurd cc }

@@ -1,12 +1,15 @@
--- Readings worked by hand: bytes below 128, parts, what an answer tells of an outcome, values one by one and values that
--- nobody wants.
+-- Readings worked by hand: bytes below 128, parts, what an answer tells of an outcome, values one by one, values that
+-- nobody wants, and which lists take memory and which message a refusal has.
 use Rattle.std.specs.Prelude.{◌≡◌, ℕ, [], ◌∷◌, codes, true, false, Ok, Err, Some, None}
 use Rattle.wasm_types_decoding.specs.declared.Refusal.TheVariants as refusals
 use Rattle.wasm_types_decoding.specs.Decoder.{Done, Short, Fault, byte}
 use Rattle.wasm_types_decoding.specs.Rows.{start_of, behind, worked}
 use Rattle.wasm_types_error.specs.declared.error.ErrorKind.TheVariants.{EndOfData, OutOfMemory, Failed, Other}
 use Rattle.wasm_types_error.specs.ErrorValue.{ErrorValue}
-use Rattle.wasm_types_reader.specs.Reading.{Answers, NextItem, MemoryOnlyIf}
+use Rattle.wasm_types_reader.specs.Reading.{Answers, NextItem, MemoryOnlyIf, takes_room, counted_room}
+use Rattle.wasm_types_reader.specs.Messages.{is_above, is_whole, is_whole_within, SaysIf}
+use Rattle.wasm_types_decoding.specs.Leb.{u32}
+use Rattle.wasm_types_decoding.specs.Lists.{size_within}
 use Rattle.wasm_types_reader.specs.Draining.{Drains}
 use Rattle.wasm_types_reader.specs.Parts.{counted_part, IsPassed}
 use Rattle.wasm_types_reader.specs.Words.{u7}
@@ -58,3 +61,26 @@ pub record ItemRows : Type 0 where
   pub not_drained : Drains byte false 2 (start_of (0x05 ∷ 0x06 ∷ 0x07 ∷ [])) (start_of (0x05 ∷ 0x06 ∷ 0x07 ∷ [])) → ⊥
   pub drained_too_far : Drains byte false 1 (start_of (0x05 ∷ 0x06 ∷ [])) (behind 2 []) → ⊥
   pub drained_to_the_end : Drains byte false 2 (start_of (0x05 ∷ [])) (behind 1 [])
+
+-- which lists of bytes may take memory: those with a first byte, where reading a byte takes none, and where it did all that
+-- count some
+pub record RoomRows : Type 0 where
+  pub none : takes_room true byte 0 (start_of (0x05 ∷ [])) ≡ false
+  pub first : takes_room false byte 2 (start_of (0x05 ∷ [])) ≡ true
+  pub no_first : takes_room false byte 2 (start_of []) ≡ false
+  pub taken : takes_room true byte 2 (start_of []) ≡ true
+  pub counted : counted_room false byte (size_within 3 (start_of (0x03 ∷ 0x05 ∷ []))) ≡ true
+  pub counted_none : counted_room true byte (size_within 3 (start_of (0x00 ∷ 0x05 ∷ []))) ≡ false
+  pub above_limit : counted_room true byte (size_within 3 (start_of (0x04 ∷ 0x05 ∷ []))) ≡ false
+  pub no_count : counted_room true byte (size_within 3 (start_of [])) ≡ false
+
+-- which fault a message names: a count above the limit, or bytes that are all there
+pub record MessageRows : Type 0 where
+  pub above : is_above 3 (u32 (start_of (0x04 ∷ []))) ≡ true
+  pub at_the_limit : is_above 3 (u32 (start_of (0x03 ∷ []))) ≡ false
+  pub no_count : is_above 3 (u32 (start_of [])) ≡ false
+  pub whole : is_whole (u32 (start_of (0x01 ∷ 0xff ∷ []))) ≡ true
+  pub cut_short : is_whole (u32 (start_of (0x02 ∷ 0xff ∷ []))) ≡ false
+  pub whole_above : is_whole_within 0 (u32 (start_of (0x01 ∷ 0xff ∷ []))) ≡ false
+  pub said : SaysIf {X = ℕ} true (λ m. m ≡ codes "invalid") (Err faulty)
+  pub another : SaysIf {X = ℕ} true (λ m. m ≡ codes "unexpected end-of-file") (Err faulty) → ⊥

@@ -10,6 +10,7 @@ ghost use Rattle.wasm_types_error.specs.ErrorText.{IsWrittenMessage};
 ghost use Rattle.wasm_types_features.specs.Sets.{bits_of, default_features};
 ghost use Rattle.wasm_types_limits.specs.Limits.{default_limits, IsWithinCeilings};
 ghost use Rattle.wasm_types_reader.specs.Reading.{Answers, Gives, NeedsNoMemory, MemoryOnlyIf};
+ghost use Rattle.wasm_types_reader.specs.Messages.{is_above, SaysIf};
 ghost use Rattle.wasm_types_reader.specs.Parts.{part_at, counted_part, IsPassed};
 ghost use Rattle.wasm_types_numbers.specs.Numbers.{behind};
 
@@ -324,6 +325,7 @@ impl<'a> BinaryReader<'a> {
     pub fn read_size(&mut self, limit: usize, desc: &str) -> Result<usize>
         ensures answer { Answers (λ n. n) result self.old self.new (size_within limit self.old) }
         ensures no_memory { NeedsNoMemory result }
+        ensures message { SaysIf (is_above limit (u32_decoder self.old)) (IsWrittenMessage (desc.now ++ codes " size is out of bounds")) result }
         ensures forward { Reaches self.old self.new }
     {
         let mut ahead = self.clone();

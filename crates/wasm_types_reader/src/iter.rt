@@ -1,9 +1,12 @@
 //! Values that follow one another, one by one.
 
-ghost use Rattle.std.specs.Prelude.{◌≡◌, IfOk, IfErr, IfSome, MatchResult};
+ghost use Rattle.std.specs.Prelude.{◌≡◌, ◌++◌, codes, IfOk, IfErr, IfSome, MatchResult};
 ghost use Rattle.std.specs.Iterator.{at_most};
 ghost use Rattle.wasm_types_decoding.specs.Lists.{size_within};
 ghost use Rattle.wasm_types_decoding.specs.Decoder.{Done};
+ghost use Rattle.wasm_types_decoding.specs.Leb.{u32 as u32_decoder};
+ghost use Rattle.wasm_types_error.specs.ErrorText.{IsWrittenMessage};
+ghost use Rattle.wasm_types_reader.specs.Messages.{is_above, SaysIf};
 ghost use Rattle.wasm_types_reader.specs.Reading.{NextItem, Fails, IsNotMemory, MemoryOnlyIf};
 ghost use Rattle.wasm_types_reader.specs.Draining.{Drains};
 
@@ -50,6 +53,7 @@ impl<'a> BinaryReader<'a> {
     ) -> Result<BinaryReaderIter<'a, '_, T>>
         ensures answer { MatchResult result (λ values. size_within limit self.old ≡ Done values.remaining values.reader.now) (λ e. Fails e (size_within limit self.old)) }
         ensures no_memory { IfErr result (λ e. IsNotMemory e.kind) }
+        ensures message { SaysIf (is_above limit (u32_decoder self.old)) (IsWrittenMessage (desc.now ++ codes " size is out of bounds")) result }
         ensures same_reference { IfOk result (λ values. values.reader.ghost_name ≡ self.entry.ghost_name) }
     {
         let count = self.read_size(limit, desc)?;

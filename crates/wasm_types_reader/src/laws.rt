@@ -8,7 +8,7 @@ ghost use Rattle.wasm_types_decoding.specs.Text.{word, name, any_name, skipped_n
 ghost use Rattle.wasm_types_limits.specs.Settings.{Settings};
 ghost use Rattle.wasm_types_reader.specs.Parts.{counted_part};
 ghost use Rattle.wasm_types_reader.specs.Words.{u7, IsSmallByte};
-ghost use Rattle.wasm_types_reader.specs.Rows.{PartRows, AnswerRows, ItemRows};
+ghost use Rattle.wasm_types_reader.specs.Rows.{PartRows, AnswerRows, ItemRows, RoomRows, MessageRows};
 
 use crate::FromReader;
 
@@ -42,10 +42,13 @@ pub fn texts_and_words_are_lawful()
     ensures parts { IsLawful counted_part }
 {}
 
-/// Readings that were worked by hand: parts, what an answer tells of an outcome, and values one by one.
-#[tactic(auto, using(crate::specs::RowLaws::part_rows, crate::specs::RowLaws::answer_rows, crate::specs::RowLaws::item_rows))]
+/// Readings that were worked by hand: parts, what an answer tells of an outcome, values one by one, which lists take memory,
+/// and which message a refusal has.
+#[tactic(auto, using(crate::specs::RowLaws::part_rows, crate::specs::RowLaws::answer_rows, crate::specs::RowLaws::item_rows, crate::specs::RowLaws::room_rows, crate::specs::RowLaws::message_rows))]
 pub fn worked_readings()
     ensures parts { PartRows }
     ensures answers { AnswerRows }
     ensures items { ItemRows }
+    ensures memory { RoomRows }
+    ensures messages { MessageRows }
 {}

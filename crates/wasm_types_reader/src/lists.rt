@@ -1,9 +1,12 @@
 //! Lists that are counted within a limit.
 
-ghost use Rattle.std.specs.Prelude.{◌≡◌, map, IfErr};
+ghost use Rattle.std.specs.Prelude.{◌≡◌, ◌++◌, codes, map, IfErr};
 ghost use Rattle.wasm_types_decoding.specs.Decoder.{repeated, Reaches};
-ghost use Rattle.wasm_types_decoding.specs.Lists.{listed_within};
-ghost use Rattle.wasm_types_reader.specs.Reading.{Gives};
+ghost use Rattle.wasm_types_decoding.specs.Lists.{listed_within, size_within};
+ghost use Rattle.wasm_types_decoding.specs.Leb.{u32 as u32_decoder};
+ghost use Rattle.wasm_types_error.specs.ErrorText.{IsWrittenMessage};
+ghost use Rattle.wasm_types_reader.specs.Messages.{is_above, SaysIf};
+ghost use Rattle.wasm_types_reader.specs.Reading.{Gives, MemoryOnlyIf, takes_room, counted_room};
 
 use crate::{BinaryReader, FromReader, Result};
 use std::alloc::Global;
@@ -18,7 +21,9 @@ pub fn read_list<'a, T: FromReader<'a>>(
     reader: &mut BinaryReader<'a>,
 ) -> Result<Vec<T>>
     ensures answer { Gives (λ v. map T.view v.items) result reader.new (listed_within limit (T.decoder reader.old.settings) reader.old) }
+    ensures memory { MemoryOnlyIf (counted_room T.takes_memory (T.decoder reader.old.settings) (size_within limit reader.old)) result }
     ensures stays { IfErr result (λ e. reader.new ≡ reader.old) }
+    ensures message { SaysIf (is_above limit (u32_decoder reader.old)) (IsWrittenMessage (desc.now ++ codes " size is out of bounds")) result }
     ensures forward { Reaches reader.old reader.new }
 {
     let start = reader.clone();
@@ -40,6 +45,7 @@ pub fn read_many<'a, T: FromReader<'a>>(
     reader: &mut BinaryReader<'a>,
 ) -> Result<Vec<T>>
     ensures answer { Gives (λ v. map T.view v.items) result reader.new (repeated count (T.decoder reader.old.settings) reader.old) }
+    ensures memory { MemoryOnlyIf (takes_room T.takes_memory (T.decoder reader.old.settings) count reader.old) result }
     ensures stays { IfErr result (λ e. reader.new ≡ reader.old) }
     ensures forward { Reaches reader.old reader.new }
 {
@@ -63,6 +69,8 @@ fn counted_items<'a, T: FromReader<'a>>(
     reader: &mut BinaryReader<'a>,
 ) -> Result<Vec<T>>
     ensures answer { Gives (λ v. map T.view v.items) result reader.new (listed_within limit (T.decoder reader.old.settings) reader.old) }
+    ensures memory { MemoryOnlyIf (counted_room T.takes_memory (T.decoder reader.old.settings) (size_within limit reader.old)) result }
+    ensures message { SaysIf (is_above limit (u32_decoder reader.old)) (IsWrittenMessage (desc.now ++ codes " size is out of bounds")) result }
     ensures forward { Reaches reader.old reader.new }
 {
     let count = reader.read_size(limit, desc)?;
@@ -77,6 +85,7 @@ fn some_items<'a, T: FromReader<'a>>(
     reader: &mut BinaryReader<'a>,
 ) -> Result<Vec<T>>
     ensures answer { Gives (λ v. map T.view v.items) result reader.new (repeated count (T.decoder reader.old.settings) reader.old) }
+    ensures memory { MemoryOnlyIf (takes_room T.takes_memory (T.decoder reader.old.settings) count reader.old) result }
     ensures forward { Reaches reader.old reader.new }
 {
     let mut items = Vec::new(alloc);

@@ -1,10 +1,13 @@
 //! Texts (WebAssembly 3.0, binary format, names).
 
-ghost use Rattle.std.specs.Prelude.{◌≡◌, ◌-◌};
-ghost use Rattle.wasm_types_decoding.specs.Decoder.{Reaches};
+ghost use Rattle.std.specs.Prelude.{◌≡◌, ◌-◌, codes};
+ghost use Rattle.wasm_types_decoding.specs.Decoder.{Reaches, bytes};
+ghost use Rattle.wasm_types_decoding.specs.Leb.{u32 as u32_decoder};
 ghost use Rattle.wasm_types_decoding.specs.Text.{counted_within, text_of, skipped, name, any_name, skipped_name};
 ghost use Rattle.wasm_types_error.specs.declared.error.ErrorKind.TheVariants.{Other};
-ghost use Rattle.wasm_types_reader.specs.Reading.{Answers, Gives, NeedsNoMemory};
+ghost use Rattle.wasm_types_error.specs.ErrorText.{message_of};
+ghost use Rattle.wasm_types_reader.specs.Reading.{Answers, Gives, NeedsNoMemory, is_read};
+ghost use Rattle.wasm_types_reader.specs.Messages.{is_above, is_whole, is_whole_within, SaysIf};
 
 use crate::{BinaryReader, Error, Result};
 use std::str;
@@ -16,6 +19,8 @@ impl<'a> BinaryReader<'a> {
     pub fn read_string(&mut self) -> Result<&'a str>
         ensures answer { Answers (λ s. s.now) result self.old self.new (name self.old.settings.limits.string_bytes self.old) }
         ensures no_memory { NeedsNoMemory result }
+        ensures too_long { SaysIf (is_above self.old.settings.limits.string_bytes (u32_decoder self.old)) (λ m. m ≡ codes "string size out of bounds") result }
+        ensures malformed { SaysIf (is_whole_within self.old.settings.limits.string_bytes (u32_decoder self.old)) (λ m. m ≡ codes "malformed UTF-8 encoding") result }
         ensures forward { Reaches self.old self.new }
     {
         let start = self.clone();
@@ -34,6 +39,7 @@ impl<'a> BinaryReader<'a> {
     pub fn read_unlimited_string(&mut self) -> Result<&'a str>
         ensures answer { Answers (λ s. s.now) result self.old self.new (any_name self.old) }
         ensures no_memory { NeedsNoMemory result }
+        ensures malformed { SaysIf (is_whole (u32_decoder self.old)) (λ m. m ≡ codes "malformed UTF-8 encoding") result }
         ensures forward { Reaches self.old self.new }
     {
         let before = self.clone();
@@ -52,6 +58,7 @@ impl<'a> BinaryReader<'a> {
     pub fn skip_string(&mut self) -> Result<()>
         ensures answer { Answers (λ u. u) result self.old self.new (skipped_name self.old.settings.limits.string_bytes self.old) }
         ensures no_memory { NeedsNoMemory result }
+        ensures too_long { SaysIf (is_above self.old.settings.limits.string_bytes (u32_decoder self.old)) (λ m. m ≡ codes "string size out of bounds") result }
         ensures forward { Reaches self.old self.new }
     {
         let here = self.clone();
@@ -66,6 +73,8 @@ impl<'a> BinaryReader<'a> {
     fn limited_text(&mut self) -> Result<&'a str>
         ensures answer { Gives (λ s. s.now) result self.new (name self.old.settings.limits.string_bytes self.old) }
         ensures no_memory { NeedsNoMemory result }
+        ensures too_long { SaysIf (is_above self.old.settings.limits.string_bytes (u32_decoder self.old)) (λ m. m ≡ codes "string size out of bounds") result }
+        ensures malformed { SaysIf (is_whole_within self.old.settings.limits.string_bytes (u32_decoder self.old)) (λ m. m ≡ codes "malformed UTF-8 encoding") result }
         ensures forward { Reaches self.old self.new }
     {
         let limit = self.limits().string_bytes as usize;
@@ -80,6 +89,7 @@ impl<'a> BinaryReader<'a> {
     fn counted_text(&mut self) -> Result<&'a str>
         ensures answer { Gives (λ s. s.now) result self.new (any_name self.old) }
         ensures no_memory { NeedsNoMemory result }
+        ensures malformed { SaysIf (is_whole (u32_decoder self.old)) (λ m. m ≡ codes "malformed UTF-8 encoding") result }
         ensures forward { Reaches self.old self.new }
     {
         let count = self.read_var_u32()?;
@@ -90,6 +100,7 @@ impl<'a> BinaryReader<'a> {
     fn skip_text(&mut self) -> Result<()>
         ensures answer { Gives (λ u. u) result self.new (skipped_name self.old.settings.limits.string_bytes self.old) }
         ensures no_memory { NeedsNoMemory result }
+        ensures too_long { SaysIf (is_above self.old.settings.limits.string_bytes (u32_decoder self.old)) (λ m. m ≡ codes "string size out of bounds") result }
         ensures forward { Reaches self.old self.new }
     {
         let limit = self.limits().string_bytes as usize;
@@ -106,6 +117,7 @@ impl<'a> BinaryReader<'a> {
     fn text(&mut self, n: usize) -> Result<&'a str>
         ensures answer { Gives (λ s. s.now) result self.new (text_of n self.old) }
         ensures no_memory { NeedsNoMemory result }
+        ensures malformed { SaysIf (is_read (bytes n self.old)) (λ m. m ≡ codes "malformed UTF-8 encoding") result }
         ensures forward { Reaches self.old self.new }
     {
         let bytes = self.read_bytes(n)?;
@@ -120,6 +132,7 @@ impl<'a> BinaryReader<'a> {
     fn string_error(&self, message: &str) -> Error
         ensures kind { result.kind ≡ Other }
         ensures offset { result.offset ≡ self.now.place - 1 }
+        ensures message { result.message ≡ message_of message.now }
     {
         Error::new(message, self.original_position().saturating_sub(1))
     }

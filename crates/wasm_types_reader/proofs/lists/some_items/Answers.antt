@@ -5,6 +5,7 @@ use Rattle.std.proofs.lemmas.List.{map-append}
 use Rattle.wasm_types_decoding.specs.Laws.{reaches_then}
 use Rattle.wasm_types_limits.specs.Settings.{Settings}
 use Rattle.wasm_types_reader.specs.Reading.{Fails}
+use Rattle.wasm_types_reader.proofs.Room.{kept_room}
 use Rattle.wasm_types_reader.proofs.Rows.{goes_on, ends, is_done}
 use Rattle.wasm_types_reader.proofs.lists.some_items.Goals as goal
 
@@ -16,6 +17,8 @@ returns-in_err-item-clause-answer g c =
 pub loop-preserved : goal.loop-preserved
 loop-preserved g c = record {
   forward = reaches_then _ _ _ c.loop.invariant.forward c.in_ok-item.ensures.forward;
+  first = λ none. absurd (omega (arith, none));
+  kept = λ some. kept_room (g.T.FromReader.decoder c.args.reader.now.settings) c.args.count c.args.reader.now g.T.FromReader.takes_memory c.loop.counter c.loop.reader _ _ c.loop-test.true c.loop.invariant.first c.loop.invariant.kept (sym (ap (λ (z : Settings). g.T.FromReader.decoder z c.loop.reader) c.loop.invariant.forward.taken.settings) ∙ c.in_ok-item.ensures.answer);
   read =
       rw (c.in_ok-push.ensures.items, map-append g.T.FromReader.view c.loop.items.items) (goes_on (g.T.FromReader.decoder c.args.reader.now.settings) (map g.T.FromReader.view c.loop.items.items) c.args.count c.loop.counter c.loop.reader _ c.loop.invariant.read _ _ c.loop-test.true (sym (ap (λ (z : Settings). g.T.FromReader.decoder z c.loop.reader) c.loop.invariant.forward.taken.settings) ∙ c.in_ok-item.ensures.answer));
 }
