@@ -103,7 +103,7 @@ impl FuncValidator {
         while !reader.eof() {
             let mut ahead = reader.clone();
             match self.step(results, &mut ahead) {
-                Ok(false) => reader = ahead,
+                Ok(false) => reader.return_to(ahead),
                 Ok(true) => return ended_at(&ahead),
                 Err(refusal) => {
                     return Err(refused_operator(self.alloc, refusal, reader.clone()));

@@ -1,4 +1,4 @@
-use Rattle.std.proofs.Common.{subst, ◌∙◌}
+use Rattle.std.proofs.Common.{subst, sym, ◌∙◌}
 use Rattle.wasm_types.specs.decoding.Decoder.{State}
 use Rattle.wasm_types.specs.decoding.Laws.{reaches_then}
 use Rattle.wasm_module_validator_operands.proofs.Covering.{denies_also, tells_also}
@@ -24,22 +24,28 @@ returns-in-Ok-true-clause-within c =
     let f = stepped_forward c.args.results.now c.in-Ok-true.field-0 c.loop-reader.self.validator c.step.new.self.validator c.loop-reader.reader c.step.new.reader h in
     within_further c.args.body c.step.new.reader c.ended_at.result (reaches_then _ _ _ c.loop-reader.invariant.forward f) c.ended_at.ensures.within
 
+pub return_to-requires : goal.return_to-requires
+return_to-requires c =
+    let h = subst (λ (s : State). IsOver c.args.results.now c.in-Ok-false.field-0 c.loop-reader.self.validator c.step.new.self.validator s c.step.new.reader) c.clone-ahead.ensures c.in-Ok-false.ensures in
+    record { kept = (stepped_forward c.args.results.now c.in-Ok-false.field-0 c.loop-reader.self.validator c.step.new.self.validator c.loop-reader.reader c.step.new.reader h).taken.settings }
+
 pub loop-reader-smaller : goal.loop-reader-smaller
 loop-reader-smaller c =
-    stepped_fewer c.args.results.now c.in-Ok-false.field-0 c.loop-reader.self.validator c.step.new.self.validator c.loop-reader.reader c.step.new.reader
-    (subst (λ (s : State). IsOver c.args.results.now c.in-Ok-false.field-0 c.loop-reader.self.validator c.step.new.self.validator s c.step.new.reader) c.clone-ahead.ensures c.in-Ok-false.ensures)
+    let h = subst (λ (s : State). IsOver c.args.results.now c.in-Ok-false.field-0 c.loop-reader.self.validator c.step.new.self.validator s c.step.new.reader) c.clone-ahead.ensures c.in-Ok-false.ensures in
+    rw c.return_to.ensures (stepped_fewer c.args.results.now c.in-Ok-false.field-0 c.loop-reader.self.validator c.step.new.self.validator c.loop-reader.reader c.step.new.reader h)
 
 pub loop-reader-preserved : goal.loop-reader-preserved
 loop-reader-preserved c =
     let k = c.loop-reader.self.validator in
     let l = c.step.new.self.validator in
     let b = c.in-Ok-false.field-0 in
-    let h = subst (λ (s : State). IsOver c.args.results.now b k l s c.step.new.reader) c.clone-ahead.ensures c.in-Ok-false.ensures in
-    let s = stepped_left c.args.results.now b k l c.loop-reader.reader c.step.new.reader h in
+    let before = subst (λ (s : State). IsOver c.args.results.now b k l s c.step.new.reader) c.clone-ahead.ensures c.in-Ok-false.ensures in
+    let h = subst (λ (t : State). IsOver c.args.results.now b k l c.loop-reader.reader t) (sym c.return_to.ensures) before in
+    let s = stepped_left c.args.results.now b k l c.loop-reader.reader c.return_to.new.self h in
     record {
       left = (λ a. c.loop-reader.invariant.left.0 (s.1 a), λ a. s.0 (c.loop-reader.invariant.left.1 a));
       still = h.3 ∙ c.in-Ok-false.field-0-test;
-      forward = reaches_then _ _ _ c.loop-reader.invariant.forward (stepped_forward c.args.results.now b k l c.loop-reader.reader c.step.new.reader h);
+      forward = reaches_then _ _ _ c.loop-reader.invariant.forward (stepped_forward c.args.results.now b k l c.loop-reader.reader c.return_to.new.self h);
     }
 
 pub returns-in-Err-clause-verdict : goal.returns-in-Err-clause-verdict
