@@ -21,7 +21,8 @@ use Rattle.wasm_module_validator.specs.laws.Frames.{Frames, module_frames}
 use Rattle.wasm_module_validator.specs.laws.Judged.{AreAccepted, AcceptsAt, IsAcceptedAt, at_accepted, few_frames, shown_at}
 
 -- what is refused gives no frames
-no_frames : (k : ErrorKind) (p : ℕ) (o : Outcome Frames) → FailsAt k p o → Denies k ((f : Frames) × (t : State) × (o ≡ Done f t) × AreAccepted default_settings f.types f.functions f.entries)
+no_frames : (k : ErrorKind) (p : ℕ) (o : Outcome Frames) → FailsAt k p o
+    → Denies k ((f : Frames) × (t : State) × (o ≡ Done f t) × AreAccepted default_settings f.types f.functions f.entries)
 no_frames (kinds.EndOfData h) p o e = λ (f, t, d, a). let c = sym e ∙ d in absurd cc
 no_frames (kinds.MissingFeature h) p o e = λ (f, t, d, a). let c = sym e ∙ d in absurd cc
 no_frames kinds.OutOfMemory p o e = tt
@@ -38,7 +39,8 @@ accepted_functions s t f e a =
     let P : Frames → Type 0 = λ g. AreAccepted default_settings g.types g.functions g.entries in
     subst P same r.3
 
-pub not_judged : (k : ErrorKind) (s t : State) (f : Frames) → module_frames default_settings s ≡ Done f t → Denies k (AreAccepted default_settings f.types f.functions f.entries) → Denies k (Accepts s.rest)
+pub not_judged : (k : ErrorKind) (s t : State) (f : Frames) → module_frames default_settings s ≡ Done f t
+    → Denies k (AreAccepted default_settings f.types f.functions f.entries) → Denies k (Accepts s.rest)
 not_judged k s t f e d = denies_from k (AreAccepted default_settings f.types f.functions f.entries) (Accepts s.rest) (accepted_functions s t f e) d
 
 -- ---- all of the bytes, from the first
@@ -61,7 +63,8 @@ module _ (bytes : List ℕ) (f : Frames) (t : State) (read : module_frames defau
   begin_judged (Ok x) a = let m = shown_at default_settings (at_begin bytes) f t read a in (m.0, m.1)
   begin_judged (Err k) d = not_judged k.kind (at_begin bytes) t f read d
 
-  pub begin_shown : (r : Result Counts ErrorValue) → Tells r (AreAccepted default_settings f.types f.functions f.entries) → IfOk r (λ c. c.types ≡ length f.types) → IfOk r (λ c. c.functions ≡ length f.functions)
+  pub begin_shown : (r : Result Counts ErrorValue) → Tells r (AreAccepted default_settings f.types f.functions f.entries)
+      → IfOk r (λ c. c.types ≡ length f.types) → IfOk r (λ c. c.functions ≡ length f.functions)
       → IfOk r (λ c. (m : Module) × Judges default_settings bytes m × Shows c m)
   unfolding at_begin
   begin_shown (Ok c) a types functions =

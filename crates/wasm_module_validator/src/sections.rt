@@ -3,7 +3,8 @@
 ghost use Rattle.std.specs.Prelude.{◌≡◌, ◌∷◌, map, length, IfOk};
 ghost use Rattle.wasm_types.specs.decoding.Decoder.{Reaches, repeated};
 ghost use Rattle.wasm_types.specs.reader.Reading.{Gives};
-ghost use Rattle.wasm_module_validator.specs.laws.Frames.{IsCounted, begins, entered, ended, items, type_index, entries, type_section, function_section, code_section, preamble, module_frames};
+ghost use Rattle.wasm_module_validator.specs.laws.Frames.{IsCounted, begins, entered, ended, items, type_index, entries, type_section};
+ghost use Rattle.wasm_module_validator.specs.laws.Frames.{function_section, code_section, preamble, module_frames};
 ghost use Rattle.wasm_module_validator.specs.laws.Types.{function_type};
 ghost use Rattle.wasm_module_validator.specs.laws.Entries.{bodies, frames_of};
 ghost use Rattle.wasm_types.specs.error.declared.error.ErrorKind.TheVariants.{Other};

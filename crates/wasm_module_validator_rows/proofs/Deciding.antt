@@ -1,5 +1,6 @@
 -- What decoders answer decides what is accepted.
-use Rattle.std.proofs.Common.{◌≡◌, ℕ, zero, suc, ◌+◌, ◌<◌, ◌≤◌, List, [], ◌∷◌, ◌++◌, length, refl, sym, ap, ◌∙◌, subst, Bool, true, false, cond, arith, Option, Some, None, option_map}
+use Rattle.std.proofs.Common.{◌≡◌, ℕ, zero, suc, ◌+◌, ◌<◌, ◌≤◌, List, [], ◌∷◌, ◌++◌, length, refl, sym, ap, ◌∙◌, subst, Bool, true, false, cond}
+use Rattle.std.proofs.Common.{arith, Option, Some, None, option_map}
 use Rattle.std.specs.Prelude.{◌==◌, if◌then◌else◌}
 use Rattle.std.proofs.lemmas.Bool.{eqb-true}
 use Rattle.std.proofs.lemmas.List.{append-nil, length-append}
@@ -7,7 +8,8 @@ use Rattle.wasm_types.specs.decoding.Decoder.{State, Outcome, Done, Short, Fault
 use Rattle.wasm_types.specs.decoding.Leb.{listed}
 use Rattle.wasm_types.specs.decoding.LebLaws.{decides-listed}
 use Rattle.wasm_types.specs.limits.Settings.{Settings, no_features}
-use Rattle.wasm_module_validator_operands.specs.Syntax.{FunctionType, Instruction, unreachable, nop, drop, local_get, i32_const, i64_const, i32_add, i64_add, Code, done, plain, LocalGroup, Function}
+use Rattle.wasm_module_validator_operands.specs.Syntax.{FunctionType, Instruction, unreachable, nop, drop, local_get, i32_const, i64_const, i32_add}
+use Rattle.wasm_module_validator_operands.specs.Syntax.{i64_add, Code, done, plain, LocalGroup, Function}
 use Rattle.wasm_module_validator_operands.specs.Validation.{IsValidFunction}
 use Rattle.wasm_module_validator_bodies.specs.Binary.{SpellsInstruction, SpellsExpression, SpellsLocalGroup, SpellsFunction}
 use Rattle.wasm_module_validator_bodies.specs.Bodies.{AcceptsBodyUnder}
@@ -157,14 +159,16 @@ abbrev ReadsSpelled : (State → Option Code) → Type 0
 ReadsSpelled next = (t : State) (c : Code) → next t ≡ Some c → SpellsExpression c t.rest
 
 module _ (next : State → Option Code) (sound : ReadsSpelled next) (s : State) (c : Code) where
-  ends : (o : Operator) (t : State) (text : List ℕ) → Takes s text t → SpellsOperator o text → instruction_of o ≡ None → (b : Bool) → (length t.rest == 0) ≡ b → cond b (Some done) None ≡ Some c → SpellsExpression c s.rest
+  ends : (o : Operator) (t : State) (text : List ℕ) → Takes s text t → SpellsOperator o text → instruction_of o ≡ None → (b : Bool)
+    → (length t.rest == 0) ≡ b → cond b (Some done) None ≡ Some c → SpellsExpression c s.rest
   ends o t text taken h is true q e =
       let d : done ≡ c = cc in
       let whole : s.rest ≡ 0x0b ∷ [] = taken.parts ∙ ap (λ (r : List ℕ). text ++ r) (none_left t.rest q) ∙ append-nil text ∙ end_spelled o text is h in
       subst (λ (d : Code). SpellsExpression d s.rest) d whole
   ends o t text taken h is false q e = absurd cc
 
-  behind_operator : (o : Operator) (t : State) (text : List ℕ) → Takes s text t → SpellsOperator o text → (i : Option Instruction) → instruction_of o ≡ i → code_behind next i t ≡ Some c → SpellsExpression c s.rest
+  behind_operator : (o : Operator) (t : State) (text : List ℕ) → Takes s text t → SpellsOperator o text → (i : Option Instruction)
+    → instruction_of o ≡ i → code_behind next i t ≡ Some c → SpellsExpression c s.rest
   behind_operator o t text taken h (Some i) is e =
       let m = mapped (plain i) (next t) c e in
       let more = sound t m.0 m.1 in
@@ -201,7 +205,8 @@ unfolding function_at
 function_read f bytes h =
     let s = at_function bytes in
     let t = behind s (length h.locals) h.body in
-    let r : listed local_group s ≡ Done f.locals t = (decides-listed SpellsLocalGroup local_group decides-local_group).complete s t f.locals h.locals (record { parts = h.whole; place = refl; settings = refl; start = refl }) h.grouped in
+    let r : listed local_group s ≡ Done f.locals t = (decides-listed SpellsLocalGroup local_group decides-local_group).complete s t f.locals h.locals
+      (record { parts = h.whole; place = refl; settings = refl; start = refl }) h.grouped in
     let c = code_read (length h.body) f.body h.body t h.expressed refl (omega arith) in
     rw (r, c) refl
 
@@ -222,7 +227,8 @@ function_spelled bytes f e = go (listed local_group (at_function bytes)) refl e
 pub body_accepted : (z : Settings) (type : FunctionType) (bytes : List ℕ) (f : Function) → function_at bytes ≡ Some f → IsValidFunction z type f → AcceptsBodyUnder z type bytes
 body_accepted z type bytes f e v = (f, function_spelled bytes f e, v)
 
-pub body_refused : (z : Settings) (type : FunctionType) (bytes : List ℕ) (f : Function) → function_at bytes ≡ Some f → (IsValidFunction z type f → ⊥) → AcceptsBodyUnder z type bytes → ⊥
+pub body_refused : (z : Settings) (type : FunctionType) (bytes : List ℕ) (f : Function) → function_at bytes ≡ Some f → (IsValidFunction z type f → ⊥)
+  → AcceptsBodyUnder z type bytes → ⊥
 body_refused z type bytes f e n (g, s, v) =
     let r = function_read g bytes s in
     let same : g ≡ f = some_is g f (sym r ∙ e) in

@@ -23,7 +23,7 @@ lawful-cast_after : (b : ℕ) → IsLawful (cast_after b)
 unfolding cast_after
 lawful-cast_after b = lawful-if (nat_lt b 4) _ _
     (lawful->>= u32 _ (lawful-unsigned 4 4) (λ depth. lawful->>= (long_reference (b % 2 == 1)) _ (lawful-long (b % 2 == 1))
-      (λ from. lawful->>= (long_reference (b / 2 == 1)) _ (lawful-long (b / 2 == 1)) (λ to. lawful-pure (branch depth from to)))))
+    (λ from. lawful->>= (long_reference (b / 2 == 1)) _ (lawful-long (b / 2 == 1)) (λ to. lawful-pure (branch depth from to)))))
     (lawful-refuse Other 1)
 
 pub lawful-cast_branch : IsLawful cast_branch
@@ -125,4 +125,4 @@ decides-cast_after b = decides-if (ltb b 4) _ _ _
 pub decides-cast_branch : Decides cast_branch SpelledCast
 unfolding cast_branch
 decides-cast_branch = decides-byte cast_after SpelledCast (λ c h. let no : [] ≡ (weight c.from_ref_type.nullable 1 + weight c.to_ref_type.nullable 2)
-  ∷ (h.label_text ++ (h.from_text ++ h.to_text)) = h.whole in cc) decides-cast_after
+    ∷ (h.label_text ++ (h.from_text ++ h.to_text)) = h.whole in cc) decides-cast_after

@@ -16,11 +16,11 @@ use Rattle.wasm_operators_decode_immediates.specs.MemoryArguments.{weight, numbe
 module _ (order memory : Bool) where
   lawful-allowed : (place : ℕ) (f : Flags) → IsLawful (allowed order memory place f)
   lawful-allowed place f = lawful-if (lacks f.has_ordering order) _ _ (lawful-refuse_at Other place)
-    (lawful-if (lacks f.has_memory memory) _ _ (lawful-refuse_at Other place) (lawful-pure f))
+      (lawful-if (lacks f.has_memory memory) _ _ (lawful-refuse_at Other place) (lawful-pure f))
 
   lawful-flags_from : (place n : ℕ) → IsLawful (flags_from order memory place n)
   lawful-flags_from place n = lawful-if (nat_lt n 128) _ _ (lawful-if (n / 16 % 2 == 0) _ _ (lawful-allowed place (flags_in n))
-    (lawful-refuse_at Other place)) (lawful-refuse_at Other place)
+      (lawful-refuse_at Other place)) (lawful-refuse_at Other place)
 
   pub lawful-flags : IsLawful (flags order memory)
   unfolding flags
@@ -47,14 +47,30 @@ same_flags : (a b : ℕ) (o p m q : Bool) → a ≡ b → o ≡ p → m ≡ q �
 same_flags a b o p m q e f g = λ i. with_flags (e i) (f i) (g i)
 
 says : (n a : ℕ) (o m : Bool) → a < 16 → n ≡ a + weight o 0x20 + weight m 0x40 → Says n a o m
-says n a true true lt e = record { small = omega arith; free = omega arith; same = same_flags _ _ _ _ _ _ (omega arith)
-  (eqb-is (n / 32 % 2) 1 (omega arith) refl) (eqb-is (n / 64) 1 (omega arith) refl) }
-says n a true false lt e = record { small = omega arith; free = omega arith; same = same_flags _ _ _ _ _ _ (omega arith)
-  (eqb-is (n / 32 % 2) 1 (omega arith) refl) (eqb-is_not (n / 64) (omega arith)) }
-says n a false true lt e = record { small = omega arith; free = omega arith; same = same_flags _ _ _ _ _ _ (omega arith)
-  (eqb-is_not (n / 32 % 2) (omega arith)) (eqb-is (n / 64) 1 (omega arith) refl) }
-says n a false false lt e = record { small = omega arith; free = omega arith; same = same_flags _ _ _ _ _ _ (omega arith)
-  (eqb-is_not (n / 32 % 2) (omega arith)) (eqb-is_not (n / 64) (omega arith)) }
+says n a true true lt e = record {
+  small = omega arith;
+  free = omega arith;
+  same = same_flags _ _ _ _ _ _ (omega arith)
+      (eqb-is (n / 32 % 2) 1 (omega arith) refl) (eqb-is (n / 64) 1 (omega arith) refl);
+}
+says n a true false lt e = record {
+  small = omega arith;
+  free = omega arith;
+  same = same_flags _ _ _ _ _ _ (omega arith)
+      (eqb-is (n / 32 % 2) 1 (omega arith) refl) (eqb-is_not (n / 64) (omega arith));
+}
+says n a false true lt e = record {
+  small = omega arith;
+  free = omega arith;
+  same = same_flags _ _ _ _ _ _ (omega arith)
+      (eqb-is_not (n / 32 % 2) (omega arith)) (eqb-is (n / 64) 1 (omega arith) refl);
+}
+says n a false false lt e = record {
+  small = omega arith;
+  free = omega arith;
+  same = same_flags _ _ _ _ _ _ (omega arith)
+      (eqb-is_not (n / 32 % 2) (omega arith)) (eqb-is_not (n / 64) (omega arith));
+}
 
 -- the number of the flags that n says is n
 back : (n : ℕ) → n < 128 → n / 16 % 2 ≡ 0 → n ≡ number_of (flags_in n)

@@ -43,12 +43,12 @@ pub lawful-immediate : (settings : Settings) (k : Kind) → IsLawful (immediate 
 unfolding immediate
 lawful-immediate settings (kind.Index space) = lawful-as u32 (Index space) (lawful-unsigned 4 4)
 lawful-immediate settings (kind.IndexOrZero space) = lawful-as (index_or_zero (may_index settings.features space)) (IndexOrZero space)
-  (lawful-index_or_zero (may_index settings.features space))
+    (lawful-index_or_zero (may_index settings.features space))
 lawful-immediate settings kind.Label = lawful-as u32 Label (lawful-unsigned 4 4)
 lawful-immediate settings kind.Block = lawful-as block_type Block lawful-block_type
 lawful-immediate settings kind.BranchTable = lawful-as (labels settings) BranchTable (lawful-labels settings)
 lawful-immediate settings (kind.MemoryArgument access natural) = lawful-as (memory_argument settings.features access natural)
-  (MemoryArgument access natural) (lawful-memory_argument settings.features access natural)
+    (MemoryArgument access natural) (lawful-memory_argument settings.features access natural)
 lawful-immediate settings kind.MemoryOrdering = lawful-as (ordering_by 0x01) MemoryOrdering (lawful-ordering_by 0x01)
 lawful-immediate settings kind.Heap = lawful-as heap_type Heap lawful-heap_type
 lawful-immediate settings kind.CastBranch = lawful-as cast_branch of_branch lawful-cast_branch
@@ -70,19 +70,19 @@ lawful-immediate settings kind.ZeroByte = lawful-as zero_byte of_zero lawful-zer
 module _ (settings : Settings) where
   -- d reads what g spells, of one kind
   sound-as : {A : Type 0} (k : Kind) (d : Decoder A) (f : A → Immediate) (g : Grammar A) → Decides d g → ((x : A) → kind_of (f x) ≡ k) →
-    ((x : A) (text : List ℕ) → g x text → SpelledImmediate settings (f x) text) → Sound (read_as d f) (OfKind settings k)
+      ((x : A) (text : List ℕ) → g x text → SpelledImmediate settings (f x) text) → Sound (read_as d f) (OfKind settings k)
   sound-as k d f g dg of to = sound-map d f g (OfKind settings k) dg (λ x text h. record { kind = of x; spelled = to x text h })
 
   sound_immediate : (k : Kind) → Sound (immediate settings k) (OfKind settings k)
   unfolding immediate
   sound_immediate (kind.Index space) = sound-as _ u32 (Index space) (IsUnsigned 32) decides-u32 (λ n. refl) (λ n text h. h)
   sound_immediate (kind.IndexOrZero space) = sound-as _ (index_or_zero (may_index settings.features space)) (IndexOrZero space)
-    (IsIndexOrZero (may_index settings.features space)) (decides-index_or_zero (may_index settings.features space)) (λ n. refl) (λ n text h. h)
+      (IsIndexOrZero (may_index settings.features space)) (decides-index_or_zero (may_index settings.features space)) (λ n. refl) (λ n text h. h)
   sound_immediate kind.Label = sound-as _ u32 Label (IsUnsigned 32) decides-u32 (λ n. refl) (λ n text h. h)
   sound_immediate kind.Block = sound-as _ block_type Block SpelledBlock decides-block_type (λ ty. refl) (λ ty text h. h)
   sound_immediate kind.BranchTable = sound-as _ (labels settings) BranchTable (SpelledLabels settings) (decides-labels settings) (λ l. refl) (λ l text h. h)
   sound_immediate (kind.MemoryArgument access natural) = sound-as _ (memory_argument settings.features access natural) (MemoryArgument access natural)
-    (SpelledMemArg settings.features access natural) (decides-memory_argument settings.features access natural) (λ m. refl) (λ m text h. h)
+      (SpelledMemArg settings.features access natural) (decides-memory_argument settings.features access natural) (λ m. refl) (λ m text h. h)
   sound_immediate kind.MemoryOrdering = sound-as _ (ordering_by 0x01) MemoryOrdering (SpelledOrdering 0x01) (decides-ordering_by 0x01 refl refl) (λ o. refl) (λ o text h. h)
   sound_immediate kind.Heap = sound-as _ heap_type Heap Spelled decides-heap_type (λ ty. refl) (λ ty text h. h)
   sound_immediate kind.CastBranch = sound-as _ cast_branch of_branch SpelledCast decides-cast_branch (λ c. refl) (λ c text h. h)
@@ -105,12 +105,12 @@ module _ (settings : Settings) where
   unfolding immediate
   reads_immediate (Index space n) text h = reads-map u32 (Index space) (IsUnsigned 32) decides-u32 n text h
   reads_immediate (IndexOrZero space n) text h = reads-map (index_or_zero (may_index settings.features space)) (IndexOrZero space)
-    (IsIndexOrZero (may_index settings.features space)) (decides-index_or_zero (may_index settings.features space)) n text h
+      (IsIndexOrZero (may_index settings.features space)) (decides-index_or_zero (may_index settings.features space)) n text h
   reads_immediate (Label depth) text h = reads-map u32 Label (IsUnsigned 32) decides-u32 depth text h
   reads_immediate (Block ty) text h = reads-map block_type Block SpelledBlock decides-block_type ty text h
   reads_immediate (BranchTable l) text h = reads-map (labels settings) BranchTable (SpelledLabels settings) (decides-labels settings) l text h
   reads_immediate (MemoryArgument access natural m) text h = reads-map (memory_argument settings.features access natural)
-    (MemoryArgument access natural) (SpelledMemArg settings.features access natural) (decides-memory_argument settings.features access natural) m text h
+      (MemoryArgument access natural) (SpelledMemArg settings.features access natural) (decides-memory_argument settings.features access natural) m text h
   reads_immediate (MemoryOrdering o) text h = reads-map (ordering_by 0x01) MemoryOrdering (SpelledOrdering 0x01) (decides-ordering_by 0x01 refl refl) o text h
   reads_immediate (Heap ty) text h = reads-map heap_type Heap Spelled decides-heap_type ty text h
   reads_immediate (CastBranch depth from to) text h = reads-map cast_branch of_branch SpelledCast decides-cast_branch (branch depth from to) text h

@@ -88,7 +88,7 @@ argument align natural memory ordering x = record { align = align; max_align = n
 unfoldable pub after_flags : ℕ → Access → ℕ → Flags → Decoder MemArg
 after_flags features access natural f =
     named_memory f.has_memory >>= λ memory. named_ordering access f.has_ordering >>= λ ordering. offset (has Memory64 features) >>= λ x. pure
-      (argument f.align natural memory ordering x)
+    (argument f.align natural memory ordering x)
 
 -- the argument of such an access with this exponent of its natural alignment
 unfoldable pub memory_argument : ℕ → Access → ℕ → Decoder MemArg

@@ -56,7 +56,7 @@ module _ (features : ℕ) (access : Access) (natural : ℕ) where
   pub lawful-memory_argument : IsLawful (memory_argument features access natural)
   unfolding memory_argument
   lawful-memory_argument = lawful->>= (flags (may_order features access) (has MultiMemory features)) _
-    (lawful-flags (may_order features access) (has MultiMemory features)) lawful-after_flags
+      (lawful-flags (may_order features access) (has MultiMemory features)) lawful-after_flags
 
 -- ---- exact
 
@@ -134,7 +134,7 @@ module _ (features : ℕ) (access : Access) (natural : ℕ) where
   decides-after_flags f =
       decides->>= (named_memory f.has_memory) _ (NamedMemory f.has_memory) (ordering_behind f) (decides-named_memory f.has_memory) (λ memory.
       decides->>= (named_ordering access f.has_ordering) _ (NamedOrdering access f.has_ordering) (offset_behind f memory)
-        (decides-named_ordering access f.has_ordering) (λ ordering.
+      (decides-named_ordering access f.has_ordering) (λ ordering.
       decides-map (offset wide) (argument f.align natural memory ordering) (IsUnsigned (offset_bits wide)) (decides-offset wide)))
 
   argument_to : (m : MemArg) (text : List ℕ) → Then (SpelledFlags order name) memory_behind m text → SpelledMemArg features access natural m text

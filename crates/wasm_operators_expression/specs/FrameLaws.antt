@@ -1,5 +1,6 @@
 -- What an operator makes of the frames is fixed by its place in a tree, and a tree by its operators in order.
-use Rattle.std.proofs.Common.{◌≡◌, ◌↔◌, ◌⊎◌, inl, inr, ◌+◌, ◌<◌, ◌≤◌, List, [], ◌∷◌, ◌++◌, length, Option, Some, None, IsTrue, true, is_some, refl, sym, ◌∙◌, ap, subst, append_assoc, arith}
+use Rattle.std.proofs.Common.{◌≡◌, ◌↔◌, ◌⊎◌, inl, inr, ◌+◌, ◌<◌, ◌≤◌, List, [], ◌∷◌, ◌++◌, length, Option, Some, None, IsTrue, true, is_some, refl}
+use Rattle.std.proofs.Common.{sym, ◌∙◌, ap, subst, append_assoc, arith}
 use Rattle.wasm_operators_decode_encoding.specs.immediates.declared.frames.FrameKind.{FrameKind}
 use Rattle.wasm_operators_decode_encoding.specs.immediates.declared.frames.FrameKind.TheVariants as frames
 use Rattle.wasm_operators_decode_encoding.specs.operator.Op.{Op}
@@ -65,7 +66,8 @@ module _ (o : Op) (k : FrameKind) (ks : List FrameKind) (os : List Op) where
   step_from (nested p body more) rest i e c =
       let back = (walk body ++ walk more) ++ rest in
       let effect = moved p (Some (effects.Nests i.0)) (same_first o p os back e) i.1 in
-      (i.0 ∷ k ∷ ks, behind_by (Some (effects.Nests i.0)) (i.0 ∷ k ∷ ks) effect refl, (body, walk more ++ rest, i.2, same_rest o p os back e ∙ append_assoc (walk body) (walk more) rest, (more, rest, i.3, refl, c)))
+      (i.0 ∷ k ∷ ks, behind_by (Some (effects.Nests i.0)) (i.0 ∷ k ∷ ks) effect refl,
+        (body, walk more ++ rest, i.2, same_rest o p os back e ∙ append_assoc (walk body) (walk more) rest, (more, rest, i.3, refl, c)))
   step_from (turn p more) rest i e c =
       let effect = moved p (Some (effects.Turns i.0)) (same_first o p os (walk more ++ rest) e) i.1 in
       (i.0 ∷ ks, behind_by (Some (effects.Turns i.0)) (i.0 ∷ ks) effect refl, (more, rest, i.2, same_rest o p os (walk more ++ rest) e, c))

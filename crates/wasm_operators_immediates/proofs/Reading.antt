@@ -63,7 +63,7 @@ pub record IsFirst (n : ℕ) (s t : State) (x : ℕ) : Type 0 where
   pub read : IsTrue (is_whole (numbers_at (n - 1) t))
 
 read_more : (x : ℕ) (o : Outcome (List ℕ)) → IsTrue (is_whole (continue_with o (λ xs. pure (x ∷ xs)))) → IsTrue (is_whole o) ×
-  (values (continue_with o (λ xs. pure (x ∷ xs))) ≡ x ∷ values o)
+    (values (continue_with o (λ xs. pure (x ∷ xs))) ≡ x ∷ values o)
 read_more x (Done xs s) h = (h, refl)
 read_more x (Short p k) h = absurd cc
 read_more x (Fault k p) h = absurd cc

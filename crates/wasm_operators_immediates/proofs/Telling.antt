@@ -50,7 +50,7 @@ pub two : {A B : Type 0} {test : A → A → Bool} {next : B → B → Bool} →
 two p q = also p (one q)
 
 pub three : {A B C : Type 0} {test : A → A → Bool} {next : B → B → Bool} {last : C → C → Bool} → Identity test → Identity next → Identity last →
-  Identity {A = A × (B × (C × Unit {0}))} (λ x y. test x.0 y.0 && (next x.1.0 y.1.0 && last x.1.1.0 y.1.1.0))
+    Identity {A = A × (B × (C × Unit {0}))} (λ x y. test x.0 y.0 && (next x.1.0 y.1.0 && last x.1.1.0 y.1.1.0))
 three p q r = also p (two q r)
 
 -- ---- enums

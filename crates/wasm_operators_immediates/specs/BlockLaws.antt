@@ -52,7 +52,7 @@ TakesOne-if false d e l m = m
 TakesOne-signed : (k r : ℕ) → TakesOne (signed (suc k) r)
 unfolding signed
 TakesOne-signed k r = TakesOne-byte _ (λ b. lawful-if (nat_lt b 128) (pure (seven_bits b)) (signed k r >>= λ m. pure (pos 128 *ℤ m +ℤ pos (b - 128)))
-  (lawful-pure _) (lawful->>= (signed k r) _ (lawful-signed k r) (λ m. lawful-pure _)))
+    (lawful-pure _) (lawful->>= (signed k r) _ (lawful-signed k r) (λ m. lawful-pure _)))
 
 TakesOne-value_type : TakesOne value_type
 unfolding value_type
@@ -144,7 +144,7 @@ unfolding empty_block
 decides-empty_block = decides-byte empty_after IsEmpty (λ ty h. let no : [] ≡ 0x40 ∷ [] = h.1 in cc) (λ b.
     decides-if (eqb b 0x40) _ _ _
     (λ t. let is : b ≡ 0x40 = eqb-true _ _ t in decides-pure Empty (λ ty text. IsEmpty ty (b ∷ text)) (refl, ap (λ (n : ℕ). n ∷ []) is)
-      (λ ty text h. (h.0, tails b 0x40 text [] h.1)))
+    (λ ty text h. (h.0, tails b 0x40 text [] h.1)))
     (λ f. decides-refuse_here Other (λ ty text. IsEmpty ty (b ∷ text)) (λ ty text h. eqb-false _ _ f (heads b 0x40 text [] h.1))))
 
 -- ---- exact: by the first byte
@@ -197,7 +197,7 @@ reference_begins : (b : ℕ) (text : List ℕ) (nullable : Bool) (h : HeapType) 
 reference_begins b text true h (inl p) = let is : b ≡ 0x63 = heads b 0x63 text p.0 p.1 in of_reference b (omega arith) (omega arith)
 reference_begins b text false h (inl p) = let is : b ≡ 0x64 = heads b 0x64 text p.0 p.1 in of_reference b (omega arith) (omega arith)
 reference_begins b text true (Abstract true ty) (inr p) = let is : b ≡ 0x65 = heads b 0x65 text (abstract_byte (abstract_of ty) ∷ []) p in
-  of_reference b (omega arith) (omega arith)
+    of_reference b (omega arith) (omega arith)
 reference_begins b text true (Abstract false ty) (inr p) =
     let is : b ≡ abstract_byte (abstract_of ty) = heads b (abstract_byte (abstract_of ty)) text [] p in
     of_abstract b (omega (arith, byte_range ty)) (omega (arith, byte_range ty))

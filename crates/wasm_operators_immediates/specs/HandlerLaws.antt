@@ -43,13 +43,16 @@ module _ {A : Type 0} where
   sound-two : (f : ℕ → ℕ → A) (g : Grammar A) → ((tag label : ℕ) (text : List ℕ) → TagAndLabel tag label text → g (f tag label) text) → Sound (two_indices f) g
   sound-two f g to s t x e =
       let p = (decides-two_indices f).sound s t x e in
-      let h = p.2 in
-      (p.0, p.1, subst (λ (y : A). g y p.0) (sym h.second.2)
-        (to h.value h.second.0 p.0 (record { front = h.front; back = h.back; first = h.first; second = h.second.1; whole = h.whole })))
+      let h = p.2 in (
+        p.0,
+        p.1,
+        subst (λ (y : A). g y p.0) (sym h.second.2)
+            (to h.value h.second.0 p.0 (record { front = h.front; back = h.back; first = h.first; second = h.second.1; whole = h.whole })),
+      )
 
   reads-two : (f : ℕ → ℕ → A) (tag label : ℕ) (text : List ℕ) → TagAndLabel tag label text → Reads (two_indices f) (f tag label) text
   reads-two f tag label text h s t p = (decides-two_indices f).complete s t (f tag label) text p
-    (record { value = tag; front = h.front; back = h.back; first = h.first; second = (label, h.second, refl); whole = h.whole })
+      (record { value = tag; front = h.front; back = h.back; first = h.first; second = (label, h.second, refl); whole = h.whole })
 
   sound-one : (f : ℕ → A) (g : Grammar A) → ((n : ℕ) (text : List ℕ) → IsUnsigned 32 n text → g (f n) text) → Sound (one_index f) g
   sound-one f g to = sound-map u32 f (IsUnsigned 32) g decides-u32 to
@@ -65,7 +68,7 @@ behind b g text h = record { rest = text; spelled = h; whole = refl }
 lawful-clause_after : (b : ℕ) → IsLawful (clause_after b)
 unfolding clause_after
 lawful-clause_after b = lawful-choice clauses (refuse Other 1) b
-  (lawful-two_indices One, (lawful-two_indices OneRef, (lawful-one_index All, (lawful-one_index AllRef, tt)))) (lawful-refuse Other 1)
+    (lawful-two_indices One, (lawful-two_indices OneRef, (lawful-one_index All, (lawful-one_index AllRef, tt)))) (lawful-refuse Other 1)
 
 pub lawful-clause : IsLawful clause
 unfolding clause
@@ -97,8 +100,8 @@ module _ (settings : Settings) where
   pub lawful-try_table : IsLawful (try_table settings)
   unfolding try_table
   lawful-try_table = lawful->>= block_type _ lawful-block_type
-    (λ ty. lawful->>= (listed_within settings.limits.catches clause) _ (lawful-listed_within settings.limits.catches clause lawful-clause)
-    (λ catches. lawful-pure (catch_table ty catches)))
+      (λ ty. lawful->>= (listed_within settings.limits.catches clause) _ (lawful-listed_within settings.limits.catches clause lawful-clause)
+      (λ catches. lawful-pure (catch_table ty catches)))
 
   abbrev IsClauses : Grammar (List Catch)
   IsClauses = IsListedWithin settings.limits.catches SpelledCatch
@@ -124,7 +127,7 @@ module _ (settings : Settings) where
   decides-try_table = decides-same (try_table settings) (Then SpelledBlock clauses_behind) (SpelledTryTable settings)
       (decides->>= block_type (λ ty. listed_within settings.limits.catches clause >>= λ catches. pure (catch_table ty catches)) SpelledBlock clauses_behind decides-block_type
       (λ ty. decides-map (listed_within settings.limits.catches clause) (catch_table ty) IsClauses
-        (decides-listed_within settings.limits.catches clause SpelledCatch decides-clause)))
+      (decides-listed_within settings.limits.catches clause SpelledCatch decides-clause)))
       table_to table_from
 
 -- ---- handlers

@@ -15,8 +15,8 @@ module _ (settings : Settings) where
   pub lawful-labels : IsLawful (labels settings)
   unfolding labels
   lawful-labels = lawful->>= (listed_within settings.limits.body_bytes u32) _
-    (lawful-listed_within settings.limits.body_bytes u32 (lawful-unsigned 4 4))
-    (λ targets. lawful->>= u32 _ (lawful-unsigned 4 4) (λ default. lawful-pure (with_default targets default)))
+      (lawful-listed_within settings.limits.body_bytes u32 (lawful-unsigned 4 4))
+      (λ targets. lawful->>= u32 _ (lawful-unsigned 4 4) (λ default. lawful-pure (with_default targets default)))
 
   -- a default behind these targets
   abbrev behind : List ℕ → Grammar Labels
@@ -38,7 +38,7 @@ module _ (settings : Settings) where
   unfolding labels
   decides-labels = decides-same (labels settings) (Then (IsListedWithin settings.limits.body_bytes (IsUnsigned 32)) behind) (SpelledLabels settings)
       (decides->>= (listed_within settings.limits.body_bytes u32) (λ targets. u32 >>= λ default. pure (with_default targets default))
-        (IsListedWithin settings.limits.body_bytes (IsUnsigned 32)) behind
+      (IsListedWithin settings.limits.body_bytes (IsUnsigned 32)) behind
       (decides-listed_within settings.limits.body_bytes u32 (IsUnsigned 32) decides-u32)
       (λ targets. decides-map u32 (with_default targets) (IsUnsigned 32) decides-u32))
       labels_to labels_from

@@ -117,7 +117,7 @@ simd_group o = is_eq (group_at (key (simd_info o))) 9 (in_list simd_info simd_im
 
 simd_numeric_group : (o : SimdNumericOperator) → group_at (key (simd_numeric_info o)) ≡ 10
 simd_numeric_group o = is_eq (group_at (key (simd_numeric_info o))) 10
-  (in_list simd_numeric_info simd_numeric_immediates (map kind_of) simd_numeric_list (is_of 10) refl o (simd_numeric_told o))
+    (in_list simd_numeric_info simd_numeric_immediates (map kind_of) simd_numeric_list (is_of 10) refl o (simd_numeric_told o))
 
 atomic_group : (o : AtomicOperator) → group_at (key (atomic_info o)) ≡ 11
 atomic_group o = is_eq (group_at (key (atomic_info o))) 11 (in_list atomic_info atomic_immediates (map kind_of) atomic_list (is_of 11) refl o (atomic_told o))
@@ -127,7 +127,7 @@ shared_group o = is_eq (group_at (key (shared_info o))) 12 (in_list shared_info 
 
 continuation_group : (o : ContinuationTree) → group_at (key (continuation_info o)) ≡ 13
 continuation_group o = is_eq (group_at (key (continuation_info o))) 13
-  (in_list continuation_info continuation_immediates (map kind_of) continuation_list (is_of 13) refl o (continuation_told o))
+    (in_list continuation_info continuation_immediates (map kind_of) continuation_list (is_of 13) refl o (continuation_told o))
 
 -- ---- what belongs to a key
 
@@ -205,64 +205,64 @@ row_again (op.Gc o) = subst (λ (g : ℕ). get_or rows g (λ n. None) (key (gc_i
 row_again (op.Descriptor o) = subst (λ (g : ℕ). get_or rows g (λ n. None) (key (descriptor_info o)) ≡ Some (descriptor_info o)) (sym (descriptor_group o)) (descriptor_told o).0
 row_again (op.Simd o) = subst (λ (g : ℕ). get_or rows g (λ n. None) (key (simd_info o)) ≡ Some (simd_info o)) (sym (simd_group o)) (simd_told o).0
 row_again (op.SimdNumeric o) = subst (λ (g : ℕ). get_or rows g (λ n. None) (key (simd_numeric_info o)) ≡ Some (simd_numeric_info o))
-  (sym (simd_numeric_group o)) (simd_numeric_told o).0
+    (sym (simd_numeric_group o)) (simd_numeric_told o).0
 row_again (op.Atomic o) = subst (λ (g : ℕ). get_or rows g (λ n. None) (key (atomic_info o)) ≡ Some (atomic_info o)) (sym (atomic_group o)) (atomic_told o).0
 row_again (op.Shared o) = subst (λ (g : ℕ). get_or rows g (λ n. None) (key (shared_info o)) ≡ Some (shared_info o)) (sym (shared_group o)) (shared_told o).0
 row_again (op.Continuation o) = subst (λ (g : ℕ). get_or rows g (λ n. None) (key (continuation_info o)) ≡ Some (continuation_info o))
-  (sym (continuation_group o)) (continuation_told o).0
+    (sym (continuation_group o)) (continuation_told o).0
 
 kinds_again : (o : Op) → kinds_of_key (key (info_of o)) ≡ Some (kinds_of o)
 kinds_again (op.Control o) = subst (λ (g : ℕ). get_or kinds g (λ n. None) (key (control_info o)) ≡ Some (map kind_of (control_immediates o)))
-  (sym (control_group o)) (control_told o).1
+    (sym (control_group o)) (control_told o).1
 kinds_again (op.Parametric o) = subst (λ (g : ℕ). get_or kinds g (λ n. None) (key (parametric_info o)) ≡ Some (map kind_of (parametric_immediates o)))
-  (sym (parametric_group o)) (parametric_told o).1
+    (sym (parametric_group o)) (parametric_told o).1
 kinds_again (op.Exception o) = subst (λ (g : ℕ). get_or kinds g (λ n. None) (key (exception_info o)) ≡ Some (map kind_of (exception_immediates o)))
-  (sym (exception_group o)) (exception_told o).1
+    (sym (exception_group o)) (exception_told o).1
 kinds_again (op.Memory o) = subst (λ (g : ℕ). get_or kinds g (λ n. None) (key (memory_info o)) ≡ Some (map kind_of (memory_immediates o))) (sym (memory_group o)) (memory_told o).1
 kinds_again (op.Const o) = subst (λ (g : ℕ). get_or kinds g (λ n. None) (key (const_info o)) ≡ Some (map kind_of (const_immediates o))) (sym (const_group o)) (const_told o).1
 kinds_again (op.Numeric o) = subst (λ (g : ℕ). get_or kinds g (λ n. None) (key (numeric_info o)) ≡ Some (map kind_of (numeric_immediates o)))
-  (sym (numeric_group o)) (numeric_told o).1
+    (sym (numeric_group o)) (numeric_told o).1
 kinds_again (op.Bulk o) = subst (λ (g : ℕ). get_or kinds g (λ n. None) (key (bulk_info o)) ≡ Some (map kind_of (bulk_immediates o))) (sym (bulk_group o)) (bulk_told o).1
 kinds_again (op.Gc o) = subst (λ (g : ℕ). get_or kinds g (λ n. None) (key (gc_info o)) ≡ Some (map kind_of (gc_immediates o))) (sym (gc_group o)) (gc_told o).1
 kinds_again (op.Descriptor o) = subst (λ (g : ℕ). get_or kinds g (λ n. None) (key (descriptor_info o)) ≡ Some (map kind_of (descriptor_immediates o)))
-  (sym (descriptor_group o)) (descriptor_told o).1
+    (sym (descriptor_group o)) (descriptor_told o).1
 kinds_again (op.Simd o) = subst (λ (g : ℕ). get_or kinds g (λ n. None) (key (simd_info o)) ≡ Some (map kind_of (simd_immediates o))) (sym (simd_group o)) (simd_told o).1
 kinds_again (op.SimdNumeric o) = subst (λ (g : ℕ). get_or kinds g (λ n. None) (key (simd_numeric_info o)) ≡ Some
-  (map kind_of (simd_numeric_immediates o))) (sym (simd_numeric_group o)) (simd_numeric_told o).1
+    (map kind_of (simd_numeric_immediates o))) (sym (simd_numeric_group o)) (simd_numeric_told o).1
 kinds_again (op.Atomic o) = subst (λ (g : ℕ). get_or kinds g (λ n. None) (key (atomic_info o)) ≡ Some (map kind_of (atomic_immediates o))) (sym (atomic_group o)) (atomic_told o).1
 kinds_again (op.Shared o) = subst (λ (g : ℕ). get_or kinds g (λ n. None) (key (shared_info o)) ≡ Some (map kind_of (shared_immediates o))) (sym (shared_group o)) (shared_told o).1
 kinds_again (op.Continuation o) = subst (λ (g : ℕ). get_or kinds g (λ n. None) (key (continuation_info o)) ≡ Some
-  (map kind_of (continuation_immediates o))) (sym (continuation_group o)) (continuation_told o).1
+    (map kind_of (continuation_immediates o))) (sym (continuation_group o)) (continuation_told o).1
 
 made_again : (o : Op) → is_canonical o ≡ true → made_of_key (key (info_of o)) (immediates_of o) ≡ Some o
 made_again (op.Control o) h = subst (λ (g : ℕ). get_or makers g (λ n js. None) (key (control_info o)) (control_immediates o) ≡ Some (op.Control o))
-  (sym (control_group o)) (ap (option_map op.Control) (control_made o))
+    (sym (control_group o)) (ap (option_map op.Control) (control_made o))
 made_again (op.Parametric o) h = subst (λ (g : ℕ). get_or makers g (λ n js. None) (key (parametric_info o)) (parametric_immediates o) ≡ Some
-  (op.Parametric o)) (sym (parametric_group o)) (ap (option_map op.Parametric) (parametric_made o h))
+    (op.Parametric o)) (sym (parametric_group o)) (ap (option_map op.Parametric) (parametric_made o h))
 made_again (op.Exception o) h = subst (λ (g : ℕ). get_or makers g (λ n js. None) (key (exception_info o)) (exception_immediates o) ≡ Some
-  (op.Exception o)) (sym (exception_group o)) (ap (option_map op.Exception) (exception_made o))
+    (op.Exception o)) (sym (exception_group o)) (ap (option_map op.Exception) (exception_made o))
 made_again (op.Memory o) h = subst (λ (g : ℕ). get_or makers g (λ n js. None) (key (memory_info o)) (memory_immediates o) ≡ Some (op.Memory o))
-  (sym (memory_group o)) (ap (option_map op.Memory) (memory_made o))
+    (sym (memory_group o)) (ap (option_map op.Memory) (memory_made o))
 made_again (op.Const o) h = subst (λ (g : ℕ). get_or makers g (λ n js. None) (key (const_info o)) (const_immediates o) ≡ Some (op.Const o))
-  (sym (const_group o)) (ap (option_map op.Const) (const_made o))
+    (sym (const_group o)) (ap (option_map op.Const) (const_made o))
 made_again (op.Numeric o) h = subst (λ (g : ℕ). get_or makers g (λ n js. None) (key (numeric_info o)) (numeric_immediates o) ≡ Some (op.Numeric o))
-  (sym (numeric_group o)) (ap (option_map op.Numeric) (numeric_made o))
+    (sym (numeric_group o)) (ap (option_map op.Numeric) (numeric_made o))
 made_again (op.Bulk o) h = subst (λ (g : ℕ). get_or makers g (λ n js. None) (key (bulk_info o)) (bulk_immediates o) ≡ Some (op.Bulk o))
-  (sym (bulk_group o)) (ap (option_map op.Bulk) (bulk_made o))
+    (sym (bulk_group o)) (ap (option_map op.Bulk) (bulk_made o))
 made_again (op.Gc o) h = subst (λ (g : ℕ). get_or makers g (λ n js. None) (key (gc_info o)) (gc_immediates o) ≡ Some (op.Gc o)) (sym (gc_group o))
-  (ap (option_map op.Gc) (gc_made o))
+    (ap (option_map op.Gc) (gc_made o))
 made_again (op.Descriptor o) h = subst (λ (g : ℕ). get_or makers g (λ n js. None) (key (descriptor_info o)) (descriptor_immediates o) ≡ Some
-  (op.Descriptor o)) (sym (descriptor_group o)) (ap (option_map op.Descriptor) (descriptor_made o))
+    (op.Descriptor o)) (sym (descriptor_group o)) (ap (option_map op.Descriptor) (descriptor_made o))
 made_again (op.Simd o) h = subst (λ (g : ℕ). get_or makers g (λ n js. None) (key (simd_info o)) (simd_immediates o) ≡ Some (op.Simd o))
-  (sym (simd_group o)) (ap (option_map op.Simd) (simd_made o))
+    (sym (simd_group o)) (ap (option_map op.Simd) (simd_made o))
 made_again (op.SimdNumeric o) h = subst (λ (g : ℕ). get_or makers g (λ n js. None) (key (simd_numeric_info o)) (simd_numeric_immediates o) ≡ Some
-  (op.SimdNumeric o)) (sym (simd_numeric_group o)) (ap (option_map op.SimdNumeric) (simd_numeric_made o))
+    (op.SimdNumeric o)) (sym (simd_numeric_group o)) (ap (option_map op.SimdNumeric) (simd_numeric_made o))
 made_again (op.Atomic o) h = subst (λ (g : ℕ). get_or makers g (λ n js. None) (key (atomic_info o)) (atomic_immediates o) ≡ Some (op.Atomic o))
-  (sym (atomic_group o)) (ap (option_map op.Atomic) (atomic_made o))
+    (sym (atomic_group o)) (ap (option_map op.Atomic) (atomic_made o))
 made_again (op.Shared o) h = subst (λ (g : ℕ). get_or makers g (λ n js. None) (key (shared_info o)) (shared_immediates o) ≡ Some (op.Shared o))
-  (sym (shared_group o)) (ap (option_map op.Shared) (shared_made o))
+    (sym (shared_group o)) (ap (option_map op.Shared) (shared_made o))
 made_again (op.Continuation o) h = subst (λ (g : ℕ). get_or makers g (λ n js. None) (key (continuation_info o)) (continuation_immediates o) ≡ Some
-  (op.Continuation o)) (sym (continuation_group o)) (ap (option_map op.Continuation) (continuation_made o))
+    (op.Continuation o)) (sym (continuation_group o)) (ap (option_map op.Continuation) (continuation_made o))
 
 -- ---- the laws
 

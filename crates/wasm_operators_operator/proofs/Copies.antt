@@ -49,7 +49,7 @@ control_copied (control.Call a0) (control.Call b0) h = let e0 : b0 ≡ a0 = h in
 control_copied (control.CallIndirect a0 a1) (control.CallIndirect b0 b1) h = let e0 : b0 ≡ a0 = h.0 in let e1 : b1 ≡ a1 = h.1 in λ i. control.CallIndirect (e0 i) (e1 i)
 control_copied (control.ReturnCall a0) (control.ReturnCall b0) h = let e0 : b0 ≡ a0 = h in λ i. control.ReturnCall (e0 i)
 control_copied (control.ReturnCallIndirect a0 a1) (control.ReturnCallIndirect b0 b1) h = let e0 : b0 ≡ a0 = h.0 in let e1 : b1 ≡ a1 = h.1 in λ i.
-  control.ReturnCallIndirect (e0 i) (e1 i)
+    control.ReturnCallIndirect (e0 i) (e1 i)
 control_copied (control.CallRef a0) (control.CallRef b0) h = let e0 : b0 ≡ a0 = h in λ i. control.CallRef (e0 i)
 control_copied (control.ReturnCallRef a0) (control.ReturnCallRef b0) h = let e0 : b0 ≡ a0 = h in λ i. control.ReturnCallRef (e0 i)
 control_copied control.RefAsNonNull control.RefAsNonNull h = refl
@@ -62,7 +62,7 @@ parametric_copied parametric.Drop parametric.Drop h = refl
 parametric_copied parametric.Select parametric.Select h = refl
 parametric_copied (parametric.TypedSelect a0) (parametric.TypedSelect b0) h = let e0 : b0 ≡ a0 = h in λ i. op.TypedSelect (e0 i)
 parametric_copied (parametric.TypedSelectMulti a0) (parametric.TypedSelectMulti b0) h = let e0 : b0.items ≡ a0.items = each_same a0.items b0.items h.0
-  in λ i. op.TypedSelectMulti (e0 i)
+    in λ i. op.TypedSelectMulti (e0 i)
 parametric_copied x y h = absurd h
 
 exception_copied : (x y : ExceptionOperator) → exception_clone.ghosts.is_clone x y → exception_of y ≡ exception_of x
@@ -82,9 +82,9 @@ continuation_copied (continuation.ContBind a0 a1) (continuation.ContBind b0 b1) 
 continuation_copied (continuation.Suspend a0) (continuation.Suspend b0) h = let e0 : b0 ≡ a0 = h in λ i. op.Suspend (e0 i)
 continuation_copied (continuation.Resume a0 a1) (continuation.Resume b0 b1) h = let e0 : b0 ≡ a0 = h.0 in let e1 = handlers_copied a1 b1 h.1 in λ i. op.Resume (e0 i) (e1 i)
 continuation_copied (continuation.ResumeThrow a0 a1 a2) (continuation.ResumeThrow b0 b1 b2) h = let e0 : b0 ≡ a0 = h.0 in let e1 : b1 ≡ a1 = h.1.0 in
-  let e2 = handlers_copied a2 b2 h.1.1 in λ i. op.ResumeThrow (e0 i) (e1 i) (e2 i)
+    let e2 = handlers_copied a2 b2 h.1.1 in λ i. op.ResumeThrow (e0 i) (e1 i) (e2 i)
 continuation_copied (continuation.ResumeThrowRef a0 a1) (continuation.ResumeThrowRef b0 b1) h = let e0 : b0 ≡ a0 = h.0 in let e1 = handlers_copied a1
-  b1 h.1 in λ i. op.ResumeThrowRef (e0 i) (e1 i)
+    b1 h.1 in λ i. op.ResumeThrowRef (e0 i) (e1 i)
 continuation_copied (continuation.Switch a0 a1) (continuation.Switch b0 b1) h = let e0 : b0 ≡ a0 = h.0 in let e1 : b1 ≡ a1 = h.1 in λ i. op.Switch (e0 i) (e1 i)
 continuation_copied x y h = absurd h
 

@@ -22,4 +22,4 @@ KindsFollowFromCodes = (a b : Op) → (info_of a).prefix ≡ (info_of b).prefix 
 -- TypedSelectMulti is not canonical
 abbrev pub CodesTellOperatorsApart : Type 0
 CodesTellOperatorsApart = (a b : Op) → IsTrue (is_canonical a) → IsTrue (is_canonical b) → (info_of a).prefix ≡ (info_of b).prefix → (info_of a).code
-  ≡ (info_of b).code → immediates_of a ≡ immediates_of b → a ≡ b
+    ≡ (info_of b).code → immediates_of a ≡ immediates_of b → a ≡ b

@@ -1,7 +1,8 @@
 -- An operator on vectors leaves the frames as they are.
 use Rattle.std.proofs.Common.{◌≡◌, true, List, [], ◌∷◌, Some}
 use Rattle.wasm_operators_expression.specs.immediates.declared.frames.FrameKind.{FrameKind}
-use Rattle.wasm_operators_expression.specs.operator.Op.{Op, Control, Parametric, Exception, Memory, Const, Numeric, Bulk, Gc, Descriptor, Simd, SimdNumeric, Atomic, Shared, Continuation}
+use Rattle.wasm_operators_expression.specs.operator.Op.{Op, Control, Parametric, Exception, Memory, Const, Numeric, Bulk, Gc, Descriptor, Simd}
+use Rattle.wasm_operators_expression.specs.operator.Op.{SimdNumeric, Atomic, Shared, Continuation}
 use Rattle.wasm_operators_visit_simd_operator.specs.visit_operator.Vectors.{is_simd}
 use Rattle.wasm_operators_expression.specs.Frames.{after}
 use Rattle.wasm_operators_reader.specs.Standing.{Standing, Reads}

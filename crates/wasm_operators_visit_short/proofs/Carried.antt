@@ -17,10 +17,12 @@ use Rattle.wasm_operators_decode_immediates.specs.immediates.declared.memory.Mem
 use Rattle.wasm_operators_decode_immediates.specs.immediates.Blocks.{block_type, value_block, empty_block}
 use Rattle.wasm_operators_decode_immediates.specs.immediates.Kinds as kind
 use Rattle.wasm_operators_decode_immediates.specs.immediates.Kinds.{IndexSpace, Plain}
-use Rattle.wasm_operators_decode_immediates.specs.immediates.Immediates.{Immediate, Index, IndexOrZero, Label, Block, MemoryArgument, I32Constant, I64Constant, F32Constant, F64Constant}
+use Rattle.wasm_operators_decode_immediates.specs.immediates.Immediates.{Immediate, Index, IndexOrZero, Label, Block, MemoryArgument, I32Constant}
+use Rattle.wasm_operators_decode_immediates.specs.immediates.Immediates.{I64Constant, F32Constant, F64Constant}
 use Rattle.wasm_operators_decode_immediates.specs.Immediates.{immediate, may_index}
 use Rattle.wasm_operators_decode_immediates.specs.Bytes.{index_or_zero, zero_byte}
-use Rattle.wasm_operators_decode_immediates.specs.MemoryArguments.{may_order, flags_in, flags_from, flags, named_memory, named_ordering, offset, argument, after_flags, memory_argument}
+use Rattle.wasm_operators_decode_immediates.specs.MemoryArguments.{may_order, flags_in, flags_from, flags, named_memory, named_ordering, offset}
+use Rattle.wasm_operators_decode_immediates.specs.MemoryArguments.{argument, after_flags, memory_argument}
 use Rattle.wasm_operators_visit_short.proofs.Reading.{gives_as, gives_then}
 
 module _ (settings : Settings) (text : List ℕ) (i e : ℕ) where
@@ -52,11 +54,13 @@ module _ (settings : Settings) (text : List ℕ) (i e : ℕ) where
   unfolding immediate
   block_of ty g = gives_as block_type text i ty Block e g
 
-  pub access_of : (natural : ℕ) (m : MemArg) → GivesAt (memory_argument settings.features Plain natural) text i m e → GivesAt (immediate settings (kind.MemoryArgument Plain natural)) text i (MemoryArgument Plain natural m) e
+  pub access_of : (natural : ℕ) (m : MemArg) → GivesAt (memory_argument settings.features Plain natural) text i m e
+    → GivesAt (immediate settings (kind.MemoryArgument Plain natural)) text i (MemoryArgument Plain natural m) e
   unfolding immediate
   access_of natural m g = gives_as (memory_argument settings.features Plain natural) text i m (MemoryArgument Plain natural) e g
 
-  pub zero_of : (space : IndexSpace) (n : ℕ) → GivesAt (index_or_zero (may_index settings.features space)) text i n e → GivesAt (immediate settings (kind.IndexOrZero space)) text i (IndexOrZero space n) e
+  pub zero_of : (space : IndexSpace) (n : ℕ) → GivesAt (index_or_zero (may_index settings.features space)) text i n e
+    → GivesAt (immediate settings (kind.IndexOrZero space)) text i (IndexOrZero space n) e
   unfolding immediate
   zero_of space n g = gives_as (index_or_zero (may_index settings.features space)) text i n (IndexOrZero space) e g
 
@@ -77,9 +81,11 @@ module _ (text : List ℕ) (i b : ℕ) (lt : i < length text) (is : get_or text 
   by_one d x h = record { forward = omega arith; inside = omega arith; gives = λ s same. let one : i + 1 - i ≡ 1 = omega arith in rw one (h s same) }
 
   -- what is read of any state that begins with this byte
-  by_first : {X : Type 0} (d : Decoder X) (x : X) → ((s : State) (rest : List ℕ) → d (record s { rest = b ∷ rest }) ≡ Done x (record s { rest = rest; place = s.place + 1 })) → GivesAt d text i x (i + 1)
+  by_first : {X : Type 0} (d : Decoder X) (x : X) → ((s : State) (rest : List ℕ)
+    → d (record s { rest = b ∷ rest }) ≡ Done x (record s { rest = rest; place = s.place + 1 })) → GivesAt d text i x (i + 1)
   by_first d x h = by_one d x (λ s same.
-      ap (λ (r : List ℕ). d (record s { rest = r })) (parts s same) ∙ h s (drop (i + 1) text) ∙ ap (λ (r : List ℕ). Done x (record s { rest = drop 1 r; place = s.place + 1 })) (sym (parts s same)))
+      ap (λ (r : List ℕ). d (record s { rest = r })) (parts s same) ∙ h s (drop (i + 1) text)
+        ∙ ap (λ (r : List ℕ). Done x (record s { rest = drop 1 r; place = s.place + 1 })) (sym (parts s same)))
 
 module _ (text : List ℕ) (i : ℕ) (lt : i < length text) where
   pub zero_there : get_or text i 0 ≡ 0 → (allowed : Bool) → GivesAt (index_or_zero allowed) text i 0 (i + 1)
@@ -123,7 +129,8 @@ module _ (features natural : ℕ) (text : List ℕ) (i b : ℕ) (lt : i < length
   flags_there order memory = by_one text i b lt is (flags order memory) (flags_in b) (λ s same.
       rw (u32_there text i b lt is (omega arith) s same) (small_flags order memory s.place b (behind 1 s) small))
 
-  after_there : (x e : ℕ) → GivesAt (offset (has Memory64 features)) text (i + 1) x e → GivesAt (after_flags features Plain natural (flags_in b)) text (i + 1) (argument b natural 0 None x) e
+  after_there : (x e : ℕ) → GivesAt (offset (has Memory64 features)) text (i + 1) x e
+    → GivesAt (after_flags features Plain natural (flags_in b)) text (i + 1) (argument b natural 0 None x) e
   unfolding after_flags named_memory named_ordering
   after_there x e g = record {
     forward = g.forward;
@@ -135,7 +142,8 @@ module _ (features natural : ℕ) (text : List ℕ) (i b : ℕ) (lt : i < length
         rw (q, f, h, g.gives s same) refl;
   }
 
-  pub access_there : (wide : Bool) (x e : ℕ) → GivesAt (offset wide) text (i + 1) x e → wide ≡ has Memory64 features → GivesAt (memory_argument features Plain natural) text i (argument b natural 0 None x) e
+  pub access_there : (wide : Bool) (x e : ℕ) → GivesAt (offset wide) text (i + 1) x e → wide ≡ has Memory64 features
+    → GivesAt (memory_argument features Plain natural) text i (argument b natural 0 None x) e
   unfolding memory_argument
   access_there wide x e g same =
       gives_then (flags (may_order features Plain) (has MultiMemory features)) text i (flags_in b) (after_flags features Plain natural) (i + 1) (argument b natural 0 None x) e

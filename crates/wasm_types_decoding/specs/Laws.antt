@@ -1,8 +1,11 @@
 -- Each way to put decoders together hands their laws on.
-use Rattle.std.proofs.Common.{◌≡◌, ℕ, zero, suc, ◌+◌, ◌-◌, ◌<◌, ◌≤◌, List, [], ◌∷◌, ◌++◌, length, take, drop, refl, sym, ap, ◌∙◌, append_assoc, arith, cond, ltb, Bool, true, false, inl, inr}
+use Rattle.std.proofs.Common.{◌≡◌, ℕ, zero, suc, ◌+◌, ◌-◌, ◌<◌, ◌≤◌, List, [], ◌∷◌, ◌++◌, length, take, drop, refl, sym, ap, ◌∙◌, append_assoc, arith}
+use Rattle.std.proofs.Common.{cond, ltb, Bool, true, false, inl, inr}
 use Rattle.std.proofs.lemmas.List.{length-append, length-take, take-append-drop, take-append-le, drop-append-le}
 use Rattle.wasm_types_decoding.specs.declared.Refusal.{Refusal}
-use Rattle.wasm_types_decoding.specs.Decoder.{State, extended, Outcome, Done, Short, Fault, Decoder, continue_with, ◌>>=◌, pure, refuse, first_of_rest, byte, bytes, repeated, Takes, IsBeyond, Reaches, GoesOn, GoesForward, IsLawful, choice, choice_or, ended, within, look, look_first, TakesOne}
+use Rattle.wasm_types_decoding.specs.Decoder.{State, extended, Outcome, Done, Short, Fault, Decoder, continue_with, ◌>>=◌, pure, refuse}
+use Rattle.wasm_types_decoding.specs.Decoder.{first_of_rest, byte, bytes, repeated, Takes, IsBeyond, Reaches, GoesOn, GoesForward, IsLawful, choice}
+use Rattle.wasm_types_decoding.specs.Decoder.{choice_or, ended, within, look, look_first, TakesOne}
 use Rattle.std.specs.Prelude.{if◌then◌else◌, ◌==◌}
 use Rattle.std.proofs.lemmas.Bool.{cases_lt, le-ltb, lt-ltb}
 
@@ -92,7 +95,8 @@ lawful-byte = record { forward = λ s. byte_forward s.rest s refl; steady = λ s
 pub lawful-repeated : {A : Type 0} (n : ℕ) (d : Decoder A) → IsLawful d → IsLawful (repeated n d)
 unfolding repeated
 lawful-repeated zero d l = lawful-pure []
-lawful-repeated (suc n) d l = lawful->>= d (λ x. repeated n d >>= λ xs. pure (x ∷ xs)) l (λ x. lawful->>= (repeated n d) (λ xs. pure (x ∷ xs)) (lawful-repeated n d l) (λ xs. lawful-pure (x ∷ xs)))
+lawful-repeated (suc n) d l = lawful->>= d (λ x. repeated n d >>= λ xs. pure (x ∷ xs)) l
+  (λ x. lawful->>= (repeated n d) (λ xs. pure (x ∷ xs)) (lawful-repeated n d l) (λ xs. lawful-pure (x ∷ xs)))
 
 -- ---- a choice
 
@@ -125,7 +129,8 @@ module _ (n : ℕ) (s : State) where
 bytes_forward : (n : ℕ) (s : State) → GoesForward s (bytes n s)
 bytes_forward n s = elim (cases_lt (length s.rest) n) [
   | inl short ↦ rw (bytes-short n s short) (omega arith, omega arith)
-  | inr enough ↦ rw (bytes-enough n s enough) (take n s.rest, record { parts = sym (take-append-drop n s.rest); place = omega (arith, length-take n s.rest); settings = refl; start = refl })
+  | inr enough ↦ rw (bytes-enough n s enough) (take n s.rest,
+    record { parts = sym (take-append-drop n s.rest); place = omega (arith, length-take n s.rest); settings = refl; start = refl })
 ]
 
 bytes_beyond : (n : ℕ) (s : State) (more : List ℕ) → length s.rest < n → n - length s.rest ≤ length more → IsBeyond s.place (bytes n (extended s more))
@@ -134,8 +139,10 @@ bytes_beyond n s more short le =
 
 bytes_steady : (n : ℕ) (s : State) (more : List ℕ) → GoesOn (bytes n s) more (bytes n (extended s more))
 bytes_steady n s more = elim (cases_lt (length s.rest) n) [
-  | inl short ↦ rw (bytes-short n s short) (λ lt. bytes-short n (extended s more) (omega (arith, length-append s.rest more)) ∙ ap (Short s.place) (omega (arith, length-append s.rest more)), bytes_beyond n s more short)
-  | inr enough ↦ rw (bytes-enough n s enough) (bytes-enough n (extended s more) (omega (arith, length-append s.rest more)) ∙ rw (take-append-le n s.rest more enough, drop-append-le n s.rest more enough) refl)
+  | inl short ↦ rw (bytes-short n s short) (λ lt. bytes-short n (extended s more) (omega (arith, length-append s.rest more))
+    ∙ ap (Short s.place) (omega (arith, length-append s.rest more)), bytes_beyond n s more short)
+  | inr enough ↦ rw (bytes-enough n s enough) (bytes-enough n (extended s more) (omega (arith, length-append s.rest more))
+    ∙ rw (take-append-le n s.rest more enough, drop-append-le n s.rest more enough) refl)
 ]
 
 pub lawful-bytes : (n : ℕ) → IsLawful (bytes n)
@@ -191,7 +198,8 @@ module _ {A : Type 0} (f : ℕ → Decoder A) (lawful : (b : ℕ) → IsLawful (
   lawful-look = record { forward = λ s. look_forward s.rest s; steady = λ s more. look_steady s.rest s more refl }
 
 -- what begins with a byte takes one
-takes_byte : {A : Type 0} (f : ℕ → Decoder A) (lawful : (b : ℕ) → IsLawful (f b)) (rest : List ℕ) (s : State) → 0 < length rest → IsBeyond s.place (continue_with (first_of_rest rest s) f)
+takes_byte : {A : Type 0} (f : ℕ → Decoder A) (lawful : (b : ℕ) → IsLawful (f b)) (rest : List ℕ) (s : State) → 0 < length rest
+  → IsBeyond s.place (continue_with (first_of_rest rest s) f)
 takes_byte f lawful [] s h = absurd (omega arith)
 takes_byte f lawful (b ∷ rest) s h =
     let behind : State = record { rest = rest; place = s.place + 1; settings = s.settings; start = s.start } in

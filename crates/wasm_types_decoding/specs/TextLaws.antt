@@ -9,10 +9,12 @@ use Rattle.wasm_types_decoding.specs.declared.Refusal.{Refusal}
 use Rattle.wasm_types_decoding.specs.declared.Refusal.TheVariants.{Other}
 use Rattle.wasm_types_decoding.specs.Decoder.{State, Outcome, Done, Short, Fault, Decoder, Grammar, pure, refuse, bytes, Takes, IsLawful, Decides, Then, ended, inside, within}
 use Rattle.wasm_types_decoding.specs.Laws.{lawful->>=, lawful-pure, lawful-refuse, lawful-if, lawful-bytes, lawful-within}
-use Rattle.wasm_types_decoding.specs.Exact.{value_is, state_is, done_then, decides->>=, decides-same, decides-pure, decides-refuse, decides-if, decides-map, decides-bytes, Exactly, Mapped}
+use Rattle.wasm_types_decoding.specs.Exact.{value_is, state_is, done_then, decides->>=, decides-same, decides-pure, decides-refuse, decides-if}
+use Rattle.wasm_types_decoding.specs.Exact.{decides-map, decides-bytes, Exactly, Mapped}
 use Rattle.wasm_types_decoding.specs.Leb.{IsUnsigned, u32}
 use Rattle.wasm_types_decoding.specs.LebLaws.{lawful-unsigned, decides-u32}
-use Rattle.wasm_types_decoding.specs.Text.{little_endian, IsWord, word, if_utf8, text_of, skipped, counted_within, IsAnyName, IsName, any_name, name, skipped_name, Within, IsSized, sized}
+use Rattle.wasm_types_decoding.specs.Text.{little_endian, IsWord, word, if_utf8, text_of, skipped, counted_within, IsAnyName, IsName, any_name, name}
+use Rattle.wasm_types_decoding.specs.Text.{skipped_name, Within, IsSized, sized}
 
 -- ---- words
 
@@ -145,7 +147,8 @@ module _ (limit : ℕ) where
   }
 
   name_from : (content text : List ℕ) → IsName limit content text → Then (IsUnsigned 32) LimitedText content text
-  name_from content text h = record { value = length content; front = h.name.count; back = content; first = h.name.counted; second = (h.within, (refl, refl, h.name.utf8)); whole = h.name.whole }
+  name_from content text h = record { value = length content; front = h.name.count; back = content; first = h.name.counted; second =
+    (h.within, (refl, refl, h.name.utf8)); whole = h.name.whole }
 
   pub decides-name : Decides (name limit) (IsName limit)
   decides-name = decides-same _ (Then (IsUnsigned 32) LimitedText) (IsName limit) (decides-counted_within limit text_of IsTextOf decides-text_of) name_to name_from

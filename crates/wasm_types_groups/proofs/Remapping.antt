@@ -27,11 +27,11 @@ module _ {R E : Type 0} (answers : R → Result R E → Type 0) where
   Indices r is js = Remapped list_shape (λ is. is) answers r is js
 
   pub as_indices : (r : Result (Unit {0}) E) (is js : List R) → Remapped (map (λ i. tt {0})) (flat_map (λ i. i ∷ [])) answers r (map (λ i. i) is)
-    (map (λ i. i) js) → Indices r is js
+      (map (λ i. i) js) → Indices r is js
   as_indices r is js h = record {
     same = sym (map_same (λ i. tt) js) ∙ h.same ∙ map_same (λ i. tt) is;
     walked = subst (λ (xs : List R). IsWalked answers r xs js) (flat_single is)
-      (subst (λ (ys : List R). IsWalked answers r (flat_map (λ i. i ∷ []) (map (λ i. i) is)) ys) (flat_single js) h.walked);
+        (subst (λ (ys : List R). IsWalked answers r (flat_map (λ i. i ∷ []) (map (λ i. i) is)) ys) (flat_single js) h.walked);
   }
 
   -- the index at k is refused
@@ -72,28 +72,31 @@ module _ {R E : Type 0} (answers : R → Result R E → Type 0) where
 
   module _ (s : Bool) (x y : InnerOf R) (d e : Option R) where
     same_entry : (p q : Option R) → inner_shape y ≡ inner_shape x → option_map (λ i. tt {0}) p ≡ option_map (λ i. tt {0}) d → option_map (λ i. tt {0})
-      q ≡ option_map (λ i. tt {0}) e
+        q ≡ option_map (λ i. tt {0}) e
         → entry_shape (entry s y p q) ≡ entry_shape (entry s x d e)
     same_entry p q a b c = λ i. record { is_final = true; supertype = None; shared = s; descriptor = b i; describes = c i; inner = a i }
 
     pub cut_inner : (err : E) → Inner (Err err) x y → Entry (Err err) (entry s x d e) (entry s y d e)
-    cut_inner err h = record { same = same_entry d e h.same refl refl; walked = cut_before answers err (inner_indices x) (inner_indices y)
-      (option_indices d ++ option_indices e) h.walked }
+    cut_inner err h = record {
+      same = same_entry d e h.same refl refl;
+      walked = cut_before answers err (inner_indices x) (inner_indices y)
+          (option_indices d ++ option_indices e) h.walked;
+    }
 
     pub cut_descriptor : (err : E) (i : R) → Inner (Ok (tt {0})) x y → d ≡ Some i → answers i (Err err) → Entry (Err err) (entry s x d e) (entry s y d e)
     cut_descriptor err i h p t = record {
       same = same_entry d e h.same refl refl;
       walked = walked_next answers {U = Unit {0}} (Err err) (inner_indices x) (inner_indices y) _ _ h.walked
-        (cut_before answers err (option_indices d) (option_indices d) (option_indices e) (refused_option d i err p t));
+          (cut_before answers err (option_indices d) (option_indices d) (option_indices e) (refused_option d i err p t));
     }
 
     pub cut_describes : (err : E) (i : R) (p : Option R) → Inner (Ok (tt {0})) x y → IsOptionAnswered answers d p → e ≡ Some i → answers i (Err err) →
-      Entry (Err err) (entry s x d e) (entry s y p e)
+        Entry (Err err) (entry s x d e) (entry s y p e)
     cut_describes err i p h a q t = record {
       same = same_entry p e h.same (option_same d p a) refl;
       walked = walked_next answers {U = Unit {0}} (Err err) (inner_indices x) (inner_indices y) _ _ h.walked
           (walked_next answers {U = Unit {0}} (Err err) (option_indices d) (option_indices p) (option_indices e) (option_indices e)
-            (option_answered d p a) (refused_option e i err q t));
+          (option_answered d p a) (refused_option e i err q t));
     }
 
     pub whole_entry : (p q : Option R) → Inner (Ok (tt {0})) x y → IsOptionAnswered answers d p → IsOptionAnswered answers e q → Entry (Ok (tt {0})) (entry s x d e) (entry s y p q)
@@ -110,8 +113,17 @@ first_map [] = refl
 first_map (i ∷ is) = refl
 
 pub same_declared : {R : Type 0} (f : Bool) (is js : List R) (c d : EntryOf R) → list_shape js ≡ list_shape is → entry_shape d ≡ entry_shape c →
-  declared_shape (declared_with f js d) ≡ declared_shape (declared_with f is c)
+    declared_shape (declared_with f js d) ≡ declared_shape (declared_with f is c)
 same_declared f is js c d a e =
     let first : option_map (λ i. tt {0}) (first_of js) ≡ option_map (λ i. tt {0}) (first_of is) = first_map js ∙ ap first_of a ∙ sym (first_map is) in
-    λ i. record { supertypes = a i; entry = record { is_final = f; supertype = first i; shared = (e i).shared; descriptor = (e i).descriptor;
-      describes = (e i).describes; inner = (e i).inner } }
+    λ i. record {
+      supertypes = a i;
+      entry = record {
+        is_final = f;
+        supertype = first i;
+        shared = (e i).shared;
+        descriptor = (e i).descriptor;
+        describes = (e i).describes;
+        inner = (e i).inner;
+      };
+    }

@@ -11,7 +11,7 @@ use Rattle.wasm_types_groups.specs.SpellsTypes.{InnerValue, function, array_of, 
 -- each constructor by its byte
 abbrev pub inners : Settings → List (ℕ × Decoder InnerValue)
 inners z = (0x60, signature z >>= λ f. pure (function f)) ∷ (0x5e, field_type >>= λ x. pure (array_of x))
-  ∷ (0x5f, fields z >>= λ xs. pure (struct_of xs)) ∷ (0x5d, module_index >>= λ i. pure (continuation i)) ∷ []
+    ∷ (0x5f, fields z >>= λ xs. pure (struct_of xs)) ∷ (0x5d, module_index >>= λ i. pure (continuation i)) ∷ []
 
 -- a composite type behind its byte
 unfoldable pub inner_after : Settings → ℕ → Decoder InnerValue

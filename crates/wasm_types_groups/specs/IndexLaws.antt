@@ -137,14 +137,14 @@ module _ {R S : Type 0} (m : R → S) where
   count_values = count_list (value_map m) value_shape value_shape value_indices value_indices count_value mapped_value
 
   mapped_values : (vs : List (ValueOf R)) (ws : List (ValueOf S)) → map value_shape ws ≡ map value_shape vs → flat_map value_indices ws ≡ map m
-    (flat_map value_indices vs) → ws ≡ map (value_map m) vs
+      (flat_map value_indices vs) → ws ≡ map (value_map m) vs
   mapped_values = mapped_list (value_map m) value_shape value_shape value_indices value_indices count_value mapped_value
 
   count_fields : (xs : List (FieldOf R)) (ys : List (FieldOf S)) → map field_shape ys ≡ map field_shape xs → length (flat_map field_indices ys) ≡ length (flat_map field_indices xs)
   count_fields = count_list (field_map m) field_shape field_shape field_indices field_indices count_field mapped_field
 
   mapped_fields : (xs : List (FieldOf R)) (ys : List (FieldOf S)) → map field_shape ys ≡ map field_shape xs → flat_map field_indices ys ≡ map m
-    (flat_map field_indices xs) → ys ≡ map (field_map m) xs
+      (flat_map field_indices xs) → ys ≡ map (field_map m) xs
   mapped_fields = mapped_list (field_map m) field_shape field_shape field_indices field_indices count_field mapped_field
 
   count_inner : (x : InnerOf R) (y : InnerOf S) → inner_shape y ≡ inner_shape x → length (inner_indices y) ≡ length (inner_indices x)
@@ -184,7 +184,7 @@ module _ {R S : Type 0} (m : R → S) where
   mapped_inner (tree.struct_of xs) (tree.function qs ss) e f = absurd cc
   mapped_inner (tree.struct_of xs) (tree.array_of y) e f = absurd cc
   mapped_inner (tree.struct_of xs) (tree.struct_of ys) e f = let s : map field_shape ys ≡ map field_shape xs = cc in ap
-    (λ (zs : List (FieldOf S)). tree.struct_of zs) (mapped_fields xs ys s f)
+      (λ (zs : List (FieldOf S)). tree.struct_of zs) (mapped_fields xs ys s f)
   mapped_inner (tree.struct_of xs) (tree.continuation j) e f = absurd cc
   mapped_inner (tree.continuation i) (tree.function qs ss) e f = absurd cc
   mapped_inner (tree.continuation i) (tree.array_of y) e f = absurd cc
@@ -226,13 +226,22 @@ module _ {R S : Type 0} (m : R → S) where
       let s3 = ap (λ (z : DeclaredOf (Unit {0})). z.entry.describes) e in
       let p0 = halves m is (entry_indices c) js (entry_indices d) (same_lengths is js a) h in
       let p1 = halves m (inner_indices c.inner) (option_indices c.descriptor ++ option_indices c.describes) (inner_indices d.inner)
-        (option_indices d.descriptor ++ option_indices d.describes) (count_inner c.inner d.inner s1) p0.1 in
+      (option_indices d.descriptor ++ option_indices d.describes) (count_inner c.inner d.inner s1) p0.1 in
       let p2 = halves m (option_indices c.descriptor) (option_indices c.describes) (option_indices d.descriptor) (option_indices d.describes)
-        (count_option c.descriptor d.descriptor s2) p1.1 in
+      (count_option c.descriptor d.descriptor s2) p1.1 in
       let supers = p0.0 in
       let first : first_of js ≡ option_map m (first_of is) = ap first_of supers ∙ first_mapped is in
       let inner = mapped_inner c.inner d.inner s1 p1.0 in
       let descriptor = mapped_option c.descriptor d.descriptor s2 p2.0 in
       let describes = mapped_option c.describes d.describes s3 p2.1 in
-      λ i. record { supertypes = supers i; entry = record { is_final = final i; supertype = first i; shared = shared i; descriptor = descriptor i;
-        describes = describes i; inner = inner i } }
+      λ i. record {
+        supertypes = supers i;
+        entry = record {
+          is_final = final i;
+          supertype = first i;
+          shared = shared i;
+          descriptor = descriptor i;
+          describes = describes i;
+          inner = inner i;
+        };
+      }

@@ -57,7 +57,7 @@ GroupValuesDeclareTheSame = (g : RecGroup) → map declared_by (group_value g).t
 -- the values that bytes are read as are spelled as the trees that they declare
 abbrev pub CompositeTypesAreSpelledAsTrees : Type 0
 CompositeTypesAreSpelledAsTrees = (z : Settings) (c : CompositeValue) (text : List ℕ) → SpelledComposite z c text ↔ SpellsParts z c.shared c.describes
-  c.descriptor (inner_tree c.inner) text
+    c.descriptor (inner_tree c.inner) text
 
 abbrev pub SubTypesAreSpelledAsTrees : Type 0
 SubTypesAreSpelledAsTrees = (z : Settings) (x : SubValue) (text : List ℕ) → SpelledSub z x text ↔ SpellsSub z (declared_by x) text
@@ -68,7 +68,7 @@ GroupsAreSpelledAsTrees = (z : Settings) (g : GroupValue) (text : List ℕ) → 
 -- and each tree that bytes spell is declared by a value
 abbrev pub GroupTreesAreRead : Type 0
 GroupTreesAreRead = (z : Settings) (b : Bool) (ds : List Declared) (text : List ℕ) → SpellsGroup z b ds text → (g : GroupValue) × (g.is_explicit ≡ b)
-  × (map declared_by g.types ≡ ds)
+    × (map declared_by g.types ≡ ds)
 
 -- a subtype is its shape and its indices: where those are another's, mapped by m, it declares what the other does, mapped
 abbrev pub ShapesAndIndicesAreAll : Type 0

@@ -39,7 +39,7 @@ module _ {A B : Type 0} (v : A → B) (g : Grammar A) (h : Grammar B) where
   many_from f (suc n) (x ∷ xs) text m = (m.0, m.1, f x m.0 m.2, many_from f n xs m.1 m.3, m.4)
 
   listed_to : ((x : A) (text : List ℕ) → g x text → h (v x) text) → (limit : ℕ) (xs : List A) (text : List ℕ) → IsListedWithin limit g xs text →
-    IsListedWithin limit h (map v xs) text
+      IsListedWithin limit h (map v xs) text
   listed_to f limit xs text l = record {
     listed = record {
       count = l.listed.count;
@@ -52,7 +52,7 @@ module _ {A B : Type 0} (v : A → B) (g : Grammar A) (h : Grammar B) where
   }
 
   listed_from : ((x : A) (text : List ℕ) → h (v x) text → g x text) → (limit : ℕ) (xs : List A) (text : List ℕ) → IsListedWithin limit h (map v xs)
-    text → IsListedWithin limit g xs text
+      text → IsListedWithin limit g xs text
   listed_from f limit xs text l = record {
     listed = record {
       count = l.listed.count;
@@ -82,18 +82,36 @@ module _ (limit : ℕ) where
 module _ (settings : Settings) where
   inner_to : (x : InnerValue) (text : List ℕ) → SpelledInner settings x text → SpellsInner settings (inner_tree x) text
   inner_to (function f) text h =
-      let s = h.2 in
-      (h.0, h.1, record { params = s.params; results = s.results; taken = values_to settings.limits.params f.params s.params s.taken; given =
-        values_to settings.limits.results f.results s.results s.given; whole = s.whole })
+      let s = h.2 in (
+        h.0,
+        h.1,
+        record {
+          params = s.params;
+          results = s.results;
+          taken = values_to settings.limits.params f.params s.params s.taken;
+          given =
+              values_to settings.limits.results f.results s.results s.given;
+          whole = s.whole;
+        },
+      )
   inner_to (array_of x) text h = (h.0, h.1, field_to x h.0 h.2)
   inner_to (struct_of xs) text h = (h.0, h.1, listed_to field_of SpelledField SpellsField field_to settings.limits.fields xs h.0 h.2)
   inner_to (continuation i) text h = h
 
   inner_from : (x : InnerValue) (text : List ℕ) → SpellsInner settings (inner_tree x) text → SpelledInner settings x text
   inner_from (function f) text h =
-      let s = h.2 in
-      (h.0, h.1, record { params = s.params; results = s.results; taken = values_from settings.limits.params f.params s.params s.taken; given =
-        values_from settings.limits.results f.results s.results s.given; whole = s.whole })
+      let s = h.2 in (
+        h.0,
+        h.1,
+        record {
+          params = s.params;
+          results = s.results;
+          taken = values_from settings.limits.params f.params s.params s.taken;
+          given =
+              values_from settings.limits.results f.results s.results s.given;
+          whole = s.whole;
+        },
+      )
   inner_from (array_of x) text h = (h.0, h.1, field_from x h.0 h.2)
   inner_from (struct_of xs) text h = (h.0, h.1, listed_from field_of SpelledField SpellsField field_from settings.limits.fields xs h.0 h.2)
   inner_from (continuation i) text h = h
@@ -112,17 +130,25 @@ module _ (settings : Settings) where
   descriptor_to : (s : Option (Unit {0})) (e : Option UnpackedIndex) (c : CompositeValue) (text : List ℕ) → SpelledDescriptor settings s e c text → Described s e c text
   descriptor_to s e c text (inl m) =
       subst (λ (d : CompositeValue). Described s e d text) (sym m.2)
-        (record { descriptor = []; inner = text; shares = refl; describes = refl; described = refl; itself = inner_to m.0 text m.1; whole = refl })
+      (record { descriptor = []; inner = text; shares = refl; describes = refl; described = refl; itself = inner_to m.0 text m.1; whole = refl })
   descriptor_to s e c text (inr p) =
       subst (λ (d : CompositeValue). Described s e d text) (sym p.second.2)
-      (record { descriptor = 0x4d ∷ p.front; inner = p.back; shares = refl; describes = refl; described = (p.front, refl, p.first); itself = inner_to
-        p.second.0 p.back p.second.1; whole = p.whole })
+      (record {
+        descriptor = 0x4d ∷ p.front;
+        inner = p.back;
+        shares = refl;
+        describes = refl;
+        described = (p.front, refl, p.first);
+        itself = inner_to
+            p.second.0 p.back p.second.1;
+        whole = p.whole;
+      })
 
   descriptor_from : (s : Option (Unit {0})) (e d : Option UnpackedIndex) (x : InnerValue) (text rest : List ℕ) → SpellsOption 0x4d d text →
-    SpelledInner settings x rest → SpelledDescriptor settings s e (composite_with s e d x) (text ++ rest)
+      SpelledInner settings x rest → SpelledDescriptor settings s e (composite_with s e d x) (text ++ rest)
   descriptor_from s e None x text rest h i = inl (x, subst (λ (z : List ℕ). SpelledInner settings x (z ++ rest)) (sym h) i, refl)
   descriptor_from s e (Some j) x text rest h i = inr (record
-    { value = j; front = h.0; back = rest; first = h.2; second = (x, i, refl); whole = ap (λ (z : List ℕ). z ++ rest) h.1 })
+      { value = j; front = h.0; back = rest; first = h.2; second = (x, i, refl); whole = ap (λ (z : List ℕ). z ++ rest) h.1 })
 
   record Describing (s : Option (Unit {0})) (c : CompositeValue) (text : List ℕ) : Type 0 where
     describes : List ℕ
@@ -161,7 +187,7 @@ module _ (settings : Settings) where
       }
 
   describes_from : (s : Option (Unit {0})) (e : Option UnpackedIndex) (c : CompositeValue) (text rest : List ℕ) → SpellsOption 0x4c e text →
-    SpelledDescriptor settings s e c rest → SpelledDescribes settings s c (text ++ rest)
+      SpelledDescriptor settings s e c rest → SpelledDescribes settings s c (text ++ rest)
   describes_from s None c text rest h t = inl (subst (λ (z : List ℕ). SpelledDescriptor settings s None c (z ++ rest)) (sym h) t)
   describes_from s (Some j) c text rest h t = inr (record { value = j; front = h.0; back = rest; first = h.2; second = t; whole = ap (λ (z : List ℕ). z ++ rest) h.1 })
 
@@ -198,7 +224,7 @@ module _ (settings : Settings) where
 
   -- with the mark of its sharedness
   marked_from : (s : Bool) (e d : Option UnpackedIndex) (x : InnerValue) (text : List ℕ) → SpellsParts settings s e d (inner_tree x) text →
-    SpelledComposite settings (record { inner = x; shared = s; descriptor = d; describes = e }) text
+      SpelledComposite settings (record { inner = x; shared = s; descriptor = d; describes = e }) text
   marked_from true e d x text h =
       let last = descriptor_from (Some tt) e d x h.descriptor h.inner h.described (inner_from x h.inner h.itself) in
       inr (record {
@@ -221,14 +247,27 @@ module _ (settings : Settings) where
 
   pub sub_to : (x : SubValue) (text : List ℕ) → SpelledSub settings x text → SpellsSub settings (declared_by x) text
   sub_to x text (inl m) = subst (λ (y : SubValue). SpellsSub settings (declared_by y) text) (sym m.2)
-    (inl (record { is_final = refl; alone = refl; none = refl; itself = composite_to m.0 text m.1 }))
-  sub_to x text (inr h) = inr (record { supertypes = h.supertypes; composite = h.composite; first = refl; above = h.above; itself = composite_to
-    x.composite h.composite h.itself; whole = h.whole })
+      (inl (record { is_final = refl; alone = refl; none = refl; itself = composite_to m.0 text m.1 }))
+  sub_to x text (inr h) = inr (record {
+    supertypes = h.supertypes;
+    composite = h.composite;
+    first = refl;
+    above = h.above;
+    itself = composite_to
+        x.composite h.composite h.itself;
+    whole = h.whole;
+  })
 
   pub sub_from : (x : SubValue) (text : List ℕ) → SpellsSub settings (declared_by x) text → SpelledSub settings x text
   sub_from x text (inl h) = inl (x.composite, composite_from x.composite text h.itself, (λ i. record { is_final = h.is_final i; supertypes = h.alone i; composite = x.composite }))
-  sub_from x text (inr h) = inr (record { supertypes = h.supertypes; composite = h.composite; above = h.above; itself = composite_from x.composite
-    h.composite h.itself; whole = h.whole })
+  sub_from x text (inr h) = inr (record {
+    supertypes = h.supertypes;
+    composite = h.composite;
+    above = h.above;
+    itself = composite_from x.composite
+        h.composite h.itself;
+    whole = h.whole;
+  })
 
   abbrev Tree : GroupValue → List ℕ → Type 0
   Tree g text = SpellsGroup settings g.is_explicit (map declared_by g.types) text
@@ -242,7 +281,7 @@ module _ (settings : Settings) where
   written_from : (e : Bool) (xs : List SubValue) (text : List ℕ) → SpellsGroup settings e (map declared_by xs) text → SpelledGroup settings (group_with e xs) text
   written_from false [] text h = let e = h.1 in absurd cc
   written_from false (x ∷ []) text h = let e : declared_by x ≡ h.0 = (let f = h.1 in cc) in inl
-    (x, sub_from x text (subst (λ (y : Declared). SpellsSub settings y text) (sym e) h.2), refl)
+      (x, sub_from x text (subst (λ (y : Declared). SpellsSub settings y text) (sym e) h.2), refl)
   written_from false (x ∷ y ∷ xs) text h = let e = h.1 in absurd cc
   written_from true xs text h = inr (h.0, h.1, (xs, listed_from declared_by (SpelledSub settings) (SpellsSub settings) sub_from settings.limits.types xs h.0 h.2, refl))
 

@@ -128,8 +128,15 @@ declared d e =
       x,
       (λ i. record {
         supertypes = d.supertypes;
-        entry = record { is_final = d.entry.is_final; supertype = sym e i; shared = d.entry.shared; descriptor = d.entry.descriptor; describes =
-          d.entry.describes; inner = same_inner d.entry.inner i };
+        entry = record {
+          is_final = d.entry.is_final;
+          supertype = sym e i;
+          shared = d.entry.shared;
+          descriptor = d.entry.descriptor;
+          describes =
+              d.entry.describes;
+          inner = same_inner d.entry.inner i;
+        };
       }),
     )
 

@@ -65,7 +65,7 @@ module _ (settings : Settings) where
   -- an alternative: what follows its byte is exactly what d reads
   module _ {A : Type 0} (tag : ℕ) (d : Decoder A) (f : A → InnerValue) (g : Grammar A) (decides : Decides d g) where
     alternative : ((x : A) (text : List ℕ) → g x text → SpelledInner settings (f x) (tag ∷ text)) →
-      ((y : InnerValue) (text : List ℕ) → SpelledInner settings y (tag ∷ text) → Mapped f g y text)
+        ((y : InnerValue) (text : List ℕ) → SpelledInner settings y (tag ∷ text) → Mapped f g y text)
         → Decides (d >>= λ x. pure (f x)) (λ y text. SpelledInner settings y (tag ∷ text))
     alternative to from = decides-same _ (Mapped f g) _ (decides-map d f g decides)
         (λ y text m. subst (λ (z : InnerValue). SpelledInner settings z (tag ∷ text)) (sym m.2) (to m.0 text m.1)) from
@@ -142,8 +142,15 @@ module _ (settings : Settings) where
 
       prefixed_from : (y : B) (text : List ℕ) → Optionally tag g h y (tag ∷ text) → Then g (λ x. h (Some x)) y text
       prefixed_from y text (inl n) = absurd (apart y text n)
-      prefixed_from y text (inr p) = record { value = p.value; front = p.front; back = p.back; first = p.first; second = p.second; whole = tails tag
-        tag text (p.front ++ p.back) p.whole }
+      prefixed_from y text (inr p) = record {
+        value = p.value;
+        front = p.front;
+        back = p.back;
+        first = p.first;
+        second = p.second;
+        whole = tails tag
+            tag text (p.front ++ p.back) p.whole;
+      }
 
       bare_from : (b : ℕ) → eqb b tag ≡ false → (y : B) (text : List ℕ) → Optionally tag g h y (b ∷ text) → h None y (b ∷ text)
       bare_from b f y text (inl n) = n
@@ -152,7 +159,7 @@ module _ (settings : Settings) where
       decides-optional : (b : ℕ) → Decides (optional tag d next b) (λ y text. Optionally tag g h y (b ∷ text))
       decides-optional b = decides-if (eqb b tag) _ _ _
           (λ t. at_tag _ (Optionally tag g h) b tag t (decides-same _ (Then g (λ x. h (Some x))) _
-            (decides->>= d _ g _ decides (λ x. whole_next (Some x))) prefixed_to prefixed_from))
+          (decides->>= d _ g _ decides (λ x. whole_next (Some x))) prefixed_to prefixed_from))
           (λ f. decides-same (next None b) (λ y text. h None y (b ∷ text)) _ (nexts None b) (λ y text n. inl n) (bare_from b f))
 
       optional_some : (y : B) → Optionally tag g h y [] → ⊥
@@ -229,24 +236,24 @@ module _ (settings : Settings) where
   low_65 (continuation i) e = omega (arith, e)
 
   decides-descriptor_after : (s : Option (Unit {0})) (e : Option UnpackedIndex) (b : ℕ) → Decides (descriptor_after settings s e b)
-    (λ c text. SpelledDescriptor settings s e c (b ∷ text))
+      (λ c text. SpelledDescriptor settings s e c (b ∷ text))
   unfolding descriptor_after
   decides-descriptor_after s e = decides-optional 0x4d module_index (last_after settings s e) SpelledIndex (Last s e) decides-module_index
-    (decides-last_after s e) (last_some s e) (last_apart 0x4d low_4d s e None)
+      (decides-last_after s e) (last_some s e) (last_apart 0x4d low_4d s e None)
 
   descriptor_some : (s : Option (Unit {0})) (e : Option UnpackedIndex) (c : CompositeValue) → SpelledDescriptor settings s e c [] → ⊥
   descriptor_some s e c (inl m) = last_some s e None c m
   descriptor_some s e c (inr p) = let w = p.whole in cc
 
   descriptor_apart : (n : ℕ) → IsLow n → (n ≡ 0x4d → ⊥) → (s : Option (Unit {0})) (e : Option UnpackedIndex) (c : CompositeValue) (text : List ℕ) →
-    SpelledDescriptor settings s e c (n ∷ text) → ⊥
+      SpelledDescriptor settings s e c (n ∷ text) → ⊥
   descriptor_apart n low not_4d s e c text (inl m) = last_apart n low s e None c text m
   descriptor_apart n low not_4d s e c text (inr p) = not_4d (heads n 0x4d text (p.front ++ p.back) p.whole)
 
   decides-describes_after : (s : Option (Unit {0})) (b : ℕ) → Decides (describes_after settings s b) (λ c text. SpelledDescribes settings s c (b ∷ text))
   unfolding describes_after
   decides-describes_after s = decides-optional 0x4c module_index (descriptor_after settings s) SpelledIndex (SpelledDescriptor settings s)
-    decides-module_index (decides-descriptor_after s) (descriptor_some s)
+      decides-module_index (decides-descriptor_after s) (descriptor_some s)
       (descriptor_apart 0x4c low_4c (λ e. omega (arith, e)) s None)
 
   describes_some : (s : Option (Unit {0})) (c : CompositeValue) → SpelledDescribes settings s c [] → ⊥
@@ -254,7 +261,7 @@ module _ (settings : Settings) where
   describes_some s c (inr p) = let w = p.whole in cc
 
   describes_apart : (n : ℕ) → IsLow n → (n ≡ 0x4d → ⊥) → (n ≡ 0x4c → ⊥) → (s : Option (Unit {0})) (c : CompositeValue) (text : List ℕ) →
-    SpelledDescribes settings s c (n ∷ text) → ⊥
+      SpelledDescribes settings s c (n ∷ text) → ⊥
   describes_apart n low not_4d not_4c s c text (inl m) = descriptor_apart n low not_4d s None c text m
   describes_apart n low not_4d not_4c s c text (inr p) = not_4c (heads n 0x4c text (p.front ++ p.back) p.whole)
 
@@ -310,7 +317,7 @@ module _ (settings : Settings) where
   decides-declared_sub : (f : Bool) → Decides (declared_sub settings f) (DeclaredParts f)
   unfolding declared_sub
   decides-declared_sub f = decides->>= supertypes _ SpelledSupertypes _ decides-supertypes
-    (λ sups. decides-map (composite settings) (sub_with f sups) (SpelledComposite settings) decides-composite)
+      (λ sups. decides-map (composite settings) (sub_with f sups) (SpelledComposite settings) decides-composite)
 
   abbrev SubAfter : ℕ → Grammar SubValue
   SubAfter b x text = SpelledSub settings x (b ∷ text)
@@ -320,7 +327,7 @@ module _ (settings : Settings) where
       (inr (record { supertypes = t.front; composite = t.back; above = t.first; itself = t.second.1; whole = ap (λ (z : List ℕ). final_byte f ∷ z) t.whole }))
 
   no_bare : (n : ℕ) → IsLow n → (n ≡ 0x4d → ⊥) → (n ≡ 0x4c → ⊥) → (n ≡ 0x65 → ⊥) → (x : SubValue) (text : List ℕ) → Mapped (sub_with true [])
-    (SpelledComposite settings) x (n ∷ text) → ⊥
+      (SpelledComposite settings) x (n ∷ text) → ⊥
   no_bare n low p q r x text m = composite_apart n low p q r m.0 text m.1
 
   one_final : (f : Bool) (x : SubValue) (text : List ℕ) (h : SpelledDeclared settings x (final_byte f ∷ text)) → x.is_final ≡ f
@@ -351,7 +358,7 @@ module _ (settings : Settings) where
   from_final x text (inr h) = declared_back true x text h
 
   from_bare : (b : ℕ) → eqb b 0x50 ≡ false → eqb b 0x4f ≡ false → (x : SubValue) (text : List ℕ) → SubAfter b x text → Mapped (sub_with true [])
-    (λ c t. SpelledComposite settings c (b ∷ t)) x text
+      (λ c t. SpelledComposite settings c (b ∷ t)) x text
   from_bare b p q x text (inl m) = m
   from_bare b p q x text (inr h) = absurd (neither x.is_final (heads b (final_byte x.is_final) text (h.supertypes ++ h.composite) h.whole))
     where
@@ -365,7 +372,7 @@ module _ (settings : Settings) where
       decides-if (eqb b 0x50) _ _ _ (λ t. at_tag _ (SpelledSub settings) b 0x50 t (decides-same _ _ _ (decides-declared_sub false) (declared_to false) from_open)) (λ p.
       decides-if (eqb b 0x4f) _ _ _ (λ t. at_tag _ (SpelledSub settings) b 0x4f t (decides-same _ _ _ (decides-declared_sub true) (declared_to true) from_final)) (λ q.
       decides-same _ _ _ (decides-map (composite_after settings b) (sub_with true []) (λ c t. SpelledComposite settings c (b ∷ t))
-        (decides-composite_after b)) (λ x text m. inl m) (from_bare b p q)))
+      (decides-composite_after b)) (λ x text m. inl m) (from_bare b p q)))
 
   sub_some : (x : SubValue) → SpelledSub settings x [] → ⊥
   sub_some x (inl m) = composite_some m.0 m.1
@@ -380,7 +387,7 @@ module _ (settings : Settings) where
   lawful-explicit_group : IsLawful (explicit_group settings)
   unfolding explicit_group
   lawful-explicit_group = lawful->>= (listed_within settings.limits.types (sub_type settings)) _
-    (lawful-listed_within settings.limits.types (sub_type settings) lawful-sub_type) (λ xs. lawful-pure (group_with true xs))
+      (lawful-listed_within settings.limits.types (sub_type settings) lawful-sub_type) (λ xs. lawful-pure (group_with true xs))
 
   pub lawful-rec_group : IsLawful (rec_group settings)
   unfolding rec_group group_after
@@ -404,7 +411,7 @@ module _ (settings : Settings) where
   decides-explicit_group : Decides (explicit_group settings) (Mapped (group_with true) (SpelledTypes settings))
   unfolding explicit_group
   decides-explicit_group = decides-map (listed_within settings.limits.types (sub_type settings)) (group_with true) (SpelledTypes settings)
-    (decides-listed_within settings.limits.types (sub_type settings) (SpelledSub settings) decides-sub_type)
+      (decides-listed_within settings.limits.types (sub_type settings) (SpelledSub settings) decides-sub_type)
 
   from_explicit : (g : GroupValue) (text : List ℕ) → SpelledGroup settings g (0x4e ∷ text) → Mapped (group_with true) (SpelledTypes settings) g text
   from_explicit g text (inl m) = absurd (no_sub m.0 text m.1)
@@ -418,7 +425,7 @@ module _ (settings : Settings) where
   unfolding group_after
   decides-group_after b =
       decides-if (eqb b 0x4e) _ _ _ (λ t. at_tag _ (SpelledGroup settings) b 0x4e t
-        (decides-same _ _ _ decides-explicit_group (λ g text m. inr (text, refl, m)) from_explicit)) (λ f.
+      (decides-same _ _ _ decides-explicit_group (λ g text m. inr (text, refl, m)) from_explicit)) (λ f.
       decides-same _ _ _ (decides-map (sub_after settings b) (λ x. group_with false (x ∷ [])) (SubAfter b) (decides-sub_after b)) (λ g text m. inl m) (from_implicit b f))
 
   group_some : (g : GroupValue) → SpelledGroup settings g [] → ⊥

@@ -49,25 +49,25 @@ CompositeTypesAreRead = IsComposite (0x60 ∷ 0x01 ∷ 0x7f ∷ 0x00 ∷ []) (pl
     × IsComposite (0x4c ∷ 0x01 ∷ 0x4d ∷ 0x02 ∷ 0x5f ∷ 0x00 ∷ []) (plain (Some (Module 2)) (Some (Module 1)) (struct_of [])) 6
     × IsComposite (0x4d ∷ 0x02 ∷ 0x5f ∷ 0x00 ∷ []) (plain (Some (Module 2)) None (struct_of [])) 4
     × (composite no_features (start_of (0x4d ∷ 0x02 ∷ 0x4c ∷ 0x01 ∷ 0x5f ∷ 0x00 ∷ [])) ≡ Fault Other 2) ×
-      (composite no_features (start_of (0x5c ∷ 0x00 ∷ [])) ≡ Fault Other 0) × (composite no_features (start_of (0x65 ∷ [])) ≡ Short 1 1)
+    (composite no_features (start_of (0x5c ∷ 0x00 ∷ [])) ≡ Fault Other 0) × (composite no_features (start_of (0x65 ∷ [])) ≡ Short 1 1)
 
 pub composite_bytes : CompositeTypesAreRead
 unfolding default_limits composite composite_after describes_after descriptor_after last_after inner_after signature field_type fields mutability
-  module_index listed_within size_within unsigned repeated storage_type storage_type_after value_type_after reference_after value_type
+    module_index listed_within size_within unsigned repeated storage_type storage_type_after value_type_after reference_after value_type
 composite_bytes = (refl, refl, refl, refl, refl, refl, refl, refl, refl, refl)
 
 -- ---- subtypes
 
 abbrev pub SubTypesAreRead : Type 0
 SubTypesAreRead = (sub_type no_features (start_of (0x5f ∷ 0x00 ∷ [])) ≡ Done (sub_with true [] no_fields) (behind 2)) ×
-  (sub_type no_features (start_of (0x50 ∷ 0x00 ∷ 0x5f ∷ 0x00 ∷ [])) ≡ Done (sub_with false [] no_fields) (behind 4))
+    (sub_type no_features (start_of (0x50 ∷ 0x00 ∷ 0x5f ∷ 0x00 ∷ [])) ≡ Done (sub_with false [] no_fields) (behind 4))
     × (sub_type no_features (start_of (0x4f ∷ 0x01 ∷ 0x03 ∷ 0x5f ∷ 0x00 ∷ [])) ≡ Done (sub_with true (Module 3 ∷ []) no_fields) (behind 5)) ×
-      (sub_type no_features (start_of (0x50 ∷ 0x02 ∷ [])) ≡ Fault Other 1)
+    (sub_type no_features (start_of (0x50 ∷ 0x02 ∷ [])) ≡ Fault Other 1)
     × (sub_type no_features (start_of (0x4e ∷ 0x00 ∷ [])) ≡ Fault Other 0)
 
 pub sub_bytes : SubTypesAreRead
 unfolding default_limits sub_type sub_after declared_sub supertypes composite composite_after describes_after descriptor_after last_after inner_after
-  fields module_index listed_within size_within unsigned repeated
+    fields module_index listed_within size_within unsigned repeated
 sub_bytes = (refl, refl, refl, refl, refl)
 
 -- ---- groups
@@ -78,15 +78,15 @@ one_type = sub_with true [] no_fields ∷ []
 -- the same group, written as one and alone; offsets; and the limit of a million types
 abbrev pub GroupsAreRead : Type 0
 GroupsAreRead = (rec_group no_features (start_of (0x4e ∷ 0x01 ∷ 0x5f ∷ 0x00 ∷ [])) ≡ Done (group_with true one_type) (behind 4)) ×
-  (rec_group no_features (start_of (0x5f ∷ 0x00 ∷ [])) ≡ Done (group_with false one_type) (behind 2))
+    (rec_group no_features (start_of (0x5f ∷ 0x00 ∷ [])) ≡ Done (group_with false one_type) (behind 2))
     × (rec_group no_features (start_of (0x4e ∷ 0x00 ∷ [])) ≡ Done (group_with true []) (behind 2)) × (rec_group no_features (start_of (0x4b ∷ 0x00 ∷ [])) ≡ Fault Other 0)
     × (rec_group no_features (start_of (0x4e ∷ 0xc0 ∷ 0x84 ∷ 0x3d ∷ [])) ≡ Short 4 1) × (rec_group no_features (start_of (0x4e ∷ 0xc1 ∷ 0x84 ∷ 0x3d ∷ [])) ≡ Fault Other 1)
     × (group_places no_features (start_of (0x4e ∷ 0x02 ∷ 0x5f ∷ 0x00 ∷ 0x5f ∷ 0x00 ∷ [])) ≡ Done (2 ∷ 4 ∷ []) (behind 6)) ×
-      (group_places no_features (start_of (0x5f ∷ 0x00 ∷ [])) ≡ Done (0 ∷ []) (behind 2))
+    (group_places no_features (start_of (0x5f ∷ 0x00 ∷ [])) ≡ Done (0 ∷ []) (behind 2))
 
 pub group_bytes : GroupsAreRead
 unfolding default_limits rec_group group_after explicit_group group_places places sub_type sub_after declared_sub supertypes composite composite_after
-  describes_after descriptor_after last_after inner_after fields module_index listed_within size_within unsigned repeated
+    describes_after descriptor_after last_after inner_after fields module_index listed_within size_within unsigned repeated
 group_bytes = (refl, refl, refl, refl, refl, refl, refl, refl)
 
 -- ---- what they are, and how they are written
@@ -101,7 +101,7 @@ kinds_told = (λ f. (refl, refl), λ a. (refl, refl), λ s. (refl, refl), λ c. 
 abbrev pub TextsAreWritten : Type 0
 TextsAreWritten = ((a : ArrayType) → inner_text (Array a) ≡ array_text a) × ((c : ContType) → inner_text (Cont c) ≡ cont_text c) × (prefix_text (codes "describes") None ≡ [])
     × (prefix_text (codes "describes") (Some (Module 1)) ≡ codes "(describes (module " ++ decimal 1 ++ codes ")" ++ codes ") ") ×
-      (shared_text true (codes "(struct)") ≡ codes "(shared (struct))") × (shared_text false (codes "(struct)") ≡ codes "(struct)")
+    (shared_text true (codes "(struct)") ≡ codes "(shared (struct))") × (shared_text false (codes "(struct)") ≡ codes "(struct)")
     × (declared_text true [] (codes "(struct)") ≡ codes "(struct)") × (declared_text false [] (codes "(struct)") ≡ codes "(sub (struct))")
 
 pub texts_written : TextsAreWritten

@@ -1,5 +1,6 @@
 -- What both loops over the groups of a number take from a byte and its offset.
-use Rattle.std.proofs.Common.{◌≡◌, ℕ, suc, ◌+◌, ◌-◌, ◌*◌, ◌%◌, ◌^◌, ◌<◌, ◌≤◌, List, [], ◌∷◌, length, take, drop, get_or, refl, sym, ap, arith, pow-add, pow_mono, mul-le-mul_right, suc-mul, add-one}
+use Rattle.std.proofs.Common.{◌≡◌, ℕ, suc, ◌+◌, ◌-◌, ◌*◌, ◌%◌, ◌^◌, ◌<◌, ◌≤◌, List, [], ◌∷◌, length, take, drop, get_or, refl, sym, ap, arith}
+use Rattle.std.proofs.Common.{pow-add, pow_mono, mul-le-mul_right, suc-mul, add-one}
 use Rattle.std.specs.Prelude.{bit_and, bit_or}
 use Rattle.std.specs.Int.Bits.{or_shifted_r}
 use Rattle.std.proofs.Math.Seq.{drop-cons, take_all}

@@ -11,7 +11,7 @@ use Rattle.wasm_types_trees.specs.worked.Groups.{open_type, single, struct_type,
 
 -- of groups one after the other the first is valid
 first_is_valid : (settings : Settings) (space after : List TypeTree) (g : Written) (gs : List Written) → AreValidGroups settings space (g ∷ gs) after
-  → IsValidGroup settings space g
+    → IsValidGroup settings space g
 first_is_valid settings space after g gs (next v vs) = v
 
 no_supertype_yet : IsRefused [] (single (open_type (0 ∷ []) (struct_type (integer ∷ []))))

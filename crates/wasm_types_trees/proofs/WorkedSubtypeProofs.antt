@@ -105,54 +105,140 @@ subtypes_worked = record {
   no_null_carried = ((λ p. let e = (p.1 base broken_base).1 in cc), ((λ p. let e = (p.1 base itself).1 in cc), ((λ p. elim p.1.1 [ ]), ((λ p. elim p.1.1 [ ]), tt))));
   eq_types = ((tt, (refl, same)), ((tt, (refl, eq_any)), tt));
   eq_types_not = ((λ p. elim p.1.1 [ ]), ((λ p. elim p.1.1 [ ]), ((λ p. elim p.1.1 [ ]), ((λ p. let e = p.1.0 in cc), ((λ p. elim p.1.1 [ ]), tt)))));
-  any_types_not = ((λ p. elim p.1.1 [ ]), ((λ p. elim p.1.1 [ ]),
-    ((λ p. elim p.1.1 [ ]), ((λ p. let e = (p.1 base itself).1 in cc), ((λ p. let e = (p.1 base itself).1 in cc), tt)))));
+  any_types_not = (
+    (λ p. elim p.1.1 [ ]),
+    (
+      (λ p. elim p.1.1 [ ]),
+      ((λ p. elim p.1.1 [ ]), ((λ p. let e = (p.1 base itself).1 in cc), ((λ p. let e = (p.1 base itself).1 in cc), tt))),
+    ),
+  );
   i31_types = ((tt, (refl, same)), ((tt, (refl, i31_eq)), ((tt, (refl, i31_any)), tt)));
   i31_types_not = ((λ p. elim p.1.1 [ ]), ((λ p. elim p.1.1 [ ]), ((λ p. elim p.1.1 [ ]), ((λ p. let e = (p.1 base itself).1 in cc), tt))));
-  bottoms = ((tt, (refl, none_i31)), ((tt, (refl, none_array)),
-    ((tt, (refl, none_eq)), ((tt, (refl, none_any)), ((tt, λ u. above_base (IsOver false none) u (refl, refl)),
-    ((tt, λ u. above_leaf (IsOver false none) u (refl, refl) (refl, refl) (refl, refl)),
-    ((tt, λ u. above_leaf (IsOver false none) u (refl, refl) (refl, refl) (refl, refl)), ((tt, λ u. above_numbers (IsOver false none) u (refl, refl)), tt))))))));
-  bottoms_not = ((λ p. elim p.1.1 [ ]), ((λ p. elim p.1.1 [ ]),
-    ((λ p. elim p.1.1 [ ]), ((λ p. let e = (p.1 routine itself).1 in cc),
-    ((λ p. let e = (p.1 shared_struct itself).0 in cc), ((λ p. let e = (p.1 routine itself).1 in cc), tt))))));
-  function_bottoms = ((tt, (refl, nofunc_func)), ((tt, λ u. above_routine (IsOver false nofunc) u (refl, refl)),
-    ((tt, λ u. above_routine (IsOver false nofunc) u (refl, refl)), tt)));
+  bottoms = (
+    (tt, (refl, none_i31)),
+    (
+      (tt, (refl, none_array)),
+      (
+        (tt, (refl, none_eq)),
+        (
+          (tt, (refl, none_any)),
+          (
+            (tt, λ u. above_base (IsOver false none) u (refl, refl)),
+            (
+              (tt, λ u. above_leaf (IsOver false none) u (refl, refl) (refl, refl) (refl, refl)),
+              ((tt, λ u. above_leaf (IsOver false none) u (refl, refl) (refl, refl) (refl, refl)), ((tt, λ u. above_numbers (IsOver false none) u (refl, refl)), tt)),
+            ),
+          ),
+        ),
+      ),
+    ),
+  );
+  bottoms_not = (
+    (λ p. elim p.1.1 [ ]),
+    (
+      (λ p. elim p.1.1 [ ]),
+      (
+        (λ p. elim p.1.1 [ ]),
+        (
+          (λ p. let e = (p.1 routine itself).1 in cc),
+          ((λ p. let e = (p.1 shared_struct itself).0 in cc), ((λ p. let e = (p.1 routine itself).1 in cc), tt)),
+        ),
+      ),
+    ),
+  );
+  function_bottoms = (
+    (tt, (refl, nofunc_func)),
+    (
+      (tt, λ u. above_routine (IsOver false nofunc) u (refl, refl)),
+      ((tt, λ u. above_routine (IsOver false nofunc) u (refl, refl)), tt),
+    ),
+  );
   function_bottoms_not = ((λ p. elim p.1.1 [ ]), ((λ p. elim p.1.1 [ ]), ((λ p. let e = (p.1 base itself).1 in cc), ((λ p. let e = (p.1 suspended itself).1 in cc), tt))));
   continuation_bottoms = ((tt, (refl, nocont_cont)), ((tt, λ u. above_suspended (IsOver false nocont) u (refl, refl)), tt));
   other_bottoms = (((tt, (refl, noextern_extern)), tt), ((tt, (refl, noexn_exn)), tt));
-  other_bottoms_not = (((λ p. elim p.1.1 [ ]), ((λ p. elim p.1.1 [ ]), ((λ p. let e = (p.1 base itself).1 in cc), tt))),
-    ((λ p. elim p.1.1 [ ]), ((λ p. elim p.1.1 [ ]), ((λ p. let e = (p.1 base itself).1 in cc), tt))));
-  structs = ((tt, itself), ((tt, leaf_derived), ((tt, leaf_base),
-    ((tt, (leaf, itself, refl, same)), ((tt, (leaf, itself, refl, struct_eq)), ((tt, (leaf, itself, refl, struct_any)), tt))))));
-  structs_not = ((λ p. above_derived (IsNot leaf) leaf (λ e f g. cc) (λ e f g. cc) p.1 refl refl refl),
-    ((λ p. above_derived (IsNot unrelated) unrelated (λ e f g. cc) (λ e f g. cc) p.1 refl refl refl),
-    ((λ p. p.1), ((λ p. p.1), ((λ p. above_derived (IsNotUnder false array) p.1.0 (λ e q. elim q [ ]) (λ e q. elim q [ ]) p.1.1 p.1.2 p.1.3),
-    ((λ p. above_derived (IsNotUnder false func) p.1.0 (λ e q. elim q [ ]) (λ e q. elim q [ ]) p.1.1 p.1.2 p.1.3),
-    ((λ p. above_derived (IsNotUnder false none) p.1.0 (λ e q. elim q [ ]) (λ e q. elim q [ ]) p.1.1 p.1.2 p.1.3),
-    ((λ p. above_derived (IsNotUnder true struct) p.1.0 (λ e q. cc) (λ e q. cc) p.1.1 p.1.2 p.1.3), tt))))))));
+  other_bottoms_not = (
+    ((λ p. elim p.1.1 [ ]), ((λ p. elim p.1.1 [ ]), ((λ p. let e = (p.1 base itself).1 in cc), tt))),
+    ((λ p. elim p.1.1 [ ]), ((λ p. elim p.1.1 [ ]), ((λ p. let e = (p.1 base itself).1 in cc), tt))),
+  );
+  structs = (
+    (tt, itself),
+    (
+      (tt, leaf_derived),
+      (
+        (tt, leaf_base),
+        ((tt, (leaf, itself, refl, same)), ((tt, (leaf, itself, refl, struct_eq)), ((tt, (leaf, itself, refl, struct_any)), tt))),
+      ),
+    ),
+  );
+  structs_not = (
+    (λ p. above_derived (IsNot leaf) leaf (λ e f g. cc) (λ e f g. cc) p.1 refl refl refl),
+    (
+      (λ p. above_derived (IsNot unrelated) unrelated (λ e f g. cc) (λ e f g. cc) p.1 refl refl refl),
+      (
+        (λ p. p.1),
+        (
+          (λ p. p.1),
+          (
+            (λ p. above_derived (IsNotUnder false array) p.1.0 (λ e q. elim q [ ]) (λ e q. elim q [ ]) p.1.1 p.1.2 p.1.3),
+            (
+              (λ p. above_derived (IsNotUnder false func) p.1.0 (λ e q. elim q [ ]) (λ e q. elim q [ ]) p.1.1 p.1.2 p.1.3),
+              (
+                (λ p. above_derived (IsNotUnder false none) p.1.0 (λ e q. elim q [ ]) (λ e q. elim q [ ]) p.1.1 p.1.2 p.1.3),
+                ((λ p. above_derived (IsNotUnder true struct) p.1.0 (λ e q. cc) (λ e q. cc) p.1.1 p.1.2 p.1.3), tt),
+              ),
+            ),
+          ),
+        ),
+      ),
+    ),
+  );
   undeclared = ((λ p. above_unrelated (IsNot base) base (λ e f g. cc) p.1 refl refl refl), ((λ p. above_unrelated (IsNot derived) derived (λ e f g. cc) p.1 refl refl refl), tt));
   shared_structs = ((tt, (shared_struct, itself, refl, same)), ((tt, (shared_struct, itself, refl, struct_any)), tt));
-  shared_structs_not = ((λ p. above_shared_struct (IsNotUnder false struct) p.1.0 (λ e q. cc) p.1.1 p.1.2 p.1.3),
-    ((λ p. above_shared_struct (IsNotUnder false any) p.1.0 (λ e q. cc) p.1.1 p.1.2 p.1.3),
-    ((λ p. above_shared_struct (IsNot base) base (λ e f g. cc) p.1 refl refl refl), tt)));
+  shared_structs_not = (
+    (λ p. above_shared_struct (IsNotUnder false struct) p.1.0 (λ e q. cc) p.1.1 p.1.2 p.1.3),
+    (
+      (λ p. above_shared_struct (IsNotUnder false any) p.1.0 (λ e q. cc) p.1.1 p.1.2 p.1.3),
+      ((λ p. above_shared_struct (IsNot base) base (λ e f g. cc) p.1 refl refl refl), tt),
+    ),
+  );
   arrays = ((tt, (numbers, itself, refl, same)), ((tt, (numbers, itself, refl, array_eq)), ((tt, (numbers, itself, refl, array_any)), tt)));
-  arrays_not = ((λ p. above_numbers (IsNotUnder false struct) p.1.0 (λ e q. elim q [ ]) p.1.1 p.1.2 p.1.3),
-    ((λ p. above_numbers (IsNotUnder false func) p.1.0 (λ e q. elim q [ ]) p.1.1 p.1.2 p.1.3),
-    ((λ p. above_numbers (IsNot base) base (λ e f g. cc) p.1 refl refl refl), tt)));
+  arrays_not = (
+    (λ p. above_numbers (IsNotUnder false struct) p.1.0 (λ e q. elim q [ ]) p.1.1 p.1.2 p.1.3),
+    (
+      (λ p. above_numbers (IsNotUnder false func) p.1.0 (λ e q. elim q [ ]) p.1.1 p.1.2 p.1.3),
+      ((λ p. above_numbers (IsNot base) base (λ e f g. cc) p.1 refl refl refl), tt),
+    ),
+  );
   functions = ((tt, (routine, itself, refl, same)), tt);
-  functions_not = ((λ p. above_routine (IsNotUnder false any) p.1.0 (λ e q. elim q [ ]) p.1.1 p.1.2 p.1.3),
-    ((λ p. above_routine (IsNotUnder false cont) p.1.0 (λ e q. elim q [ ]) p.1.1 p.1.2 p.1.3),
-    ((λ p. above_routine (IsNotUnder false nofunc) p.1.0 (λ e q. elim q [ ]) p.1.1 p.1.2 p.1.3), tt)));
+  functions_not = (
+    (λ p. above_routine (IsNotUnder false any) p.1.0 (λ e q. elim q [ ]) p.1.1 p.1.2 p.1.3),
+    (
+      (λ p. above_routine (IsNotUnder false cont) p.1.0 (λ e q. elim q [ ]) p.1.1 p.1.2 p.1.3),
+      ((λ p. above_routine (IsNotUnder false nofunc) p.1.0 (λ e q. elim q [ ]) p.1.1 p.1.2 p.1.3), tt),
+    ),
+  );
   continuations = ((tt, (suspended, itself, refl, same)), tt);
-  continuations_not = ((λ p. above_suspended (IsNotUnder false func) p.1.0 (λ e q. elim q [ ]) p.1.1 p.1.2 p.1.3),
-    ((λ p. above_suspended (IsNotUnder false any) p.1.0 (λ e q. elim q [ ]) p.1.1 p.1.2 p.1.3),
-    ((λ p. above_suspended (IsNot routine) routine (λ e f g. cc) p.1 refl refl refl), tt)));
+  continuations_not = (
+    (λ p. above_suspended (IsNotUnder false func) p.1.0 (λ e q. elim q [ ]) p.1.1 p.1.2 p.1.3),
+    (
+      (λ p. above_suspended (IsNotUnder false any) p.1.0 (λ e q. elim q [ ]) p.1.1 p.1.2 p.1.3),
+      ((λ p. above_suspended (IsNot routine) routine (λ e f g. cc) p.1 refl refl refl), tt),
+    ),
+  );
   exact_types = ((tt, refl), ((tt, itself), ((tt, derived_base), ((tt, (derived, itself, refl, same)), ((tt, (derived, itself, refl, struct_any)), tt)))));
-  exact_types_not = ((λ p. other_derived_base (ap expanded p.1)),
-    ((λ p. other_derived_leaf (ap expanded p.1)), ((λ p. above_derived (IsNot leaf) leaf (λ e f g. cc) (λ e f g. cc) p.1 refl refl refl),
-    ((λ p. above_derived (IsNotUnder false array) p.1.0 (λ e q. elim q [ ]) (λ e q. elim q [ ]) p.1.1 p.1.2 p.1.3),
-    ((λ p. above_derived (IsNotUnder false none) p.1.0 (λ e q. elim q [ ]) (λ e q. elim q [ ]) p.1.1 p.1.2 p.1.3), tt)))));
+  exact_types_not = (
+    (λ p. other_derived_base (ap expanded p.1)),
+    (
+      (λ p. other_derived_leaf (ap expanded p.1)),
+      (
+        (λ p. above_derived (IsNot leaf) leaf (λ e f g. cc) (λ e f g. cc) p.1 refl refl refl),
+        (
+          (λ p. above_derived (IsNotUnder false array) p.1.0 (λ e q. elim q [ ]) (λ e q. elim q [ ]) p.1.1 p.1.2 p.1.3),
+          ((λ p. above_derived (IsNotUnder false none) p.1.0 (λ e q. elim q [ ]) (λ e q. elim q [ ]) p.1.1 p.1.2 p.1.3), tt),
+        ),
+      ),
+    ),
+  );
   broken_chain = ((tt, broken_base), ((tt, (broken, itself, refl, same)), ((tt, (base, broken_base, refl, same)), tt)));
   no_way_in = ((λ p. let e = (p.1 base broken_base).1 in cc), ((λ p. let e = (p.1 base broken_base).1 in cc), tt));
   no_way_in_either = ((λ p. let e = (p.1 broken itself).1 in cc), ((λ p. let e = (p.1 broken itself).1 in cc), tt));

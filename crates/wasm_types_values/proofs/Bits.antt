@@ -156,7 +156,7 @@ module _ (bits : ℕ) (r : Reference) (valid : AreBits bits) (says : reference_o
       holds _ _ fitting (omega arith)
 
 pub holds_abstract : (b s : Bool) (ty : AbstractHeapType) (n k c : ℕ) → n ≡ 0x40_0000 * bit b → k ≡ 0x10_0000 * bit s → c ≡ code_of ty → Holds
-  (n + k + c) (record { nullable = b; heap = Abstract s ty })
+    (n + k + c) (record { nullable = b; heap = Abstract s ty })
 holds_abstract b s ty n k c e f g = holds _ _ tt (omega arith)
 
 -- ---- comparing
@@ -171,8 +171,8 @@ part_level : (k l a b : ℕ) → a < 0x10_0000 → b < 0x10_0000 → nat_cmp (0x
 part_level k l a b h i = grind (arith, nat_tests)
 
 lexicographic : (k l p q x y : ℕ) (m n : Bool) → p < 4 → q < 4 → x < 0x10_0000 → y < 0x10_0000 → nat_cmp
-  (0x80_0000 * k + 0x40_0000 * bit m + (0x10_0000 * p + x)) (0x80_0000 * l + 0x40_0000 * bit n + (0x10_0000 * q + y)) ≡ ordering_then (nat_cmp k l)
-  (ordering_then (nat_cmp (bit m) (bit n)) (ordering_then (nat_cmp p q) (nat_cmp x y)))
+    (0x80_0000 * k + 0x40_0000 * bit m + (0x10_0000 * p + x)) (0x80_0000 * l + 0x40_0000 * bit n + (0x10_0000 * q + y)) ≡ ordering_then (nat_cmp k l)
+    (ordering_then (nat_cmp (bit m) (bit n)) (ordering_then (nat_cmp p q) (nat_cmp x y)))
 lexicographic k l p q x y m n h i j o =
     let a : ℕ = 0x10_0000 * p + x in
     let b : ℕ = 0x10_0000 * q + y in
@@ -206,7 +206,7 @@ compares r s f g =
     ap (λ (z : ℕ). nat_cmp z (bits_of s)) (grouped r)
     ∙ ap (λ (z : ℕ). nat_cmp (0x80_0000 * class_of r.heap + 0x40_0000 * bit r.nullable + (0x10_0000 * part_of r.heap + last_of r.heap)) z) (grouped s)
     ∙ lexicographic (class_of r.heap) (class_of s.heap) (part_of r.heap) (part_of s.heap) (last_of r.heap) (last_of s.heap) r.nullable s.nullable
-      (part_small r.heap) (part_small s.heap) (last_small r.heap f) (last_small s.heap g)
+    (part_small r.heap) (part_small s.heap) (last_small r.heap f) (last_small s.heap g)
 
 pub compares_bits : (a b : ℕ) (r s : Reference) → AreBits a → AreBits b → reference_of a ≡ r → reference_of b ≡ s → nat_cmp a b ≡ reference_cmp r s
 compares_bits a b r s v w e f =

@@ -23,9 +23,9 @@ module _ (answers : UnpackedIndex → Result UnpackedIndex ErrorValue → Type 0
       → Remapped {U = Unit {0}} value_shape value_indices answers (Err e) (tree.ref b (heap_of h)) (tree.ref b (heap_of h))
   refused_heap b (Abstract s a) i e p h = absurd cc
   refused_heap b (Concrete j) i e p h = let same : j ≡ i = cc in
-    record { same = refl; walked = refused_alone answers e j (subst (λ (k : UnpackedIndex). answers k (Err e)) (sym same) h) }
+      record { same = refl; walked = refused_alone answers e j (subst (λ (k : UnpackedIndex). answers k (Err e)) (sym same) h) }
   refused_heap b (Exact j) i e p h = let same : j ≡ i = cc in
-    record { same = refl; walked = refused_alone answers e j (subst (λ (k : UnpackedIndex). answers k (Err e)) (sym same) h) }
+      record { same = refl; walked = refused_alone answers e j (subst (λ (k : UnpackedIndex). answers k (Err e)) (sym same) h) }
 
   pub refused_value : (v : ValType) (r : Reference) (i : UnpackedIndex) (e : ErrorValue) → reference_in v ≡ Some r → index_of r.heap ≡ Some i → answers i (Err e)
       → Remapped {U = Unit {0}} value_shape value_indices answers (Err e) (value_of v) (value_of v)
@@ -63,9 +63,9 @@ module _ (answers : UnpackedIndex → Result UnpackedIndex ErrorValue → Type 0
   pub replaced_exact : (v : ValType) (r : Reference) (i j : UnpackedIndex) → reference_in v ≡ Some r → index_of r.heap ≡ Some i → is_exact r.heap ≡ true → answers i (Ok j)
       → Remapped value_shape value_indices answers (Ok (tt {0})) (value_of v) (tree.ref r.nullable (tree.exact j))
   replaced_exact v r i j p q x h = subst (λ (b : Bool). Remapped value_shape value_indices answers (Ok (tt {0})) (value_of v)
-    (tree.ref r.nullable (with_index b j))) x (replaced_value v r i j p q h)
+      (tree.ref r.nullable (with_index b j))) x (replaced_value v r i j p q h)
 
   pub replaced_concrete : (v : ValType) (r : Reference) (i j : UnpackedIndex) → reference_in v ≡ Some r → index_of r.heap ≡ Some i → is_exact r.heap ≡ false → answers i (Ok j)
       → Remapped value_shape value_indices answers (Ok (tt {0})) (value_of v) (tree.ref r.nullable (tree.concrete j))
   replaced_concrete v r i j p q x h = subst (λ (b : Bool). Remapped value_shape value_indices answers (Ok (tt {0})) (value_of v)
-    (tree.ref r.nullable (with_index b j))) x (replaced_value v r i j p q h)
+      (tree.ref r.nullable (with_index b j))) x (replaced_value v r i j p q h)

@@ -30,8 +30,8 @@ code_of heap.NoCont = 10
 -- the abstract type of a number
 abbrev pub type_of_code : ℕ → AbstractHeapType
 type_of_code n = if n == 5 then heap.Func else if n == 3 then heap.Extern else if n == 15 then heap.Any else if n == 2 then heap.NoExtern else if n ==
-  4 then heap.NoFunc else if n == 13 then heap.Eq else if n == 9 then heap.Struct else if n == 12 then heap.Array else if n == 8 then heap.I31 else if
-  n == 1 then heap.Exn else if n == 14 then heap.NoExn else if n == 11 then heap.Cont else if n == 10 then heap.NoCont else heap.None
+    4 then heap.NoFunc else if n == 13 then heap.Eq else if n == 9 then heap.Struct else if n == 12 then heap.Array else if n == 8 then heap.I31 else if
+    n == 1 then heap.Exn else if n == 14 then heap.NoExn else if n == 11 then heap.Cont else if n == 10 then heap.NoCont else heap.None
 
 -- one bit
 abbrev pub bit : Bool → ℕ
@@ -57,7 +57,7 @@ bits_of r = 0x80_0000 * class_of r.heap + 0x40_0000 * bit r.nullable + low_bits_
 -- the heap type that 25 bits hold
 abbrev pub heap_of_bits : ℕ → HeapType
 heap_of_bits bits = if nat_lt bits 0x100_0000 then Abstract (nat_lt 0xf_ffff (bits % 0x40_0000)) (type_of_code (bits % 0x10_0000)) else if nat_lt bits
-  0x180_0000 then Concrete (unpacked (bits % 0x40_0000)) else Exact (unpacked (bits % 0x40_0000))
+    0x180_0000 then Concrete (unpacked (bits % 0x40_0000)) else Exact (unpacked (bits % 0x40_0000))
 
 -- the reference that they hold
 abbrev pub reference_of : ℕ → Reference

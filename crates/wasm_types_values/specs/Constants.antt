@@ -12,5 +12,5 @@ reference_to nullable ty = record { nullable = nullable; heap = Abstract false t
 -- one to each of them, nullable (true) or not
 abbrev pub references : Bool → List Reference
 references b = reference_to b heap.Func ∷ reference_to b heap.Extern ∷ reference_to b heap.Any ∷ reference_to b heap.Eq ∷ reference_to b heap.Struct
-  ∷ reference_to b heap.Array ∷ reference_to b heap.I31 ∷ reference_to b heap.Exn ∷ reference_to b heap.Cont ∷ reference_to b heap.None ∷ reference_to
-  b heap.NoFunc ∷ reference_to b heap.NoExtern ∷ reference_to b heap.NoExn ∷ reference_to b heap.NoCont ∷ []
+    ∷ reference_to b heap.Array ∷ reference_to b heap.I31 ∷ reference_to b heap.Exn ∷ reference_to b heap.Cont ∷ reference_to b heap.None ∷ reference_to
+    b heap.NoFunc ∷ reference_to b heap.NoExtern ∷ reference_to b heap.NoExn ∷ reference_to b heap.NoCont ∷ []

@@ -19,8 +19,8 @@ find (c ∷ cs) b = if b == c.0 then Some c.1 else find cs b
 -- each abstract type by its byte
 abbrev pub abstract_types : List (ℕ × AbstractHeapType)
 abstract_types = (0x68, heap.Cont) ∷ (0x69, heap.Exn) ∷ (0x6a, heap.Array) ∷ (0x6b, heap.Struct) ∷ (0x6c, heap.I31) ∷ (0x6d, heap.Eq)
-  ∷ (0x6e, heap.Any) ∷ (0x6f, heap.Extern) ∷ (0x70, heap.Func) ∷ (0x71, heap.None) ∷ (0x72, heap.NoExtern) ∷ (0x73, heap.NoFunc) ∷ (0x74, heap.NoExn)
-  ∷ (0x75, heap.NoCont) ∷ []
+    ∷ (0x6e, heap.Any) ∷ (0x6f, heap.Extern) ∷ (0x70, heap.Func) ∷ (0x71, heap.None) ∷ (0x72, heap.NoExtern) ∷ (0x73, heap.NoFunc) ∷ (0x74, heap.NoExn)
+    ∷ (0x75, heap.NoCont) ∷ []
 
 -- the abstract type of a byte, if it has one
 abbrev pub type_of_byte : ℕ → Option AbstractHeapType

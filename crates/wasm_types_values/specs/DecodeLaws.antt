@@ -37,7 +37,7 @@ lawful-concrete_heap_type = lawful-from_place (λ p. s33 >>= concrete_from p) (�
 lawful-exact_heap_type : IsLawful exact_heap_type
 unfolding exact_heap_type
 lawful-exact_heap_type = lawful-from_place (λ p. u32 >>= exact_from p)
-  (λ p. lawful->>= u32 (exact_from p) (lawful-unsigned 4 4) (λ n. lawful-if (nat_lt n 0x10_0000) _ _ (lawful-pure (Exact (Module n))) (lawful-refuse_at Other p)))
+    (λ p. lawful->>= u32 (exact_from p) (lawful-unsigned 4 4) (λ n. lawful-if (nat_lt n 0x10_0000) _ _ (lawful-pure (Exact (Module n))) (lawful-refuse_at Other p)))
 
 lawful-heap_type_after : (b : ℕ) → IsLawful (heap_type_after b)
 unfolding heap_type_after
@@ -57,7 +57,7 @@ unfolding signed
 signed_takes k r g l s h =
     let f : ℕ → Decoder ℤ = λ b. cond (nat_lt b 128) (pure (seven_bits b)) (signed k r >>= λ m. pure (pos 128 *ℤ m +ℤ pos (b - 128))) in
     let lf : (b : ℕ) → IsLawful (f b) = λ b. lawful-if (nat_lt b 128) (pure (seven_bits b)) (signed k r >>= λ m. pure (pos 128 *ℤ m +ℤ pos (b - 128)))
-      (lawful-pure _) (lawful->>= (signed k r) _ (lawful-signed k r) (λ m. lawful-pure _)) in
+    (lawful-pure _) (lawful->>= (signed k r) _ (lawful-signed k r) (λ m. lawful-pure _)) in
     subst (IsBeyond s.place) (sym (regroup (byte s) f g)) (TakesOne-byte (λ b. f b >>= g) (λ b. lawful->>= (f b) g (lf b) l) s h)
 
 TakesOne-concrete_heap_type : TakesOne concrete_heap_type

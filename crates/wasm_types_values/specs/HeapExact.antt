@@ -48,7 +48,7 @@ found P (c ∷ cs) b all x e = go (b == c.0) refl e (found P cs b all.1 x)
 
 byte_is : (b : ℕ) (ty : AbstractHeapType) → type_of_byte b ≡ Some ty → b ≡ abstract_byte (abstract_of ty)
 byte_is b ty e = found (λ n t. n ≡ abstract_byte (abstract_of t)) abstract_types b
-  (refl, (refl, (refl, (refl, (refl, (refl, (refl, (refl, (refl, (refl, (refl, (refl, (refl, (refl, tt)))))))))))))) ty e
+    (refl, (refl, (refl, (refl, (refl, (refl, (refl, (refl, (refl, (refl, (refl, (refl, (refl, (refl, tt)))))))))))))) ty e
 
 type_back : (ty : AbstractHeapType) → type_of_byte (abstract_byte (abstract_of ty)) ≡ Some ty
 type_back heap.Func = refl
@@ -128,7 +128,7 @@ module _ {V : Type 0} (d : Decoder V) (g : Grammar V) (f : ℕ → V → Decoder
 
   decides-numbered : Decides d g → ((p : ℕ) (v : V) → Decides (f p v) (after v)) → Decides (λ s. (d >>= f s.place) s) Numbered
   decides-numbered dg each = decides-from_place (λ p. d >>= f p) Numbered
-    (λ p. decides-same _ (Then g after) Numbered (decides->>= d (f p) g after dg (each p)) numbered_to numbered_from)
+      (λ p. decides-same _ (Then g after) Numbered (decides->>= d (f p) g after dg (each p)) numbered_to numbered_from)
 
 abbrev ByConcrete : ℤ → HeapType → Type 0
 ByConcrete v h = (n : ℕ) × (v ≡ pos n) × (n < 2 ^ 20) × (h ≡ Concrete (Module n))
@@ -200,7 +200,7 @@ exact_to_other : (h : HeapType) (text : List ℕ) → SpellsExact h text → Spe
 exact_to_other h text m = subst (λ (k : HeapType). SpellsOther k (0x62 ∷ text)) (sym m.2.1) (text, refl, (m.1, m.2.0))
 
 alone_only : (b : ℕ) → b ≢ 0x65 → b ≢ 0x62 → (h : HeapType) (text : List ℕ) → SpellsOther h (b ∷ text) → (ty : AbstractHeapType) ×
-  (b ≡ abstract_byte (abstract_of ty)) × (h ≡ Abstract false ty) × (text ≡ [])
+    (b ≡ abstract_byte (abstract_of ty)) × (h ≡ Abstract false ty) × (text ≡ [])
 alone_only b m n (Abstract true ty) text e = absurd (m (heads b 0x65 text (abstract_byte (abstract_of ty) ∷ []) e))
 alone_only b m n (Abstract false ty) text e = (ty, heads b (abstract_byte (abstract_of ty)) text [] e, refl, tails b (abstract_byte (abstract_of ty)) text [] e)
 alone_only b m n (Concrete i) text e = absurd e
@@ -275,7 +275,7 @@ module _ (b : ℕ) (s t : State) (text : List ℕ) (p : Takes s (b ∷ text) t) 
       let is : b ≡ abstract_byte (abstract_of ty) = heads b (abstract_byte (abstract_of ty)) text [] e in
       by_other (Abstract false ty) (omega (arith, byte_range ty)) (omega (arith, byte_range ty)) e
   heap_complete (Concrete (Module n)) e = rw (index_begins n refl e.0)
-    (decides-concrete_heap_type.complete s t (Concrete (Module n)) (b ∷ text) p (pos n, e.0, (n, refl, e.1, refl)))
+      (decides-concrete_heap_type.complete s t (Concrete (Module n)) (b ∷ text) p (pos n, e.0, (n, refl, e.1, refl)))
   heap_complete (Concrete (RecGroup n)) e = absurd e
   heap_complete (Concrete (Id i)) e = absurd e
   heap_complete (Exact i) e = let is : b ≡ 0x62 = heads b 0x62 text e.0 e.1 in by_other (Exact i) (omega arith) (omega arith) e

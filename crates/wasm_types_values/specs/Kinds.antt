@@ -65,4 +65,4 @@ reference_eq = eq_of_both (on (λ r. class_of r.heap) ◌==◌) (eq_of_both (on 
 -- by the first of the four that differs
 abbrev pub reference_cmp : Reference → Reference → Ordering
 reference_cmp = then_cmp (on (λ r. class_of r.heap) nat_cmp)
-  (then_cmp (on (λ r. bit r.nullable) nat_cmp) (then_cmp (on (λ r. part_of r.heap) nat_cmp) (on (λ r. last_of r.heap) nat_cmp)))
+    (then_cmp (on (λ r. bit r.nullable) nat_cmp) (then_cmp (on (λ r. part_of r.heap) nat_cmp) (on (λ r. last_of r.heap) nat_cmp)))

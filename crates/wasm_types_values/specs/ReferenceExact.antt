@@ -92,11 +92,11 @@ decides-shared : Decides (abstract_heap_type >>= λ ty. pure (reference true (Ab
 decides-shared = decides-same _ _ _ (decides-map abstract_heap_type (λ ty. reference true (Abstract true ty)) SpellsAbstract decides-abstract_heap_type) shared_to shared_from
 
 alone_from : (c : ℕ) → eqb c 0x64 ≡ false → eqb c 0x63 ≡ false → eqb c 0x65 ≡ false → (r : Reference) (text : List ℕ) → SpelledReference r (c ∷ text)
-  → (ty : AbstractHeapType) × (c ≡ abstract_byte (abstract_of ty)) × (r ≡ reference true (Abstract false ty)) × (text ≡ [])
+    → (ty : AbstractHeapType) × (c ≡ abstract_byte (abstract_of ty)) × (r ≡ reference true (Abstract false ty)) × (text ≡ [])
 alone_from c i j k r text e = go r.nullable r.heap (forms c text r.nullable r.heap e)
   where
     go : (b' : Bool) (h' : HeapType) → Form c text b' h' → (ty : AbstractHeapType) × (c ≡ abstract_byte (abstract_of ty)) ×
-      (reference b' h' ≡ reference true (Abstract false ty)) × (text ≡ [])
+        (reference b' h' ≡ reference true (Abstract false ty)) × (text ≡ [])
     go b' h' (long true k' e w) = absurd (eqb-false _ _ j e)
     go b' h' (long false k' e w) = absurd (eqb-false _ _ i e)
     go b' h' (shared ty e w) = absurd (eqb-false _ _ k e)
@@ -110,7 +110,7 @@ decides-reference_after c = decides-if (eqb c 0x64) _ _ _
     (λ t. subst (λ (n : ℕ). Decides (heap_type >>= λ h. pure (reference true h)) (λ r text. SpelledReference r (n ∷ text))) (sym (eqb-true _ _ t)) (decides-long true))
     (λ j. decides-if (eqb c 0x65) _ _ _
     (λ t. subst (λ (n : ℕ). Decides (abstract_heap_type >>= λ ty. pure (reference true (Abstract true ty))) (λ r text. SpelledReference r (n ∷ text)))
-      (sym (eqb-true _ _ t)) decides-shared)
+    (sym (eqb-true _ _ t)) decides-shared)
     (λ k. decides-with_type (λ ty. reference true (Abstract false ty)) c (λ r text. SpelledReference r (c ∷ text)) (λ ty e. inr (ap (λ (n : ℕ). n ∷ []) e)) (alone_from c i j k))))
 
 pub decides-reference_type : Decides reference_type SpelledReference

@@ -18,12 +18,12 @@ one_more : (x y : ℕ) (e : Bool) (o : Ordering) → e ≡ is_eq o → (x == y &
 one_more x y e o h = ap (λ (t : Bool). t && e) (unsigned_ties x y) ∙ ap (λ (t : Bool). is_eq (nat_cmp x y) && t) h ∙ sym (both_equal (nat_cmp x y) o)
 
 four : (a b c d k l m n : ℕ) → (a == k && (b == l && (c == m && d == n))) ≡ is_eq
-  (ordering_then (nat_cmp a k) (ordering_then (nat_cmp b l) (ordering_then (nat_cmp c m) (nat_cmp d n))))
+    (ordering_then (nat_cmp a k) (ordering_then (nat_cmp b l) (ordering_then (nat_cmp c m) (nat_cmp d n))))
 four a b c d k l m n =
     let e : (d == n) ≡ is_eq (nat_cmp d n) = unsigned_ties d n in
     let f : (c == m && d == n) ≡ is_eq (ordering_then (nat_cmp c m) (nat_cmp d n)) = one_more c m (d == n) (nat_cmp d n) e in
     let g : (b == l && (c == m && d == n)) ≡ is_eq (ordering_then (nat_cmp b l) (ordering_then (nat_cmp c m) (nat_cmp d n))) = one_more b l
-      (c == m && d == n) (ordering_then (nat_cmp c m) (nat_cmp d n)) f in
+    (c == m && d == n) (ordering_then (nat_cmp c m) (nat_cmp d n)) f in
     one_more a k (b == l && (c == m && d == n)) (ordering_then (nat_cmp b l) (ordering_then (nat_cmp c m) (nat_cmp d n))) g
 
 pub reference_ties : (r s : Reference) → reference_eq r s ≡ is_eq (reference_cmp r s)

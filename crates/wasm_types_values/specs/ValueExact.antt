@@ -85,9 +85,9 @@ module _ (b : ℕ) (not_i32 : eqb b 0x7f ≡ false) (not_i64 : eqb b 0x7e ≡ fa
   decides-reference_value = decides-same _ _ _ (decides-map (reference_after b) Ref (λ r t. SpelledReference r (b ∷ t)) (decides-reference_after b)) (reference_to b) reference_from
 
 number_decides : (b n : ℕ) (x : ValType) → eqb b n ≡ true → SpelledValue x (n ∷ []) →
-  ((v : ValType) (text : List ℕ) → SpelledValue v (n ∷ text) → (v ≡ x) × (text ≡ [])) → Decides (pure x) (λ v text. SpelledValue v (b ∷ text))
+    ((v : ValType) (text : List ℕ) → SpelledValue v (n ∷ text) → (v ≡ x) × (text ≡ [])) → Decides (pure x) (λ v text. SpelledValue v (b ∷ text))
 number_decides b n x t here only = subst (λ (c : ℕ). Decides (pure x) (λ v text. SpelledValue v (c ∷ text))) (sym (eqb-true _ _ t))
-  (decides-pure x (λ v text. SpelledValue v (n ∷ text)) here only)
+    (decides-pure x (λ v text. SpelledValue v (n ∷ text)) here only)
 
 pub decides-value_type_after : (b : ℕ) → Decides (value_type_after b) (λ v text. SpelledValue v (b ∷ text))
 unfolding value_type_after
@@ -145,9 +145,9 @@ value_from b i j I16 text e = absurd (eqb-false _ _ j (heads b 0x77 text [] e))
 value_from b i j (Val v) text e = (v, e, refl)
 
 packed_decides : (b n : ℕ) (x : StorageType) → eqb b n ≡ true → SpelledStorage x (n ∷ []) →
-  ((y : StorageType) (text : List ℕ) → SpelledStorage y (n ∷ text) → (y ≡ x) × (text ≡ [])) → Decides (pure x) (λ y text. SpelledStorage y (b ∷ text))
+    ((y : StorageType) (text : List ℕ) → SpelledStorage y (n ∷ text) → (y ≡ x) × (text ≡ [])) → Decides (pure x) (λ y text. SpelledStorage y (b ∷ text))
 packed_decides b n x t here only = subst (λ (c : ℕ). Decides (pure x) (λ y text. SpelledStorage y (c ∷ text))) (sym (eqb-true _ _ t))
-  (decides-pure x (λ y text. SpelledStorage y (n ∷ text)) here only)
+    (decides-pure x (λ y text. SpelledStorage y (n ∷ text)) here only)
 
 decides-storage_type_after : (b : ℕ) → Decides (storage_type_after b) (λ x text. SpelledStorage x (b ∷ text))
 unfolding storage_type_after

@@ -48,9 +48,9 @@ IsNoHeapType bytes offset = heap_type (start_of bytes) ≡ Fault Other offset
 
 abbrev pub AbstractBytesAreRead : Type 0
 AbstractBytesAreRead = IsByteOf 0x68 heap.Cont × IsByteOf 0x69 heap.Exn × IsByteOf 0x6a heap.Array × IsByteOf 0x6b heap.Struct × IsByteOf 0x6c
-  heap.I31 × IsByteOf 0x6d heap.Eq × IsByteOf 0x6e heap.Any
+    heap.I31 × IsByteOf 0x6d heap.Eq × IsByteOf 0x6e heap.Any
     × IsByteOf 0x6f heap.Extern × IsByteOf 0x70 heap.Func × IsByteOf 0x71 heap.None × IsByteOf 0x72 heap.NoExtern × IsByteOf 0x73 heap.NoFunc ×
-      IsByteOf 0x74 heap.NoExn × IsByteOf 0x75 heap.NoCont
+    IsByteOf 0x74 heap.NoExn × IsByteOf 0x75 heap.NoCont
     × IsNoHeapType (0x67 ∷ []) 0 × IsNoHeapType (0x76 ∷ []) 0 × IsNoHeapType (0x7f ∷ []) 0 × IsNoHeapType (0x40 ∷ []) 0
     × IsRead (0x65 ∷ 0x70 ∷ []) (Abstract true heap.Func) 2 × IsNoHeapType (0x65 ∷ 0x40 ∷ []) 1
 
@@ -75,10 +75,10 @@ IsReference bytes nullable h n = reference_type (start_of bytes) ≡ Done (refer
 
 abbrev pub ReferencesAreRead : Type 0
 ReferencesAreRead = IsReference (0x70 ∷ []) true (Abstract false heap.Func) 1 × IsReference (0x63 ∷ 0x70 ∷ []) true (Abstract false heap.Func) 2 ×
-  IsReference (0x64 ∷ 0x70 ∷ []) false (Abstract false heap.Func) 2
+    IsReference (0x64 ∷ 0x70 ∷ []) false (Abstract false heap.Func) 2
     × IsReference (0x65 ∷ 0x6e ∷ []) true (Abstract true heap.Any) 2 × IsReference (0x64 ∷ 0xff ∷ 0xff ∷ 0x3f ∷ []) false (Concrete (Module 1048575)) 4
     × (reference_type (start_of (0x64 ∷ 0x80 ∷ 0x80 ∷ 0xc0 ∷ 0x00 ∷ [])) ≡ Fault Other 1) × (reference_type (start_of (0x62 ∷ [])) ≡ Fault Other 0) ×
-      (reference_type (start_of (0x63 ∷ [])) ≡ Short 1 1)
+    (reference_type (start_of (0x63 ∷ [])) ≡ Short 1 1)
 
 pub reference_bytes : ReferencesAreRead
 unfolding reference_type reference_after heap_type heap_type_after abstract_heap_type exact_heap_type concrete_heap_type signed unsigned last_bits
@@ -95,9 +95,9 @@ IsStorage b x = storage_type (start_of (b ∷ [])) ≡ Done x (behind 1)
 abbrev pub ValuesAreRead : Type 0
 ValuesAreRead = IsValue 0x7f I32 × IsValue 0x7e I64 × IsValue 0x7d F32 × IsValue 0x7c F64 × IsValue 0x7b V128 × IsValue 0x70 (Ref (reference true (Abstract false heap.Func)))
     × (value_type (start_of (0x7a ∷ [])) ≡ Fault Other 0) × (value_type (start_of (0x40 ∷ [])) ≡ Fault Other 0) ×
-      (value_type (start_of (0x64 ∷ 0x69 ∷ [])) ≡ Done (Ref (reference false (Abstract false heap.Exn))) (behind 2))
+    (value_type (start_of (0x64 ∷ 0x69 ∷ [])) ≡ Done (Ref (reference false (Abstract false heap.Exn))) (behind 2))
     × IsStorage 0x78 I8 × IsStorage 0x77 I16 × IsStorage 0x7f (Val I32) × (storage_type (start_of (0x76 ∷ [])) ≡ Fault Other 0) ×
-      (value_type (start_of (0x78 ∷ [])) ≡ Fault Other 0)
+    (value_type (start_of (0x78 ∷ [])) ≡ Fault Other 0)
 
 pub value_bytes : ValuesAreRead
 unfolding value_type value_type_after storage_type storage_type_after reference_after heap_type heap_type_after abstract_heap_type exact_heap_type concrete_heap_type
@@ -113,29 +113,56 @@ third = Concrete (Module 3)
 
 abbrev pub KindsAreTold : Type 0
 KindsAreTold = (is_concrete third ≡ true) × (is_concrete (Exact (Module 3)) ≡ true) × (is_concrete (Abstract false heap.Func) ≡ false) ×
-  (is_exact (Exact (Module 3)) ≡ true) × (is_exact third ≡ false)
+    (is_exact (Exact (Module 3)) ≡ true) × (is_exact third ≡ false)
     × (index_of third ≡ Some (Module 3)) × (index_of (Abstract true heap.Any) ≡ None) × IsOf heap.Func (Abstract true heap.Func) ×
-      (IsOf heap.Func (Abstract false heap.NoFunc) → ⊥) × (IsOf heap.Func third → ⊥)
+    (IsOf heap.Func (Abstract false heap.NoFunc) → ⊥) × (IsOf heap.Func third → ⊥)
     × (shared_of some_func ≡ Some (reference true (Abstract true heap.Func))) × (shared_of (reference true third) ≡ None) × Fits
-      (Exact (Module 1048575)) × (Fits (Concrete (Module 1048576)) → ⊥)
+    (Exact (Module 1048575)) × (Fits (Concrete (Module 1048576)) → ⊥)
     × (reference_cmp (reference false third) (reference true third) ≡ Less) × (reference_cmp (reference true third) some_func ≡ Greater)
     × (is_reference (Ref some_func) ≡ true) × (is_reference V128 ≡ false) × (reference_in (Ref some_func) ≡ Some some_func) × (reference_in I32 ≡ None)
     × (is_defaultable_type (Ref some_func) ≡ true) × (is_defaultable_type (Ref (reference false third)) ≡ false) × (is_defaultable_type V128 ≡ true)
     × (is_packed_type I16 ≡ true) × (is_packed_type (Val I32) ≡ false) × (unpacked_type I8 ≡ I32) × (unpacked_type (Val F64) ≡ F64)
 
 pub kinds_told : KindsAreTold
-kinds_told = (refl, refl, refl, refl, refl, refl, refl, refl, (λ e. cc), (λ h. h), refl, refl, lit< tt, (λ h. omega (arith, h)), refl, refl, refl,
-  refl, refl, refl, refl, refl, refl, refl, refl, refl, refl)
+kinds_told = (
+  refl,
+  refl,
+  refl,
+  refl,
+  refl,
+  refl,
+  refl,
+  refl,
+  (λ e. cc),
+  (λ h. h),
+  refl,
+  refl,
+  lit< tt,
+  (λ h. omega (arith, h)),
+  refl,
+  refl,
+  refl,
+  refl,
+  refl,
+  refl,
+  refl,
+  refl,
+  refl,
+  refl,
+  refl,
+  refl,
+  refl,
+)
 
 -- ---- how they are written
 
 abbrev pub TextsAreWritten : Type 0
 TextsAreWritten = (reference_text some_func ≡ codes "funcref") × (reference_text (reference false (Abstract false heap.NoExn)) ≡ codes "(ref noexn)")
-  × (reference_text (reference true (Abstract true heap.Eq)) ≡ codes "(ref null (shared eq))")
+    × (reference_text (reference true (Abstract true heap.Eq)) ≡ codes "(ref null (shared eq))")
     × (reference_text (reference true (Exact (Module 7))) ≡ codes "(ref null (exact (module " ++ decimal 7 ++ codes ")" ++ codes "))") ×
-      (reference_text (reference false (Concrete (RecGroup 2))) ≡ codes "(ref (recgroup " ++ decimal 2 ++ codes ")" ++ codes ")")
+    (reference_text (reference false (Concrete (RecGroup 2))) ≡ codes "(ref (recgroup " ++ decimal 2 ++ codes ")" ++ codes ")")
     × (wat_text (reference true third) ≡ codes "(ref null $type)") × (wat_text (reference false third) ≡ codes "(ref $type)") ×
-      (value_text V128 ≡ codes "v128") × (storage_text I8 ≡ codes "i8") × (storage_text (Val I64) ≡ codes "i64")
+    (value_text V128 ≡ codes "v128") × (storage_text I8 ≡ codes "i8") × (storage_text (Val I64) ≡ codes "i64")
 
 pub texts_written : TextsAreWritten
 texts_written = (refl, refl, refl, refl, refl, refl, refl, refl, refl, refl)

@@ -33,12 +33,14 @@ module _ (settings : Settings) where
   abbrev plain_body : Decoder (List ℕ)
   plain_body = u32 >>= λ n s. next_body n s.place s
 
-  next_is : (n : ℕ) (s : State) (o : Outcome (List ℕ)) → continue_with (continue_with o (λ text. pure (part_at s text))) (λ (part : State). few_or settings.limits.body_bytes part.place part.rest) ≡ continue_with o (few_or settings.limits.body_bytes s.place)
+  next_is : (n : ℕ) (s : State) (o : Outcome (List ℕ)) → continue_with (continue_with o (λ text. pure (part_at s text)))
+      (λ (part : State). few_or settings.limits.body_bytes part.place part.rest) ≡ continue_with o (few_or settings.limits.body_bytes s.place)
   next_is n s (Done text t) = refl
   next_is n s (Short p h) = refl
   next_is n s (Fault k p) = refl
 
-  body_is : (o : Outcome ℕ) → continue_with (continue_with o next_part) (λ (part : State). few_or settings.limits.body_bytes part.place part.rest) ≡ continue_with o (λ n s. next_body n s.place s)
+  body_is : (o : Outcome ℕ) → continue_with (continue_with o next_part)
+      (λ (part : State). few_or settings.limits.body_bytes part.place part.rest) ≡ continue_with o (λ n s. next_body n s.place s)
   body_is (Done n s) = next_is n s (bytes n s)
   body_is (Short p h) = refl
   body_is (Fault k p) = refl
@@ -49,10 +51,12 @@ module _ (settings : Settings) where
 
 module _ (settings : Settings) where
   lawful-next_body : (n place : ℕ) → IsLawful (next_body settings n place)
-  lawful-next_body n place = lawful->>= (bytes n) (few_or settings.limits.body_bytes place) (lawful-bytes n) (λ text. lawful-if (nat_lt settings.limits.body_bytes (length text)) (refuse_at Other place) (pure text) (lawful-refuse_at Other place) (lawful-pure text))
+  lawful-next_body n place = lawful->>= (bytes n) (few_or settings.limits.body_bytes place) (lawful-bytes n)
+      (λ text. lawful-if (nat_lt settings.limits.body_bytes (length text)) (refuse_at Other place) (pure text) (lawful-refuse_at Other place) (lawful-pure text))
 
   pub lawful-body : IsLawful (body settings)
-  lawful-body = lawful-along (plain_body settings) (body settings) (same_body settings) (lawful->>= u32 (λ n s. next_body settings n s.place s) (lawful-unsigned 4 4) (λ n. lawful-from_place (next_body settings n) (lawful-next_body n)))
+  lawful-body = lawful-along (plain_body settings) (body settings) (same_body settings)
+      (lawful->>= u32 (λ n s. next_body settings n s.place s) (lawful-unsigned 4 4) (λ n. lawful-from_place (next_body settings n) (lawful-next_body n)))
 
   -- few bytes, which are the value
   abbrev Few : List ℕ → Grammar (List ℕ)
@@ -91,5 +95,7 @@ module _ (settings : Settings) where
   pub decides-body : Decides (body settings) (IsCounted settings.limits.body_bytes)
   decides-body = decides-along (plain_body settings) (body settings) (same_body settings) (IsCounted settings.limits.body_bytes)
       (decides-same (plain_body settings) (Then (IsUnsigned 32) Entry) (IsCounted settings.limits.body_bytes)
-      (decides->>= u32 (λ n s. next_body settings n s.place s) (IsUnsigned 32) Entry decides-u32 (λ n. decides-from_place (next_body settings n) (Entry n) (λ place. decides->>= (bytes n) (few_or settings.limits.body_bytes place) (Exactly n) Few (decides-bytes n) (decides-few place))))
+      (decides->>= u32 (λ n s. next_body settings n s.place s) (IsUnsigned 32) Entry decides-u32
+      (λ n. decides-from_place (next_body settings n) (Entry n)
+      (λ place. decides->>= (bytes n) (few_or settings.limits.body_bytes place) (Exactly n) Few (decides-bytes n) (decides-few place))))
       body_to body_from)

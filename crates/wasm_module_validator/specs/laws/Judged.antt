@@ -23,8 +23,10 @@ use Rattle.wasm_module_validator.specs.Accepts.{Judges, AcceptsUnder}
 use Rattle.wasm_module_validator_bodies.specs.Bodies.{AcceptsBodyUnder}
 use Rattle.wasm_module_validator.specs.laws.Types.{function_type}
 use Rattle.wasm_module_validator.specs.laws.TypeLaws.{decides-function_type}
-use Rattle.wasm_module_validator.specs.laws.Frames.{IsCounted, Frames, begins, items, type_index, entries, no_entries, at_end, type_section, function_section, code_section, frames, preamble, magic_or, version_or, module_frames}
-use Rattle.wasm_module_validator.specs.laws.ModuleLaws.{decides-items, decides-type_index, decides-entries, IsTypeIndex, AreEntries, IsSection, Followed, Reads, section_reads, section_followed, section_apart}
+use Rattle.wasm_module_validator.specs.laws.Frames.{IsCounted, Frames, begins, items, type_index, entries, no_entries, at_end, type_section}
+use Rattle.wasm_module_validator.specs.laws.Frames.{function_section, code_section, frames, preamble, magic_or, version_or, module_frames}
+use Rattle.wasm_module_validator.specs.laws.ModuleLaws.{decides-items, decides-type_index, decides-entries, IsTypeIndex, AreEntries, IsSection}
+use Rattle.wasm_module_validator.specs.laws.ModuleLaws.{Followed, Reads, section_reads, section_followed, section_apart}
 
 -- ---- the frames, as they are spelled
 
@@ -58,7 +60,8 @@ module _ (settings : Settings) where
 
     functions_apart : (ts : List FunctionType) (rest : List ℕ) → AtFunctions ts rest → begins 1 rest ≡ false
     functions_apart ts rest (fs, front, back, s, p, e) =
-        rw e (section_apart 1 3 (IsListedWithin settings.limits.functions (IsTypeIndex (length ts))) IsEmpty fs front back (λ e. omega (arith, e)) s (code_apart 1 (λ e. omega (arith, e)) ts fs back p))
+        rw e (section_apart 1 3 (IsListedWithin settings.limits.functions (IsTypeIndex (length ts))) IsEmpty fs front back (λ e. omega (arith, e)) s
+        (code_apart 1 (λ e. omega (arith, e)) ts fs back p))
 
     -- ---- read as they are spelled
 
@@ -95,35 +98,44 @@ module _ (settings : Settings) where
     -- the three sections, and what is to follow each
     read_code : (ts : List FunctionType) (fs : List ℕ) (s : State) → AtCode ts fs s.rest → Reads (code_section settings (length fs)) (λ es t. AtEnd ts fs es t.rest) s
     unfolding code_section
-    read_code ts fs s h = section_reads 10 (entries settings (length fs)) (AreEntries settings (length fs)) (decides-entries settings (length fs)) (no_entries (length fs)) (HasNone (length fs))
+    read_code ts fs s h = section_reads 10 (entries settings (length fs)) (AreEntries settings (length fs)) (decides-entries settings (length fs))
+        (no_entries (length fs)) (HasNone (length fs))
         (no_entries_gives (length fs)) (no_entries_only (length fs)) (AtEnd ts fs) (end_apart 10 ts fs) s h
 
     code_read : (ts : List FunctionType) (fs : List ℕ) (s : State) → Reads (code_section settings (length fs)) (λ es t. AtEnd ts fs es t.rest) s → AtCode ts fs s.rest
     unfolding code_section
-    code_read ts fs s h = section_followed 10 (entries settings (length fs)) (AreEntries settings (length fs)) (decides-entries settings (length fs)) (no_entries (length fs)) (HasNone (length fs))
+    code_read ts fs s h = section_followed 10 (entries settings (length fs)) (AreEntries settings (length fs)) (decides-entries settings (length fs))
+        (no_entries (length fs)) (HasNone (length fs))
         (no_entries_gives (length fs)) (no_entries_only (length fs)) (AtEnd ts fs) (end_apart 10 ts fs) s h
 
     read_functions : (ts : List FunctionType) (s : State) → AtFunctions ts s.rest → Reads (function_section settings (length ts)) (λ fs t. AtCode ts fs t.rest) s
     unfolding function_section
     read_functions ts s h = section_reads 3 (items settings.limits.functions (type_index (length ts))) (IsListedWithin settings.limits.functions (IsTypeIndex (length ts)))
-        (decides-items settings.limits.functions (type_index (length ts)) (IsTypeIndex (length ts)) (decides-type_index (length ts))) (pure []) IsEmpty pure_gives pure_only (AtCode ts) (code_apart 3 (λ e. omega (arith, e)) ts) s h
+        (decides-items settings.limits.functions (type_index (length ts)) (IsTypeIndex (length ts)) (decides-type_index (length ts)))
+        (pure []) IsEmpty pure_gives pure_only (AtCode ts) (code_apart 3 (λ e. omega (arith, e)) ts) s h
 
     functions_read : (ts : List FunctionType) (s : State) → Reads (function_section settings (length ts)) (λ fs t. AtCode ts fs t.rest) s → AtFunctions ts s.rest
     unfolding function_section
     functions_read ts s h = section_followed 3 (items settings.limits.functions (type_index (length ts))) (IsListedWithin settings.limits.functions (IsTypeIndex (length ts)))
-        (decides-items settings.limits.functions (type_index (length ts)) (IsTypeIndex (length ts)) (decides-type_index (length ts))) (pure []) IsEmpty pure_gives pure_only (AtCode ts) (code_apart 3 (λ e. omega (arith, e)) ts) s h
+        (decides-items settings.limits.functions (type_index (length ts)) (IsTypeIndex (length ts)) (decides-type_index (length ts)))
+        (pure []) IsEmpty pure_gives pure_only (AtCode ts) (code_apart 3 (λ e. omega (arith, e)) ts) s h
 
     read_types : (s : State) → AreSections s.rest → Reads (type_section settings) (λ ts t. AtFunctions ts t.rest) s
     unfolding type_section
-    read_types s h = section_reads 1 (items settings.limits.types (function_type settings)) (IsListedWithin settings.limits.types (SpellsFunctionType settings)) (decides-items settings.limits.types (function_type settings) (SpellsFunctionType settings) (decides-function_type settings))
+    read_types s h = section_reads 1 (items settings.limits.types (function_type settings))
+        (IsListedWithin settings.limits.types (SpellsFunctionType settings))
+        (decides-items settings.limits.types (function_type settings) (SpellsFunctionType settings) (decides-function_type settings))
         (pure []) IsEmpty pure_gives pure_only AtFunctions functions_apart s h
 
     types_read : (s : State) → Reads (type_section settings) (λ ts t. AtFunctions ts t.rest) s → AreSections s.rest
     unfolding type_section
-    types_read s h = section_followed 1 (items settings.limits.types (function_type settings)) (IsListedWithin settings.limits.types (SpellsFunctionType settings)) (decides-items settings.limits.types (function_type settings) (SpellsFunctionType settings) (decides-function_type settings))
+    types_read s h = section_followed 1 (items settings.limits.types (function_type settings))
+        (IsListedWithin settings.limits.types (SpellsFunctionType settings))
+        (decides-items settings.limits.types (function_type settings) (SpellsFunctionType settings) (decides-function_type settings))
         (pure []) IsEmpty pure_gives pure_only AtFunctions functions_apart s h
 
-    joined : (s t u v : State) (ts : List FunctionType) (fs : List ℕ) (es : List (List ℕ)) → type_section settings s ≡ Done ts t → function_section settings (length ts) t ≡ Done fs u → code_section settings (length fs) u ≡ Done es v
+    joined : (s t u v : State) (ts : List FunctionType) (fs : List ℕ) (es : List (List ℕ)) → type_section settings s ≡ Done ts t
+        → function_section settings (length ts) t ≡ Done fs u → code_section settings (length fs) u ≡ Done es v
         → v.rest ≡ [] → frames settings s ≡ Done (record { types = ts; functions = fs; entries = es }) v
     unfolding frames
     joined s t u v ts fs es a b c e = rw (a, b, c, e) refl
@@ -160,7 +172,8 @@ module _ (settings : Settings) where
   AreSpelled (f ∷ fs) [] = ⊥
   AreSpelled (f ∷ fs) (e ∷ es) = SpellsFunction f e × AreSpelled fs es
 
-  accepted_to : (types : List FunctionType) (xs : List ℕ) (es : List (List ℕ)) → AreAccepted types xs es → (fs : List Function) × AreSpelled fs es × AreValidFunctions settings types xs fs
+  accepted_to : (types : List FunctionType) (xs : List ℕ) (es : List (List ℕ)) → AreAccepted types xs es → (fs : List Function) × AreSpelled fs es
+      × AreValidFunctions settings types xs fs
   accepted_to types [] [] h = ([], tt, tt)
   accepted_to types [] (e ∷ es) h = absurd h
   accepted_to types (x ∷ xs) [] h = absurd h
@@ -168,7 +181,8 @@ module _ (settings : Settings) where
       let r = accepted_to types xs es more in
       (f ∷ r.0, (s, r.1), (type, at, v, r.2))
 
-  accepted_from : (types : List FunctionType) (xs : List ℕ) (fs : List Function) (es : List (List ℕ)) → AreSpelled fs es → AreValidFunctions settings types xs fs → AreAccepted types xs es
+  accepted_from : (types : List FunctionType) (xs : List ℕ) (fs : List Function) (es : List (List ℕ)) → AreSpelled fs es
+      → AreValidFunctions settings types xs fs → AreAccepted types xs es
   accepted_from types [] [] [] s v = tt
   accepted_from types [] [] (e ∷ es) s v = absurd s
   accepted_from types [] (f ∷ fs) es s v = absurd v
@@ -179,7 +193,8 @@ module _ (settings : Settings) where
   entry_to : (f : Function) (e text : List ℕ) → IsCounted settings.limits.body_bytes e text → SpellsFunction f e → SpellsEntry settings f text
   entry_to f e text h s = record { size = h.count; content = e; counted = h.counted; spelled = record { within = h.few; spelled = s }; whole = h.whole }
 
-  entries_to : (n : ℕ) (fs : List Function) (es : List (List ℕ)) (text : List ℕ) → Many (IsCounted settings.limits.body_bytes) n es text → AreSpelled fs es → Many (SpellsEntry settings) n fs text
+  entries_to : (n : ℕ) (fs : List Function) (es : List (List ℕ)) (text : List ℕ) → Many (IsCounted settings.limits.body_bytes) n es text
+      → AreSpelled fs es → Many (SpellsEntry settings) n fs text
   entries_to zero [] [] text m s = m
   entries_to zero [] (e ∷ es) text m s = absurd s
   entries_to zero (f ∷ fs) [] text m s = absurd s
@@ -188,7 +203,8 @@ module _ (settings : Settings) where
   entries_to (suc n) [] (e ∷ es) text m s = absurd s
   entries_to (suc n) (f ∷ fs) (e ∷ es) text (front, back, h, more, w) (s, ss) = (front, back, entry_to f e front h s, entries_to n fs es back more ss, w)
 
-  entries_from : (n : ℕ) (fs : List Function) (text : List ℕ) → Many (SpellsEntry settings) n fs text → (es : List (List ℕ)) × Many (IsCounted settings.limits.body_bytes) n es text × AreSpelled fs es
+  entries_from : (n : ℕ) (fs : List Function) (text : List ℕ) → Many (SpellsEntry settings) n fs text → (es : List (List ℕ))
+      × Many (IsCounted settings.limits.body_bytes) n es text × AreSpelled fs es
   entries_from zero [] text m = ([], m, tt)
   entries_from zero (f ∷ fs) text m = absurd m
   entries_from (suc n) [] text m = absurd m
@@ -214,7 +230,8 @@ module _ (settings : Settings) where
   indices_to (suc n) types [] text m = absurd m
   indices_to (suc n) types (x ∷ xs) text (front, back, h, more, w) = (front, back, h.0, indices_to n types xs back more, w)
 
-  indices_from : (n : ℕ) (types : List FunctionType) (xs : List ℕ) (fs : List Function) (text : List ℕ) → Many (IsUnsigned 32) n xs text → AreValidFunctions settings types xs fs → Many (IsTypeIndex (length types)) n xs text
+  indices_from : (n : ℕ) (types : List FunctionType) (xs : List ℕ) (fs : List Function) (text : List ℕ) → Many (IsUnsigned 32) n xs text
+      → AreValidFunctions settings types xs fs → Many (IsTypeIndex (length types)) n xs text
   indices_from zero types [] fs text m v = m
   indices_from zero types (x ∷ xs) fs text m v = absurd m
   indices_from (suc n) types [] fs text m v = absurd m
@@ -228,7 +245,8 @@ module _ (settings : Settings) where
   abbrev pub AcceptsRest : List ℕ → Type 0
   AcceptsRest rest = (f : Frames) × AreSections f rest × AreAccepted f.types f.functions f.entries
 
-  code_to : (functions : ℕ) (fs : List Function) (es : List (List ℕ)) (front : List ℕ) → AreSpelled fs es → IsSection 10 (AreEntries settings functions) (HasNone functions) es front → SpellsSection 10 (IsListed (SpellsEntry settings)) fs front
+  code_to : (functions : ℕ) (fs : List Function) (es : List (List ℕ)) (front : List ℕ) → AreSpelled fs es
+      → IsSection 10 (AreEntries settings functions) (HasNone functions) es front → SpellsSection 10 (IsListed (SpellsEntry settings)) fs front
   code_to functions [] es front s (inl (h, e)) = inl (refl, e)
   code_to functions (f ∷ fs) [] front s (inl (h, e)) = absurd s
   code_to functions (f ∷ fs) (e ∷ es) front s (inl (h, q)) = let n = h.0 in absurd cc
@@ -253,7 +271,8 @@ module _ (settings : Settings) where
         e,
       )
 
-  functions_to : (types : ℕ) (xs : List ℕ) (front : List ℕ) → IsSection 3 (IsListedWithin settings.limits.functions (IsTypeIndex types)) IsEmpty xs front → SpellsSection 3 (IsListedWithin settings.limits.functions (IsUnsigned 32)) xs front
+  functions_to : (types : ℕ) (xs : List ℕ) (front : List ℕ) → IsSection 3
+      (IsListedWithin settings.limits.functions (IsTypeIndex types)) IsEmpty xs front → SpellsSection 3 (IsListedWithin settings.limits.functions (IsUnsigned 32)) xs front
   functions_to types xs front (inl h) = inl h
   functions_to types xs front (inr (rest, sized, e)) =
       let l = sized.spelled in
@@ -263,7 +282,17 @@ module _ (settings : Settings) where
           size = sized.size;
           content = sized.content;
           counted = sized.counted;
-          spelled = record { within = l.within; listed = record { count = l.listed.count; values = l.listed.values; counted = l.listed.counted; each = indices_to (length xs) types xs l.listed.values l.listed.each; whole = l.listed.whole } };
+          spelled = record {
+            within = l.within;
+            listed = record {
+              count = l.listed.count;
+              values = l.listed.values;
+              counted = l.listed.counted;
+              each =
+                  indices_to (length xs) types xs l.listed.values l.listed.each;
+              whole = l.listed.whole;
+            };
+          };
           whole = sized.whole;
         },
         e,
@@ -295,7 +324,8 @@ module _ (settings : Settings) where
   to_module_counts rest f (ts, front1, rest1, s1, (fs, front2, rest2, s2, (es, front3, rest3, s3, (e3, is), w3), w2), w1) a =
       (ap (λ (g : Frames). length g.types) (sym is), ap (λ (g : Frames). length g.functions) (sym is))
 
-  code_from : (types : List FunctionType) (xs : List ℕ) (fs : List Function) (front : List ℕ) → AreValidFunctions settings types xs fs → SpellsSection 10 (IsListed (SpellsEntry settings)) fs front
+  code_from : (types : List FunctionType) (xs : List ℕ) (fs : List Function) (front : List ℕ) → AreValidFunctions settings types xs fs
+      → SpellsSection 10 (IsListed (SpellsEntry settings)) fs front
       → (es : List (List ℕ)) × IsSection 10 (AreEntries settings (length xs)) (HasNone (length xs)) es front × AreSpelled fs es
   code_from types [] [] front v (inl (h, e)) = ([], inl ((refl, refl), e), tt)
   code_from types (x ∷ xs) [] front v (inl (h, e)) = absurd v
@@ -329,7 +359,8 @@ module _ (settings : Settings) where
         r.2,
       )
 
-  functions_from : (types : List FunctionType) (xs : List ℕ) (fs : List Function) (front : List ℕ) → AreValidFunctions settings types xs fs → SpellsSection 3 (IsListedWithin settings.limits.functions (IsUnsigned 32)) xs front
+  functions_from : (types : List FunctionType) (xs : List ℕ) (fs : List Function) (front : List ℕ) → AreValidFunctions settings types xs fs
+      → SpellsSection 3 (IsListedWithin settings.limits.functions (IsUnsigned 32)) xs front
       → IsSection 3 (IsListedWithin settings.limits.functions (IsTypeIndex (length types))) IsEmpty xs front
   functions_from types xs fs front v (inl h) = inl h
   functions_from types xs fs front v (inr (rest, sized, e)) =
@@ -340,7 +371,17 @@ module _ (settings : Settings) where
           size = sized.size;
           content = sized.content;
           counted = sized.counted;
-          spelled = record { within = l.within; listed = record { count = l.listed.count; values = l.listed.values; counted = l.listed.counted; each = indices_from (length xs) types xs fs l.listed.values l.listed.each v; whole = l.listed.whole } };
+          spelled = record {
+            within = l.within;
+            listed = record {
+              count = l.listed.count;
+              values = l.listed.values;
+              counted = l.listed.counted;
+              each =
+                  indices_from (length xs) types xs fs l.listed.values l.listed.each v;
+              whole = l.listed.whole;
+            };
+          };
           whole = sized.whole;
         },
         e,
@@ -489,7 +530,8 @@ module _ (settings : Settings) where
 
   -- the function at this index has a type, and its bytes are accepted
   abbrev pub AcceptsAt : List FunctionType → List ℕ → List (List ℕ) → ℕ → Type 0
-  AcceptsAt types xs es i = (x : ℕ) × (type : FunctionType) × (e : List ℕ) × (slice_get xs i ≡ Some x) × (slice_get types x ≡ Some type) × (slice_get es i ≡ Some e) × AcceptsBodyUnder settings type e
+  AcceptsAt types xs es i = (x : ℕ) × (type : FunctionType) × (e : List ℕ) × (slice_get xs i ≡ Some x) × (slice_get types x ≡ Some type)
+      × (slice_get es i ≡ Some e) × AcceptsBodyUnder settings type e
 
   pub accepted_index : (types : List FunctionType) (xs : List ℕ) (es : List (List ℕ)) (i : ℕ) → i < length xs → AreAccepted settings types xs es → AcceptsAt types xs es i
   accepted_index types [] es i lt h = absurd (omega (arith, lt))
@@ -497,7 +539,8 @@ module _ (settings : Settings) where
   accepted_index types (x ∷ xs) (e ∷ es) zero lt (type, at, a, more) = (x, type, e, refl, at, refl, a)
   accepted_index types (x ∷ xs) (e ∷ es) (suc i) lt (type, at, a, more) = accepted_index types xs es i (omega (arith, lt)) more
 
-  pub index_accepted : (types : List FunctionType) (xs : List ℕ) (es : List (List ℕ)) → length xs ≡ length es → ((i : ℕ) → i < length xs → AcceptsAt types xs es i) → AreAccepted settings types xs es
+  pub index_accepted : (types : List FunctionType) (xs : List ℕ) (es : List (List ℕ)) → length xs ≡ length es
+      → ((i : ℕ) → i < length xs → AcceptsAt types xs es i) → AreAccepted settings types xs es
   index_accepted types [] [] n h = tt
   index_accepted types [] (e ∷ es) n h = absurd (omega (arith, n))
   index_accepted types (x ∷ xs) [] n h = absurd (omega (arith, n))

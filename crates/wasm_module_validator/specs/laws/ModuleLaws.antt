@@ -49,7 +49,15 @@ module _ {A : Type 0} (limit : ℕ) (d : Decoder A) (g : Grammar A) (dg : Decide
       }
 
   items_from : (xs : List A) (text : List ℕ) → IsListedWithin limit g xs text → Then (IsUnsigned 32) Counted xs text
-  items_from xs text h = record { value = length xs; front = h.listed.count; back = h.listed.values; first = h.listed.counted; second = (h.within, h.listed.each); whole = h.listed.whole }
+  items_from xs text h = record {
+    value = length xs;
+    front = h.listed.count;
+    back = h.listed.values;
+    first = h.listed.counted;
+    second =
+        (h.within, h.listed.each);
+    whole = h.listed.whole;
+  }
 
   pub decides-items : Decides (items limit d) (IsListedWithin limit g)
   unfolding items
@@ -96,7 +104,9 @@ module _ (settings : Settings) where
 
   decides-as_many_or : (functions place n : ℕ) → Decides (as_many_or settings functions place n) (Exactly functions n)
   decides-as_many_or functions place n = decides-if (n == functions) (repeated n (body settings)) (refuse_at Other place) (Exactly functions n)
-      (λ same. decides-same (repeated n (body settings)) (Many (IsCounted settings.limits.body_bytes) n) (Exactly functions n) (decides-repeated (body settings) (IsCounted settings.limits.body_bytes) (decides-body settings) n) (λ xs text h. (eqb-true n functions same, h)) (λ xs text h. h.1))
+      (λ same. decides-same (repeated n (body settings)) (Many (IsCounted settings.limits.body_bytes) n) (Exactly functions n)
+      (decides-repeated (body settings) (IsCounted settings.limits.body_bytes) (decides-body settings) n)
+      (λ xs text h. (eqb-true n functions same, h)) (λ xs text h. h.1))
       (λ other. decides-refuse_at Other place (Exactly functions n) (λ y text h. eqb-false n functions other h.0))
 
   many_entries : (n : ℕ) (es : List (List ℕ)) (text : List ℕ) → Many (IsCounted settings.limits.body_bytes) n es text → n ≡ length es
@@ -211,7 +221,8 @@ module _ {A : Type 0} (id : ℕ) (d : Decoder A) (g : Grammar A) (dg : Decides d
   section_followed s h = either_followed s (begins id s.rest) refl h
 
 -- a section of another id does not begin with this one
-pub section_apart : {A : Type 0} (id other : ℕ) (g : Grammar A) (Absent : A → Type 0) (x : A) (front rest : List ℕ) → (id ≡ other → ⊥) → IsSection other g Absent x front → begins id rest ≡ false → begins id (front ++ rest) ≡ false
+pub section_apart : {A : Type 0} (id other : ℕ) (g : Grammar A) (Absent : A → Type 0) (x : A) (front rest : List ℕ) → (id ≡ other → ⊥)
+    → IsSection other g Absent x front → begins id rest ≡ false → begins id (front ++ rest) ≡ false
 section_apart id other g Absent x front rest differ (inl none) b = rw none.1 b
 section_apart id other g Absent x front rest differ (inr there) b = rw there.2 (go (other == id) refl)
   where

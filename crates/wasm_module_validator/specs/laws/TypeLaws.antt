@@ -63,7 +63,18 @@ numbers_many (suc n) (t ∷ ts) text (front, back, first, rest, whole) =
 
 module _ (limit : ℕ) where
   listed_numbers : (ts : List ValType) (text : List ℕ) → are_numbers ts ≡ true → IsListedWithin limit SpelledValue ts text → IsListedWithin limit SpellsValType ts text
-  listed_numbers ts text e h = record { within = h.within; listed = record { count = h.listed.count; values = h.listed.values; counted = h.listed.counted; each = many_numbers (length ts) ts h.listed.values e h.listed.each; whole = h.listed.whole } }
+  listed_numbers ts text e h = record {
+    within = h.within;
+    listed =
+        record {
+          count = h.listed.count;
+          values = h.listed.values;
+          counted = h.listed.counted;
+          each =
+              many_numbers (length ts) ts h.listed.values e h.listed.each;
+          whole = h.listed.whole;
+        };
+  }
 
   numbers_listed : (ts : List ValType) (text : List ℕ) → IsListedWithin limit SpellsValType ts text → (are_numbers ts ≡ true) × IsListedWithin limit SpelledValue ts text
   numbers_listed ts text h =
@@ -80,11 +91,13 @@ abbrev OnlyNumbers : Signature → Grammar FunctionType
 OnlyNumbers f y text = (y ≡ of_signature f) × (text ≡ []) × (are_numbers f.params && are_numbers f.results ≡ true)
 
 lawful-numbers_alone : (p : ℕ) (f : Signature) → IsLawful (numbers_alone p f)
-lawful-numbers_alone p f = lawful-if (are_numbers f.params && are_numbers f.results) (pure (of_signature f)) (refuse_at Other p) (lawful-pure (of_signature f)) (lawful-refuse_at Other p)
+lawful-numbers_alone p f = lawful-if (are_numbers f.params && are_numbers f.results) (pure (of_signature f)) (refuse_at Other p)
+    (lawful-pure (of_signature f)) (lawful-refuse_at Other p)
 
 module _ (settings : Settings) where
   lawful-number_signature : IsLawful (number_signature settings)
-  lawful-number_signature = lawful-from_place (λ p. signature settings >>= numbers_alone p) (λ p. lawful->>= (signature settings) (numbers_alone p) (lawful-signature settings) (lawful-numbers_alone p))
+  lawful-number_signature = lawful-from_place (λ p. signature settings >>= numbers_alone p)
+      (λ p. lawful->>= (signature settings) (numbers_alone p) (lawful-signature settings) (lawful-numbers_alone p))
 
   pub lawful-function_type : IsLawful (function_type settings)
   unfolding function_type
@@ -125,11 +138,14 @@ module _ (settings : Settings) where
 
   decides-number_signature : Decides (number_signature settings) behind_60
   decides-number_signature = decides-from_place (λ p. signature settings >>= numbers_alone p) behind_60
-      (λ p. decides-same _ (Then (SpelledSignature settings) OnlyNumbers) behind_60 (decides->>= (signature settings) (numbers_alone p) (SpelledSignature settings) OnlyNumbers (decides-signature settings) (decides-numbers_alone p)) signature_to signature_from)
+      (λ p. decides-same _ (Then (SpelledSignature settings) OnlyNumbers) behind_60
+      (decides->>= (signature settings) (numbers_alone p) (SpelledSignature settings) OnlyNumbers (decides-signature settings)
+      (decides-numbers_alone p)) signature_to signature_from)
 
   starts : (b : ℕ) (f : FunctionType) (text : List ℕ) → SpellsFunctionType settings f (b ∷ text) → has_tag ((0x60, number_signature settings) ∷ []) b ≡ true
   starts b f text h = let e = head_is b 0x60 text (h.params ++ h.results) h.whole in rw e refl
 
   pub decides-function_type : Decides (function_type settings) (SpellsFunctionType settings)
   unfolding function_type
-  decides-function_type = decides-choice Other (SpellsFunctionType settings) ((0x60, number_signature settings) ∷ []) (λ f h. let e = h.whole in absurd cc) (decides-number_signature, tt) starts
+  decides-function_type = decides-choice Other (SpellsFunctionType settings) ((0x60, number_signature settings) ∷ [])
+      (λ f h. let e = h.whole in absurd cc) (decides-number_signature, tt) starts

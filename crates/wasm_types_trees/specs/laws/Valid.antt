@@ -104,7 +104,7 @@ module _ (space : List TypeTree) (g : Written) where
       let k : ℕ = i - length space in
       let t : TypeTree = record { group = written_tree space g; place = k } in
       let at : get_or (types_of space g) k t ≡ t = get_types (written_tree space g) 0 (length g.types) k t (omega arith) ∙ ap
-        (λ (p : ℕ). record { group = written_tree space g; place = p }) (omega arith) in
+      (λ (p : ℕ). record { group = written_tree space g; place = p }) (omega arith) in
       subst (λ (r : Reference). Contains all_types (type_meant (written_tree space g) (reference_tree (type_at space) r))) (sym e)
       (Contains-append_right space (types_of space g) t
       (subst (Contains (types_of space g)) at (Contains-get_or (types_of space g) k t (omega (arith, length_types (written_tree space g) 0 (length g.types))))))
@@ -120,12 +120,12 @@ module _ (space : List TypeTree) (g : Written) where
       let f : EntryOf ℕ → Entry = entry_map (reference_at (length space)) in
       open_place (type_at space) (map f (written_entries g)) p (omega (arith, length-map (written_entries g) f))
       ∙ ap (λ (r : Entry). entry_map (type_meant (written_tree space g)) (entry_map (reference_tree (type_at space)) r))
-        (get_or-map f (written_entries g) p past_the_end past_the_end (omega arith))
+      (get_or-map f (written_entries g) p past_the_end past_the_end (omega arith))
       ∙ ap (entry_map (type_meant (written_tree space g))) (entry_twice (reference_tree (type_at space)) (reference_at (length space)) x)
       ∙ entry_twice (type_meant (written_tree space g)) (λ i. reference_tree (type_at space) (reference_at (length space) i)) x
 
 known_at : (bits start end own : ℕ) (xs : List (EntryOf ℕ)) (p : ℕ) (d : EntryOf ℕ) → AreWellReferenced bits start end own xs → p < length xs →
-  EachEntry (λ i. i < end) (get_or xs p d)
+    EachEntry (λ i. i < end) (get_or xs p d)
 known_at bits start end own [] p d w lt = absurd (omega arith)
 known_at bits start end own (x ∷ xs) zero d w lt = w.0.known
 known_at bits start end own (x ∷ xs) (suc p) d w lt = known_at bits start end (suc own) xs p d w.1 (omega arith)
@@ -145,21 +145,21 @@ closed_new settings space g v p lt =
     (known_at settings.features (length space) (length space + length g.types) (length space) (written_entries g) p past_the_end v.references (omega arith))))
 
 closed_group : (settings : Settings) (space : List TypeTree) (g : Written) → IsValidGroup settings space g → All
-  (λ t. EachEntry (Contains (space ++ types_of space g)) (opened t)) (types_of space g)
+    (λ t. EachEntry (Contains (space ++ types_of space g)) (opened t)) (types_of space g)
 closed_group settings space g v =
     let whole : GroupTree = written_tree space g in
     let n : ℕ = length g.types in
     All-from_get_or (λ t. EachEntry (Contains (space ++ types_of space g)) (opened t)) (types_of space g) (nowhere whole) (λ i lt.
     let lt' : i < n = omega (arith, length_types whole 0 n) in
     let e : get_or (types_of space g) i (nowhere whole) ≡ record { group = whole; place = i } = get_types whole 0 n i (nowhere whole) lt' ∙ ap
-      (λ (p : ℕ). record { group = whole; place = p }) (omega arith) in
+    (λ (p : ℕ). record { group = whole; place = p }) (omega arith) in
     subst (λ (t : TypeTree). EachEntry (Contains (space ++ types_of space g)) (opened t)) (sym e) (closed_new settings space g v i lt'))
 
 pub closed_push : (settings : Settings) (space : List TypeTree) (g : Written) → IsValidGroup settings space g → AreClosed space → AreClosed (space ++ types_of space g)
 closed_push settings space g v c =
     All-append (λ t. EachEntry (Contains (space ++ types_of space g)) (opened t)) space (types_of space g)
     (All-weaker (λ t. EachEntry (Contains space) (opened t)) (λ t. EachEntry (Contains (space ++ types_of space g)) (opened t))
-      (λ t w. each_entry (Contains space) (Contains (space ++ types_of space g)) (λ r. Contains-append_left space (types_of space g) r) (opened t) w) space c)
+    (λ t w. each_entry (Contains space) (Contains (space ++ types_of space g)) (λ r. Contains-append_left space (types_of space g) r) (opened t) w) space c)
     (closed_group settings space g v)
 
 valid_types : (settings : Settings) (ts : List TypeTree) → AreValidTypes settings ts → All (IsValidType settings) ts

@@ -136,9 +136,9 @@ pub record GroupsWorked : Type 0 where
   pub covariant_result : IsAccepted (ReferenceTypes ∷ gc) (two_structs ++ single (open_type [] (giving (to 0))) ∷ []) (single (open_type (2 ∷ []) (giving (to 1))))
   pub contravariant_result : IsRefused (two_structs ++ single (open_type [] (giving (to 1))) ∷ []) (single (open_type (2 ∷ []) (giving (to 0))))
   pub immutable_field : IsAccepted (ReferenceTypes ∷ gc) (single (open_type [] (struct_of (constant (ref true (abstract false any)) ∷ []))) ∷ [])
-    (single (open_type (0 ∷ []) (struct_of (constant (ref true (abstract false eq)) ∷ []))))
+      (single (open_type (0 ∷ []) (struct_of (constant (ref true (abstract false eq)) ∷ []))))
   pub mutable_field : IsRefused (single (open_type [] (struct_of (variable (ref true (abstract false any)) ∷ []))) ∷ [])
-    (single (open_type (0 ∷ []) (struct_of (variable (ref true (abstract false eq)) ∷ []))))
+      (single (open_type (0 ∷ []) (struct_of (variable (ref true (abstract false eq)) ∷ []))))
   pub shared_below_unshared : IsRefused (single (open_type [] nothing) ∷ []) (single (record (open_type (0 ∷ []) nothing) { shared = true }))
   -- what a composite type needs
   pub one_result : IsAccepted [] [] (single (final_type [] (giving integer)))
@@ -160,7 +160,7 @@ pub record GroupsWorked : Type 0 where
   pub continuation_of_struct : IsRefused (single (final_type [] (struct_type [])) ∷ []) (single (final_type [] (continuation 0)))
   -- shared types
   pub shared_numbers : IsAccepted (SharedEverythingThreads ∷ Simd ∷ gc) []
-    (single (shared_type (struct_of (record { storage = i8; mutable = true } ∷ constant integer ∷ constant (number v128) ∷ []))))
+      (single (shared_type (struct_of (record { storage = i8; mutable = true } ∷ constant integer ∷ constant (number v128) ∷ []))))
   pub shared_function : IsAccepted (SharedEverythingThreads ∷ []) [] (single (shared_type (function (integer ∷ []) (long ∷ []))))
   pub shared_reference : IsAccepted (SharedEverythingThreads ∷ ReferenceTypes ∷ gc) [] (single (shared_type (array_of (constant (ref true (abstract true eq))))))
   pub shared_in_unshared : IsAccepted (SharedEverythingThreads ∷ ReferenceTypes ∷ gc) [] (single (final_type [] (taking (ref true (abstract true eq)))))
@@ -182,14 +182,14 @@ pub record GroupsWorked : Type 0 where
   pub function_describes : IsRefused [] (together (described_by 1 (final_type [] (struct_type [])) ∷ describing 0 (final_type [] nothing) ∷ []))
   -- a subtype's descriptor goes along with its supertype's, and what it describes with what its supertype does
   pub descriptors_along : IsAccepted (CustomDescriptors ∷ gc) (described ∷ [])
-    (together (described_by 3 (open_type (0 ∷ []) (struct_type [])) ∷ describing 2 (open_type (1 ∷ []) (struct_type [])) ∷ []))
+      (together (described_by 3 (open_type (0 ∷ []) (struct_type [])) ∷ describing 2 (open_type (1 ∷ []) (struct_type [])) ∷ []))
   pub descriptor_lost : IsRefused (described ∷ []) (single (open_type (0 ∷ []) (struct_type [])))
   pub descriptor_added : IsRefused (single (open_type [] (struct_type [])) ∷ [])
-    (together (described_by 2 (open_type (0 ∷ []) (struct_type [])) ∷ describing 1 (open_type [] (struct_type [])) ∷ []))
+      (together (described_by 2 (open_type (0 ∷ []) (struct_type [])) ∷ describing 1 (open_type [] (struct_type [])) ∷ []))
   pub descriptor_apart : IsRefused (described ∷ []) (together (described_by 3 (open_type (0 ∷ []) (struct_type [])) ∷ describing 2 (open_type [] (struct_type [])) ∷ []))
   pub describes_lost : IsRefused (described ∷ []) (single (open_type (1 ∷ []) (struct_type [])))
   pub describes_added : IsRefused (single (open_type [] (struct_type [])) ∷ [])
-    (together (described_by 2 (open_type [] (struct_type [])) ∷ describing 1 (open_type (0 ∷ []) (struct_type [])) ∷ []))
+      (together (described_by 2 (open_type [] (struct_type [])) ∷ describing 1 (open_type (0 ∷ []) (struct_type [])) ∷ []))
   pub describes_apart : IsRefused (described ∷ []) (together (described_by 3 (open_type [] (struct_type [])) ∷ describing 2 (open_type (1 ∷ []) (struct_type [])) ∷ []))
   -- at most 63 types above one
   pub depth_63 : IsValidType (allowing (bits_of gc)) (deep 63)

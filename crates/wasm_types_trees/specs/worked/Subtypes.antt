@@ -48,11 +48,11 @@ pub record SubtypesWorked : Type 0 where
   pub continuation_bottoms : HeapIsBelowEach (plain nocont) (plain cont ∷ concrete suspended ∷ [])
   pub other_bottoms : HeapIsBelowEach (plain noextern) (plain extern ∷ []) × HeapIsBelowEach (plain noexn) (plain exn ∷ [])
   pub other_bottoms_not : HeapIsBelowNone (plain noextern) (plain any ∷ plain exn ∷ concrete base ∷ []) × HeapIsBelowNone (plain noexn)
-    (plain any ∷ plain extern ∷ concrete base ∷ [])
+      (plain any ∷ plain extern ∷ concrete base ∷ [])
   -- types by declaration, and their abstract types
   pub structs : HeapIsBelowEach (concrete leaf) (concrete leaf ∷ concrete derived ∷ concrete base ∷ plain struct ∷ plain eq ∷ plain any ∷ [])
   pub structs_not : HeapIsBelowNone (concrete derived) (concrete leaf ∷ concrete unrelated ∷ exact derived ∷ exact base ∷ plain array ∷ plain func
-    ∷ plain none ∷ abstract true struct ∷ [])
+      ∷ plain none ∷ abstract true struct ∷ [])
   pub undeclared : HeapIsBelowNone (concrete unrelated) (concrete base ∷ concrete derived ∷ [])
   pub shared_structs : HeapIsBelowEach (concrete shared_struct) (abstract true struct ∷ abstract true any ∷ [])
   pub shared_structs_not : HeapIsBelowNone (concrete shared_struct) (plain struct ∷ plain any ∷ concrete base ∷ [])

@@ -20,7 +20,9 @@ returns c =
     let second = c.in_ok-types.ensures.forward.taken.settings ∙ first in
     let third = c.in_ok-functions.ensures.forward.taken.settings ∙ second in
     let typed = sym (ap (λ (z : Settings). type_section z c.read_header.new.reader) first) ∙ c.in_ok-types.ensures.answer in
-    let declared = subst (λ (n : ℕ). function_section settings n at_functions ≡ Done functions.items at_code) (c.len.ensures ∙ types.ok.0) (sym (ap (λ (z : Settings). function_section z c.len.result at_functions) second) ∙ c.in_ok-functions.ensures.answer) in
-    let defined = subst (λ (n : ℕ). code_section settings n at_code ≡ Done (bodies c.in_ok-bodies.bodies.items) at_end) (c.len-2.ensures ∙ functions.ok.0) (sym (ap (λ (z : Settings). code_section z c.len-2.result at_code) third) ∙ c.in_ok-bodies.ensures.answer) in
+    let declared = subst (λ (n : ℕ). function_section settings n at_functions ≡ Done functions.items at_code) (c.len.ensures ∙ types.ok.0)
+    (sym (ap (λ (z : Settings). function_section z c.len.result at_functions) second) ∙ c.in_ok-functions.ensures.answer) in
+    let defined = subst (λ (n : ℕ). code_section settings n at_code ≡ Done (bodies c.in_ok-bodies.bodies.items) at_end)
+    (c.len-2.ensures ∙ functions.ok.0) (sym (ap (λ (z : Settings). code_section z c.len-2.result at_code) third) ∙ c.in_ok-bodies.ensures.answer) in
     let whole : (length at_end.rest == 0) ≡ true = search rules in
     rw (c.in_ok-read_header.ensures.answer, typed, declared, defined, whole) refl

@@ -12,7 +12,8 @@ returns-in_err-index c =
 
 pub loop-preserved : goal.loop-preserved
 loop-preserved c =
-    rw (c.in_ok-push.ensures.items) (goes_on (type_index c.args.types) c.loop.functions.items c.args.count c.loop.counter c.loop.contents _ c.loop.invariant _ _ c.loop-test.true c.in_ok-index.ensures)
+    rw (c.in_ok-push.ensures.items) (goes_on (type_index c.args.types) c.loop.functions.items c.args.count c.loop.counter c.loop.contents _
+    c.loop.invariant _ _ c.loop-test.true c.in_ok-index.ensures)
 
 pub returns : goal.returns
 returns c = is_done (type_index c.args.types) c.loop.functions.items c.args.count c.loop.counter c.loop.contents _ c.loop.invariant (omega arith)

@@ -17,4 +17,5 @@ pub returns : goal.returns
 unfolding items
 returns c =
     let few : nat_lt c.args.contents.now.settings.limits.types c.in_ok-count.field-0 ≡ false = le-ltb _ _ (omega (arith, ap (λ (l : Limits). l.types) c.limits.ensures.value)) in
-    rw (c.in_ok-count.ensures.answer, few, sym c.in_ok-count.ensures.forward.taken.settings) (seen_alike _ _ c.read_many.result c.read_many.new.reader _ (λ v. map-id v.items) c.read_many.ensures.answer)
+    rw (c.in_ok-count.ensures.answer, few, sym c.in_ok-count.ensures.forward.taken.settings)
+    (seen_alike _ _ c.read_many.result c.read_many.new.reader _ (λ v. map-id v.items) c.read_many.ensures.answer)

@@ -12,4 +12,5 @@ pub returns : goal.returns
 unfolding at_begin
 returns c =
     let n = c.new-reader.ensures in
-    collected frames_of c.read_module.result _ _ _ (ap (λ (s : State). module_frames s.settings s) (stands_at_begin c.new-reader.result _ n.rest n.place n.start n.settings)) c.read_module.ensures
+    collected frames_of c.read_module.result _ _ _ (ap (λ (s : State). module_frames s.settings s)
+    (stands_at_begin c.new-reader.result _ n.rest n.place n.start n.settings)) c.read_module.ensures

@@ -23,7 +23,8 @@ returns-in_err-validate_body-clause-verdict c =
     let p = err_from_is_err_and c.from_residual.result c.from_residual.ensures.1 in
     let few : length c.as_slice-functions.result.now ≡ length module'.functions.items = ap length c.as_slice-functions.ensures.value in
     let lt : c.loop-place.place < length module'.functions.items = omega arith in
-    rw (p.1, p.2) (denies_from _ (AcceptsAt default_settings module'.types.items module'.functions.items (bodies module'.bodies.items) c.loop-place.place) (AreAccepted default_settings module'.types.items module'.functions.items (bodies module'.bodies.items))
+    rw (p.1, p.2) (denies_from _ (AcceptsAt default_settings module'.types.items module'.functions.items
+    (bodies module'.bodies.items) c.loop-place.place) (AreAccepted default_settings module'.types.items module'.functions.items (bodies module'.bodies.items))
     (accepted_index default_settings module'.types.items module'.functions.items (bodies module'.bodies.items) c.loop-place.place lt) c.in_err-validate_body.ensures.verdict)
 
 pub loop-place-preserved : goal.loop-place-preserved

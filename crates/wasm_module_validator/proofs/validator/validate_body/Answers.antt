@@ -20,9 +20,11 @@ returns-clause-verdict c =
     let type = found_at c.deref-2.result.now module'.types.items c.in-Some.index.now c.in-Some-get.ty.now c.deref-2.ensures.value c.in-Some-get.ensures.lookup.3 in
     let entry = found_at c.deref-3.result.now module'.bodies.items place c.in-Some-get-2.body.now c.deref-3.ensures.value c.in-Some-get-2.ensures.lookup.3 in
     let bytes_of : FunctionBody → List ℕ = λ b. b.reader.rest in
-    let body : slice_get (bodies module'.bodies.items) place ≡ Some (bytes_of c.in-Some-get-2.body.now) = slice_get-map bytes_of module'.bodies.items place ∙ ap (option_map bytes_of) entry in
+    let body : slice_get (bodies module'.bodies.items) place ≡ Some (bytes_of c.in-Some-get-2.body.now) =
+    slice_get-map bytes_of module'.bodies.items place ∙ ap (option_map bytes_of) entry in
     let told = subst (λ (t : FunctionType). Tells c.validate.result (AcceptsBody t c.clone.result.rest)) c.ty.view_is c.validate.ensures.verdict in
-    tells_at c.validate.result module'.types.items module'.functions.items (bodies module'.bodies.items) place c.in-Some.index.now c.in-Some-get.ty.now (bytes_of c.in-Some-get-2.body.now) index type body
+    tells_at c.validate.result module'.types.items module'.functions.items
+    (bodies module'.bodies.items) place c.in-Some.index.now c.in-Some-get.ty.now (bytes_of c.in-Some-get-2.body.now) index type body
     (subst (λ (s : State). Tells c.validate.result (AcceptsBody c.in-Some-get.ty.now s.rest)) c.clone.ensures told)
 
 pub returns-clause-kind : goal.returns-clause-kind

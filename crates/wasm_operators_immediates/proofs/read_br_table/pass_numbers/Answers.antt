@@ -14,8 +14,11 @@ returns-in_err-read_var_u32-clause-answer c =
 pub loop-preserved : goal.loop-preserved
 loop-preserved c = record {
   forward = reaches_then _ _ _ c.loop.invariant.forward c.in_ok-read_var_u32.ensures.forward;
-  read = (c.loop.invariant.read.0 ++ c.in_ok-read_var_u32.field-0 ∷ [], goes_on u32 c.loop.invariant.read.0 c.args.count c.loop.counter c.loop.reader
-    _ c.loop.invariant.read.1 _ _ c.loop-test.true c.in_ok-read_var_u32.ensures.answer);
+  read = (
+    c.loop.invariant.read.0 ++ c.in_ok-read_var_u32.field-0 ∷ [],
+    goes_on u32 c.loop.invariant.read.0 c.args.count c.loop.counter c.loop.reader
+        _ c.loop.invariant.read.1 _ _ c.loop-test.true c.in_ok-read_var_u32.ensures.answer,
+  );
 }
 
 pub returns-clause-answer : goal.returns-clause-answer

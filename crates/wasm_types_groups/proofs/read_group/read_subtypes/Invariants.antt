@@ -10,9 +10,9 @@ use Rattle.wasm_types_groups.proofs.read_group.read_subtypes.Given as goal
 abbrev pub invariant-loop : goal.invariant-loop
 invariant-loop l = record {
   read : with_front (map sub_value l.types.items) (repeated (l.count - l.counter) (sub_type l.fn.reader.settings) l.reader) ≡ repeated l.count
-    (sub_type l.fn.reader.settings) l.fn.reader;
+      (sub_type l.fn.reader.settings) l.fn.reader;
   placed : with_front l.offsets.items (repeated (l.count - l.counter) (place_of (sub_type l.fn.reader.settings)) l.reader) ≡ repeated l.count
-    (place_of (sub_type l.fn.reader.settings)) l.fn.reader;
+      (place_of (sub_type l.fn.reader.settings)) l.fn.reader;
   forward : Reaches l.fn.reader l.reader;
   even : length l.types.items ≡ length l.offsets.items;
 }

@@ -14,5 +14,5 @@ returns-in_err-remap_list-clause-walked g c =
 pub returns-clause-walked : goal.returns-clause-walked
 returns-clause-walked g c =
     walked_next (given.F-post g c.args.f.now) c.remap_indices.result c.args.supertypes.now c.remap_list.new.indices
-      (entry_indices (composite_of c.args.composite.now)) (entry_indices (composite_of c.remap_indices.new.self))
+    (entry_indices (composite_of c.args.composite.now)) (entry_indices (composite_of c.remap_indices.new.self))
     c.in_ok-remap_list.ensures.remapped.walked c.remap_indices.ensures.remapped.walked

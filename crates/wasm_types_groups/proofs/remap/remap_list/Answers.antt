@@ -14,8 +14,14 @@ loop-place-preserved g c = record {
   len = length-set _ _ _ ∙ c.loop-place.invariant.len;
   so_far = step (λ i. i) (λ i. tt {0}) (λ i. i ∷ []) _ c.args.indices.now c.loop-place.indices c.loop-place.place c.in_ok-indices.field-0 c.index-indices-place.result
       (omega (arith, c.loop-place-test.true, c.loop-place.invariant.len)) c.loop-place.invariant.so_far
-      (record { same = refl; walked = (subst (λ (i : UnpackedIndex). given.F-post g c.args.f.now i (Ok c.in_ok-indices.field-0))
-        c.index-indices-place.is c.in_ok-indices.ensures, tt) });
+      (record {
+        same = refl;
+        walked = (
+          subst (λ (i : UnpackedIndex). given.F-post g c.args.f.now i (Ok c.in_ok-indices.field-0))
+              c.index-indices-place.is c.in_ok-indices.ensures,
+          tt,
+        );
+      });
 }
 
 pub returns-in_err-indices : goal.returns-in_err-indices
@@ -24,7 +30,7 @@ returns-in_err-indices g c =
     record {
       remapped = rw (p.1, p.2) (as_indices _ (Err c.in_err-indices.field-0.0) c.args.indices.now c.loop-place.indices
           (cut_alone (given.F-post g c.args.f.now) c.in_err-indices.field-0.0 c.args.indices.now c.loop-place.indices c.loop-place.place
-            c.index-indices-place.result (omega (arith, c.loop-place-test.true, c.loop-place.invariant.len)) c.loop-place.invariant.so_far
+          c.index-indices-place.result (omega (arith, c.loop-place-test.true, c.loop-place.invariant.len)) c.loop-place.invariant.so_far
           (subst (λ (i : UnpackedIndex). given.F-post g c.args.f.now i (Err c.in_err-indices.field-0.0)) c.index-indices-place.is c.in_err-indices.ensures)));
     }
 
@@ -32,5 +38,5 @@ pub returns : goal.returns
 returns g c = record {
   remapped = as_indices _ (Ok (tt {0})) c.args.indices.now c.loop-place.indices
       (whole (λ i. i) (λ i. tt {0}) (λ i. i ∷ []) _ c.args.indices.now c.loop-place.indices c.loop-place.place
-        (omega (arith, c.loop-place-test.false, c.loop-place.invariant.len)) c.loop-place.invariant.so_far);
+      (omega (arith, c.loop-place-test.false, c.loop-place.invariant.len)) c.loop-place.invariant.so_far);
 }

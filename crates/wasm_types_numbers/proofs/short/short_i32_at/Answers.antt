@@ -7,4 +7,5 @@ pub returns-then-first-lt128-clause-found : goal.returns-then-first-lt128-clause
 returns-then-first-lt128-clause-found c = signed_of_one_32 c.args.bytes.now c.args.at c.if-at-bytes.true 3 4 _ c.if-first-lt128.true c.seven_bits.ensures
 
 pub returns-then-second-lt128-clause-found : goal.returns-then-second-lt128-clause-found
-returns-then-second-lt128-clause-found c = signed_of_two_32 c.args.bytes.now c.args.at c.if-at-bytes.true 2 4 _ c.if-first-lt128.false c.if-second-lt128.true (omega arith) c.two_groups.ensures
+returns-then-second-lt128-clause-found c = signed_of_two_32 c.args.bytes.now c.args.at c.if-at-bytes.true 2 4 _ c.if-first-lt128.false
+  c.if-second-lt128.true (omega arith) c.two_groups.ensures

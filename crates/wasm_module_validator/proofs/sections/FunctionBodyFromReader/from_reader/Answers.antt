@@ -8,5 +8,6 @@ use Rattle.wasm_module_validator.proofs.sections.FunctionBodyFromReader.from_rea
 pub returns-clause-answer : goal.returns-clause-answer
 unfolding body
 returns-clause-answer c =
-    let few : nat_lt c.args.reader.now.settings.limits.body_bytes (length c.in_ok-reader.reader.rest) ≡ false = le-ltb _ _ (omega (arith, ap (λ (l : Limits). l.body_bytes) c.limits-limit.ensures.value)) in
+    let few : nat_lt c.args.reader.now.settings.limits.body_bytes (length c.in_ok-reader.reader.rest) ≡ false =
+    le-ltb _ _ (omega (arith, ap (λ (l : Limits). l.body_bytes) c.limits-limit.ensures.value)) in
     rw (c.in_ok-reader.ensures.answer, few) refl

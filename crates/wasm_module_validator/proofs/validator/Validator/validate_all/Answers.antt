@@ -18,4 +18,5 @@ pub returns-clause-verdict : goal.returns-clause-verdict
 returns-clause-verdict c = begin_judged _ _ _ c.in_ok-module.ensures.1 c.judge-judged.result c.judge-judged.ensures.verdict
 
 pub returns-clause-shown : goal.returns-clause-shown
-returns-clause-shown c = begin_shown _ _ _ c.in_ok-module.ensures.1 c.judge-judged.result c.judge-judged.ensures.verdict c.judge-judged.ensures.types c.judge-judged.ensures.functions
+returns-clause-shown c = begin_shown _ _ _ c.in_ok-module.ensures.1 c.judge-judged.result c.judge-judged.ensures.verdict c.judge-judged.ensures.types
+    c.judge-judged.ensures.functions

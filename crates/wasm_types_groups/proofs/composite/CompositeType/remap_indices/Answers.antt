@@ -15,5 +15,5 @@ returns-in_err-self-2 g c =
 pub returns : goal.returns
 returns g c = record {
   remapped = whole_entry _ c.args.self.now.shared _ _ _ _ c.in_ok-self.field-0 c.in_ok-self-2.field-0 c.in_ok-remap_indices.ensures.remapped
-    c.in_ok-self.ensures.remapped c.in_ok-self-2.ensures.remapped;
+      c.in_ok-self.ensures.remapped c.in_ok-self-2.ensures.remapped;
 }
