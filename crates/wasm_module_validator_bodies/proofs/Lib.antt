@@ -1,4 +1,5 @@
 pub mod Groups
+pub mod Passed
 pub mod Places
 pub mod Reading
 pub mod Steps

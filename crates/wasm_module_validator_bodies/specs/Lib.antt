@@ -4,5 +4,6 @@ pub mod Bodies
 -- What contracts promise beside it.
 pub mod Remaining
 pub mod Stepping
+pub mod Passing
 -- How bytes are read, as decoders, and why that is exact.
 pub mod laws

@@ -1,9 +1,9 @@
 -- What it promises to read an operator and step over it at once.
-use Rattle.std.specs.Prelude.{◌≡◌, List, Bool, Result, Ok, Err}
+use Rattle.std.specs.Prelude.{◌≡◌, ℕ, List, Bool, Result, Ok, Err}
 use Rattle.wasm_types.specs.decoding.Decoder.{State, Done}
 use Rattle.wasm_types.specs.error.ErrorValue.{ErrorValue}
 use Rattle.wasm_types.specs.reader.Reading.{Fails}
-use Rattle.wasm_types.specs.reader.Numbers.{IsRefused}
+use Rattle.wasm_types.specs.reader.Numbers.{IsRefused, GivesAt, RefusedAt}
 use Rattle.wasm_types.specs.values.declared.value.ValType.{ValType}
 use Rattle.wasm_module_validator_operands.specs.declared.refusal.Refusal.{Refusal}
 use Rattle.wasm_module_validator_operands.specs.Answers.{Denies, OfContent}
@@ -28,15 +28,24 @@ Refuses results (Refused r) before s = (o : Operator) × (t : State) × IsRead o
 abbrev pub IsOver : List ValType → Bool → Known → Known → State → State → Type 0
 IsOver results ended before after s t = (o : Operator) × IsRead o s t × Taken results o before after × (after.ended ≡ ended)
 
--- Ok where an operator was read and taken.
-abbrev pub StepsOver : List ValType → Result Bool OperatorRefusal → Known → Known → State → State → Type 0
-StepsOver results (Ok ended) before after s t = IsOver results ended before after s t
-StepsOver results (Err r) before after s t = Refuses results r before s
+-- wherever these bytes stand: one that begins at this offset, with the offset behind it
+abbrev pub IsOverAt : List ValType → ℕ × Bool → Known → Known → List ℕ → ℕ → Type 0
+IsOverAt results r before after text i = (o : Operator) × GivesAt operator text i o r.0 × Taken results o before after × (after.ended ≡ r.1)
 
--- the same answer, of an operator that was read, and whether it is the end
-abbrev pub as_operator : {X : Type 0} → Bool → Result X Refusal → Result Bool OperatorRefusal
-as_operator ended (Ok x) = Ok ended
-as_operator ended (Err r) = Err (Refused r)
+-- wherever they stand: none was read there, or one that cannot be taken, out of memory aside
+abbrev pub RefusesAt : List ValType → OperatorRefusal → Known → List ℕ → ℕ → Type 0
+RefusesAt results Unread before text i = RefusedAt operator text i
+RefusesAt results (Refused r) before text i = (o : Operator) × (end : ℕ) × GivesAt operator text i o end × Denies (kind_of r) (MayTake results o before)
+
+-- Ok where an operator was read and taken.
+abbrev pub StepsAt : List ValType → Result (ℕ × Bool) OperatorRefusal → Known → Known → List ℕ → ℕ → Type 0
+StepsAt results (Ok r) before after text i = IsOverAt results r before after text i
+StepsAt results (Err r) before after text i = RefusesAt results r before text i
+
+-- the same answer, of an operator that ends before this offset, and whether it is the end
+abbrev pub as_operator : {X : Type 0} → ℕ → Bool → Result X Refusal → Result (ℕ × Bool) OperatorRefusal
+as_operator end ended (Ok x) = Ok (end, ended)
+as_operator end ended (Err r) = Err (Refused r)
 
 -- where no operator is read, the bytes at s spell none
 abbrev pub MayRefuse : OperatorRefusal → State → Type 0

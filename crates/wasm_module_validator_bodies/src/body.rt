@@ -8,12 +8,15 @@ ghost use Rattle.wasm_types.specs.decoding.Decoder.{Reaches};
 ghost use Rattle.wasm_module_validator_bodies.specs.Bodies.{AcceptsBody};
 ghost use Rattle.wasm_module_validator_operands.specs.Operands.{Does, fresh};
 ghost use Rattle.wasm_module_validator_bodies.specs.Remaining.{function_type, GroupsLeft, BodyLeft};
-ghost use Rattle.wasm_module_validator_bodies.specs.Stepping.{StepsOver, as_operator, MayRefuse, IsErrorOf};
+ghost use Rattle.wasm_module_validator_bodies.specs.Stepping.{StepsAt, as_operator, MayRefuse, IsErrorOf};
+ghost use Rattle.wasm_types_numbers.specs.Numbers.{behind};
 
+use crate::numbers::{skip_i32_at, skip_i64_at};
 use crate::operators::{LocalGroup, Operator};
 use std::alloc::Global;
 use wasm_module_validator_operands::{OperatorValidator, Refusal};
 use wasm_types::{BinaryReader, Error, FuncType, Result, ValType};
+use wasm_types_numbers::{short_u8_at, short_u32_at};
 
 /// A validator of what functions do, one after the other, which keeps its memory from one to the next.
 #[derive(Drop)]
@@ -93,70 +96,96 @@ impl FuncValidator {
         Ok(())
     }
 
-    /// Reads operators to the end of the data, and steps over each.
+    /// Reads operators to the end of the data, and steps over each. The loop has the bytes and an offset alone, which stay in
+    /// registers; a reader is made again where the body ends.
     fn read_operators(&mut self, results: &[ValType], body: BinaryReader<'_>) -> Result<()>
         requires { self.old.validator.ended ≡ false }
         ensures verdict { Tells result (BodyLeft results.now self.old.validator body.entry.rest) }
         ensures within { RefusedWithin body.entry result }
     {
-        let mut reader = body;
-        while !reader.eof() {
-            let mut ahead = reader.clone();
-            match self.step(results, &mut ahead) {
-                Ok(false) => reader.return_to(ahead),
-                Ok(true) => return ended_at(&ahead),
+        let bytes = bytes_left(&body);
+        let mut at = 0;
+        while at < bytes.len() {
+            match self.step(results, bytes, at) {
+                Ok((end, false)) => at = end,
+                Ok((end, true)) => return ended_at(&further(&body, end)),
                 Err(refusal) => {
-                    return Err(refused_operator(self.alloc, refusal, reader.clone()));
+                    return Err(refused_operator(self.alloc, refusal, further(&body, at)));
                 }
             }
         }
-        Err(frames_remain(reader.original_position()))
+        Err(frames_remain(further(&body, at).original_position()))
     }
 
-    /// Reads an operator of a body with these results that has not ended, and steps over it: from its first byte straight
-    /// to its step. It answers whether the body has ended. Where it is refused the reader may have gone on.
+    /// Reads the operator that begins at an offset of a body with these results that has not ended, and steps over it: from
+    /// its first byte straight to its step. It answers the offset behind it, and whether the body has ended.
     #[inline(always)]
     fn step(
         &mut self,
         results: &[ValType],
-        reader: &mut BinaryReader<'_>,
-    ) -> Result<bool, OperatorRefusal>
+        bytes: &[u8],
+        at: usize,
+    ) -> Result<(usize, bool), OperatorRefusal>
         requires { self.old.validator.ended ≡ false }
-        ensures { StepsOver results.now result self.old.validator self.new.validator reader.old reader.new }
+        ensures { StepsAt results.now result self.old.validator self.new.validator bytes.now at }
     {
-        let Some(code) = reader.short_u8() else {
+        let Some((code, next)) = short_u8_at(bytes, at) else {
             return Err(OperatorRefusal::Unread);
         };
         match code {
             0x00 => {
                 self.validator.step_unreachable();
-                Ok(false)
+                Ok((next, false))
             }
-            0x01 => Ok(false),
-            0x0b => stepped(self.validator.step_end(results), true),
-            0x1a => stepped(self.validator.step_drop(), false),
+            0x01 => Ok((next, false)),
+            0x0b => stepped(self.validator.step_end(results), next, true),
+            0x1a => stepped(self.validator.step_drop(), next, false),
             0x20 => {
-                let Some(local_index) = reader.short_u32() else {
+                let Some((local_index, end)) = short_u32_at(bytes, next) else {
                     return Err(OperatorRefusal::Unread);
                 };
-                stepped(self.validator.step_local_get(local_index), false)
+                stepped(self.validator.step_local_get(local_index), end, false)
             }
             0x41 => {
-                let Some(_) = reader.short_i32() else {
+                let Some(end) = skip_i32_at(bytes, next) else {
                     return Err(OperatorRefusal::Unread);
                 };
-                stepped(self.validator.step_i32_const(), false)
+                stepped(self.validator.step_i32_const(), end, false)
             }
             0x42 => {
-                let Some(_) = reader.short_i64() else {
+                let Some(end) = skip_i64_at(bytes, next) else {
                     return Err(OperatorRefusal::Unread);
                 };
-                stepped(self.validator.step_i64_const(), false)
+                stepped(self.validator.step_i64_const(), end, false)
             }
-            0x6a => stepped(self.validator.step_i32_add(), false),
-            0x7c => stepped(self.validator.step_i64_add(), false),
+            0x6a => stepped(self.validator.step_i32_add(), next, false),
+            0x7c => stepped(self.validator.step_i64_add(), next, false),
             _ => Err(OperatorRefusal::Unread),
         }
+    }
+}
+
+/// The bytes that are left of a body.
+fn bytes_left<'a>(body: &BinaryReader<'a>) -> &'a [u8]
+    ensures { result.now ≡ body.now.rest }
+{
+    let mut reader = body.clone();
+    match reader.read_bytes(body.bytes_remaining()) {
+        Ok(bytes) => bytes,
+        Err(_) => &[],
+    }
+}
+
+/// A reader so many bytes further in a body.
+#[cold]
+fn further<'a>(body: &BinaryReader<'a>, n: usize) -> BinaryReader<'a>
+    requires { n ≤ length body.now.rest }
+    ensures { result ≡ behind n body.now }
+{
+    let mut reader = body.clone();
+    match reader.read_bytes(n) {
+        Ok(_) => reader,
+        Err(_) => reader,
     }
 }
 
@@ -169,13 +198,17 @@ pub(crate) enum OperatorRefusal {
     Refused(Refusal),
 }
 
-/// The same answer, of an operator that was read, and whether it is the body's end.
+/// The same answer, of an operator that was read up to an offset, and whether it is the body's end.
 #[inline(always)]
-fn stepped(answer: Result<(), Refusal>, ended: bool) -> Result<bool, OperatorRefusal>
-    ensures { result ≡ as_operator ended answer }
+fn stepped(
+    answer: Result<(), Refusal>,
+    end: usize,
+    ended: bool,
+) -> Result<(usize, bool), OperatorRefusal>
+    ensures { result ≡ as_operator end ended answer }
 {
     match answer {
-        Ok(()) => Ok(ended),
+        Ok(()) => Ok((end, ended)),
         Err(refusal) => Err(OperatorRefusal::Refused(refusal)),
     }
 }

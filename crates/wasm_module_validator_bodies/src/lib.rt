@@ -6,6 +6,7 @@
 #![tactic(auto)]
 
 mod body;
+mod numbers;
 mod operators;
 mod types;
 
