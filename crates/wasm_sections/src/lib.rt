@@ -5,9 +5,11 @@
 //! - `wasm_sections_frames`: a module as a header and sections, their order and counts; definitions alone;
 //! - `wasm_sections_limited`: a section's count and items, one by one;
 //! - `wasm_sections_imports`: imports and exports;
-//! - `wasm_sections_segments`: globals, tables and data segments, over any constant expressions.
+//! - `wasm_sections_segments`: globals, tables and data segments, over any constant expressions;
+//! - `wasm_sections_elements`: element segments, over any constant expressions.
 #![tactic(auto)]
 
+pub use wasm_sections_elements::{ElementItemsOf, ElementKindOf, ElementOf};
 pub use wasm_sections_imports::{Export, ExternalKind, Import, TypeRef};
 pub use wasm_sections_limited::{
     SectionLimited, SectionLimitedIntoIter, SectionLimitedIntoIterWithOffsets,

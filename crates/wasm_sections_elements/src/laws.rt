@@ -1,0 +1,21 @@
+//! Laws of element segments, each the contract of a function that does nothing.
+
+ghost use Rattle.wasm_types.specs.limits.Settings.{Settings};
+ghost use Rattle.wasm_types.specs.decoding.Decoder.{IsLawful, Decides};
+ghost use Rattle.wasm_sections_elements.specs.Spells.{SpelledElement};
+ghost use Rattle.wasm_sections_elements.specs.Decode.{element};
+ghost use Rattle.wasm_sections_elements.specs.Worked.{ElementRows};
+
+use wasm_types::FromReader;
+
+/// Whatever constant expressions are read from bytes: a value and a fault stay whatever bytes follow, an end of data needs
+/// exactly as many bytes as are missing, and a segment is read exactly where a front of the bytes spells it.
+pub fn elements_are_lawful<'a, E: FromReader<'a>>()
+    ensures { (z : Settings) → IsLawful (element (E.decoder z)) × Decides (element (E.decoder z)) (SpelledElement (E.grammar z)) }
+{}
+
+/// Worked bytes: each flag, and what is refused.
+#[tactic(auto, using(crate::specs::Worked::element_rows))]
+pub const fn elements_are_worked()
+    ensures { ElementRows }
+{}
