@@ -3,7 +3,7 @@
 ghost use Rattle.std.specs.Prelude.{◌≡◌, IfSome, IfNone};
 ghost use Rattle.wasm_operators_visit_short.specs.Short.{Begins, IsTold};
 
-use crate::immediates::block_type_at;
+use crate::immediates::{block_type_at, zero_at};
 use wasm_operators_visit_control::VisitControl;
 use wasm_types::WasmFeatures;
 use wasm_types_numbers::short_u32_at;
@@ -77,6 +77,31 @@ pub(crate) fn control_index<'a, V: VisitControl<'a>>(
         0x0c => Some((visitor.visit_br(index), end)),
         0x0d => Some((visitor.visit_br_if(index), end)),
         0x10 => Some((visitor.visit_call(index), end)),
+        _ => None,
+    }
+}
+
+/// A call through a table, which carries the index of a type and that of the table.
+#[inline(always)]
+pub(crate) fn control_indirect<'a, V: VisitControl<'a>>(
+    bytes: &'a [u8],
+    at: usize,
+    code: u8,
+    features: WasmFeatures,
+    visitor: &mut V,
+) -> Option<(V::Output, usize)>
+    requires { Begins bytes.now at code }
+    ensures told { IfSome result (λ r. IsTold features.0 bytes.now at r.1 (λ o. V.visits visitor.old o r.0 visitor.new)) }
+    ensures none { IfNone result (visitor.new ≡ visitor.old) }
+{
+    let Some((type_index, middle)) = short_u32_at(bytes, at + 1) else {
+        return None;
+    };
+    let Some((table_index, end)) = zero_at(bytes, middle) else {
+        return None;
+    };
+    match code {
+        0x11 => Some((visitor.visit_call_indirect(type_index, table_index), end)),
         _ => None,
     }
 }

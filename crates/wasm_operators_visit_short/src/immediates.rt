@@ -2,6 +2,7 @@
 
 ghost use Rattle.std.specs.Prelude.{◌≡◌, Bool, ◌≤◌, length, IfSome};
 ghost use Rattle.wasm_types.specs.features.Features.{has, Memory64};
+ghost use Rattle.wasm_types.specs.decoding.Text.{word};
 ghost use Rattle.wasm_types_numbers.specs.Numbers.{GivesAt};
 ghost use Rattle.wasm_operators_decode_immediates.specs.immediates.Blocks.{block_type};
 ghost use Rattle.wasm_operators_decode_immediates.specs.immediates.Kinds.{Plain};
@@ -9,7 +10,7 @@ ghost use Rattle.wasm_operators_decode_immediates.specs.Bytes.{index_or_zero};
 ghost use Rattle.wasm_operators_decode_immediates.specs.MemoryArguments.{memory_argument, offset as offset_decoder};
 
 use wasm_operators_decode_immediates::immediates::{BlockType, MemArg, MemArgTarget};
-use wasm_types::{ValType, WasmFeatures};
+use wasm_types::{Ieee32, Ieee64, ValType, WasmFeatures};
 use wasm_types_numbers::{short_u32_at, short_u64_at};
 
 /// A zero, where an index or a zero stands.
@@ -87,4 +88,39 @@ pub(crate) fn memarg_at(
         target: MemArgTarget::Memory,
     };
     Some((memarg, end))
+}
+
+/// The bits of a float of 32 bits, the lowest byte first.
+#[inline(always)]
+pub(crate) fn f32_at(bytes: &[u8], at: usize) -> Option<(Ieee32, usize)>
+    requires { at ≤ length bytes.now }
+    ensures { IfSome result (λ r. GivesAt (word 4) bytes.now at r.0.0 r.1) }
+{
+    if bytes.len() - at < 4 {
+        return None;
+    }
+    let bits = u32::from_le_bytes([bytes[at], bytes[at + 1], bytes[at + 2], bytes[at + 3]]);
+    Some((Ieee32::from_bits(bits), at + 4))
+}
+
+/// The bits of a float of 64 bits, the lowest byte first.
+#[inline(always)]
+pub(crate) fn f64_at(bytes: &[u8], at: usize) -> Option<(Ieee64, usize)>
+    requires { at ≤ length bytes.now }
+    ensures { IfSome result (λ r. GivesAt (word 8) bytes.now at r.0.0 r.1) }
+{
+    if bytes.len() - at < 8 {
+        return None;
+    }
+    let bits = u64::from_le_bytes([
+        bytes[at],
+        bytes[at + 1],
+        bytes[at + 2],
+        bytes[at + 3],
+        bytes[at + 4],
+        bytes[at + 5],
+        bytes[at + 6],
+        bytes[at + 7],
+    ]);
+    Some((Ieee64::from_bits(bits), at + 8))
 }

@@ -3,7 +3,7 @@
 ghost use Rattle.std.specs.Prelude.{◌≡◌, IfSome, IfNone};
 ghost use Rattle.wasm_operators_visit_short.specs.Short.{Begins, IsTold};
 
-use crate::immediates::{memarg_at, zero_at};
+use crate::immediates::{f32_at, f64_at, memarg_at, zero_at};
 use wasm_operators_visit_memory::VisitMemory;
 use wasm_types::WasmFeatures;
 use wasm_types_numbers::{short_i32_at, short_i64_at, short_u32_at};
@@ -204,6 +204,50 @@ pub(crate) fn i64_const<'a, V: VisitMemory<'a>>(
     };
     match code {
         0x42 => Some((visitor.visit_i64_const(value), end)),
+        _ => None,
+    }
+}
+
+/// A constant of type f32.
+#[inline(always)]
+pub(crate) fn f32_const<'a, V: VisitMemory<'a>>(
+    bytes: &'a [u8],
+    at: usize,
+    code: u8,
+    features: WasmFeatures,
+    visitor: &mut V,
+) -> Option<(V::Output, usize)>
+    requires { Begins bytes.now at code }
+    ensures told { IfSome result (λ r. IsTold features.0 bytes.now at r.1 (λ o. V.visits visitor.old o r.0 visitor.new)) }
+    ensures none { IfNone result (visitor.new ≡ visitor.old) }
+{
+    let Some((value, end)) = f32_at(bytes, at + 1) else {
+        return None;
+    };
+    match code {
+        0x43 => Some((visitor.visit_f32_const(value), end)),
+        _ => None,
+    }
+}
+
+/// A constant of type f64.
+#[inline(always)]
+pub(crate) fn f64_const<'a, V: VisitMemory<'a>>(
+    bytes: &'a [u8],
+    at: usize,
+    code: u8,
+    features: WasmFeatures,
+    visitor: &mut V,
+) -> Option<(V::Output, usize)>
+    requires { Begins bytes.now at code }
+    ensures told { IfSome result (λ r. IsTold features.0 bytes.now at r.1 (λ o. V.visits visitor.old o r.0 visitor.new)) }
+    ensures none { IfNone result (visitor.new ≡ visitor.old) }
+{
+    let Some((value, end)) = f64_at(bytes, at + 1) else {
+        return None;
+    };
+    match code {
+        0x44 => Some((visitor.visit_f64_const(value), end)),
         _ => None,
     }
 }

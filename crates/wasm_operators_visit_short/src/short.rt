@@ -3,9 +3,10 @@
 ghost use Rattle.std.specs.Prelude.{◌≡◌, IfSome, IfNone};
 ghost use Rattle.wasm_operators_visit_short.specs.Short.{IsTold};
 
-use crate::control::{control_alone, control_block, control_index};
+use crate::control::{control_alone, control_block, control_index, control_indirect};
 use crate::memory::{
-    access_1, access_2, access_4, access_8, i32_const, i64_const, memory_size, variable,
+    access_1, access_2, access_4, access_8, f32_const, f64_const, i32_const, i64_const,
+    memory_size, variable,
 };
 use crate::numbers::numeric;
 use wasm_operators_visit_control::VisitControl;
@@ -39,6 +40,7 @@ where
         }
         0x02 | 0x03 | 0x04 => control_block(bytes, at, code, features, visitor),
         0x0c | 0x0d | 0x10 => control_index(bytes, at, code, features, visitor),
+        0x11 => control_indirect(bytes, at, code, features, visitor),
         0x20..=0x24 => variable(bytes, at, code, features, visitor),
         0x2c | 0x2d | 0x30 | 0x31 | 0x3a | 0x3c => access_1(bytes, at, code, features, visitor),
         0x2e | 0x2f | 0x32 | 0x33 | 0x3b | 0x3d => access_2(bytes, at, code, features, visitor),
@@ -49,6 +51,8 @@ where
         0x3f | 0x40 => memory_size(bytes, at, code, features, visitor),
         0x41 => i32_const(bytes, at, code, features, visitor),
         0x42 => i64_const(bytes, at, code, features, visitor),
+        0x43 => f32_const(bytes, at, code, features, visitor),
+        0x44 => f64_const(bytes, at, code, features, visitor),
         0x45..=0xc4 => numeric(bytes, at, code, features, visitor),
         _ => None,
     }
