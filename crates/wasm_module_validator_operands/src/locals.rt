@@ -1,6 +1,6 @@
 //! The locals of a function.
 
-ghost use Rattle.std.specs.Prelude.{◌≡◌, ◌+◌, ◌≤◌, List, [], ◌++◌, length, replicate, slice_get, IfErr};
+ghost use Rattle.std.specs.Prelude.{◌≡◌, ◌+◌, ◌≤◌, List, [], ◌++◌, length, replicate, slice_get, IfErr, IfSome, Some};
 ghost use Rattle.wasm_types.specs.error.declared.error.ErrorKind.TheVariants.{Other, OutOfMemory};
 ghost use Rattle.wasm_types.specs.values.declared.value.ValType.{ValType as TheValType};
 ghost use Rattle.wasm_module_validator_operands.specs.Locals.{IsFront};
@@ -95,21 +95,20 @@ impl Locals {
         Ok(())
     }
 
-    /// The type of a local, by its index.
+    /// The type of a local, by its index, if it is one of the first.
     #[inline(always)]
-    pub fn get(&self, index: u32) -> Option<PackedType>
-        ensures { result ≡ slice_get self.now index }
+    pub fn get_first(&self, index: u32) -> Option<PackedType>
+        ensures { IfSome result (λ ty. Some ty ≡ slice_get self.now index) }
     {
         let first = self.first.as_slice();
         if (index as usize) < first.len() {
             return Some(first[index as usize]);
         }
-        self.find(index)
+        None
     }
 
-    /// The type of a local, by its index, wherever it is.
-    #[inline(never)]
-    fn find(&self, index: u32) -> Option<PackedType>
+    /// The type of a local, by its index.
+    pub fn get(&self, index: u32) -> Option<PackedType>
         ensures { result ≡ slice_get self.now index }
     {
         let at = self.runs.partition_point(|run| run.end <= index);

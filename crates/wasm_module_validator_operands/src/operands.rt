@@ -139,6 +139,17 @@ impl OperatorValidator {
     pub fn step_local_get(&mut self, local_index: u32) -> Result<(), Refusal>
         ensures { Steps (local_get_instruction local_index) result self.old self.new }
     {
+        if let Some(ty) = self.locals.get_first(local_index) {
+            return self.push_operand(ty);
+        }
+        self.step_far_local(local_index)
+    }
+
+    /// Steps over `local.get` of any local: out of the way, since nearly all are of the first.
+    #[inline(never)]
+    fn step_far_local(&mut self, local_index: u32) -> Result<(), Refusal>
+        ensures { Steps (local_get_instruction local_index) result self.old self.new }
+    {
         match self.locals.get(local_index) {
             Some(ty) => self.push_operand(ty),
             None => Err(Refusal::UnknownLocal { local_index }),

@@ -1,7 +1,7 @@
 use Rattle.std.proofs.Common.{rules, leb, ◌∙◌, sym, ◌<◌, length}
 use Rattle.std.proofs.lemmas.List.Sorted.{IsPartitionPoint-from_clause}
 use Rattle.wasm_module_validator_operands.proofs.Runs.{local_past, local_here, ends_partitioned}
-use Rattle.wasm_module_validator_operands.proofs.locals.Locals.find.Goals as goal
+use Rattle.wasm_module_validator_operands.proofs.locals.Locals.get.Goals as goal
 
 pub returns-then-at-len : goal.returns-then-at-len
 returns-then-at-len c =
