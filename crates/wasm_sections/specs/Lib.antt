@@ -4,3 +4,4 @@ pub use Rattle.wasm_sections_limited.specs as limited
 pub use Rattle.wasm_sections_imports.specs as imports
 pub use Rattle.wasm_sections_segments.specs as segments
 pub use Rattle.wasm_sections_elements.specs as elements
+pub use Rattle.wasm_sections_parser.specs as parser

@@ -6,7 +6,8 @@
 //! - `wasm_sections_limited`: a section's count and items, one by one;
 //! - `wasm_sections_imports`: imports and exports;
 //! - `wasm_sections_segments`: globals, tables and data segments, over any constant expressions;
-//! - `wasm_sections_elements`: element segments, over any constant expressions.
+//! - `wasm_sections_elements`: element segments, over any constant expressions;
+//! - `wasm_sections_parser`: a module as its frames, one at a time, from pieces.
 #![tactic(auto)]
 
 pub use wasm_sections_elements::{ElementItemsOf, ElementKindOf, ElementOf};
@@ -14,6 +15,7 @@ pub use wasm_sections_imports::{Export, ExternalKind, Import, TypeRef};
 pub use wasm_sections_limited::{
     SectionLimited, SectionLimitedIntoIter, SectionLimitedIntoIterWithOffsets,
 };
+pub use wasm_sections_parser::{Chunk, CustomSectionReader, Encoding, Frame, Parser};
 pub use wasm_sections_segments::{DataKindOf, DataOf, GlobalOf, TableInitOf, TableOf};
 use wasm_types::{MemoryType, RecGroup, TagType};
 

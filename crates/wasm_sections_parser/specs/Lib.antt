@@ -1,0 +1,8 @@
+-- Rules: what comes next where a parser stands, and what a call answers.
+pub mod Steps
+pub mod Parsing
+pub mod Settled
+-- Laws.
+pub mod StepLaws
+-- Worked rows.
+pub mod Worked

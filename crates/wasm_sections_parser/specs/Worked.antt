@@ -1,0 +1,70 @@
+-- Worked steps of a parser.
+use Rattle.std.proofs.Common.{◌≡◌, ℕ, List, [], ◌∷◌, refl, true, false, Some, None}
+use Rattle.wasm_types.specs.limits.Limits.{default_limits}
+use Rattle.wasm_types.specs.limits.Settings.{no_features}
+use Rattle.wasm_types.specs.decoding.declared.Refusal.TheVariants.{Other}
+use Rattle.wasm_types.specs.decoding.Decoder.{State, Done, Short, Fault}
+use Rattle.wasm_types.specs.decoding.Leb.{unsigned}
+use Rattle.wasm_types.specs.values.WorkedTypeLaws.{start_of, behind}
+use Rattle.wasm_sections_frames.specs.Outer.{Header}
+use Rattle.wasm_sections_frames.specs.Decode.{header}
+use Rattle.wasm_sections_parser.specs.declared.progress.Stage.{Stage}
+use Rattle.wasm_sections_parser.specs.declared.progress.Stage.TheVariants as stages
+use Rattle.wasm_sections_parser.specs.declared.progress.Progress.{Progress}
+use Rattle.wasm_sections_parser.specs.Steps.{version, section, code, entry, counted, in_code, one_less, begun, counts_agree, number_before, in_part, contents, code_start, next_section, next_entry, behind_code, next_header, step}
+
+-- a parser in this stage, behind sections up to this place
+abbrev at : Stage → ℕ → Progress
+at s last = record { stage = s; last = last; functions = 0; bodies = 0; data_count = None; segments = 0 }
+
+abbrev sections : Progress
+sections = at stages.Sections 0
+
+-- the header; a section of each kind; a byte more than its size, and one fewer; a late section and one that has no place
+pub record SectionRows : Type 0 where
+  pub first : step no_features (at stages.Header 0) (start_of (0x00 ∷ 0x61 ∷ 0x73 ∷ 0x6d ∷ 0x01 ∷ 0x00 ∷ 0x00 ∷ 0x00 ∷ [])) ≡ Done (version (record { version = 1; layer = 0 }), sections) (behind 8)
+  pub magic : step no_features (at stages.Header 0) (start_of (0x01 ∷ 0x61 ∷ 0x73 ∷ 0x6d ∷ [])) ≡ Fault Other 0
+  pub no_header : step no_features (at stages.Header 0) (start_of (0x00 ∷ 0x61 ∷ [])) ≡ Short 0 2
+  pub types : step no_features sections (start_of (0x01 ∷ 0x01 ∷ 0x00 ∷ [])) ≡ Done (section 1 (0x00 ∷ []), counted sections 1 0) (behind 3)
+  pub functions : step no_features sections (start_of (0x03 ∷ 0x02 ∷ 0x01 ∷ 0x00 ∷ [])) ≡ Done (section 3 (0x01 ∷ 0x00 ∷ []), counted sections 3 1) (behind 4)
+  pub no_count : step no_features sections (start_of (0x03 ∷ 0x00 ∷ [])) ≡ Fault Other 2
+  pub unknown : step no_features (at stages.Sections 13) (start_of (0x63 ∷ 0x00 ∷ [])) ≡ Done (section 99 [], at stages.Sections 13) (behind 2)
+  pub cut_short : step no_features sections (start_of (0x01 ∷ 0x03 ∷ 0x00 ∷ [])) ≡ Short 2 2
+  pub late : step no_features (at stages.Sections 4) (start_of (0x03 ∷ 0x02 ∷ [])) ≡ Fault Other 2
+  pub twice : step no_features (at stages.Sections 1) (start_of (0x01 ∷ 0x01 ∷ 0x00 ∷ [])) ≡ Fault Other 2
+  pub in_time : step no_features (at stages.Sections 5) (start_of (0x0d ∷ 0x01 ∷ 0x00 ∷ [])) ≡ Done (section 13 (0x00 ∷ []), at stages.Sections 6) (behind 3)
+  pub no_size : step no_features (at stages.Sections 4) (start_of (0x03 ∷ [])) ≡ Short 1 1
+  pub ended : step no_features (at stages.Ended 4) (start_of (0x03 ∷ [])) ≡ Fault Other 0
+
+pub section_rows : SectionRows
+unfolding step next_header header next_section contents in_part unsigned
+section_rows = record { first = refl; magic = refl; no_header = refl; types = refl; functions = refl; no_count = refl; unknown = refl; cut_short = refl; late = refl; twice = refl; in_time = refl; no_size = refl; ended = refl }
+
+-- The start of the code section, and a count that ends behind it. A body, one byte of which is missing, and one that takes a byte
+-- behind the section. The section's end, a byte before it, and what follows it.
+pub record CodeRows : Type 0 where
+  pub start : step no_features sections (start_of (0x0a ∷ 0x04 ∷ 0x01 ∷ [])) ≡ Done (code 1 4, in_code sections 1 6) (behind 3)
+  pub no_count : step no_features sections (start_of (0x0a ∷ 0x00 ∷ 0x01 ∷ [])) ≡ Fault Other 2
+  pub long_count : step no_features sections (start_of (0x0a ∷ 0x01 ∷ 0x81 ∷ [])) ≡ Fault Other 2
+  pub some_count : step no_features sections (start_of (0x0a ∷ 0x02 ∷ 0x81 ∷ [])) ≡ Short 3 1
+  pub body : step no_features (at (stages.Code 2 9) 12) (start_of (0x02 ∷ 0x00 ∷ 0x0b ∷ [])) ≡ Done (entry (0x00 ∷ 0x0b ∷ []), at (stages.Code 1 9) 12) (behind 3)
+  pub part_of_body : step no_features (at (stages.Code 2 9) 12) (start_of (0x02 ∷ 0x00 ∷ [])) ≡ Short 1 1
+  pub past_the_section : step no_features (at (stages.Code 2 2) 12) (start_of (0x02 ∷ 0x00 ∷ 0x0b ∷ [])) ≡ Fault Other 1
+  pub byte_behind : step no_features (at (stages.Code 0 1) 12) (start_of (0x0b ∷ [])) ≡ Fault Other 0
+  pub another_section : step no_features (at (stages.Code 0 0) 12) (start_of (0x0b ∷ 0x01 ∷ 0x00 ∷ [])) ≡ Done (section 11 (0x00 ∷ []), at stages.Sections 13) (behind 3)
+
+pub code_rows : CodeRows
+unfolding step next_section contents in_part code_start next_entry behind_code number_before unsigned
+code_rows = record { start = refl; no_count = refl; long_count = refl; some_count = refl; body = refl; part_of_body = refl; past_the_section = refl; byte_behind = refl; another_section = refl }
+
+-- as many bodies as functions, and as many data segments as were announced
+abbrev with_counts : ℕ → ℕ → Progress
+with_counts f b = record { stage = stages.Sections; last = 0; functions = f; bodies = b; data_count = Some f; segments = b }
+
+pub record CountRows : Type 0 where
+  pub none : counts_agree sections ≡ true
+  pub same : counts_agree (with_counts 2 2) ≡ true
+  pub fewer : counts_agree (with_counts 2 1) ≡ false
+
+pub count_rows : CountRows
+count_rows = record { none = refl; same = refl; fewer = refl }

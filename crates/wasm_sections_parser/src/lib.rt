@@ -1,0 +1,16 @@
+//! A module as its frames, one at a time (WebAssembly 3.0, binary format, modules): the header, whole sections, the code section
+//! as its start and then body by body, the end.
+//!
+//! `specs/Steps.antt` says what comes next where a parser stands, and `specs/Parsing.antt` what a call of `parse` answers.
+#![tactic(auto)]
+
+mod frame;
+pub mod laws;
+mod numbers;
+mod parser;
+mod progress;
+mod sections;
+
+pub use frame::{CustomSectionReader, Encoding, Frame};
+pub use parser::{Chunk, Parser};
+pub use progress::{Progress, Stage};

@@ -1,0 +1,155 @@
+//! The parser.
+
+ghost use Rattle.std.specs.Prelude.{◌≡◌, ◌+◌, ◌<◌, ◌^◌, length};
+ghost use Rattle.wasm_types.specs.reader.Reading.{NeedsNoMemory};
+ghost use Rattle.wasm_sections_parser.specs.Parsing.{between, staged, Ends, Comes, Parses};
+
+use crate::progress::{counts_agree, is_over};
+use crate::sections::{Read, read_frame};
+use crate::{Frame, Progress, Stage};
+use wasm_types::{BinaryReader, Error, Result, WasmFeatures};
+
+/// What a call gives.
+#[derive(Drop)]
+pub enum Chunk<'a> {
+    /// So many bytes more are needed.
+    NeedMoreData(usize),
+    /// A frame of so many bytes.
+    Parsed {
+        /// The bytes of the frame.
+        consumed: usize,
+        /// The frame.
+        frame: Frame<'a>,
+    },
+}
+
+/// Reads a module from its bytes, in pieces.
+#[derive(Drop)]
+pub struct Parser {
+    pub(crate) offset: u64,
+    pub(crate) features: WasmFeatures,
+    pub(crate) progress: Progress,
+}
+
+impl Parser {
+    /// A parser of a module that begins at this offset of the input, with the default features.
+    pub fn new(offset: u64) -> Parser
+        ensures offset { result.offset ≡ offset }
+    {
+        Parser {
+            offset,
+            features: WasmFeatures::default(),
+            progress: Progress {
+                stage: Stage::Header,
+                last: 0,
+                functions: 0,
+                bodies: 0,
+                data_count: None,
+                segments: 0,
+            },
+        }
+    }
+
+    /// The features that are allowed.
+    pub fn features(&self) -> WasmFeatures
+        ensures { result ≡ self.now.features }
+    {
+        self.features
+    }
+
+    /// Allows these features from here on.
+    pub fn set_features(&mut self, features: WasmFeatures)
+        ensures { self.new ≡ record { offset = self.old.offset; features = features; progress = self.old.progress } }
+    {
+        self.features = features;
+    }
+
+    /// What comes next of the module, at the front of these bytes; `eof` says that none follow them. Where more bytes are needed
+    /// the parser stays as it is; behind the end and behind a refusal each call is refused with kind 4.
+    pub fn parse<'d>(&mut self, data: &'d [u8], eof: bool) -> Result<Chunk<'d>>
+        requires { self.old.offset + length data.now < 2 ^ 64 }
+        ensures answer { Parses self.old data.now eof result self.new }
+        ensures no_memory { NeedsNoMemory result }
+    {
+        if is_over(&self.progress) {
+            return Err(Error::failed("nothing more is parsed", self.offset));
+        }
+        if data.len() == 0 && self.is_between() {
+            return self.end(eof);
+        }
+        self.next(data, eof)
+    }
+
+    // Whether a section, or the end, may come here.
+    fn is_between(&self) -> bool
+        ensures { result ≡ between self.now.progress.stage self.now.offset }
+    {
+        match self.progress.stage {
+            Stage::Header => false,
+            Stage::Sections => true,
+            Stage::Code { left, end } => {
+                if left == 0 {
+                    return end <= self.offset;
+                }
+                false
+            }
+            Stage::Ended => false,
+            Stage::Failed => false,
+        }
+    }
+
+    // The same parser in another stage.
+    fn set_stage(&mut self, stage: Stage)
+        ensures { self.new ≡ staged self.old stage }
+    {
+        self.progress.stage = stage;
+    }
+
+    // The end, where none of the bytes is left.
+    fn end<'d>(&mut self, eof: bool) -> Result<Chunk<'d>>
+        ensures answer { Ends self.old eof result self.new }
+        ensures no_memory { NeedsNoMemory result }
+    {
+        if !eof {
+            return Ok(Chunk::NeedMoreData(2));
+        }
+        let place = self.offset;
+        if !counts_agree(&self.progress) {
+            self.set_stage(Stage::Failed);
+            return Err(Error::new("sections have inconsistent lengths", place));
+        }
+        self.set_stage(Stage::Ended);
+        Ok(Chunk::Parsed {
+            consumed: 0,
+            frame: Frame::End(place),
+        })
+    }
+
+    // What comes next at the front of these bytes.
+    fn next<'d>(&mut self, data: &'d [u8], eof: bool) -> Result<Chunk<'d>>
+        requires { self.old.offset + length data.now < 2 ^ 64 }
+        ensures answer { Comes self.old data.now eof result self.new }
+        ensures no_memory { NeedsNoMemory result }
+    {
+        let mut reader = BinaryReader::new_features(data, self.offset, self.features);
+        match read_frame(self.progress, &mut reader) {
+            Ok(Read { frame, progress }) => {
+                self.offset = reader.original_position();
+                self.progress = progress;
+                Ok(Chunk::Parsed {
+                    consumed: reader.current_position(),
+                    frame,
+                })
+            }
+            Err(error) => {
+                if !eof {
+                    if let Some(needed) = error.needed_hint() {
+                        return Ok(Chunk::NeedMoreData(needed));
+                    }
+                }
+                self.set_stage(Stage::Failed);
+                Err(error)
+            }
+        }
+    }
+}
