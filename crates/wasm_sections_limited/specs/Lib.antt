@@ -1,5 +1,6 @@
 -- Rules: what comes next of the items of a section.
 pub mod Walking
+pub mod Runs
 -- Laws.
 pub mod WalkLaws
 -- Worked rows.

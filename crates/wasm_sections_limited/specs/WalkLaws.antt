@@ -1,6 +1,7 @@
 -- A walk over a section ends without an error exactly where the contents spell its items.
-use Rattle.std.proofs.Common.{◌≡◌, ℕ, zero, suc, ◌+◌, ◌<◌, List, [], ◌∷◌, ◌++◌, length, map, refl, sym, ap, ◌∙◌, subst, arith, true, false, Result, Ok, Err, inl, inr}
+use Rattle.std.proofs.Common.{◌≡◌, ℕ, zero, suc, ◌+◌, ◌<◌, List, [], ◌∷◌, ◌++◌, length, map, refl, sym, ap, ◌∙◌, subst, arith, true, false, Option, Some, None, Result, Ok, Err, inl, inr}
 use Rattle.std.specs.Iterator.{Drains}
+use Rattle.wasm_types.specs.limits.Settings.{Settings}
 use Rattle.wasm_types.specs.decoding.Decoder.{State, Outcome, Done, Decoder, Grammar, Takes, Decides, Many}
 use Rattle.wasm_types.specs.decoding.Exact.{value_is, state_is}
 use Rattle.wasm_types.specs.decoding.Leb.{u32, IsUnsigned, IsListed}
@@ -8,7 +9,8 @@ use Rattle.wasm_types.specs.decoding.LebLaws.{decides-u32}
 use Rattle.wasm_types.specs.error.declared.error.ErrorKind.{ErrorKind}
 use Rattle.wasm_types.specs.error.declared.error.ErrorKind.TheVariants.{EndOfData, MissingFeature, OutOfMemory, Failed, Other}
 use Rattle.wasm_types.specs.error.ErrorValue.{ErrorValue}
-use Rattle.wasm_types.specs.reader.Reading.{FailsAt, IsNotMemory}
+use Rattle.wasm_types.specs.reader.Reading.{FailsAt, Fails, IsNotMemory}
+use Rattle.wasm_sections_limited.specs.Runs.{seen, Steps}
 use Rattle.wasm_sections_limited.specs.Walking.{Walk, fresh, plainly, ok, NeverLacksMemory}
 
 -- what was read is not refused, unless memory ran out
@@ -91,3 +93,51 @@ module _ {A : Type 0} (d : Decoder A) (g : Grammar A) (exact : Decides d g) wher
   walk_complete s xs h =
       let t : State = behind s h.count h.values in
       (t, decides-u32.complete s t (length xs) h.count (taken s h.count h.values h.whole) h.counted, λ items run memory. values_complete (fresh (length xs) t) (length xs) xs refl refl h.each items run memory)
+
+-- ---- runs of the code's iterators
+
+seen_ok : {X A : Type 0} (v : X → A) (xs : List X) → map (seen v) (map ok xs) ≡ map ok (map v xs)
+seen_ok v [] = refl
+seen_ok v (x ∷ xs) = ap (λ (rs : List (Result _ ErrorValue)). Ok (v x) ∷ rs) (seen_ok v xs)
+
+seen_memory : {X A : Type 0} (v : X → A) (items : List (Result X ErrorValue)) → NeverLacksMemory items → NeverLacksMemory (map (seen v) items)
+seen_memory v [] h = tt
+seen_memory v (Ok x ∷ items) h = (tt, seen_memory v items h.1)
+seen_memory v (Err e ∷ items) h = (h.0, seen_memory v items h.1)
+
+-- An iterator of the code, where v is what an item is, and what R says of an item is that d reads it.
+module _ {X A S : Type 0} (v : X → A) (d : Settings → Decoder A) (walk : S → Walk) (told : Option (Result X ErrorValue) → Type 0)
+    (R : Settings → State → X → State → Type 0) (reads : (z : Settings) (b : State) (x : X) (c : State) → R z b x c → d z b ≡ Done (v x) c) where
+  abbrev Told : S → Option (Result X ErrorValue) → S → Type 0
+  Told = Steps d walk told R
+
+  one_step : (z : Settings) (s t : S) (item : Result X ErrorValue) → (walk s).reader.settings ≡ z → Told s (Some item) t → plainly (d z) (walk s) (Some (seen v item)) (walk t)
+  one_step z s t (Ok x) e ((o, p, l, read), m, k) = (o, p, l, subst (λ (y : Settings). d y (walk s).reader ≡ Done (v x) (walk t).reader) e (reads (walk s).reader.settings (walk s).reader x (walk t).reader read))
+  one_step z s t (Err f) e ((o, p, inl trailing), m, k) = (o, p, inl trailing)
+  one_step z s t (Err f) e ((o, p, inr refused), m, k) = (o, p, inr (refused.0, subst (λ (y : Settings). Fails f (d y (walk s).reader)) e refused.1))
+
+  -- a run of it is a walk over the values
+  pub run_walks : (z : Settings) (s : S) (items : List (Result X ErrorValue)) → (walk s).reader.settings ≡ z → Drains Told s items → Drains (plainly (d z)) (walk s) (map (seen v) items)
+  run_walks z s [] e (u, (t, same, last)) = (walk u, (walk t, ap walk same, last.0))
+  run_walks z s (item ∷ items) e (u, (t, (j, step, run), last)) =
+      let rest = run_walks z j items (step.2 ∙ e) (u, (t, run, last)) in
+      (rest.0, (rest.1.0, (walk j, one_step z s j item e step, rest.1.1), rest.1.2))
+
+  -- A run from the first item gives no error exactly where the contents spell the count and these items, and no byte after them.
+  module _ (g : Settings → Grammar A) (exact : (z : Settings) → Decides (d z) (g z)) where
+    pub run_sound : (b t : State) (n : ℕ) (s : S) (xs : List X) → u32 b ≡ Done n t → walk s ≡ fresh n t → Drains Told s (map ok xs) → IsListed (g t.settings) (map v xs) b.rest
+    run_sound b t n s xs counted new run =
+        let walked = run_walks t.settings s (map ok xs) (ap (λ (w : Walk). w.reader.settings) new) run in
+        let values = subst (λ (rs : List (Result A ErrorValue)). Drains (plainly (d t.settings)) (walk s) rs) (seen_ok v xs) walked in
+        walk_sound (d t.settings) (g t.settings) (exact t.settings) b t n (map v xs) counted (subst (λ (w : Walk). Drains (plainly (d t.settings)) w (map ok (map v xs))) new values)
+
+    abbrev number : ℕ → State → Outcome ℕ
+    number n t = Done n t
+
+    pub run_complete : (b t : State) (n : ℕ) (s : S) (xs : List A) (items : List (Result X ErrorValue)) → u32 b ≡ Done n t → walk s ≡ fresh n t → IsListed (g t.settings) xs b.rest → Drains Told s items → NeverLacksMemory items → map (seen v) items ≡ map ok xs
+    run_complete b t n s xs items counted new spelled run memory =
+        let walked = run_walks t.settings s items (ap (λ (w : Walk). w.reader.settings) new) run in
+        let there = walk_complete (d t.settings) (g t.settings) (exact t.settings) b xs spelled in
+        let both : number n t ≡ number (length xs) there.0 = sym counted ∙ there.1 in
+        let start : walk s ≡ fresh (length xs) there.0 = new ∙ (λ i. fresh (value_is n (length xs) t there.0 both i) (state_is n (length xs) t there.0 both i)) in
+        there.2 (map (seen v) items) (subst (λ (w : Walk). Drains (plainly (d t.settings)) w (map (seen v) items)) start walked) (seen_memory v items memory)

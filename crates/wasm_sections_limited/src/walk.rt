@@ -5,7 +5,8 @@ ghost use Rattle.std.specs.Iterator.{at_most};
 ghost use Rattle.wasm_types.specs.decoding.Decoder.{Done};
 ghost use Rattle.wasm_types.specs.error.declared.error.ErrorKind.TheVariants.{Other};
 ghost use Rattle.wasm_types.specs.reader.Reading.{Fails, MemoryOnlyIf};
-ghost use Rattle.wasm_sections_limited.specs.Walking.{NextIn, items_left};
+ghost use Rattle.wasm_sections_limited.specs.Walking.{items_left};
+ghost use Rattle.wasm_sections_limited.specs.Runs.{place_in, place_with_offsets, told, plain, with_offset, Steps};
 
 use crate::SectionLimited;
 use wasm_types::{Error, FromReader, Result};
@@ -34,7 +35,7 @@ fn trailing_error(offset: u64) -> Error
 impl<'a, T: FromReader<'a>> Iterator for SectionLimitedIntoIter<'a, T> {
     type Item = Result<T>;
 
-    ghost next_gives = { λ s r t. NextIn (λ b x c. T.decoder s.section.reader.settings b ≡ Done (T.view x) c) (λ b e. Fails e (T.decoder s.section.reader.settings b)) (record { left = s.remaining; reader = s.section.reader; over = s.end }) r (record { left = t.remaining; reader = t.section.reader; over = t.end }) × IfSome r (λ item. MemoryOnlyIf T.takes_memory item) × (t.section.reader.settings ≡ s.section.reader.settings) };
+    ghost next_gives = { Steps T.decoder place_in (told T.takes_memory) (plain T.view T.decoder) };
 
     ghost remaining = { λ s. at_most (items_left s.end s.remaining) };
 
@@ -73,7 +74,7 @@ pub struct SectionLimitedIntoIterWithOffsets<'a, T: FromReader<'a>> {
 impl<'a, T: FromReader<'a>> Iterator for SectionLimitedIntoIterWithOffsets<'a, T> {
     type Item = Result<(u64, T)>;
 
-    ghost next_gives = { λ s r t. NextIn (λ b x c. (x.0 ≡ b.place) × (T.decoder s.section.reader.settings b ≡ Done (T.view x.1) c)) (λ b e. Fails e (T.decoder s.section.reader.settings b)) (record { left = s.remaining; reader = s.section.reader; over = s.end }) r (record { left = t.remaining; reader = t.section.reader; over = t.end }) × IfSome r (λ item. MemoryOnlyIf T.takes_memory item) × (t.section.reader.settings ≡ s.section.reader.settings) };
+    ghost next_gives = { Steps T.decoder place_with_offsets (told T.takes_memory) (with_offset T.view T.decoder) };
 
     ghost remaining = { λ s. at_most (items_left s.end s.remaining) };
 
