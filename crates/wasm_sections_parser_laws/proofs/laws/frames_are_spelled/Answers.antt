@@ -1,0 +1,9 @@
+-- By the laws of headers and sections.
+use Rattle.wasm_sections_parser_laws.specs.SpelledLaws.{header_spelled, section_spelled}
+use Rattle.wasm_sections_parser_laws.proofs.laws.frames_are_spelled.Goals as goal
+
+pub returns-clause-headers : goal.returns-clause-headers
+returns-clause-headers c = header_spelled
+
+pub returns-clause-sections : goal.returns-clause-sections
+returns-clause-sections c = section_spelled

@@ -1,0 +1,4 @@
+//! What a parser gives of a module is what its bytes spell (WebAssembly 3.0, binary format, modules). No code.
+#![tactic(auto)]
+
+pub mod laws;
