@@ -1,2 +1,3 @@
 -- Laws.
 pub mod SpelledLaws
+pub mod CustomLaws

@@ -1,5 +1,6 @@
 -- By the laws of headers and sections.
 use Rattle.wasm_sections_parser_laws.specs.SpelledLaws.{header_spelled, section_spelled}
+use Rattle.wasm_sections_parser_laws.specs.CustomLaws.{custom_spelled}
 use Rattle.wasm_sections_parser_laws.proofs.laws.frames_are_spelled.Goals as goal
 
 pub returns-clause-headers : goal.returns-clause-headers
@@ -7,3 +8,6 @@ returns-clause-headers c = header_spelled
 
 pub returns-clause-sections : goal.returns-clause-sections
 returns-clause-sections c = section_spelled
+
+pub returns-clause-customs : goal.returns-clause-customs
+returns-clause-customs c = custom_spelled
