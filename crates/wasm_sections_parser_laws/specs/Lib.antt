@@ -1,3 +1,4 @@
 -- Laws.
 pub mod SpelledLaws
 pub mod CustomLaws
+pub mod BodyLaws

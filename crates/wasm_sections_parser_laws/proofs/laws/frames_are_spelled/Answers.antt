@@ -1,6 +1,7 @@
 -- By the laws of headers and sections.
 use Rattle.wasm_sections_parser_laws.specs.SpelledLaws.{header_spelled, section_spelled}
 use Rattle.wasm_sections_parser_laws.specs.CustomLaws.{custom_spelled}
+use Rattle.wasm_sections_parser_laws.specs.BodyLaws.{body_spelled}
 use Rattle.wasm_sections_parser_laws.proofs.laws.frames_are_spelled.Goals as goal
 
 pub returns-clause-headers : goal.returns-clause-headers
@@ -11,3 +12,6 @@ returns-clause-sections c = section_spelled
 
 pub returns-clause-customs : goal.returns-clause-customs
 returns-clause-customs c = custom_spelled
+
+pub returns-clause-bodies : goal.returns-clause-bodies
+returns-clause-bodies c = body_spelled
