@@ -3,8 +3,16 @@ pub mod Locals
 pub mod Groups
 pub mod Bodies
 pub mod Constants
+-- How constant expressions are read.
+pub mod Until
+pub mod ConstantDecoder
 -- What is proved of it.
 pub mod LocalsLaws
 pub mod GroupLaws
 pub mod BodyLaws
 pub mod ConstantLaws
+pub mod UntilLaws
+pub mod ConstantDecoderLaws
+pub mod ConstantStopLaws
+-- The rules and laws of the crate below, under its name: crates above cite them here.
+pub use Rattle.wasm_operators_reader.specs as reader

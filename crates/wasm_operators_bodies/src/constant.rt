@@ -1,13 +1,14 @@
 //! Constant expressions, as they stand among other bytes.
 
 ghost use Rattle.std.specs.Prelude.{◌≡◌, ℕ, List, false, true, IfOk, IfErr};
-ghost use Rattle.wasm_types.specs.decoding.Decoder.{State, Takes};
+ghost use Rattle.wasm_types.specs.decoding.Decoder.{State, Takes, Reaches};
 ghost use Rattle.wasm_types.specs.error.declared.error.ErrorKind.TheVariants.{Other};
 ghost use Rattle.wasm_types.specs.reader.Parts.{part_at};
-ghost use Rattle.wasm_types.specs.reader.Reading.{IsNotMemory};
+ghost use Rattle.wasm_types.specs.reader.Reading.{Gives, IsNotMemory, MemoryOnlyIf};
 ghost use Rattle.wasm_operators_reader.specs.operator.Op.{Op, op_of};
 ghost use Rattle.wasm_operators_reader.specs.Standing.{at_start, Reads, Refuses};
 ghost use Rattle.wasm_operators_bodies.specs.Constants.{is_end, SpelledConstant, PassesTo, StopsConstant};
+ghost use Rattle.wasm_operators_bodies.specs.ConstantDecoder.{constant};
 
 use crate::part::front;
 use std::alloc::Global;
@@ -15,7 +16,7 @@ use std::marker::Model;
 use wasm_operators_reader::OperatorsReader;
 use wasm_operators_reader::immediates::FrameStack;
 use wasm_operators_reader::operator::{Operator, Role};
-use wasm_types::{BinaryReader, Error, Result};
+use wasm_types::{BinaryReader, Error, FromReader, Result};
 
 /// The bytes of a constant expression, such as the value of a global (WebAssembly 3.0, binary format, expressions).
 #[derive(Drop)]
@@ -72,6 +73,40 @@ impl<'a> ConstExpr<'a> {
         ensures { result ≡ at_start self.now }
     {
         OperatorsReader::new(self.alloc, self.reader.clone())
+    }
+}
+
+/// The bytes of an expression whose only `end` is its last operator, as [`ConstExpr::read`] takes them.
+impl<'a> FromReader<'a> for ConstExpr<'a> {
+    ghost use Rattle.std.specs.Prelude.{ℕ, List, true};
+    ghost use Rattle.wasm_operators_bodies.specs.ConstantDecoder.{constant, ConstantText};
+    ghost use Rattle.wasm_operators_bodies.specs.ConstantDecoderLaws.{lawful-constant, decides-constant};
+
+    ghost Value = { List ℕ };
+
+    ghost view = { λ e. e.rest };
+
+    ghost decoder = { constant };
+
+    ghost grammar = { ConstantText };
+
+    ghost takes_memory = { true };
+
+    ghost lawful = { lawful-constant };
+
+    ghost exact = { decides-constant };
+
+    #[tactic(auto, using(wasm_types::specs::Laws::reaches_self, crate::specs::ConstantStopLaws::constant_part, crate::specs::ConstantStopLaws::constant_reaches, crate::specs::ConstantStopLaws::constant_fails))]
+    fn from_reader(alloc: Global, reader: &mut BinaryReader<'a>) -> Result<ConstExpr<'a>>
+        ensures answer { Gives (λ e. e.rest) result reader.new (constant reader.old.settings reader.old) }
+        ensures part { IfOk result (λ e. e ≡ part_at reader.old e.rest) }
+        ensures memory { MemoryOnlyIf true result }
+        ensures forward { Reaches reader.old reader.new }
+    {
+        match ConstExpr::read(alloc, reader) {
+            Ok(expression) => Ok(expression),
+            Err(error) => Err(error),
+        }
     }
 }
 
