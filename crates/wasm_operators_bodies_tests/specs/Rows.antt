@@ -1,4 +1,4 @@
--- Worked bytes of locals and bodies, by hand: what is read, what is refused at which offset, where the bytes end.
+-- Worked bytes of locals, bodies and constants, by hand: what is read, what is refused at which offset, where the bytes end.
 use Rattle.std.specs.Prelude.{◌≡◌, ℕ, List, [], ◌∷◌, length}
 use Rattle.wasm_types.specs.decoding.declared.Refusal.TheVariants.{Other}
 use Rattle.wasm_types.specs.decoding.Decoder.{State, Decoder, Done, Short, Fault}
@@ -6,6 +6,7 @@ use Rattle.wasm_types.specs.limits.Settings.{no_features}
 use Rattle.wasm_types.specs.values.declared.value.ValType.TheVariants.{I32, I64, F64}
 use Rattle.wasm_operators_bodies.specs.Locals.{LocalGroup, group_of, locals}
 use Rattle.wasm_operators_bodies.specs.Bodies.{body_bytes}
+use Rattle.wasm_operators_bodies.specs.ConstantDecoder.{constant}
 
 -- a reader behind n bytes, with these left, where no feature is allowed
 abbrev pub behind : ℕ → List ℕ → State
@@ -38,3 +39,20 @@ pub record BodyRows : Type 0 where
   pub two_bytes : reads body_bytes (0x02 ∷ 0x00 ∷ 0x0b ∷ []) (0x00 ∷ 0x0b ∷ [])
   pub no_byte : reads body_bytes (0x00 ∷ []) []
   pub cut_short : ends body_bytes (0x03 ∷ 0x00 ∷ []) 1 2
+
+-- the first n bytes are this value, and these are left
+abbrev pub begins : {A : Type 0} → Decoder A → List ℕ → A → ℕ → List ℕ → Type 0
+begins d text x n rest = d (behind 0 text) ≡ Done x (behind n rest)
+
+-- constants: an `end` alone; a number, with a byte behind; a sum; a block whose `end` comes first; `else` without `if`; no operator;
+-- bytes that end before the `end`, in a number, and at once
+pub record ConstantRows : Type 0 where
+  pub end_alone : reads (constant no_features) (0x0b ∷ []) (0x0b ∷ [])
+  pub number : begins (constant no_features) (0x41 ∷ 0x07 ∷ 0x0b ∷ 0x2a ∷ []) (0x41 ∷ 0x07 ∷ 0x0b ∷ []) 3 (0x2a ∷ [])
+  pub sum : reads (constant no_features) (0x41 ∷ 0x01 ∷ 0x41 ∷ 0x02 ∷ 0x6a ∷ 0x0b ∷ []) (0x41 ∷ 0x01 ∷ 0x41 ∷ 0x02 ∷ 0x6a ∷ 0x0b ∷ [])
+  pub block : refuses (constant no_features) (0x02 ∷ 0x40 ∷ 0x0b ∷ 0x0b ∷ []) 3
+  pub else_alone : refuses (constant no_features) (0x41 ∷ 0x07 ∷ 0x05 ∷ 0x0b ∷ []) 3
+  pub no_operator : refuses (constant no_features) (0x16 ∷ 0x0b ∷ []) 0
+  pub no_end : ends (constant no_features) (0x41 ∷ 0x07 ∷ []) 2 1
+  pub no_number : ends (constant no_features) (0x41 ∷ 0x80 ∷ []) 2 1
+  pub nothing : ends (constant no_features) [] 0 1

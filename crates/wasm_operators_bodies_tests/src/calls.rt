@@ -69,7 +69,7 @@ fn constants(rt: HostRuntime) -> Result<(), Fail> {
     // i32.const 7, end, and a byte behind it
     let text = [0x41, 0x07, 0x0b, 0x2a];
     let mut reader = bytes(&text);
-    let constant = ConstExpr::read(rt.alloc(), &mut reader)?;
+    let constant = reader.read::<ConstExpr>(rt.alloc())?;
     assert!(rt; constant.get_binary_reader().bytes_remaining() == 3);
     assert!(rt; reader.bytes_remaining() == 1);
     // a block, whose `end` comes first
