@@ -1,7 +1,9 @@
 //! The parser.
 
-ghost use Rattle.std.specs.Prelude.{◌≡◌, ◌+◌, ◌<◌, ◌^◌, length};
+ghost use Rattle.std.specs.Prelude.{◌≡◌, ◌+◌, ◌<◌, ◌^◌, length, None};
+ghost use Rattle.wasm_types.specs.features.Sets.{bits_of, default_features};
 ghost use Rattle.wasm_types.specs.reader.Reading.{NeedsNoMemory};
+ghost use Rattle.wasm_sections_parser.specs.declared.progress.Stage.TheVariants.{Header};
 ghost use Rattle.wasm_sections_parser.specs.Parsing.{between, staged, Ends, Comes, Parses};
 
 use crate::progress::{counts_agree, is_over};
@@ -35,6 +37,8 @@ impl Parser {
     /// A parser of a module that begins at this offset of the input, with the default features.
     pub fn new(offset: u64) -> Parser
         ensures offset { result.offset ≡ offset }
+        ensures features { result.features.0 ≡ bits_of default_features }
+        ensures progress { result.progress ≡ record { stage = Header; last = 0; functions = 0; bodies = 0; data_count = None; segments = 0 } }
     {
         Parser {
             offset,
