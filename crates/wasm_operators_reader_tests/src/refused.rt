@@ -68,3 +68,16 @@ fn behind_the_end(rt: HostRuntime) -> Result<(), Fail> {
     );
     Ok(())
 }
+
+// `if`, `else`, and another `else`, which is refused as often as it is read.
+#[test]
+fn again_and_again(rt: HostRuntime) -> Result<(), Fail> {
+    let text = [0x04, 0x40, 0x05, 0x05, 0x0b, 0x0b];
+    let mut reader = OperatorsReader::new(rt.alloc(), bytes(&text));
+    reader.read()?;
+    reader.read()?;
+    for _ in 0..3 {
+        assert_refused(&rt, reader.read(), 4, "`else` found outside `if` block");
+    }
+    Ok(())
+}
