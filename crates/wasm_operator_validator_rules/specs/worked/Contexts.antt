@@ -2,7 +2,7 @@
 use Rattle.std.specs.Prelude.{ℕ, Bool, true, false, List, [], ◌∷◌, Some, None}
 use Rattle.wasm_types.specs.trees.Types.{i32, i64, number, ref, abstract, func, extern, function}
 use Rattle.wasm_types.specs.trees.Trees.{TypeTree}
-use Rattle.wasm_types.specs.trees.worked.Types.{alone, declared_row}
+use Rattle.wasm_types.specs.trees.worked.Types.{alone, declared_entry}
 use Rattle.wasm_types.specs.externs.declared.memory.MemoryType.{MemoryType}
 use Rattle.wasm_operators_expression.specs.immediates.declared.memory.MemArg.{MemArg}
 use Rattle.wasm_operators_expression.specs.immediates.declared.memory.MemArgTarget.TheVariants as target
@@ -11,13 +11,13 @@ use Rattle.wasm_operator_validator_rules.specs.Context.{Module, Context, Table, 
 
 -- from an i32 to an i64, and from nothing to nothing, shared or not
 abbrev pub widening : TypeTree
-widening = alone (declared_row None false (function (number i32 ∷ []) (number i64 ∷ [])))
+widening = alone (declared_entry None false (function (number i32 ∷ []) (number i64 ∷ [])))
 
 abbrev pub procedure : TypeTree
-procedure = alone (declared_row None false (function [] []))
+procedure = alone (declared_entry None false (function [] []))
 
 abbrev pub shared_procedure : TypeTree
-shared_procedure = alone (declared_row None true (function [] []))
+shared_procedure = alone (declared_entry None true (function [] []))
 
 abbrev pub any_function : ValueType
 any_function = ref true (abstract false func)
