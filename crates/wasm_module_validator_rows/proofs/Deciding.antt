@@ -160,7 +160,7 @@ ReadsSpelled next = (t : State) (c : Code) → next t ≡ Some c → SpellsExpre
 
 module _ (next : State → Option Code) (sound : ReadsSpelled next) (s : State) (c : Code) where
   ends : (o : Operator) (t : State) (text : List ℕ) → Takes s text t → SpellsOperator o text → instruction_of o ≡ None → (b : Bool)
-    → (length t.rest == 0) ≡ b → cond b (Some done) None ≡ Some c → SpellsExpression c s.rest
+      → (length t.rest == 0) ≡ b → cond b (Some done) None ≡ Some c → SpellsExpression c s.rest
   ends o t text taken h is true q e =
       let d : done ≡ c = cc in
       let whole : s.rest ≡ 0x0b ∷ [] = taken.parts ∙ ap (λ (r : List ℕ). text ++ r) (none_left t.rest q) ∙ append-nil text ∙ end_spelled o text is h in
@@ -168,7 +168,7 @@ module _ (next : State → Option Code) (sound : ReadsSpelled next) (s : State) 
   ends o t text taken h is false q e = absurd cc
 
   behind_operator : (o : Operator) (t : State) (text : List ℕ) → Takes s text t → SpellsOperator o text → (i : Option Instruction)
-    → instruction_of o ≡ i → code_behind next i t ≡ Some c → SpellsExpression c s.rest
+      → instruction_of o ≡ i → code_behind next i t ≡ Some c → SpellsExpression c s.rest
   behind_operator o t text taken h (Some i) is e =
       let m = mapped (plain i) (next t) c e in
       let more = sound t m.0 m.1 in
@@ -206,7 +206,7 @@ function_read f bytes h =
     let s = at_function bytes in
     let t = behind s (length h.locals) h.body in
     let r : listed local_group s ≡ Done f.locals t = (decides-listed SpellsLocalGroup local_group decides-local_group).complete s t f.locals h.locals
-      (record { parts = h.whole; place = refl; settings = refl; start = refl }) h.grouped in
+    (record { parts = h.whole; place = refl; settings = refl; start = refl }) h.grouped in
     let c = code_read (length h.body) f.body h.body t h.expressed refl (omega arith) in
     rw (r, c) refl
 
@@ -228,7 +228,7 @@ pub body_accepted : (z : Settings) (type : FunctionType) (bytes : List ℕ) (f :
 body_accepted z type bytes f e v = (f, function_spelled bytes f e, v)
 
 pub body_refused : (z : Settings) (type : FunctionType) (bytes : List ℕ) (f : Function) → function_at bytes ≡ Some f → (IsValidFunction z type f → ⊥)
-  → AcceptsBodyUnder z type bytes → ⊥
+    → AcceptsBodyUnder z type bytes → ⊥
 body_refused z type bytes f e n (g, s, v) =
     let r = function_read g bytes s in
     let same : g ≡ f = some_is g f (sym r ∙ e) in

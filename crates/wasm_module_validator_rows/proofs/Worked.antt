@@ -41,42 +41,42 @@ two_to_i32 = record { params = I32 ∷ I32 ∷ []; results = I32 ∷ [] }
 
 seven_bytes_unread : frames_at default_settings seven_bytes ≡ None
 unfolding default_limits frames_at at_begin module_frames preamble frames type_section function_section code_section section contents items type_index
-  body entries function_type signature listed_within size_within repeated unsigned counted_part value_type value_type_after
+    body entries function_type signature listed_within size_within repeated unsigned counted_part value_type value_type_after
 seven_bytes_unread = refl
 
 version_two_unread : frames_at default_settings version_two ≡ None
 unfolding default_limits frames_at at_begin module_frames preamble frames type_section function_section code_section section contents items type_index
-  body entries function_type signature listed_within size_within repeated unsigned counted_part value_type value_type_after
+    body entries function_type signature listed_within size_within repeated unsigned counted_part value_type value_type_after
 version_two_unread = refl
 
 size_of_six_bytes_unread : frames_at default_settings size_of_six_bytes ≡ None
 unfolding default_limits frames_at at_begin module_frames preamble frames type_section function_section code_section section contents items type_index
-  body entries function_type signature listed_within size_within repeated unsigned counted_part value_type value_type_after
+    body entries function_type signature listed_within size_within repeated unsigned counted_part value_type value_type_after
 size_of_six_bytes_unread = refl
 
 byte_behind_types_unread : frames_at default_settings byte_behind_types ≡ None
 unfolding default_limits frames_at at_begin module_frames preamble frames type_section function_section code_section section contents items type_index
-  body entries function_type signature listed_within size_within repeated unsigned counted_part value_type value_type_after
+    body entries function_type signature listed_within size_within repeated unsigned counted_part value_type value_type_after
 byte_behind_types_unread = refl
 
 types_behind_functions_unread : frames_at default_settings types_behind_functions ≡ None
 unfolding default_limits frames_at at_begin module_frames preamble frames type_section function_section code_section section contents items type_index
-  body entries function_type signature listed_within size_within repeated unsigned counted_part value_type value_type_after
+    body entries function_type signature listed_within size_within repeated unsigned counted_part value_type value_type_after
 types_behind_functions_unread = refl
 
 missing_code_unread : frames_at default_settings missing_code ≡ None
 unfolding default_limits frames_at at_begin module_frames preamble frames type_section function_section code_section section contents items type_index
-  body entries function_type signature listed_within size_within repeated unsigned counted_part value_type value_type_after
+    body entries function_type signature listed_within size_within repeated unsigned counted_part value_type value_type_after
 missing_code_unread = refl
 
 unknown_type_unread : frames_at default_settings unknown_type ≡ None
 unfolding default_limits frames_at at_begin module_frames preamble frames type_section function_section code_section section contents items type_index
-  body entries function_type signature listed_within size_within repeated unsigned counted_part value_type value_type_after
+    body entries function_type signature listed_within size_within repeated unsigned counted_part value_type value_type_after
 unknown_type_unread = refl
 
 too_many_types_unread : frames_at default_settings too_many_types ≡ None
 unfolding default_limits frames_at at_begin module_frames preamble frames type_section function_section code_section section contents items type_index
-  body entries function_type signature listed_within size_within repeated unsigned counted_part value_type value_type_after
+    body entries function_type signature listed_within size_within repeated unsigned counted_part value_type value_type_after
 too_many_types_unread = refl
 
 -- ---- the sections of the others
@@ -86,7 +86,7 @@ header_frames = record { types = []; functions = []; entries = [] }
 
 header_read : frames_at default_settings header ≡ Some header_frames
 unfolding default_limits frames_at at_begin module_frames preamble frames type_section function_section code_section section contents items type_index
-  body entries function_type signature listed_within size_within repeated unsigned counted_part value_type value_type_after
+    body entries function_type signature listed_within size_within repeated unsigned counted_part value_type value_type_after
 header_read = refl
 
 abbrev padded_size_frames : Frames
@@ -94,7 +94,7 @@ padded_size_frames = record { types = (nothing_to_nothing ∷ []); functions = [
 
 padded_size_read : frames_at default_settings padded_size ≡ Some padded_size_frames
 unfolding default_limits frames_at at_begin module_frames preamble frames type_section function_section code_section section contents items type_index
-  body entries function_type signature listed_within size_within repeated unsigned counted_part value_type value_type_after
+    body entries function_type signature listed_within size_within repeated unsigned counted_part value_type value_type_after
 padded_size_read = refl
 
 abbrev const_42_frames : Frames
@@ -102,7 +102,7 @@ const_42_frames = record { types = (nothing_to_i32 ∷ []); functions = (0 ∷ [
 
 const_42_read : frames_at default_settings const_42 ≡ Some const_42_frames
 unfolding default_limits frames_at at_begin module_frames preamble frames type_section function_section code_section section contents items type_index
-  body entries function_type signature listed_within size_within repeated unsigned counted_part value_type value_type_after
+    body entries function_type signature listed_within size_within repeated unsigned counted_part value_type value_type_after
 const_42_read = refl
 
 abbrev empty_body_frames : Frames
@@ -110,7 +110,7 @@ empty_body_frames = record { types = (nothing_to_i32 ∷ []); functions = (0 ∷
 
 empty_body_read : frames_at default_settings empty_body ≡ Some empty_body_frames
 unfolding default_limits frames_at at_begin module_frames preamble frames type_section function_section code_section section contents items type_index
-  body entries function_type signature listed_within size_within repeated unsigned counted_part value_type value_type_after
+    body entries function_type signature listed_within size_within repeated unsigned counted_part value_type value_type_after
 empty_body_read = refl
 
 abbrev const_i64_frames : Frames
@@ -118,7 +118,7 @@ const_i64_frames = record { types = (nothing_to_i32 ∷ []); functions = (0 ∷ 
 
 const_i64_read : frames_at default_settings const_i64 ≡ Some const_i64_frames
 unfolding default_limits frames_at at_begin module_frames preamble frames type_section function_section code_section section contents items type_index
-  body entries function_type signature listed_within size_within repeated unsigned counted_part value_type value_type_after
+    body entries function_type signature listed_within size_within repeated unsigned counted_part value_type value_type_after
 const_i64_read = refl
 
 abbrev value_left_frames : Frames
@@ -126,7 +126,7 @@ value_left_frames = record { types = (nothing_to_nothing ∷ []); functions = (0
 
 value_left_read : frames_at default_settings value_left ≡ Some value_left_frames
 unfolding default_limits frames_at at_begin module_frames preamble frames type_section function_section code_section section contents items type_index
-  body entries function_type signature listed_within size_within repeated unsigned counted_part value_type value_type_after
+    body entries function_type signature listed_within size_within repeated unsigned counted_part value_type value_type_after
 value_left_read = refl
 
 abbrev no_end_frames : Frames
@@ -134,7 +134,7 @@ no_end_frames = record { types = (nothing_to_nothing ∷ []); functions = (0 ∷
 
 no_end_read : frames_at default_settings no_end ≡ Some no_end_frames
 unfolding default_limits frames_at at_begin module_frames preamble frames type_section function_section code_section section contents items type_index
-  body entries function_type signature listed_within size_within repeated unsigned counted_part value_type value_type_after
+    body entries function_type signature listed_within size_within repeated unsigned counted_part value_type value_type_after
 no_end_read = refl
 
 abbrev code_behind_end_frames : Frames
@@ -142,7 +142,7 @@ code_behind_end_frames = record { types = (nothing_to_nothing ∷ []); functions
 
 code_behind_end_read : frames_at default_settings code_behind_end ≡ Some code_behind_end_frames
 unfolding default_limits frames_at at_begin module_frames preamble frames type_section function_section code_section section contents items type_index
-  body entries function_type signature listed_within size_within repeated unsigned counted_part value_type value_type_after
+    body entries function_type signature listed_within size_within repeated unsigned counted_part value_type value_type_after
 code_behind_end_read = refl
 
 abbrev unreachable_add_frames : Frames
@@ -150,7 +150,7 @@ unreachable_add_frames = record { types = (nothing_to_nothing ∷ []); functions
 
 unreachable_add_read : frames_at default_settings unreachable_add ≡ Some unreachable_add_frames
 unfolding default_limits frames_at at_begin module_frames preamble frames type_section function_section code_section section contents items type_index
-  body entries function_type signature listed_within size_within repeated unsigned counted_part value_type value_type_after
+    body entries function_type signature listed_within size_within repeated unsigned counted_part value_type value_type_after
 unreachable_add_read = refl
 
 abbrev reachable_add_frames : Frames
@@ -158,7 +158,7 @@ reachable_add_frames = record { types = (nothing_to_nothing ∷ []); functions =
 
 reachable_add_read : frames_at default_settings reachable_add ≡ Some reachable_add_frames
 unfolding default_limits frames_at at_begin module_frames preamble frames type_section function_section code_section section contents items type_index
-  body entries function_type signature listed_within size_within repeated unsigned counted_part value_type value_type_after
+    body entries function_type signature listed_within size_within repeated unsigned counted_part value_type value_type_after
 reachable_add_read = refl
 
 abbrev many_locals_frames : Frames
@@ -166,7 +166,7 @@ many_locals_frames = record { types = (nothing_to_nothing ∷ []); functions = (
 
 many_locals_read : frames_at default_settings many_locals ≡ Some many_locals_frames
 unfolding default_limits frames_at at_begin module_frames preamble frames type_section function_section code_section section contents items type_index
-  body entries function_type signature listed_within size_within repeated unsigned counted_part value_type value_type_after
+    body entries function_type signature listed_within size_within repeated unsigned counted_part value_type value_type_after
 many_locals_read = refl
 
 abbrev too_many_locals_frames : Frames
@@ -174,7 +174,7 @@ too_many_locals_frames = record { types = (nothing_to_nothing ∷ []); functions
 
 too_many_locals_read : frames_at default_settings too_many_locals ≡ Some too_many_locals_frames
 unfolding default_limits frames_at at_begin module_frames preamble frames type_section function_section code_section section contents items type_index
-  body entries function_type signature listed_within size_within repeated unsigned counted_part value_type value_type_after
+    body entries function_type signature listed_within size_within repeated unsigned counted_part value_type value_type_after
 too_many_locals_read = refl
 
 abbrev parameters_frames : Frames
@@ -182,7 +182,7 @@ parameters_frames = record { types = (two_to_i32 ∷ []); functions = (0 ∷ [])
 
 parameters_read : frames_at default_settings parameters ≡ Some parameters_frames
 unfolding default_limits frames_at at_begin module_frames preamble frames type_section function_section code_section section contents items type_index
-  body entries function_type signature listed_within size_within repeated unsigned counted_part value_type value_type_after
+    body entries function_type signature listed_within size_within repeated unsigned counted_part value_type value_type_after
 parameters_read = refl
 
 abbrev unknown_local_frames : Frames
@@ -190,7 +190,7 @@ unknown_local_frames = record { types = (two_to_i32 ∷ []); functions = (0 ∷ 
 
 unknown_local_read : frames_at default_settings unknown_local ≡ Some unknown_local_frames
 unfolding default_limits frames_at at_begin module_frames preamble frames type_section function_section code_section section contents items type_index
-  body entries function_type signature listed_within size_within repeated unsigned counted_part value_type value_type_after
+    body entries function_type signature listed_within size_within repeated unsigned counted_part value_type value_type_after
 unknown_local_read = refl
 
 abbrev two_functions_frames : Frames
@@ -198,7 +198,7 @@ two_functions_frames = record { types = (nothing_to_nothing ∷ []); functions =
 
 two_functions_read : frames_at default_settings two_functions ≡ Some two_functions_frames
 unfolding default_limits frames_at at_begin module_frames preamble frames type_section function_section code_section section contents items type_index
-  body entries function_type signature listed_within size_within repeated unsigned counted_part value_type value_type_after
+    body entries function_type signature listed_within size_within repeated unsigned counted_part value_type value_type_after
 two_functions_read = refl
 
 abbrev second_function_wrong_frames : Frames
@@ -206,7 +206,7 @@ second_function_wrong_frames = record { types = (nothing_to_nothing ∷ []); fun
 
 second_function_wrong_read : frames_at default_settings second_function_wrong ≡ Some second_function_wrong_frames
 unfolding default_limits frames_at at_begin module_frames preamble frames type_section function_section code_section section contents items type_index
-  body entries function_type signature listed_within size_within repeated unsigned counted_part value_type value_type_after
+    body entries function_type signature listed_within size_within repeated unsigned counted_part value_type value_type_after
 second_function_wrong_read = refl
 
 -- ---- functions, as trees
@@ -352,7 +352,7 @@ has_many_valid = record { within = omega (arith, one_group 50000 I32 done); type
 
 -- what is put on an empty stack is all of it
 one_operand : (popped pushed rest after : List OperandType) (type : ValType) → popped ≡ [] → pushed ≡ value type ∷ []
-  → AllMatch [] (reverse popped ++ rest) → after ≡ reverse pushed ++ rest → after ≡ value type ∷ []
+    → AllMatch [] (reverse popped ++ rest) → after ≡ reverse pushed ++ rest → after ≡ value type ∷ []
 one_operand [] pushed [] after type p q taken given = rw q at given
 one_operand [] pushed (r ∷ rest) after type p q taken given = absurd taken
 one_operand (x ∷ popped) pushed rest after type p q taken given = absurd cc
@@ -392,7 +392,7 @@ exact = within (record default_limits { types = 1; functions = 2; body_bytes = 3
 
 exact_read : frames_at exact two_functions ≡ Some two_functions_frames
 unfolding default_limits frames_at at_begin module_frames preamble frames type_section function_section code_section section contents items type_index
-  body entries function_type signature listed_within size_within repeated unsigned counted_part value_type value_type_after
+    body entries function_type signature listed_within size_within repeated unsigned counted_part value_type value_type_after
 exact_read = refl
 
 ends_valid_exactly : IsValidFunction exact nothing_to_nothing ends
@@ -403,27 +403,27 @@ nops_valid_exactly = record { within = omega arith; typed = ([], record { popped
 
 past_types_unread : frames_at (within (record default_limits { types = 0 })) two_functions ≡ None
 unfolding default_limits frames_at at_begin module_frames preamble frames type_section function_section code_section section contents items type_index
-  body entries function_type signature listed_within size_within repeated unsigned counted_part value_type value_type_after
+    body entries function_type signature listed_within size_within repeated unsigned counted_part value_type value_type_after
 past_types_unread = refl
 
 past_functions_unread : frames_at (within (record default_limits { functions = 1 })) two_functions ≡ None
 unfolding default_limits frames_at at_begin module_frames preamble frames type_section function_section code_section section contents items type_index
-  body entries function_type signature listed_within size_within repeated unsigned counted_part value_type value_type_after
+    body entries function_type signature listed_within size_within repeated unsigned counted_part value_type value_type_after
 past_functions_unread = refl
 
 past_body_bytes_unread : frames_at (within (record default_limits { body_bytes = 2 })) two_functions ≡ None
 unfolding default_limits frames_at at_begin module_frames preamble frames type_section function_section code_section section contents items type_index
-  body entries function_type signature listed_within size_within repeated unsigned counted_part value_type value_type_after
+    body entries function_type signature listed_within size_within repeated unsigned counted_part value_type value_type_after
 past_body_bytes_unread = refl
 
 past_params_unread : frames_at (within (record default_limits { params = 1 })) parameters ≡ None
 unfolding default_limits frames_at at_begin module_frames preamble frames type_section function_section code_section section contents items type_index
-  body entries function_type signature listed_within size_within repeated unsigned counted_part value_type value_type_after
+    body entries function_type signature listed_within size_within repeated unsigned counted_part value_type value_type_after
 past_params_unread = refl
 
 past_results_unread : frames_at (within (record default_limits { results = 0 })) const_42 ≡ None
 unfolding default_limits frames_at at_begin module_frames preamble frames type_section function_section code_section section contents items type_index
-  body entries function_type signature listed_within size_within repeated unsigned counted_part value_type value_type_after
+    body entries function_type signature listed_within size_within repeated unsigned counted_part value_type value_type_after
 past_results_unread = refl
 
 -- one local fewer than there are
@@ -432,7 +432,7 @@ fewer_locals = within (record default_limits { locals = 49999 })
 
 fewer_locals_read : frames_at fewer_locals many_locals ≡ Some many_locals_frames
 unfolding default_limits frames_at at_begin module_frames preamble frames type_section function_section code_section section contents items type_index
-  body entries function_type signature listed_within size_within repeated unsigned counted_part value_type value_type_after
+    body entries function_type signature listed_within size_within repeated unsigned counted_part value_type value_type_after
 fewer_locals_read = refl
 
 has_many_past : IsValidFunction fewer_locals nothing_to_nothing has_many → ⊥
@@ -440,7 +440,7 @@ has_many_past v = let few = v.within in absurd (omega (arith, few, one_group 500
 
 -- a type that was found is the one that stands there
 refused_at : (z : Settings) (type found : FunctionType) (bytes : List ℕ) → ◌≡◌ {A = Option FunctionType} (Some type) (Some found)
-  → (AcceptsBodyUnder z type bytes → ⊥) → AcceptsBodyUnder z found bytes → ⊥
+    → (AcceptsBodyUnder z type bytes → ⊥) → AcceptsBodyUnder z found bytes → ⊥
 refused_at z type found bytes e n a =
     let same : type ≡ found = cc in
     n (subst (λ (t : FunctionType). AcceptsBodyUnder z t bytes) (sym same) a)
@@ -460,48 +460,54 @@ worked = record {
   header_alone = accepts default_settings header header_frames header_read tt;
   size_in_three = accepts default_settings padded_size padded_size_frames padded_size_read tt;
   result = accepts default_settings const_42 const_42_frames const_42_read
-    (nothing_to_i32, refl, body_accepted default_settings nothing_to_i32 _ gives_i32_42 gives_i32_42_spelled gives_i32_42_valid, tt);
+      (nothing_to_i32, refl, body_accepted default_settings nothing_to_i32 _ gives_i32_42 gives_i32_42_spelled gives_i32_42_valid, tt);
   result_missing = refuses_functions default_settings empty_body empty_body_frames empty_body_read
-    (λ (type, at, a, more). refused_at default_settings nothing_to_i32 type _ at (body_refused default_settings nothing_to_i32 _ ends ends_spelled ends_invalid) a);
+      (λ (type, at, a, more). refused_at default_settings nothing_to_i32 type _ at (body_refused default_settings nothing_to_i32 _ ends ends_spelled ends_invalid) a);
   result_of_another_type = refuses_functions default_settings const_i64 const_i64_frames const_i64_read
-    (λ (type, at, a, more). refused_at default_settings nothing_to_i32 type _ at
-    (body_refused default_settings nothing_to_i32 _ gives_i64_42 gives_i64_42_spelled gives_i64_42_invalid) a);
+      (λ (type, at, a, more). refused_at default_settings nothing_to_i32 type _ at
+      (body_refused default_settings nothing_to_i32 _ gives_i64_42 gives_i64_42_spelled gives_i64_42_invalid) a);
   result_unasked = refuses_functions default_settings value_left value_left_frames value_left_read
-    (λ (type, at, a, more). refused_at default_settings nothing_to_nothing type _ at
-    (body_refused default_settings nothing_to_nothing _ gives_i32_42 gives_i32_42_spelled gives_i32_42_invalid) a);
+      (λ (type, at, a, more). refused_at default_settings nothing_to_nothing type _ at
+      (body_refused default_settings nothing_to_nothing _ gives_i32_42 gives_i32_42_spelled gives_i32_42_invalid) a);
   end_missing = refuses_functions default_settings no_end no_end_frames no_end_read (λ (type, at, a, more). body_unread default_settings type _ no_end_unspelled a);
   end_early = refuses_functions default_settings code_behind_end code_behind_end_frames code_behind_end_read
-    (λ (type, at, a, more). body_unread default_settings type _ end_early_unspelled a);
+      (λ (type, at, a, more). body_unread default_settings type _ end_early_unspelled a);
   unreached = accepts default_settings unreachable_add unreachable_add_frames unreachable_add_read
-    (nothing_to_nothing, refl, body_accepted default_settings nothing_to_nothing _ adds_unreached adds_unreached_spelled adds_unreached_valid, tt);
+      (nothing_to_nothing, refl, body_accepted default_settings nothing_to_nothing _ adds_unreached adds_unreached_spelled adds_unreached_valid, tt);
   reached = refuses_functions default_settings reachable_add reachable_add_frames reachable_add_read
-    (λ (type, at, a, more). refused_at default_settings nothing_to_nothing type _ at
-    (body_refused default_settings nothing_to_nothing _ adds_nothing adds_nothing_spelled adds_nothing_invalid) a);
+      (λ (type, at, a, more). refused_at default_settings nothing_to_nothing type _ at
+      (body_refused default_settings nothing_to_nothing _ adds_nothing adds_nothing_spelled adds_nothing_invalid) a);
   locals = accepts default_settings many_locals many_locals_frames many_locals_read
-    (nothing_to_nothing, refl, body_accepted default_settings nothing_to_nothing _ has_many has_many_spelled has_many_valid, tt);
+      (nothing_to_nothing, refl, body_accepted default_settings nothing_to_nothing _ has_many has_many_spelled has_many_valid, tt);
   few_locals = refuses_functions default_settings too_many_locals too_many_locals_frames too_many_locals_read
-    (λ (type, at, a, more). refused_at default_settings nothing_to_nothing type _ at
-    (body_refused default_settings nothing_to_nothing _ has_too_many has_too_many_spelled has_too_many_invalid) a);
+      (λ (type, at, a, more). refused_at default_settings nothing_to_nothing type _ at
+      (body_refused default_settings nothing_to_nothing _ has_too_many has_too_many_spelled has_too_many_invalid) a);
   params = accepts default_settings parameters parameters_frames parameters_read
-    (two_to_i32, refl, body_accepted default_settings two_to_i32 _ adds_params adds_params_spelled adds_params_valid, tt);
+      (two_to_i32, refl, body_accepted default_settings two_to_i32 _ adds_params adds_params_spelled adds_params_valid, tt);
   local_is_there = refuses_functions default_settings unknown_local unknown_local_frames unknown_local_read
-    (λ (type, at, a, more). refused_at default_settings two_to_i32 type _ at
-    (body_refused default_settings two_to_i32 _ gets_third gets_third_spelled gets_third_invalid) a);
-  two = accepts default_settings two_functions two_functions_frames two_functions_read
-    (nothing_to_nothing, refl, body_accepted default_settings nothing_to_nothing _ ends ends_spelled ends_valid,
-    (nothing_to_nothing, refl, body_accepted default_settings nothing_to_nothing _ nops nops_spelled nops_valid, tt));
+      (λ (type, at, a, more). refused_at default_settings two_to_i32 type _ at
+      (body_refused default_settings two_to_i32 _ gets_third gets_third_spelled gets_third_invalid) a);
+  two = accepts default_settings two_functions two_functions_frames two_functions_read (
+    nothing_to_nothing,
+    refl,
+    body_accepted default_settings nothing_to_nothing _ ends ends_spelled ends_valid,
+    (nothing_to_nothing, refl, body_accepted default_settings nothing_to_nothing _ nops nops_spelled nops_valid, tt),
+  );
   second = refuses_functions default_settings second_function_wrong second_function_wrong_frames second_function_wrong_read
-    (λ (first, there, b, (type, at, a, more)). refused_at default_settings nothing_to_nothing type _ at
-    (body_refused default_settings nothing_to_nothing _ gives_i32_42 gives_i32_42_spelled gives_i32_42_invalid) a);
-  at_limits = accepts exact two_functions two_functions_frames exact_read
-    (nothing_to_nothing, refl, body_accepted exact nothing_to_nothing _ ends ends_spelled ends_valid_exactly,
-    (nothing_to_nothing, refl, body_accepted exact nothing_to_nothing _ nops nops_spelled nops_valid_exactly, tt));
+      (λ (first, there, b, (type, at, a, more)). refused_at default_settings nothing_to_nothing type _ at
+      (body_refused default_settings nothing_to_nothing _ gives_i32_42 gives_i32_42_spelled gives_i32_42_invalid) a);
+  at_limits = accepts exact two_functions two_functions_frames exact_read (
+    nothing_to_nothing,
+    refl,
+    body_accepted exact nothing_to_nothing _ ends ends_spelled ends_valid_exactly,
+    (nothing_to_nothing, refl, body_accepted exact nothing_to_nothing _ nops nops_spelled nops_valid_exactly, tt),
+  );
   past_types = refuses_frames (within (record default_limits { types = 0 })) two_functions past_types_unread;
   past_functions = refuses_frames (within (record default_limits { functions = 1 })) two_functions past_functions_unread;
   past_body_bytes = refuses_frames (within (record default_limits { body_bytes = 2 })) two_functions past_body_bytes_unread;
   past_params = refuses_frames (within (record default_limits { params = 1 })) parameters past_params_unread;
   past_results = refuses_frames (within (record default_limits { results = 0 })) const_42 past_results_unread;
   past_locals = refuses_functions fewer_locals many_locals many_locals_frames fewer_locals_read
-    (λ (type, at, a, more). refused_at fewer_locals nothing_to_nothing type _ at
-    (body_refused fewer_locals nothing_to_nothing _ has_many has_many_spelled has_many_past) a);
+      (λ (type, at, a, more). refused_at fewer_locals nothing_to_nothing type _ at
+      (body_refused fewer_locals nothing_to_nothing _ has_many has_many_spelled has_many_past) a);
 }

@@ -21,7 +21,7 @@ unfolding has
 constant_row labels x set = (search rules, (([] ⟶ number i32 ∷ []), refl, (refl, refl)))
 
 constant_steps : (labels : List (List ValueType)) (x : ℤ) (set : Initialised) (s : List Operand) → AllBelow s s
-  → Steps (somewhere_in labels) set (constant x) s (known (number i32) ∷ s)
+    → Steps (somewhere_in labels) set (constant x) s (known (number i32) ∷ s)
 constant_steps labels x set s b = ([], known (number i32) ∷ [], s, constant_row labels x set, b, refl)
 
 -- two numbers give one
@@ -39,25 +39,56 @@ codes_worked x = record {
   result_missing = search rules;
   one_constant = one_number x;
   left_over = search rules;
-  two_summed = (known (number i32) ∷ [], constant_steps somewhere.labels x at_first [] tt,
-    (known (number i32) ∷ known (number i32) ∷ [], constant_steps somewhere.labels x at_first (known (number i32) ∷ []) (refl, tt),
-    (known (number i32) ∷ [], sum_steps at_first, ((refl, tt), tt))));
+  two_summed = (
+    known (number i32) ∷ [],
+    constant_steps somewhere.labels x at_first [] tt,
+    (
+      known (number i32) ∷ known (number i32) ∷ [],
+      constant_steps somewhere.labels x at_first (known (number i32) ∷ []) (refl, tt),
+      (known (number i32) ∷ [], sum_steps at_first, ((refl, tt), tt)),
+    ),
+  );
   operand_missing = search rules;
-  behind_unreachable = (known (number i32) ∷ known (number i32) ∷ [], ([], known (number i32) ∷ known (number i32) ∷ [], [], search rules, tt, refl),
-    (known (number i32) ∷ [], sum_steps at_first, ((refl, tt), tt)));
+  behind_unreachable = (
+    known (number i32) ∷ known (number i32) ∷ [],
+    ([], known (number i32) ∷ known (number i32) ∷ [], [], search rules, tt, refl),
+    (known (number i32) ∷ [], sum_steps at_first, ((refl, tt), tt)),
+  );
   reference_unset = search rules;
-  number_set = (known (number i64) ∷ [], ([], known (number i64) ∷ [], [], search rules, tt, refl),
-    ([], (known (number i64) ∷ [], [], [], search rules, (refl, tt), refl), (tt, tt)));
-  parameter_set = (known (ref false (abstract false func)) ∷ [], ([], known (ref false (abstract false func)) ∷ [], [], search rules, tt, refl),
-    ([], (known (ref false (abstract false func)) ∷ [], [], [], search rules, ((tt, (refl, same)), tt), refl), (tt, tt)));
+  number_set = (
+    known (number i64) ∷ [],
+    ([], known (number i64) ∷ [], [], search rules, tt, refl),
+    ([], (known (number i64) ∷ [], [], [], search rules, (refl, tt), refl), (tt, tt)),
+  );
+  parameter_set = (
+    known (ref false (abstract false func)) ∷ [],
+    ([], known (ref false (abstract false func)) ∷ [], [], search rules, tt, refl),
+    ([], (known (ref false (abstract false func)) ∷ [], [], [], search rules, ((tt, (refl, same)), tt), refl), (tt, tt)),
+  );
   empty_block = (frames.Block, record { params = []; results = [] }, [], (refl, refl), tt, (tt, tt), one_number x);
   block_left_over = search rules;
-  if_alone = (known (number i32) ∷ [], constant_steps somewhere.labels x at_first [] tt,
-    (frames.If, record { params = []; results = [] }, [], (refl, refl), (refl, tt), (tt, tt), (tt, tt)));
+  if_alone = (
+    known (number i32) ∷ [],
+    constant_steps somewhere.labels x at_first [] tt,
+    (frames.If, record { params = []; results = [] }, [], (refl, refl), (refl, tt), (tt, tt), (tt, tt)),
+  );
   if_gives = search rules;
-  if_else = (known (number i32) ∷ [], constant_steps somewhere.labels x at_first [] tt,
-    (frames.If, record { params = []; results = number i32 ∷ [] }, [], (refl, search rules), (refl, tt),
-    (known (number i32) ∷ [], constant_steps ((number i32 ∷ []) ∷ somewhere.labels) x at_first [] tt,
-    ((refl, tt), (known (number i32) ∷ [], constant_steps ((number i32 ∷ []) ∷ somewhere.labels) x at_first [] tt, ((refl, tt), tt)))), ((refl, tt), tt)));
+  if_else = (
+    known (number i32) ∷ [],
+    constant_steps somewhere.labels x at_first [] tt,
+    (
+      frames.If,
+      record { params = []; results = number i32 ∷ [] },
+      [],
+      (refl, search rules),
+      (refl, tt),
+      (
+        known (number i32) ∷ [],
+        constant_steps ((number i32 ∷ []) ∷ somewhere.labels) x at_first [] tt,
+        ((refl, tt), (known (number i32) ∷ [], constant_steps ((number i32 ∷ []) ∷ somewhere.labels) x at_first [] tt, ((refl, tt), tt))),
+      ),
+      ((refl, tt), tt),
+    ),
+  );
   else_missing = search rules;
 }

@@ -44,7 +44,7 @@ control_worked = record {
   unreachable = search rules;
   br = (search rules, (number i64 ∷ [], i32_known ∷ [], refl, refl));
   br_other = λ (e, (ts, any, l, p)). let h : ts ≡ number i64 ∷ [] = cc in let q : any ++ i64_known ∷ [] ≡ i64_known ∷ i32_known ∷ [] =
-    rw h at (sym p) in i64_is_no_i32 (last_of_two any i64_known i64_known i32_known q);
+      rw h at (sym p) in i64_is_no_i32 (last_of_two any i64_known i64_known i32_known q);
   br_unknown = search rules;
   br_if = (search rules, (number i32 ∷ [], refl, (refl, refl)));
   br_if_condition = search rules;
@@ -56,12 +56,42 @@ control_worked = record {
   call_backwards = search rules;
   call_unknown = search rules;
   call_not_shared = search rules;
-  call_indirect = (search rules, (table_of any_function false, record { params = number i32 ∷ []; results = number i64 ∷ [] },
-    record { table = refl; table_used = λ s. absurd cc; functions = (false, (tt, (refl, same))); callee = widening; type = refl; type_used =
-    λ s. absurd cc; function = refl }, (refl, refl)));
-  call_indirect_64 = (search rules, (table_of any_function true, record { params = number i32 ∷ []; results = number i64 ∷ [] },
-    record { table = refl; table_used = λ s. absurd cc; functions = (false, (tt, (refl, same))); callee = widening; type = refl; type_used =
-    λ s. absurd cc; function = refl }, (refl, refl)));
+  call_indirect = (
+    search rules,
+    (
+      table_of any_function false,
+      record { params = number i32 ∷ []; results = number i64 ∷ [] },
+      record {
+        table = refl;
+        table_used = λ s. absurd cc;
+        functions = (false, (tt, (refl, same)));
+        callee = widening;
+        type = refl;
+        type_used =
+            λ s. absurd cc;
+        function = refl;
+      },
+      (refl, refl),
+    ),
+  );
+  call_indirect_64 = (
+    search rules,
+    (
+      table_of any_function true,
+      record { params = number i32 ∷ []; results = number i64 ∷ [] },
+      record {
+        table = refl;
+        table_used = λ s. absurd cc;
+        functions = (false, (tt, (refl, same)));
+        callee = widening;
+        type = refl;
+        type_used =
+            λ s. absurd cc;
+        function = refl;
+      },
+      (refl, refl),
+    ),
+  );
   call_indirect_no_functions = search rules;
   return_call = search rules;
   not_supported_yet = search rules;

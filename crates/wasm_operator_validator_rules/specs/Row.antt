@@ -70,10 +70,10 @@ ControlRow g (control.BrTable t) popped pushed = (s any : List Operand) × FitEa
 ControlRow g control.Return popped pushed = (any : List Operand) × (popped ≡ any ++ all_known g.results)
 ControlRow g (control.Call x) popped pushed = (b : Signature) × IsCallee g x b × Takes b.params b.results popped pushed
 ControlRow g (control.CallIndirect y x) popped pushed = (t : Table) × (b : Signature) × IsIndirect g y x t b
-  × Takes (b.params ++ address_type t.table64 ∷ []) b.results popped pushed
+    × Takes (b.params ++ address_type t.table64 ∷ []) b.results popped pushed
 ControlRow g (control.ReturnCall x) popped pushed = (b : Signature) × (any : List Operand) × IsCallee g x b × IsReturned g b × (popped ≡ any ++ all_known b.params)
 ControlRow g (control.ReturnCallIndirect y x) popped pushed = (t : Table) × (b : Signature) × (any : List Operand) × IsIndirect g y x t b
-  × IsReturned g b × (popped ≡ any ++ all_known (b.params ++ address_type t.table64 ∷ []))
+    × IsReturned g b × (popped ≡ any ++ all_known (b.params ++ address_type t.table64 ∷ []))
 ControlRow g o popped pushed = ⊥
 
 -- ---- operands of any type (validation, parametric instructions)
@@ -89,7 +89,7 @@ abbrev pub ParametricRow : Context → ParametricTree → List Operand → List 
 ParametricRow g op.Drop popped pushed = (t : Operand) × (popped ≡ t ∷ []) × (pushed ≡ [])
 ParametricRow g op.Select popped pushed = (t : Operand) × IsNumber t × (popped ≡ t ∷ t ∷ known i32_type ∷ []) × (pushed ≡ t ∷ [])
 ParametricRow g (op.TypedSelect written) popped pushed = (t : ValueType) × IsType g.bits g.«module» written t × MayUse g (value_is_shared t)
-  × Takes (t ∷ t ∷ i32_type ∷ []) (t ∷ []) popped pushed
+    × Takes (t ∷ t ∷ i32_type ∷ []) (t ∷ []) popped pushed
 ParametricRow g (op.TypedSelectMulti written) popped pushed = ⊥
 
 -- ---- variables (validation, variable instructions); globals are in the table
@@ -119,7 +119,7 @@ pub data IsReferenceTo (g : Context) (x : ℕ) (t : TypeTree) : HeapOf TypeTree 
 
 abbrev pub BulkRow : Context → BulkOperator → List Operand → List Operand → Type 0
 BulkRow g (bulk.RefNull h) popped pushed = (t : ValueType) × IsType g.bits g.«module» (value.Ref (record { nullable = true; heap = h })) t
-  × MayUse g (value_is_shared t) × Takes [] (t ∷ []) popped pushed
+    × MayUse g (value_is_shared t) × Takes [] (t ∷ []) popped pushed
 BulkRow g bulk.RefIsNull popped pushed = (t : Operand) × IsReference t × (popped ≡ t ∷ []) × (pushed ≡ all_known (i32_type ∷ []))
 BulkRow g (bulk.RefFunc x) popped pushed =
     (t : TypeTree) × (h : HeapOf TypeTree) × (slice_get g.«module».functions x ≡ Some t) × IsOneOf x g.«module».referenced × MayUse g (is_shared t)

@@ -62,5 +62,9 @@ Typed g f set (turn o more) s = AllBelow s (stack f.block.results) × Typed g (o
 -- the body of a function: its locals, of which the first so many are parameters, and its results are the context's
 pub record IsBody (g : Context) (params : ℕ) (c : Code) : Type 0 where
   pub expression : IsExpression c
-  pub typed : Typed (inside g.results g) (record { kind = frames.Block; block = record { params = []; results = g.results }; before =
-    initialised_at_first params g.locals }) (initialised_at_first params g.locals) c []
+  pub typed : Typed (inside g.results g) (record {
+    kind = frames.Block;
+    block = record { params = []; results = g.results };
+    before =
+        initialised_at_first params g.locals;
+  }) (initialised_at_first params g.locals) c []

@@ -107,7 +107,7 @@ continuation_complete (continuation.ContBind a0 a1) (continuation.ContBind b0 b1
 continuation_complete (continuation.Suspend a) (continuation.Suspend b) e = same_numbers a b cc
 continuation_complete (continuation.Resume a0 a1) (continuation.Resume b0 b1) e = both _ _ (same_numbers a0 b0 cc) (resume_tables.complete a1 b1 cc)
 continuation_complete (continuation.ResumeThrow a0 a1 a2) (continuation.ResumeThrow b0 b1 b2) e = both _ _ (same_numbers a0 b0 cc)
-  (both _ _ (same_numbers a1 b1 cc) (resume_tables.complete a2 b2 cc))
+    (both _ _ (same_numbers a1 b1 cc) (resume_tables.complete a2 b2 cc))
 continuation_complete (continuation.ResumeThrowRef a0 a1) (continuation.ResumeThrowRef b0 b1) e = both _ _ (same_numbers a0 b0 cc) (resume_tables.complete a1 b1 cc)
 continuation_complete (continuation.Switch a0 a1) (continuation.Switch b0 b1) e = both _ _ (same_numbers a0 b0 cc) (same_numbers a1 b1 cc)
 continuation_complete x y e = cc

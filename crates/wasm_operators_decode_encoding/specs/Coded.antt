@@ -24,8 +24,8 @@ or_else None other = other
 -- behind an opcode of one byte
 abbrev pub plain_kinds : ℕ → Option (List Kind)
 plain_kinds code = or_else (control_kinds code) (or_else (parametric_kinds code)
-  (or_else (exception_kinds code) (or_else (memory_kinds code)
-  (or_else (const_kinds code) (or_else (numeric_kinds code) (or_else (bulk_plain_kinds code) (or_else (gc_plain_kinds code) (continuation_kinds code))))))))
+    (or_else (exception_kinds code) (or_else (memory_kinds code)
+    (or_else (const_kinds code) (or_else (numeric_kinds code) (or_else (bulk_plain_kinds code) (or_else (gc_plain_kinds code) (continuation_kinds code))))))))
 
 -- behind a code that follows 0xfb
 abbrev pub fb_kinds : ℕ → Option (List Kind)
@@ -46,7 +46,7 @@ fe_kinds code = or_else (atomic_kinds code) (shared_kinds code)
 -- behind a code that follows this byte
 abbrev pub prefixed_kinds : ℕ → ℕ → Option (List Kind)
 prefixed_kinds p code = if p == 0xfb then fb_kinds code else
-  (if p == 0xfc then fc_kinds code else (if p == 0xfd then fd_kinds code else (if p == 0xfe then fe_kinds code else None)))
+    (if p == 0xfc then fc_kinds code else (if p == 0xfd then fd_kinds code else (if p == 0xfe then fe_kinds code else None)))
 
 -- behind a code, with the byte before it if there is one
 abbrev pub kinds_behind : Option ℕ → ℕ → Option (List Kind)

@@ -19,7 +19,7 @@ kept keep (r ∷ rs) = if keep r.0 then r ∷ kept keep rs else kept keep rs
 
 module _ (keep : ℕ → Bool) (code : ℕ) (here : keep code ≡ true) where
   at_row : (r : Row) (rs : List Row) (same held : Bool) → (code == r.0) ≡ same → keep r.0 ≡ held → kinds_by rs code ≡ kinds_by (kept keep rs) code →
-    (if same then Some r.1 else kinds_by rs code) ≡ kinds_by (if held then r ∷ kept keep rs else kept keep rs) code
+      (if same then Some r.1 else kinds_by rs code) ≡ kinds_by (if held then r ∷ kept keep rs else kept keep rs) code
   at_row r rs true true e h later = ap (λ (b : Bool). if b then Some r.1 else kinds_by (kept keep rs) code) (sym e)
   at_row r rs true false e h later = absurd (both_ways (keep r.0) h (ap keep (sym (eqb-true code r.0 e)) ∙ here))
   at_row r rs false true e h later = later ∙ ap (λ (b : Bool). if b then Some r.1 else kinds_by (kept keep rs) code) (sym e)
@@ -42,7 +42,7 @@ module _ (wanted : List Kind → Bool) (within : ℕ → Bool) where
     of_wanted r w h = ap (λ (b : Bool). if b then within r.0 else true) (sym w) ∙ h
 
     by_row : (r : Row) (rs : List Row) (same : Bool) → (code == r.0) ≡ same → (if wanted r.1 then within r.0 else true) ≡ true →
-      (kinds_by rs code ≡ Some ks → within code ≡ true) → (if same then Some r.1 else kinds_by rs code) ≡ Some ks → within code ≡ true
+        (kinds_by rs code ≡ Some ks → within code ≡ true) → (if same then Some r.1 else kinds_by rs code) ≡ Some ks → within code ≡ true
     by_row r rs true e h later f =
         let g : r.1 ≡ ks = cc in
         ap within (eqb-true code r.0 e) ∙ of_wanted r (ap wanted g ∙ want) h

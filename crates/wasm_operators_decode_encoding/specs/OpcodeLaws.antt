@@ -53,5 +53,5 @@ unfolding opcode
 decides-opcode = decides-byte opcode_after SpelledOpcode (λ o h. some_byte o.prefix o.code h) (λ b.
     decides-if (is_prefix b) _ _ (After b)
     (λ is. decides-same (u32 >>= λ code. pure (prefixed b code)) (Mapped (prefixed b) (IsUnsigned 32)) (After b)
-      (decides-map u32 (prefixed b) (IsUnsigned 32) decides-u32) (with_code_to b is) (with_code_from b is))
+    (decides-map u32 (prefixed b) (IsUnsigned 32) decides-u32) (with_code_to b is) (with_code_from b is))
     (λ is. decides-pure (plain b) (After b) (is, refl) (λ o text h. alone b is o.prefix o.code text h)))

@@ -34,8 +34,8 @@ module _ {G M : Type 0} (info : G → Info) (Q : Info → Bool) where
 
   module _ (i : Info) where
     row_here : (d : G × M) (es : List (G × M)) (here : Bool) → Q (info d.0) ≡ true →
-      (option_map (λ (e : G × M). info e.0) (find info (key i) es) ≡ Some i → Q i ≡ true) → option_map (λ (e : G × M). info e.0)
-      (elim here [ true ↦ Some d | false ↦ find info (key i) es ]) ≡ Some i → Q i ≡ true
+        (option_map (λ (e : G × M). info e.0) (find info (key i) es) ≡ Some i → Q i ≡ true) → option_map (λ (e : G × M). info e.0)
+        (elim here [ true ↦ Some d | false ↦ find info (key i) es ]) ≡ Some i → Q i ≡ true
     row_here d es true q later f = let e : info d.0 ≡ i = cc in subst (λ (j : Info). Q j ≡ true) e q
     row_here d es false q later f = later f
 
@@ -56,8 +56,8 @@ module _ {G M : Type 0} (info : G → Info) (carried : G → List Immediate) (i 
   IsFound e = (option_map (λ (d : G × M). info d.0) e ≡ Some i) × (option_map (λ (d : G × M). map kind_of (carried d.0)) e ≡ Some ks)
 
   by_code : (d : G × M) (es : List (G × M)) (same : Bool) → (i.code == (info d.0).code) ≡ same → (same ≡ true → map kind_of (carried d.0) ≡ ks) →
-    (same ≡ false → Has i ks (rows info carried i.prefix es)) →
-    (if same then Some (map kind_of (carried d.0)) else kinds_by (rows info carried i.prefix es) i.code) ≡ Some ks
+      (same ≡ false → Has i ks (rows info carried i.prefix es)) →
+      (if same then Some (map kind_of (carried d.0)) else kinds_by (rows info carried i.prefix es) i.code) ≡ Some ks
   by_code d es true e here later = ap Some (here refl)
   by_code d es false e here later = later refl
 
@@ -123,10 +123,10 @@ module _ {G : Type 0} (info : G → Info) (carried : G → List Immediate) (list
     -- or one of two
     pub own_kinds_of_two : (p q : Option ℕ) → each_row info (λ i. same_prefix p i.prefix || same_prefix q i.prefix) list ≡ true → Follows kinds p → Follows kinds q → HasOwn
     own_kinds_of_two p q all follows then_follows = go (either (same_prefix p (info o).prefix) (same_prefix q (info o).prefix)
-      (row_has info (λ i. same_prefix p i.prefix || same_prefix q i.prefix) (info o) list all told.0)) where
-      go : (same_prefix p (info o).prefix ≡ true) ⊎ (same_prefix q (info o).prefix ≡ true) → HasOwn
-      go (inl h) = by_prefix p follows h
-      go (inr h) = by_prefix q then_follows h
+        (row_has info (λ i. same_prefix p i.prefix || same_prefix q i.prefix) (info o) list all told.0)) where
+          go : (same_prefix p (info o).prefix ≡ true) ⊎ (same_prefix q (info o).prefix ≡ true) → HasOwn
+          go (inl h) = by_prefix p follows h
+          go (inr h) = by_prefix q then_follows h
 
 -- ---- rows before others
 
@@ -141,7 +141,7 @@ is_nothing (Some x) h = absurd cc
 
 module _ (rs : List Row) (code : ℕ) (ks : List Kind) where
   no_row : (s : Row) (ss : List Row) (same : Bool) → (code == s.0) ≡ same → is_none (kinds_by rs s.0) ≡ true →
-    (kinds_by ss code ≡ Some ks → kinds_by rs code ≡ None) → (if same then Some s.1 else kinds_by ss code) ≡ Some ks → kinds_by rs code ≡ None
+      (kinds_by ss code ≡ Some ks → kinds_by rs code ≡ None) → (if same then Some s.1 else kinds_by ss code) ≡ Some ks → kinds_by rs code ≡ None
   no_row s ss true e none later f = subst (λ (c : ℕ). kinds_by rs c ≡ None) (sym (eqb-true code s.0 e)) (is_nothing (kinds_by rs s.0) none)
   no_row s ss false e none later f = later f
 
@@ -171,7 +171,7 @@ apart_before (suc n) rs (ss ∷ more) = apart rs (group n ss more) && apart_befo
 
 -- then all groups have what this one has
 pub from_group : (n : ℕ) (rs : List Row) (more : List (List Row)) → apart_before n rs more ≡ true → (code : ℕ) (ks : List Kind) → kinds_by
-  (group n rs more) code ≡ Some ks → in_order rs more code ≡ Some ks
+    (group n rs more) code ≡ Some ks → in_order rs more code ≡ Some ks
 from_group zero rs [] all code ks h = h
 from_group zero rs (ss ∷ more) all code ks h = ap (λ (f : Option (List Kind)). or_else f (in_order ss more code)) h
 from_group (suc n) rs [] all code ks h = absurd cc

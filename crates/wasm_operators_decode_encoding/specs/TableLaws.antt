@@ -108,23 +108,23 @@ pub own_kinds_at : (o : Op) → kinds_at (opcode_of o) ≡ Some (kinds_of o)
 unfolding numeric_kinds simd_numeric_kinds
 own_kinds_at (op.Control o) = own_kinds control_info control_immediates control_list o (control_told o) kinds_behind None refl (from_group 0 control_rows plain_others refl)
 own_kinds_at (op.Parametric o) = own_kinds parametric_info parametric_immediates parametric_list o (parametric_told o) kinds_behind None refl
-  (from_group 1 control_rows plain_others refl)
+    (from_group 1 control_rows plain_others refl)
 own_kinds_at (op.Exception o) = own_kinds exception_info exception_immediates exception_list o (exception_told o) kinds_behind None refl
-  (from_group 2 control_rows plain_others refl)
+    (from_group 2 control_rows plain_others refl)
 own_kinds_at (op.Memory o) = own_kinds memory_info memory_immediates memory_list o (memory_told o) kinds_behind None refl (from_group 3 control_rows plain_others refl)
 own_kinds_at (op.Const o) = own_kinds const_info const_immediates const_list o (const_told o) kinds_behind None refl (from_group 4 control_rows plain_others refl)
 own_kinds_at (op.Numeric o) = own_kinds_of_two numeric_info numeric_immediates numeric_list o (numeric_told o) kinds_behind None (Some 0xfc) refl
-  (from_group 5 control_rows plain_others refl) (from_group 0 numeric_prefixed_rows fc_others refl)
+    (from_group 5 control_rows plain_others refl) (from_group 0 numeric_prefixed_rows fc_others refl)
 own_kinds_at (op.Bulk o) = own_kinds_of_two bulk_info bulk_immediates bulk_list o (bulk_told o) kinds_behind None (Some 0xfc) refl
-  (from_group 6 control_rows plain_others refl) (from_group 1 numeric_prefixed_rows fc_others refl)
+    (from_group 6 control_rows plain_others refl) (from_group 1 numeric_prefixed_rows fc_others refl)
 own_kinds_at (op.Gc o) = own_kinds_of_two gc_info gc_immediates gc_list o (gc_told o) kinds_behind None (Some 0xfb) refl
-  (from_group 7 control_rows plain_others refl) (from_group 0 gc_rows fb_others refl)
+    (from_group 7 control_rows plain_others refl) (from_group 0 gc_rows fb_others refl)
 own_kinds_at (op.Descriptor o) = own_kinds descriptor_info descriptor_immediates descriptor_list o (descriptor_told o) kinds_behind (Some 0xfb) refl
-  (from_group 1 gc_rows fb_others refl)
+    (from_group 1 gc_rows fb_others refl)
 own_kinds_at (op.Simd o) = own_kinds simd_info simd_immediates simd_list o (simd_told o) kinds_behind (Some 0xfd) refl (from_group 0 simd_rows fd_others refl)
 own_kinds_at (op.SimdNumeric o) = own_kinds simd_numeric_info simd_numeric_immediates simd_numeric_list o (simd_numeric_told o) kinds_behind
-  (Some 0xfd) refl (from_group 1 simd_rows fd_others refl)
+    (Some 0xfd) refl (from_group 1 simd_rows fd_others refl)
 own_kinds_at (op.Atomic o) = own_kinds atomic_info atomic_immediates atomic_list o (atomic_told o) kinds_behind (Some 0xfe) refl (from_group 0 atomic_rows fe_others refl)
 own_kinds_at (op.Shared o) = own_kinds shared_info shared_immediates shared_list o (shared_told o) kinds_behind (Some 0xfe) refl (from_group 1 atomic_rows fe_others refl)
 own_kinds_at (op.Continuation o) = own_kinds continuation_info continuation_immediates continuation_list o (continuation_told o) kinds_behind None
-  refl (from_group 8 control_rows plain_others refl)
+    refl (from_group 8 control_rows plain_others refl)

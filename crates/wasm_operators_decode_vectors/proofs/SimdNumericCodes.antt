@@ -11,7 +11,7 @@ use Rattle.wasm_operators_decode_vectors.specs.SimdNumeric.{simd_numeric_run}
 
 pub in_run : (from to code : ℕ) → from ≤ code → code ≤ to → simd_numeric_run from to code ≡ simd_numeric_kinds code
 in_run from to code low high = unfold simd_numeric_run simd_numeric_kinds in sym
-  (kinds_kept (between from to) code (is_between from to code low high) (rows simd_numeric_info simd_numeric_immediates (Some 0xfd) simd_numeric_list))
+    (kinds_kept (between from to) code (is_between from to code low high) (rows simd_numeric_info simd_numeric_immediates (Some 0xfd) simd_numeric_list))
 
 pub none_above : (code : ℕ) → 0x113 < code → simd_numeric_kinds code ≡ None
 unfolding simd_numeric_kinds

@@ -65,9 +65,11 @@ module _ (o : Op) (k : FrameKind) (ks : List FrameKind) (os : List Op) where
       (k ∷ ks, behind_by (Some effects.Stays) (k ∷ ks) effect refl, (more, rest, i.1, same_rest o p os (walk more ++ rest) e, c))
   step_from (nested p body more) rest i e c =
       let back = (walk body ++ walk more) ++ rest in
-      let effect = moved p (Some (effects.Nests i.0)) (same_first o p os back e) i.1 in
-      (i.0 ∷ k ∷ ks, behind_by (Some (effects.Nests i.0)) (i.0 ∷ k ∷ ks) effect refl,
-        (body, walk more ++ rest, i.2, same_rest o p os back e ∙ append_assoc (walk body) (walk more) rest, (more, rest, i.3, refl, c)))
+      let effect = moved p (Some (effects.Nests i.0)) (same_first o p os back e) i.1 in (
+        i.0 ∷ k ∷ ks,
+        behind_by (Some (effects.Nests i.0)) (i.0 ∷ k ∷ ks) effect refl,
+        (body, walk more ++ rest, i.2, same_rest o p os back e ∙ append_assoc (walk body) (walk more) rest, (more, rest, i.3, refl, c)),
+      )
   step_from (turn p more) rest i e c =
       let effect = moved p (Some (effects.Turns i.0)) (same_first o p os (walk more ++ rest) e) i.1 in
       (i.0 ∷ ks, behind_by (Some (effects.Turns i.0)) (i.0 ∷ ks) effect refl, (more, rest, i.2, same_rest o p os (walk more ++ rest) e, c))

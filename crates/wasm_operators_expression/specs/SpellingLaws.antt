@@ -25,7 +25,7 @@ module _ (settings : Settings) where
       → operator settings s ≡ Done (coded_of o) (standing s front back)
   spelled_read s o front back h e =
       (decides-operator settings).complete s (standing s front back) (coded_of o) front
-        (record { parts = e; place = refl; settings = refl; start = refl }) (spelled_to settings o front h).1
+      (record { parts = e; place = refl; settings = refl; start = refl }) (spelled_to settings o front h).1
 
   same_coded : (c d : Coded) (t u : State) → Done c t ≡ Done d u → c ≡ d
   same_coded c d t u e = cc
@@ -125,7 +125,7 @@ module _ (settings : Settings) where
   at text = record { rest = text; place = 0; settings = settings; start = 0 }
 
   one_operator : (o p : Op) (text front back before behind : List ℕ) → SpelledOperator settings o front → text ≡ front ++ back
-    → SpelledOperator settings p before → text ≡ before ++ behind
+      → SpelledOperator settings p before → text ≡ before ++ behind
       → (p ≡ o) × (behind ≡ back)
   one_operator o p text front back before behind h e g f =
       read_one (at text) (standing (at text) front back) o (spelled_read (at text) o front back h e) h.canonical p before behind g f

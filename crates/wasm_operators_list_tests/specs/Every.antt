@@ -11,4 +11,4 @@ use Rattle.wasm_operators_list_tests.specs.VectorNumbersRows.{simd_numeric_rows}
 
 abbrev pub every_row : Carried → List Listed
 every_row c = control_rows c ++ parametric_rows c ++ exception_rows c ++ continuation_rows c ++ memory_rows c ++ const_rows c ++ bulk_rows c ++
-  numeric_rows c ++ gc_rows c ++ descriptor_rows c ++ atomic_rows c ++ shared_rows c ++ simd_rows c ++ simd_numeric_rows c
+    numeric_rows c ++ gc_rows c ++ descriptor_rows c ++ atomic_rows c ++ shared_rows c ++ simd_rows c ++ simd_numeric_rows c

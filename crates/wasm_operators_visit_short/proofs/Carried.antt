@@ -56,12 +56,12 @@ module _ (settings : Settings) (text : List ℕ) (i e : ℕ) where
   block_of ty g = gives_as block_type text i ty Block e g
 
   pub access_of : (natural : ℕ) (m : MemArg) → GivesAt (memory_argument settings.features Plain natural) text i m e
-    → GivesAt (immediate settings (kind.MemoryArgument Plain natural)) text i (MemoryArgument Plain natural m) e
+      → GivesAt (immediate settings (kind.MemoryArgument Plain natural)) text i (MemoryArgument Plain natural m) e
   unfolding immediate
   access_of natural m g = gives_as (memory_argument settings.features Plain natural) text i m (MemoryArgument Plain natural) e g
 
   pub zero_of : (space : IndexSpace) (n : ℕ) → GivesAt (index_or_zero (may_index settings.features space)) text i n e
-    → GivesAt (immediate settings (kind.IndexOrZero space)) text i (IndexOrZero space n) e
+      → GivesAt (immediate settings (kind.IndexOrZero space)) text i (IndexOrZero space n) e
   unfolding immediate
   zero_of space n g = gives_as (index_or_zero (may_index settings.features space)) text i n (IndexOrZero space) e g
 
@@ -83,10 +83,10 @@ module _ (text : List ℕ) (i b : ℕ) (lt : i < length text) (is : get_or text 
 
   -- what is read of any state that begins with this byte
   by_first : {X : Type 0} (d : Decoder X) (x : X) → ((s : State) (rest : List ℕ)
-    → d (record s { rest = b ∷ rest }) ≡ Done x (record s { rest = rest; place = s.place + 1 })) → GivesAt d text i x (i + 1)
+      → d (record s { rest = b ∷ rest }) ≡ Done x (record s { rest = rest; place = s.place + 1 })) → GivesAt d text i x (i + 1)
   by_first d x h = by_one d x (λ s same.
       ap (λ (r : List ℕ). d (record s { rest = r })) (parts s same) ∙ h s (drop (i + 1) text)
-        ∙ ap (λ (r : List ℕ). Done x (record s { rest = drop 1 r; place = s.place + 1 })) (sym (parts s same)))
+      ∙ ap (λ (r : List ℕ). Done x (record s { rest = drop 1 r; place = s.place + 1 })) (sym (parts s same)))
 
 module _ (text : List ℕ) (i : ℕ) (lt : i < length text) where
   pub zero_there : get_or text i 0 ≡ 0 → (allowed : Bool) → GivesAt (index_or_zero allowed) text i 0 (i + 1)
@@ -131,7 +131,7 @@ module _ (features natural : ℕ) (text : List ℕ) (i b : ℕ) (lt : i < length
       rw (u32_there text i b lt is (omega arith) s same) (small_flags order memory s.place b (behind 1 s) small))
 
   after_there : (x e : ℕ) → GivesAt (offset (has Memory64 features)) text (i + 1) x e
-    → GivesAt (after_flags features Plain natural (flags_in b)) text (i + 1) (argument b natural 0 None x) e
+      → GivesAt (after_flags features Plain natural (flags_in b)) text (i + 1) (argument b natural 0 None x) e
   unfolding after_flags named_memory named_ordering
   after_there x e g = record {
     forward = g.forward;
@@ -144,7 +144,7 @@ module _ (features natural : ℕ) (text : List ℕ) (i b : ℕ) (lt : i < length
   }
 
   pub access_there : (wide : Bool) (x e : ℕ) → GivesAt (offset wide) text (i + 1) x e → wide ≡ has Memory64 features
-    → GivesAt (memory_argument features Plain natural) text i (argument b natural 0 None x) e
+      → GivesAt (memory_argument features Plain natural) text i (argument b natural 0 None x) e
   unfolding memory_argument
   access_there wide x e g same =
       gives_then (flags (may_order features Plain) (has MultiMemory features)) text i (flags_in b) (after_flags features Plain natural) (i + 1) (argument b natural 0 None x) e

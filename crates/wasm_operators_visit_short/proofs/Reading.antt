@@ -64,15 +64,15 @@ gives_byte text i lt = record {
 -- ---- operators of one byte of opcode
 
 with_kinds : (settings : Settings) (place : ℕ) (o : Opcode) (found : Option (List Kind)) (s t : State) (ks : List Kind) (is : List Immediate)
-  → found ≡ Some ks → immediates settings ks s ≡ Done is t → carried_by settings place o found s ≡ Done (coded o is) t
+    → found ≡ Some ks → immediates settings ks s ≡ Done is t → carried_by settings place o found s ≡ Done (coded o is) t
 with_kinds settings place o found s t ks is e h = rw (e, h) refl
 
 read_behind : (settings : Settings) (place : ℕ) (read : Outcome Opcode) (o : Opcode) (s t : State) (ks : List Kind) (is : List Immediate)
-  → read ≡ Done o s → kinds_at o ≡ Some ks → immediates settings ks s ≡ Done is t → continue_with read (behind_opcode settings place) ≡ Done (coded o is) t
+    → read ≡ Done o s → kinds_at o ≡ Some ks → immediates settings ks s ≡ Done is t → continue_with read (behind_opcode settings place) ≡ Done (coded o is) t
 read_behind settings place read o s t ks is first e h = rw first (with_kinds settings place o (kinds_at o) s t ks is e h)
 
 module _ (settings : Settings) (text : List ℕ) (i code n : ℕ) (begins : Begins text i code) (is : code ≡ n) (o : Op)
-  (opcode_is : opcode_of o ≡ plain n) (no_prefix : is_prefix n ≡ false) where
+    (opcode_is : opcode_of o ≡ plain n) (no_prefix : is_prefix n ≡ false) where
   kinds : kinds_at (plain n) ≡ Some (map kind_of (immediates_of o))
   kinds = ap kinds_at (sym opcode_is) ∙ own_kinds_at o
 
@@ -89,11 +89,11 @@ module _ (settings : Settings) (text : List ℕ) (i code n : ℕ) (begins : Begi
 
   -- an operator of what it carries
   carries : (s t : State) → s.rest ≡ drop i text → immediates settings (map kind_of (immediates_of o)) (behind 1 s) ≡ Done (immediates_of o) t
-    → operator settings s ≡ Done (coded_of o) t
+      → operator settings s ≡ Done (coded_of o) t
   unfolding operator
   carries s t same h =
       read_behind settings s.place (opcode s) (plain n) (behind 1 s) t (map kind_of (immediates_of o)) (immediates_of o) (opcode_read s same) kinds h
-        ∙ ap (λ (c : Opcode). Done (coded c (immediates_of o)) t) (sym opcode_is)
+      ∙ ap (λ (c : Opcode). Done (coded c (immediates_of o)) t) (sym opcode_is)
 
   none : immediates_of o ≡ [] → GivesAt (operator settings) text i (coded_of o) (i + 1)
   none nothing = record {
@@ -119,7 +119,7 @@ module _ (settings : Settings) (text : List ℕ) (i code n : ℕ) (begins : Begi
   }
 
   two_more : (x y : Immediate) (m e : ℕ) → immediates_of o ≡ x ∷ y ∷ [] → GivesAt (immediate settings (kind_of x)) text (i + 1) x m
-    → GivesAt (immediate settings (kind_of y)) text m y e → GivesAt (operator settings) text i (coded_of o) e
+      → GivesAt (immediate settings (kind_of y)) text m y e → GivesAt (operator settings) text i (coded_of o) e
   two_more x y m e both g h = record {
     forward = omega (arith, g.forward, h.forward);
     inside = h.inside;
@@ -136,7 +136,7 @@ module _ (settings : Settings) (text : List ℕ) (i code n : ℕ) (begins : Begi
 -- ---- the same within any limits
 
 module _ (features : ℕ) (text : List ℕ) (i code n : ℕ) (begins : Begins text i code) (is : code ≡ n) (o : Op) (opcode_is : opcode_of o ≡ plain n)
-  (no_prefix : is_prefix n ≡ false) where
+    (no_prefix : is_prefix n ≡ false) where
   module _ (Told : Op → Type 0) (told : Told o) (canonical : IsTrue (is_canonical o)) where
     pub told_alone : immediates_of o ≡ [] → IsTold features text i (i + 1) Told
     told_alone nothing = record {
@@ -147,7 +147,7 @@ module _ (features : ℕ) (text : List ℕ) (i code n : ℕ) (begins : Begins te
     }
 
     pub told_with : (x : Immediate) (e : ℕ) → immediates_of o ≡ x ∷ []
-      → ((limits : Limits) → GivesAt (immediate (within features limits) (kind_of x)) text (i + 1) x e) → IsTold features text i e Told
+        → ((limits : Limits) → GivesAt (immediate (within features limits) (kind_of x)) text (i + 1) x e) → IsTold features text i e Told
     told_with x e just g = record {
       op = o;
       canonical = canonical;

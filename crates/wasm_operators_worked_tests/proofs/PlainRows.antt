@@ -22,9 +22,9 @@ use Rattle.wasm_operators_worked_tests.specs.PlainRows.{PlainRows}
 
 pub plain : PlainRows
 unfolding default_limits has repeated unsigned signed last_bits size_within listed_within word abstract_heap_type concrete_heap_type exact_heap_type
-  heap_type_after heap_type reference_after value_type_after value_type function_block value_block empty_block block_type clause_after clause
-  try_table handle_after handle handlers labels zero_byte index_or_zero ordering_by lane shuffle vector select_types cast_after cast_branch flags
-  named_memory access_ordering named_ordering offset after_flags memory_argument immediate operator numeric_kinds simd_numeric_kinds opcode
+    heap_type_after heap_type reference_after value_type_after value_type function_block value_block empty_block block_type clause_after clause
+    try_table handle_after handle handlers labels zero_byte index_or_zero ordering_by lane shuffle vector select_types cast_after cast_branch flags
+    named_memory access_ordering named_ordering offset after_flags memory_argument immediate operator numeric_kinds simd_numeric_kinds opcode
 plain = record {
   nop = refl;
   block = refl;

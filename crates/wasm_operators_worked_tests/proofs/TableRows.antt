@@ -14,7 +14,7 @@ use Rattle.wasm_operators_worked_tests.specs.TableRows.{TableRows}
 
 pub tables : TableRows
 unfolding default_limits unsigned repeated size_within listed_within value_type value_type_after block_type value_block empty_block labels clause
-  clause_after try_table handle handle_after handlers select_types immediate
+    clause_after try_table handle handle_after handlers select_types immediate
 tables = record {
   labels = refl;
   default_alone = refl;

@@ -14,7 +14,7 @@ use Rattle.wasm_operators_worked_tests.specs.TypeRows.{TypeRows}
 
 pub types : TypeRows
 unfolding default_limits unsigned signed last_bits repeated size_within listed_within heap_type heap_type_after concrete_heap_type exact_heap_type
-  abstract_heap_type reference_after value_type value_type_after block_type function_block value_block empty_block select_types cast_branch cast_after immediate
+    abstract_heap_type reference_after value_type value_type_after block_type function_block value_block empty_block select_types cast_branch cast_after immediate
 types = record {
   no_type = refl;
   vector = refl;

@@ -15,13 +15,13 @@ pub record ArgumentRows : Type 0 where
   pub memory_named : reads (mask MultiMemory) (kind.MemoryArgument Plain 2) (0x42 ∷ 0x00 ∷ 0x00 ∷ []) (value.MemoryArgument Plain 2 (argument 2 2 0 None 0))
   pub large_memory : reads (mask MultiMemory) (kind.MemoryArgument Plain 2) (0x40 ∷ 0x80 ∷ 0x01 ∷ 0x05 ∷ []) (value.MemoryArgument Plain 2 (argument 0 2 128 None 5))
   pub wide_offset : reads (mask Memory64) (kind.MemoryArgument Plain 2) (0x0f ∷ 0x80 ∷ 0x80 ∷ 0x80 ∷ 0x80 ∷ 0x10 ∷ [])
-    (value.MemoryArgument Plain 2 (argument 15 2 0 None 0x1_0000_0000))
+      (value.MemoryArgument Plain 2 (argument 15 2 0 None 0x1_0000_0000))
   pub no_wide_offset : refuses none (kind.MemoryArgument Plain 2) (0x0f ∷ 0x80 ∷ 0x80 ∷ 0x80 ∷ 0x80 ∷ 0x10 ∷ []) 5
   pub ordered : reads (mask SharedEverythingThreads) (kind.MemoryArgument Atomic 2) (0x22 ∷ 0x01 ∷ 0x08 ∷ []) (value.MemoryArgument Atomic 2 (argument 2 2 0 (Some (Op AcqRel)) 8))
   pub ordered_as_ever : reads (mask SharedEverythingThreads) (kind.MemoryArgument Atomic 2) (0x22 ∷ 0x00 ∷ 0x08 ∷ [])
-    (value.MemoryArgument Atomic 2 (argument 2 2 0 (Some (Op SeqCst)) 8))
+      (value.MemoryArgument Atomic 2 (argument 2 2 0 (Some (Op SeqCst)) 8))
   pub ordered_twice : reads (mask SharedEverythingThreads + mask MultiMemory) (kind.MemoryArgument ReadModifyWrite 2) (0x62 ∷ 0x05 ∷ 0x11 ∷ 0x07 ∷ [])
-    (value.MemoryArgument ReadModifyWrite 2 (argument 2 2 5 (Some (Rmw AcqRel)) 7))
+      (value.MemoryArgument ReadModifyWrite 2 (argument 2 2 5 (Some (Rmw AcqRel)) 7))
   pub no_memory_named : refuses none (kind.MemoryArgument Plain 2) (0x42 ∷ 0x00 ∷ 0x00 ∷ []) 0
   pub no_memory_named_by_others : refuses (mask Memory64 + mask SharedEverythingThreads) (kind.MemoryArgument Plain 2) (0x42 ∷ 0x00 ∷ 0x00 ∷ []) 0
   pub alignment_too_large : refuses (mask MultiMemory + mask Memory64) (kind.MemoryArgument Plain 2) (0x10 ∷ 0x00 ∷ []) 0

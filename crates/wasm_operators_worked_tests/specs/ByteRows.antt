@@ -27,9 +27,9 @@ pub record ByteRows : Type 0 where
   pub lane : reads none (kind.Lane 8) (0x07 ∷ []) (value.Lane 8 7)
   pub no_lane : refuses none (kind.Lane 8) (0x08 ∷ []) 0
   pub shuffle : reads none kind.Lanes (0x00 ∷ 0x01 ∷ 0x02 ∷ 0x03 ∷ 0x04 ∷ 0x05 ∷ 0x06 ∷ 0x07 ∷ 0x08 ∷ 0x1f ∷ 0x1e ∷ 0x1d ∷ 0x1c ∷ 0x1b ∷ 0x1a ∷ 0x19
-    ∷ []) (value.Lanes (0 ∷ 1 ∷ 2 ∷ 3 ∷ 4 ∷ 5 ∷ 6 ∷ 7 ∷ 8 ∷ 31 ∷ 30 ∷ 29 ∷ 28 ∷ 27 ∷ 26 ∷ 25 ∷ []))
+      ∷ []) (value.Lanes (0 ∷ 1 ∷ 2 ∷ 3 ∷ 4 ∷ 5 ∷ 6 ∷ 7 ∷ 8 ∷ 31 ∷ 30 ∷ 29 ∷ 28 ∷ 27 ∷ 26 ∷ 25 ∷ []))
   pub no_shuffle : refuses none kind.Lanes (0x1f ∷ 0x20 ∷ 0x00 ∷ []) 1
   pub short_shuffle : ends none kind.Lanes (0x00 ∷ 0x01 ∷ 0x02 ∷ 0x03 ∷ 0x04 ∷ 0x05 ∷ 0x06 ∷ 0x07 ∷ 0x08 ∷ 0x1f ∷ 0x1e ∷ 0x1d ∷ 0x1c ∷ 0x1b ∷ 0x1a ∷ []) 15 1
   pub vector : reads none kind.V128Constant (0x00 ∷ 0x01 ∷ 0x02 ∷ 0x03 ∷ 0x04 ∷ 0x05 ∷ 0x06 ∷ 0x07 ∷ 0x08 ∷ 0x1f ∷ 0x1e ∷ 0x1d ∷ 0x1c ∷ 0x1b ∷ 0x1a
-    ∷ 0x19 ∷ []) (value.V128Constant (record { 0 = (0 ∷ 1 ∷ 2 ∷ 3 ∷ 4 ∷ 5 ∷ 6 ∷ 7 ∷ 8 ∷ 31 ∷ 30 ∷ 29 ∷ 28 ∷ 27 ∷ 26 ∷ 25 ∷ []) }))
+      ∷ 0x19 ∷ []) (value.V128Constant (record { 0 = (0 ∷ 1 ∷ 2 ∷ 3 ∷ 4 ∷ 5 ∷ 6 ∷ 7 ∷ 8 ∷ 31 ∷ 30 ∷ 29 ∷ 28 ∷ 27 ∷ 26 ∷ 25 ∷ []) }))
   pub short_vector : ends none kind.V128Constant (0x00 ∷ 0x01 ∷ 0x02 ∷ []) 0 13

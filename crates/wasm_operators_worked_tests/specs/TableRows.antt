@@ -18,7 +18,7 @@ pub record TableRows : Type 0 where
   pub no_default : ends none kind.BranchTable (0x01 ∷ 0x00 ∷ []) 2 1
   pub all : reads none kind.TryTable (0x40 ∷ 0x01 ∷ 0x02 ∷ 0x00 ∷ []) (value.TryTable (catch_table Empty (All 0 ∷ [])))
   pub each_clause : reads none kind.TryTable (0x7f ∷ 0x03 ∷ 0x00 ∷ 0x05 ∷ 0x01 ∷ 0x01 ∷ 0x06 ∷ 0x02 ∷ 0x03 ∷ 0x04 ∷ [])
-    (value.TryTable (catch_table (Val I32) (One 5 1 ∷ OneRef 6 2 ∷ AllRef 4 ∷ [])))
+      (value.TryTable (catch_table (Val I32) (One 5 1 ∷ OneRef 6 2 ∷ AllRef 4 ∷ [])))
   pub no_clause : refuses none kind.TryTable (0x40 ∷ 0x01 ∷ 0x04 ∷ 0x00 ∷ []) 2
   pub too_many_clauses : refuses none kind.TryTable (0x40 ∷ 0x91 ∷ 0x4e ∷ []) 1
   pub most_clauses : ends none kind.TryTable (0x40 ∷ 0x90 ∷ 0x4e ∷ []) 3 1

@@ -61,7 +61,7 @@ byte s = first_of_rest s.rest s
 -- n bytes as they stand
 abbrev pub bytes : ℕ → Decoder (List ℕ)
 bytes n s = if nat_lt (length s.rest) n then Short s.place (n - length s.rest) else Done (take n s.rest)
-  (record { rest = drop n s.rest; place = s.place + n; settings = s.settings; start = s.start })
+    (record { rest = drop n s.rest; place = s.place + n; settings = s.settings; start = s.start })
 
 -- n values, one after the other
 unfoldable pub repeated : {A : Type 0} → ℕ → Decoder A → Decoder (List A)

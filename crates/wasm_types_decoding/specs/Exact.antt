@@ -29,7 +29,7 @@ done_then (Fault k p) f y t e = absurd cc
 -- ---- one after the other
 
 pub decides->>= : {A B : Type 0} (d : Decoder A) (f : A → Decoder B) (g : Grammar A) (h : A → Grammar B) → Decides d g
-  → ((x : A) → Decides (f x) (h x)) → Decides (d >>= f) (Then g h)
+    → ((x : A) → Decides (f x) (h x)) → Decides (d >>= f) (Then g h)
 decides->>= {A} {B} d f g h dg fh = record {
   sound = λ s t y e.
       let m = done_then (d s) f y t e in
@@ -38,15 +38,20 @@ decides->>= {A} {B} d f g h dg fh = record {
       (p.0 ++ q.0, Takes-then s m.1 t p.0 q.0 p.1 q.1, record { value = m.0; front = p.0; back = q.0; first = p.2; second = q.2; whole = refl });
   complete = λ s t y text p g.
       let m : State = record { rest = g.back ++ t.rest; place = s.place + length g.front; settings = s.settings; start = s.start } in
-      let a : Takes s g.front m = record { parts = p.parts ∙ ap (λ (x : List ℕ). x ++ t.rest) g.whole ∙ append_assoc g.front g.back t.rest; place =
-        refl; settings = refl; start = refl } in
+      let a : Takes s g.front m = record {
+        parts = p.parts ∙ ap (λ (x : List ℕ). x ++ t.rest) g.whole ∙ append_assoc g.front g.back t.rest;
+        place =
+            refl;
+        settings = refl;
+        start = refl;
+      } in
       let b : Takes m g.back t = record { parts = refl; place = omega (arith, p.place, ap length g.whole, length-append g.front g.back); settings = p.settings; start = p.start } in
       ap (λ (o : Outcome A). continue_with o f) (dg.complete s m g.value g.front a g.first) ∙ (fh g.value).complete m t y g.back b g.second;
 }
 
 -- another grammar for the same texts
 pub decides-same : {A : Type 0} (d : Decoder A) (g h : Grammar A) → Decides d g → ((x : A) (text : List ℕ) → g x text → h x text)
-  → ((x : A) (text : List ℕ) → h x text → g x text) → Decides d h
+    → ((x : A) (text : List ℕ) → h x text → g x text) → Decides d h
 decides-same d g h dg to from = record {
   sound = λ s t x e. let p = dg.sound s t x e in (p.0, p.1, to x p.0 p.2);
   complete = λ s t x text p q. dg.complete s t x text p (from x text q);
@@ -138,12 +143,15 @@ decides-bytes n = record {
     | inl short ↦ absurd (let no = bytes-short n s short in cc)
     | inr enough ↦
         let is : done (take n s.rest) (record { rest = drop n s.rest; place = s.place + n; settings = s.settings; start = s.start }) ≡ Done x t =
-          sym (bytes-enough n s enough) ∙ e in
+        sym (bytes-enough n s enough) ∙ e in
         let v : take n s.rest ≡ x = value_is _ x _ t is in
         let u : record { rest = drop n s.rest; place = s.place + n; settings = s.settings; start = s.start } ≡ t = state_is _ x _ t is in
-        let k : length (take n s.rest) ≡ n = omega (arith, length-take n s.rest) in
-        (x, subst (λ (z : List ℕ). Takes s z t) v (subst (λ (z : State). Takes s (take n s.rest) z) u
-          (record { parts = sym (take-append-drop n s.rest); place = omega arith; settings = refl; start = refl })), (subst (λ (z : List ℕ). length z ≡ n) v k, refl))
+        let k : length (take n s.rest) ≡ n = omega (arith, length-take n s.rest) in (
+          x,
+          subst (λ (z : List ℕ). Takes s z t) v (subst (λ (z : State). Takes s (take n s.rest) z) u
+              (record { parts = sym (take-append-drop n s.rest); place = omega arith; settings = refl; start = refl })),
+          (subst (λ (z : List ℕ). length z ≡ n) v k, refl),
+        )
   ];
   complete = λ s t x text p q.
       let r : s.rest ≡ x ++ t.rest = rw q.1 at p.parts in
@@ -193,14 +201,14 @@ has_tag (c ∷ cs) b = if b == c.0 then true else has_tag cs b
 
 module _ {A : Type 0} (k : Refusal) (g : Grammar A) where
   one_of : (b : ℕ) (cs : List (ℕ × Decoder A)) → AllDecide g cs → ((x : A) (text : List ℕ) → g x (b ∷ text) → has_tag cs b ≡ true)
-    → Decides (choice cs (refuse k 1) b) (λ x text. g x (b ∷ text))
+      → Decides (choice cs (refuse k 1) b) (λ x text. g x (b ∷ text))
   one_of b [] all has = decides-refuse k 1 (λ x text. g x (b ∷ text)) (λ x text h. let no : false ≡ true = has x text h in absurd cc)
   one_of b (c ∷ cs) all has = decides-if (b == c.0) c.1 (choice cs (refuse k 1) b) (λ x text. g x (b ∷ text))
       (λ t. let e : b ≡ c.0 = eqb-true _ _ t in rw e all.0)
       (λ f. one_of b cs all.1 (λ x text h. let e = has x text h in rw f at e))
 
   pub decides-choice : (cs : List (ℕ × Decoder A)) → ((x : A) → g x [] → ⊥) → AllDecide g cs
-    → ((b : ℕ) (x : A) (text : List ℕ) → g x (b ∷ text) → has_tag cs b ≡ true) → Decides (byte >>= choice cs (refuse k 1)) g
+      → ((b : ℕ) (x : A) (text : List ℕ) → g x (b ∷ text) → has_tag cs b ≡ true) → Decides (byte >>= choice cs (refuse k 1)) g
   decides-choice cs none all has = decides-byte (choice cs (refuse k 1)) g none (λ b. one_of b cs all (has b))
 
 -- ---- a choice by the first byte, apart in both directions: sound by the table, complete by the value
@@ -227,7 +235,7 @@ module _ {A : Type 0} (k : Refusal) (g : Grammar A) where
   sound_of b (c ∷ cs) all s t x e = go (b == c.0) refl (sound_of b cs all.1 s t x) e
     where
       go : (same : Bool) → (b == c.0) ≡ same → (choice cs (refuse k 1) b s ≡ Done x t → (text : List ℕ) × Takes s text t × g x (b ∷ text))
-        → cond same c.1 (choice cs (refuse k 1) b) s ≡ Done x t → (text : List ℕ) × Takes s text t × g x (b ∷ text)
+          → cond same c.1 (choice cs (refuse k 1) b) s ≡ Done x t → (text : List ℕ) × Takes s text t × g x (b ∷ text)
       go true q rest e' = let z : b ≡ c.0 = eqb-true _ _ q in let p = all.0 s t x e' in (p.0, p.1, rw z p.2)
       go false q rest e' = rest e'
 
@@ -241,7 +249,7 @@ reads_first f s t x (b ∷ text) p h =
     ap (λ (o : Outcome ℕ). continue_with o f) e ∙ h m t left
 
 pub decides-table : {A : Type 0} (k : Refusal) (g : Grammar A) (cs : List (ℕ × Decoder A)) → AllSound g cs
-  → ((x : A) (text : List ℕ) → g x text → ReadsTagged (choice cs (refuse k 1)) x text) → Decides (byte >>= choice cs (refuse k 1)) g
+    → ((x : A) (text : List ℕ) → g x text → ReadsTagged (choice cs (refuse k 1)) x text) → Decides (byte >>= choice cs (refuse k 1)) g
 decides-table k g cs sound complete = record {
   sound = λ s t x e.
       let m = done_then (byte s) (choice cs (refuse k 1)) x t e in
@@ -260,7 +268,7 @@ reads-pure x s t p = let e : s ≡ t = same_state s t p.parts (omega (arith, p.p
 
 -- an alternative with a part behind its byte
 pub sound-map : {A B : Type 0} (d : Decoder A) (f : A → B) (g : Grammar A) (h : Grammar B) → Decides d g
-  → ((x : A) (text : List ℕ) → g x text → h (f x) text) → Sound (d >>= λ x. pure (f x)) h
+    → ((x : A) (text : List ℕ) → g x text → h (f x) text) → Sound (d >>= λ x. pure (f x)) h
 sound-map {A} {B} d f g h dg to s t y e =
     let q = (decides-map d f g dg).sound s t y e in
     (q.0, q.1, subst (λ (z : B). h z q.0) (sym q.2.2) (to q.2.0 q.0 q.2.1))
@@ -270,17 +278,17 @@ reads-map d f g dg x text h s t p = (decides-map d f g dg).complete s t (f x) te
 
 module _ {A : Type 0} (g : Grammar A) where
   pub sound-choice_or : (b : ℕ) (cs : List (ℕ × Decoder A)) (next : ℕ → Decoder A) → AllSound g cs → Sound (next b) (λ x text. g x (b ∷ text))
-    → Sound (choice_or cs next b) (λ x text. g x (b ∷ text))
+      → Sound (choice_or cs next b) (λ x text. g x (b ∷ text))
   sound-choice_or b [] next all last s t x e = last s t x e
   sound-choice_or b (c ∷ cs) next all last s t x e = go (b == c.0) refl (sound-choice_or b cs next all.1 last s t x) e
     where
       go : (same : Bool) → (b == c.0) ≡ same → (choice_or cs next b s ≡ Done x t → (text : List ℕ) × Takes s text t × g x (b ∷ text))
-        → cond same c.1 (choice_or cs next b) s ≡ Done x t → (text : List ℕ) × Takes s text t × g x (b ∷ text)
+          → cond same c.1 (choice_or cs next b) s ≡ Done x t → (text : List ℕ) × Takes s text t × g x (b ∷ text)
       go true q rest e' = let z : b ≡ c.0 = eqb-true _ _ q in let p = all.0 s t x e' in (p.0, p.1, rw z p.2)
       go false q rest e' = rest e'
 
 pub decides-first : {A : Type 0} (f : ℕ → Decoder A) (g : Grammar A) → ((b : ℕ) → Sound (f b) (λ x text. g x (b ∷ text)))
-  → ((x : A) (text : List ℕ) → g x text → ReadsTagged f x text) → Decides (byte >>= f) g
+    → ((x : A) (text : List ℕ) → g x text → ReadsTagged f x text) → Decides (byte >>= f) g
 decides-first f g sound complete = record {
   sound = λ s t x e.
       let m = done_then (byte s) f x t e in

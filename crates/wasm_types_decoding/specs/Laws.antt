@@ -96,7 +96,7 @@ pub lawful-repeated : {A : Type 0} (n : ℕ) (d : Decoder A) → IsLawful d → 
 unfolding repeated
 lawful-repeated zero d l = lawful-pure []
 lawful-repeated (suc n) d l = lawful->>= d (λ x. repeated n d >>= λ xs. pure (x ∷ xs)) l
-  (λ x. lawful->>= (repeated n d) (λ xs. pure (x ∷ xs)) (lawful-repeated n d l) (λ xs. lawful-pure (x ∷ xs)))
+    (λ x. lawful->>= (repeated n d) (λ xs. pure (x ∷ xs)) (lawful-repeated n d l) (λ xs. lawful-pure (x ∷ xs)))
 
 -- ---- a choice
 
@@ -129,8 +129,10 @@ module _ (n : ℕ) (s : State) where
 bytes_forward : (n : ℕ) (s : State) → GoesForward s (bytes n s)
 bytes_forward n s = elim (cases_lt (length s.rest) n) [
   | inl short ↦ rw (bytes-short n s short) (omega arith, omega arith)
-  | inr enough ↦ rw (bytes-enough n s enough) (take n s.rest,
-    record { parts = sym (take-append-drop n s.rest); place = omega (arith, length-take n s.rest); settings = refl; start = refl })
+  | inr enough ↦ rw (bytes-enough n s enough) (
+    take n s.rest,
+    record { parts = sym (take-append-drop n s.rest); place = omega (arith, length-take n s.rest); settings = refl; start = refl },
+  )
 ]
 
 bytes_beyond : (n : ℕ) (s : State) (more : List ℕ) → length s.rest < n → n - length s.rest ≤ length more → IsBeyond s.place (bytes n (extended s more))
@@ -139,10 +141,13 @@ bytes_beyond n s more short le =
 
 bytes_steady : (n : ℕ) (s : State) (more : List ℕ) → GoesOn (bytes n s) more (bytes n (extended s more))
 bytes_steady n s more = elim (cases_lt (length s.rest) n) [
-  | inl short ↦ rw (bytes-short n s short) (λ lt. bytes-short n (extended s more) (omega (arith, length-append s.rest more))
-    ∙ ap (Short s.place) (omega (arith, length-append s.rest more)), bytes_beyond n s more short)
+  | inl short ↦ rw (bytes-short n s short) (
+    λ lt. bytes-short n (extended s more) (omega (arith, length-append s.rest more))
+        ∙ ap (Short s.place) (omega (arith, length-append s.rest more)),
+    bytes_beyond n s more short,
+  )
   | inr enough ↦ rw (bytes-enough n s enough) (bytes-enough n (extended s more) (omega (arith, length-append s.rest more))
-    ∙ rw (take-append-le n s.rest more enough, drop-append-le n s.rest more enough) refl)
+      ∙ rw (take-append-le n s.rest more enough, drop-append-le n s.rest more enough) refl)
 ]
 
 pub lawful-bytes : (n : ℕ) → IsLawful (bytes n)
@@ -199,7 +204,7 @@ module _ {A : Type 0} (f : ℕ → Decoder A) (lawful : (b : ℕ) → IsLawful (
 
 -- what begins with a byte takes one
 takes_byte : {A : Type 0} (f : ℕ → Decoder A) (lawful : (b : ℕ) → IsLawful (f b)) (rest : List ℕ) (s : State) → 0 < length rest
-  → IsBeyond s.place (continue_with (first_of_rest rest s) f)
+    → IsBeyond s.place (continue_with (first_of_rest rest s) f)
 takes_byte f lawful [] s h = absurd (omega arith)
 takes_byte f lawful (b ∷ rest) s h =
     let behind : State = record { rest = rest; place = s.place + 1; settings = s.settings; start = s.start } in

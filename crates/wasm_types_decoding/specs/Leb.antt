@@ -38,7 +38,7 @@ seven_bits b = if nat_lt b 64 then pos b else (pos b -ℤ pos 128)
 -- r of a last byte's seven bits: all above them are as the sign, the highest of the r
 unfoldable pub last_bits : ℕ → ℕ → Decoder ℤ
 last_bits r b = if nat_lt b (2 ^ (r - 1)) then pure (pos b) else
-  (if nat_lt b (128 - 2 ^ (r - 1)) then refuse Other 1 else (if nat_lt b 128 then pure (pos b -ℤ pos 128) else refuse Other 1))
+    (if nat_lt b (128 - 2 ^ (r - 1)) then refuse Other 1 else (if nat_lt b 128 then pure (pos b -ℤ pos 128) else refuse Other 1))
 
 -- a signed number of 7 * k + r bits, in at most k + 1 bytes
 unfoldable pub signed : ℕ → ℕ → Decoder ℤ

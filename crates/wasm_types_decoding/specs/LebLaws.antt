@@ -14,7 +14,7 @@ pub lawful-unsigned : (k r : ℕ) → IsLawful (unsigned k r)
 unfolding unsigned
 lawful-unsigned zero r = lawful->>= byte _ lawful-byte (λ b. lawful-if (nat_lt b (2 ^ r)) (pure b) (refuse Other 1) (lawful-pure b) (lawful-refuse _ 1))
 lawful-unsigned (suc k) r = lawful->>= byte _ lawful-byte (λ b. lawful-if (nat_lt b 128) (pure b) (unsigned k r >>= λ m. pure (128 * m + (b - 128)))
-  (lawful-pure b) (lawful->>= (unsigned k r) _ (lawful-unsigned k r) (λ m. lawful-pure _)))
+    (lawful-pure b) (lawful->>= (unsigned k r) _ (lawful-unsigned k r) (λ m. lawful-pure _)))
 
 -- ---- what the productions say of the first byte
 
@@ -114,4 +114,4 @@ module _ {A : Type 0} (g : Grammar A) where
   pub decides-listed : (d : Decoder A) → Decides d g → Decides (listed d) (IsListed g)
   unfolding listed
   decides-listed d dg = decides-same _ _ (IsListed g) (decides->>= u32 (λ n. repeated n d) (IsUnsigned 32) (Many g) decides-u32
-    (λ n. decides-repeated d g dg n)) listed_to listed_from
+      (λ n. decides-repeated d g dg n)) listed_to listed_from

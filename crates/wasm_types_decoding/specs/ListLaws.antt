@@ -53,7 +53,7 @@ module _ (limit : ℕ) where
   size_to : (m : ℕ) (text : List ℕ) → Then (IsUnsigned 32) only m text → IsSizeWithin limit m text
   size_to m text h = record {
     number = subst (λ (z : List ℕ). IsUnsigned 32 m z) (sym (h.whole ∙ ap (λ (z : List ℕ). h.front ++ z) h.second.1 ∙ append-nil h.front))
-      (subst (λ (k : ℕ). IsUnsigned 32 k h.front) (sym h.second.0) h.first);
+        (subst (λ (k : ℕ). IsUnsigned 32 k h.front) (sym h.second.0) h.first);
     within = omega (arith, h.second.0, h.second.2);
   }
 
@@ -64,7 +64,7 @@ module _ (limit : ℕ) where
   unfolding size_within
   decides-size_within = decides-from_place (λ p. u32 >>= at_most_or limit p) (IsSizeWithin limit)
       (λ p. decides-same (u32 >>= at_most_or limit p) (Then (IsUnsigned 32) only) (IsSizeWithin limit)
-        (decides->>= u32 (at_most_or limit p) (IsUnsigned 32) only decides-u32 (only_decides p)) size_to size_from)
+      (decides->>= u32 (at_most_or limit p) (IsUnsigned 32) only decides-u32 (only_decides p)) size_to size_from)
 
 -- ---- lists
 
@@ -107,5 +107,5 @@ module _ {A : Type 0} (limit : ℕ) (d : Decoder A) where
     pub decides-listed_within : Decides d g → Decides (listed_within limit d) (IsListedWithin limit g)
     unfolding listed_within
     decides-listed_within dg = decides-same _ _ (IsListedWithin limit g)
-      (decides->>= (size_within limit) (λ n. repeated n d) (IsSizeWithin limit) (Many g) (decides-size_within limit) (λ n. decides-repeated d g dg n))
-      within_to within_from
+        (decides->>= (size_within limit) (λ n. repeated n d) (IsSizeWithin limit) (Many g) (decides-size_within limit) (λ n. decides-repeated d g dg n))
+        within_to within_from

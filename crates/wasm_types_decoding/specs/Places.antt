@@ -50,7 +50,7 @@ stays_until low high end (Short p h) e g = (g.0, omega (arith, e, g.1))
 stays_until low high end (Fault k p) e g = (g.0, omega (arith, e, g.1))
 
 after_first : {A : Type 0} (f : ℕ → Decoder A) → ((b : ℕ) → RefusesFromByte (f b)) → (rest : List ℕ) (s : State) → s.rest ≡ rest
-  → StaysIn s.place (s.place + length rest) (continue_with (first_of_rest rest s) f)
+    → StaysIn s.place (s.place + length rest) (continue_with (first_of_rest rest s) f)
 after_first f w [] s e = (omega arith, omega arith)
 after_first f w (b ∷ rest) s e =
     let t : State = record { rest = rest; place = s.place + 1; settings = s.settings; start = s.start } in
@@ -87,7 +87,7 @@ pub within-unsigned : (k r : ℕ) → RefusesWithin (unsigned k r)
 unfolding unsigned
 within-unsigned zero r = within-byte>>= _ (λ b. from_byte-if (nat_lt b (2 ^ r)) (pure b) (refuse Other 1) (from_byte (pure b) (within-pure b)) (from_byte-refuse _ Other))
 within-unsigned (suc k) r = within-byte>>= _ (λ b. from_byte-if (nat_lt b 128) (pure b) (unsigned k r >>= λ m. pure (128 * m + (b - 128)))
-  (from_byte (pure b) (within-pure b)) (from_byte _ (within->>= (unsigned k r) _ (within-unsigned k r) (λ m. within-pure _))))
+    (from_byte (pure b) (within-pure b)) (from_byte _ (within->>= (unsigned k r) _ (within-unsigned k r) (λ m. within-pure _))))
 
 from_byte-last_bits : (r b : ℕ) → RefusesFromByte (last_bits r b)
 unfolding last_bits
@@ -100,5 +100,5 @@ pub within-signed : (k r : ℕ) → RefusesWithin (signed k r)
 unfolding signed
 within-signed zero r = within-byte>>= (last_bits r) (λ b. from_byte-last_bits r b)
 within-signed (suc k) r = within-byte>>= _ (λ b. from_byte-if (nat_lt b 128) (pure (seven_bits b))
-  (signed k r >>= λ m. pure (pos 128 *ℤ m +ℤ pos (b - 128))) (from_byte _ (within-pure _))
-  (from_byte _ (within->>= (signed k r) _ (within-signed k r) (λ m. within-pure _))))
+    (signed k r >>= λ m. pure (pos 128 *ℤ m +ℤ pos (b - 128))) (from_byte _ (within-pure _))
+    (from_byte _ (within->>= (signed k r) _ (within-signed k r) (λ m. within-pure _))))

@@ -21,7 +21,7 @@ pub lawful-signed : (k r : ℕ) → IsLawful (signed k r)
 unfolding signed
 lawful-signed zero r = lawful->>= byte (last_bits r) lawful-byte (λ b. lawful-last_bits r b)
 lawful-signed (suc k) r = lawful->>= byte _ lawful-byte (λ b. lawful-if (nat_lt b 128) (pure (seven_bits b))
-  (signed k r >>= λ m. pure (pos 128 *ℤ m +ℤ pos (b - 128))) (lawful-pure _) (lawful->>= (signed k r) _ (lawful-signed k r) (λ m. lawful-pure _)))
+    (signed k r >>= λ m. pure (pos 128 *ℤ m +ℤ pos (b - 128))) (lawful-pure _) (lawful->>= (signed k r) _ (lawful-signed k r) (λ m. lawful-pure _)))
 
 -- ---- what the productions say of the first byte
 

@@ -147,8 +147,15 @@ module _ (limit : ℕ) where
   }
 
   name_from : (content text : List ℕ) → IsName limit content text → Then (IsUnsigned 32) LimitedText content text
-  name_from content text h = record { value = length content; front = h.name.count; back = content; first = h.name.counted; second =
-    (h.within, (refl, refl, h.name.utf8)); whole = h.name.whole }
+  name_from content text h = record {
+    value = length content;
+    front = h.name.count;
+    back = content;
+    first = h.name.counted;
+    second =
+        (h.within, (refl, refl, h.name.utf8));
+    whole = h.name.whole;
+  }
 
   pub decides-name : Decides (name limit) (IsName limit)
   decides-name = decides-same _ (Then (IsUnsigned 32) LimitedText) (IsName limit) (decides-counted_within limit text_of IsTextOf decides-text_of) name_to name_from

@@ -37,14 +37,14 @@ boundary_here bs (suc i) e = ap (λ (t : Bool). either t (suc i) (floor_char_bou
 
 -- the boundaries of what comes behind a text
 boundary_behind : (text more : List ℕ) (r : ℕ) → IsCharBoundary more 0 → r < length more → floor_char_boundary (text ++ more) (length text + r)
-  ≡ length text + floor_char_boundary more r
+    ≡ length text + floor_char_boundary more r
 unfolding floor_char_boundary
 boundary_behind text more zero b lt =
     boundary_here (text ++ more) (length text + 0) (ap is_char_start (get_or-append-add text more 0 0) ∙ starts (get_or more 0 0) (b.1 lt))
 boundary_behind text more (suc r) b lt =
     let k : length text + suc r ≡ suc (length text + r) = omega arith in
     let here : get_or (text ++ more) (suc (length text + r)) 0 ≡ get_or more (suc r) 0 = ap (λ (n : ℕ). get_or (text ++ more) n 0) (sym k) ∙
-      get_or-append-add text more (suc r) 0 in
+    get_or-append-add text more (suc r) 0 in
     ap (floor_char_boundary (text ++ more)) k
     ∙ ap (λ (t : Bool). either t (suc (length text + r)) (floor_char_boundary (text ++ more) (length text + r))) (ap is_char_start here)
     ∙ ap (λ (n : ℕ). either (is_char_start (get_or more (suc r) 0)) (suc (length text + r)) n) (boundary_behind text more r b (omega arith))
@@ -74,7 +74,7 @@ module _ (text more : List ℕ) where
 
   -- and before that it takes what there is room for
   pub keeps_more : (kept : List ℕ) (room : ℕ) → IsCharBoundary more 0 → Keeps text kept false → room ≡ 256 - length kept → Keeps (text ++ more)
-    (kept ++ cut_to room more) (nat_lt room (length more))
+      (kept ++ cut_to room more) (nat_lt room (length more))
   keeps_more kept room b k is =
       let short : length text ≤ 256 = ltb-false _ _ (sym k.full) in
       let same : kept ≡ text = k.message ∙ cut_fits 256 text short in
@@ -108,16 +108,16 @@ keeps_none = record { message = sym (cut_fits 256 [] (omega arith)); full = refl
 
 -- write after write
 pub keeps_calls : {W : Type 0} (kept : W → List ℕ) (full : W → Bool) (parts : List (List ℕ)) (w v : W) (text : List ℕ) → FoldsTo
-  (λ a more b. (t : List ℕ) → Keeps t (kept a) (full a) → Keeps (t ++ more) (kept b) (full b)) w parts v → Keeps text (kept w) (full w) → Keeps
-  (text ++ concat parts) (kept v) (full v)
+    (λ a more b. (t : List ℕ) → Keeps t (kept a) (full a) → Keeps (t ++ more) (kept b) (full b)) w parts v → Keeps text (kept w) (full w) → Keeps
+    (text ++ concat parts) (kept v) (full v)
 keeps_calls kept full [] w v text f k = rw (append-nil text) (rw f at k)
 keeps_calls kept full (p ∷ ps) w v text f k = rw (← append_assoc text p (concat ps)) (keeps_calls kept full ps f.0 v (text ++ p) f.2 (f.1 text k))
 
 module _ {W : Type 0} (kept : W → List ℕ) (full : W → Bool) where
   -- all that was written, of which a message is kept
   pub written_message : (o : Option (List ℕ)) (w v : W) → WritesText
-    (λ a more b. (t : List ℕ) → Keeps t (kept a) (full a) → Keeps (t ++ more) (kept b) (full b)) w o v → kept w ≡ [] → full w ≡ false → IfSome o
-    (λ text. IsWrittenMessage text (kept v))
+      (λ a more b. (t : List ℕ) → Keeps t (kept a) (full a) → Keeps (t ++ more) (kept b) (full b)) w o v → kept w ≡ [] → full w ≡ false → IfSome o
+      (λ text. IsWrittenMessage text (kept v))
   written_message None w v h none open_still = tt
   written_message (Some text) w v h none open_still =
       let first : Keeps [] (kept w) (full w) = rw (none, open_still) keeps_none in

@@ -6,8 +6,17 @@ use Rattle.wasm_types_error.specs.ErrorText.{cut_to}
 use Rattle.wasm_types_error.specs.Rows.{KindRows, TextRows}
 
 pub kind_rows : KindRows
-kind_rows = record { end_of_data = refl; missing_feature = λ f. refl; out_of_memory = refl; failed = refl; other = refl; hint = refl; no_hint = refl;
-  feature = λ f. refl; no_feature = refl }
+kind_rows = record {
+  end_of_data = refl;
+  missing_feature = λ f. refl;
+  out_of_memory = refl;
+  failed = refl;
+  other = refl;
+  hint = refl;
+  no_hint = refl;
+  feature = λ f. refl;
+  no_feature = refl;
+}
 
 pub text_rows : TextRows
 unfolding cut_to floor_char_boundary digits

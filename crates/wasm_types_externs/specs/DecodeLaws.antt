@@ -170,7 +170,7 @@ decides-memory_after f =
     decides->>= (size f.wide) _ (IsUnsigned (width f.wide)) (maximum_behind f) (decides-size f.wide) (λ low.
     decides->>= (written f.has_maximum (size f.wide)) _ (SizeWritten f) (page_behind f low) (decides-size_written f) (λ high.
     decides-map (written f.has_page_size u32) (memory_of f low high) (IsWritten u32 (IsUnsigned 32) f.has_page_size)
-      (decides-written u32 (IsUnsigned 32) f.has_page_size decides-u32)))
+    (decides-written u32 (IsUnsigned 32) f.has_page_size decides-u32)))
 
 same_flags : (a b c d : Bool) (p q r s : Bool) → a ≡ p → b ≡ q → c ≡ r → d ≡ s → flags a b c d ≡ flags p q r s
 same_flags a b c d p q r s e f g h = λ i. flags (e i) (f i) (g i) (h i)
@@ -274,7 +274,7 @@ table_to t text h =
       least = c.first;
       most = d.1.1;
       whole = h.whole ∙ ap (λ (z : List ℕ). h.front ++ z) (joined (number_of f) _ h.back b.front _
-        (b.whole ∙ ap (λ (z : List ℕ). b.front ++ z) c.whole) b.first.1 (ap number_of is));
+          (b.whole ∙ ap (λ (z : List ℕ). b.front ++ z) c.whole) b.first.1 (ap number_of is));
     })
 
 table_small : (t : TableType) → number_of (table_flags t) < 8
@@ -316,7 +316,7 @@ decides-table_type = decides-same _ (Then SpelledReference element_behind) Spell
 pub lawful-global_type : IsLawful global_type
 unfolding global_type
 lawful-global_type = lawful->>= value_type _ lawful-value_type
-  (λ v. lawful->>= byte (global_after v) lawful-byte (λ b. lawful-if (nat_lt b 4) _ _ (lawful-pure (global_of v b)) (lawful-refuse Other 1)))
+    (λ v. lawful->>= byte (global_after v) lawful-byte (λ b. lawful-if (nat_lt b 4) _ _ (lawful-pure (global_of v b)) (lawful-refuse Other 1)))
 
 -- a global of this type by its byte
 abbrev GlobalBehind : ValType → Grammar GlobalType
@@ -344,7 +344,7 @@ decides-global_after v b = decides-if (ltb b 4) _ _ _
     (λ g text h. (global_is v b g h.0 (heads b _ text [] h.1), tails b _ text [] h.1)))
     (λ w. let le : 4 ≤ b = ltb-false _ _ w in
     decides-refuse Other 1 (λ g text. GlobalBehind v g (b ∷ text))
-      (λ g text h. omega (arith, le, bit_small g.mutable, bit_small g.shared, heads b (bit g.mutable + 2 * bit g.shared) text [] h.1)))
+    (λ g text h. omega (arith, le, bit_small g.mutable, bit_small g.shared, heads b (bit g.mutable + 2 * bit g.shared) text [] h.1)))
 
 decides-global_behind : (v : ValType) → Decides (byte >>= global_after v) (GlobalBehind v)
 decides-global_behind v = decides-byte (global_after v) (GlobalBehind v) (λ g h. let no : [] ≡ (bit g.mutable + 2 * bit g.shared) ∷ [] = h.1 in cc) (decides-global_after v)
@@ -357,8 +357,15 @@ global_to g text h = record {
 }
 
 global_from : (g : GlobalType) (text : List ℕ) → SpelledGlobal g text → Then SpelledValue GlobalBehind g text
-global_from g text h = record { value = g.content_type; front = h.content; back = (bit g.mutable + 2 * bit g.shared) ∷ []; first = h.stored; second =
-  (refl, refl); whole = h.whole }
+global_from g text h = record {
+  value = g.content_type;
+  front = h.content;
+  back = (bit g.mutable + 2 * bit g.shared) ∷ [];
+  first = h.stored;
+  second =
+      (refl, refl);
+  whole = h.whole;
+}
 
 pub decides-global_type : Decides global_type SpelledGlobal
 unfolding global_type

@@ -44,9 +44,25 @@ pub record MemoryRows : Type 0 where
 
 pub memory_rows : MemoryRows
 unfolding memory_type memory_after limits_flags size written unsigned
-memory_rows = record { none = refl; maximum = refl; no_maximum = refl; shared = refl; wide = refl; not_wide = refl; wide_maximum = refl;
-  not_wide_maximum = refl; page_size = refl; no_page_size = refl; all = refl; fifth_flag = refl; sixth_flag = refl; seventh_flag = refl; eighth_flag =
-  refl; nothing = refl }
+memory_rows = record {
+  none = refl;
+  maximum = refl;
+  no_maximum = refl;
+  shared = refl;
+  wide = refl;
+  not_wide = refl;
+  wide_maximum = refl;
+  not_wide_maximum = refl;
+  page_size = refl;
+  no_page_size = refl;
+  all = refl;
+  fifth_flag = refl;
+  sixth_flag = refl;
+  seventh_flag = refl;
+  eighth_flag =
+      refl;
+  nothing = refl;
+}
 
 -- ---- tables
 
@@ -74,8 +90,18 @@ pub record TableRows : Type 0 where
 
 pub table_rows : TableRows
 unfolding table_type table_after limits_flags size written unsigned reference_type reference_after
-table_rows = record { none = refl; maximum = refl; no_maximum = refl; shared = refl; wide = refl; not_wide = refl; all = refl; page_size = refl;
-  number_type = refl; nothing = refl }
+table_rows = record {
+  none = refl;
+  maximum = refl;
+  no_maximum = refl;
+  shared = refl;
+  wide = refl;
+  not_wide = refl;
+  all = refl;
+  page_size = refl;
+  number_type = refl;
+  nothing = refl;
+}
 
 -- ---- globals
 

@@ -91,6 +91,6 @@ module _ {R E : Type 0} (answers : R → Result R E → Type 0) (ps qs : List (V
 -- ---- the items of a vector, written through its slice
 
 pub through_slice : {X Z : Type 0} (P : List X → List X → Type 0) (v : Vec X Z) (old new : List X) → old ≡ v.items → length new ≡ length old → P old
-  new → P v.items (with_items v new).items
+    new → P v.items (with_items v new).items
 through_slice P v old new value len h =
     subst (λ (xs : List _). P v.items xs) (sym (with_items_is v new (len ∙ ap length value ∙ sym v.ok.0))) (subst (λ (xs : List _). P xs new) value h)

@@ -71,7 +71,7 @@ field_parts = Then SpelledStorage (λ s. Mapped (field_with s) IsMutability)
 
 field_to : (x : FieldType) (text : List ℕ) → field_parts x text → SpelledField x text
 field_to x text h = subst (λ (y : FieldType). SpelledField y text) (sym h.second.2)
-  (record { storage = h.front; mutability = h.back; stored = h.first; writable = h.second.1; whole = h.whole })
+    (record { storage = h.front; mutability = h.back; stored = h.first; writable = h.second.1; whole = h.whole })
 
 field_from : (x : FieldType) (text : List ℕ) → SpelledField x text → field_parts x text
 field_from x text h = record { value = x.element_type; front = h.storage; back = h.mutability; first = h.stored; second = (x.mutable, h.writable, refl); whole = h.whole }
@@ -79,7 +79,7 @@ field_from x text h = record { value = x.element_type; front = h.storage; back =
 pub decides-field_type : Decides field_type SpelledField
 unfolding field_type
 decides-field_type = decides-same _ field_parts SpelledField
-  (decides->>= storage_type _ SpelledStorage _ decides-storage_type (λ s. decides-map mutability (field_with s) IsMutability decides-mutability)) field_to field_from
+    (decides->>= storage_type _ SpelledStorage _ decides-storage_type (λ s. decides-map mutability (field_with s) IsMutability decides-mutability)) field_to field_from
 
 module _ (z : Settings) where
   pub lawful-fields : IsLawful (fields z)
@@ -109,7 +109,7 @@ module _ (z : Settings) where
   pub lawful-signature : IsLawful (signature z)
   unfolding signature
   lawful-signature = lawful->>= (values z.limits.params) _ (lawful-values z.limits.params)
-    (λ ps. lawful->>= (values z.limits.results) _ (lawful-values z.limits.results) (λ rs. lawful-pure (record { params = ps; results = rs })))
+      (λ ps. lawful->>= (values z.limits.results) _ (lawful-values z.limits.results) (λ rs. lawful-pure (record { params = ps; results = rs })))
 
   abbrev signature_with : List ValType → List ValType → Signature
   signature_with ps rs = record { params = ps; results = rs }
@@ -119,7 +119,7 @@ module _ (z : Settings) where
 
   signature_to : (f : Signature) (text : List ℕ) → signature_parts f text → SpelledSignature z f text
   signature_to f text h = subst (λ (y : Signature). SpelledSignature z y text) (sym h.second.2)
-    (record { params = h.front; results = h.back; taken = h.first; given = h.second.1; whole = h.whole })
+      (record { params = h.front; results = h.back; taken = h.first; given = h.second.1; whole = h.whole })
 
   signature_from : (f : Signature) (text : List ℕ) → SpelledSignature z f text → signature_parts f text
   signature_from f text h = record { value = f.params; front = h.params; back = h.results; first = h.taken; second = (f.results, h.given, refl); whole = h.whole }
@@ -127,8 +127,8 @@ module _ (z : Settings) where
   pub decides-signature : Decides (signature z) (SpelledSignature z)
   unfolding signature
   decides-signature = decides-same _ signature_parts (SpelledSignature z)
-    (decides->>= (values z.limits.params) _ (SpelledValues z.limits.params) _ (decides-values z.limits.params)
-    (λ ps. decides-map (values z.limits.results) (signature_with ps) (SpelledValues z.limits.results) (decides-values z.limits.results))) signature_to signature_from
+      (decides->>= (values z.limits.params) _ (SpelledValues z.limits.params) _ (decides-values z.limits.params)
+      (λ ps. decides-map (values z.limits.results) (signature_with ps) (SpelledValues z.limits.results) (decides-values z.limits.results))) signature_to signature_from
 
 -- ---- indices
 
@@ -136,7 +136,7 @@ pub lawful-module_index : IsLawful module_index
 unfolding module_index
 lawful-module_index = lawful-from_place (λ p. u32 >>= index_from p)
     (λ p. lawful->>= u32 (index_from p) (lawful-unsigned 4 4)
-      (λ n. lawful-if (nat_lt n 0x10_0000) (pure (Module n)) (refuse_at Other p) (lawful-pure (Module n)) (lawful-refuse_at Other p)))
+    (λ n. lawful-if (nat_lt n 0x10_0000) (pure (Module n)) (refuse_at Other p) (lawful-pure (Module n)) (lawful-refuse_at Other p)))
 
 -- the index of this number, and nothing behind it
 abbrev OnlyIndex : ℕ → Grammar UnpackedIndex

@@ -39,7 +39,7 @@ abbrev pub FieldsAreRead : Type 0
 FieldsAreRead = (field_type (start_of (0x7f ∷ 0x00 ∷ [])) ≡ Done (field (Val I32) false) (behind 2)) × (field_type (start_of (0x78 ∷ 0x01 ∷ [])) ≡ Done (field I8 true) (behind 2))
     × (field_type (start_of (0x7f ∷ 0x02 ∷ [])) ≡ Fault Other 1) × (field_type (start_of (0x76 ∷ 0x00 ∷ [])) ≡ Fault Other 0) × (field_type (start_of (0x7f ∷ [])) ≡ Short 1 1)
     × (fields no_features (start_of (0x00 ∷ [])) ≡ Done [] (behind 1)) ×
-      (fields no_features (start_of (0x02 ∷ 0x7f ∷ 0x00 ∷ 0x77 ∷ 0x01 ∷ [])) ≡ Done (field (Val I32) false ∷ field I16 true ∷ []) (behind 5))
+    (fields no_features (start_of (0x02 ∷ 0x7f ∷ 0x00 ∷ 0x77 ∷ 0x01 ∷ [])) ≡ Done (field (Val I32) false ∷ field I16 true ∷ []) (behind 5))
     × (fields no_features (start_of (0x90 ∷ 0x4e ∷ [])) ≡ Short 2 1) × (fields no_features (start_of (0x91 ∷ 0x4e ∷ [])) ≡ Fault Other 0)
     × (fields narrow (start_of (0x01 ∷ [])) ≡ Short 1 1) × (fields narrow (start_of (0x02 ∷ [])) ≡ Fault Other 0)
 
@@ -51,12 +51,12 @@ field_bytes = (refl, refl, refl, refl, refl, refl, refl, refl, refl, refl, refl)
 
 abbrev pub FunctionsAreRead : Type 0
 FunctionsAreRead = (signature no_features (start_of (0x00 ∷ 0x00 ∷ [])) ≡ Done (function [] []) (behind 2)) ×
-  (signature no_features (start_of (0x01 ∷ 0x7f ∷ 0x02 ∷ 0x7e ∷ 0x7d ∷ [])) ≡ Done (function (I32 ∷ []) (I64 ∷ F32 ∷ [])) (behind 5))
+    (signature no_features (start_of (0x01 ∷ 0x7f ∷ 0x02 ∷ 0x7e ∷ 0x7d ∷ [])) ≡ Done (function (I32 ∷ []) (I64 ∷ F32 ∷ [])) (behind 5))
     × (signature no_features (start_of (0xe8 ∷ 0x07 ∷ [])) ≡ Short 2 1) × (signature no_features (start_of (0xe9 ∷ 0x07 ∷ [])) ≡ Fault Other 0)
     × (signature no_features (start_of (0x00 ∷ 0xe8 ∷ 0x07 ∷ [])) ≡ Short 3 1) ×
-      (signature no_features (start_of (0x00 ∷ 0xe9 ∷ 0x07 ∷ [])) ≡ Fault Other 1) × (signature no_features (start_of (0x01 ∷ 0x78 ∷ [])) ≡ Fault Other 1)
+    (signature no_features (start_of (0x00 ∷ 0xe9 ∷ 0x07 ∷ [])) ≡ Fault Other 1) × (signature no_features (start_of (0x01 ∷ 0x78 ∷ [])) ≡ Fault Other 1)
     × (signature narrow (start_of (0x02 ∷ [])) ≡ Fault Other 0) × (signature narrow (start_of (0x00 ∷ 0x02 ∷ [])) ≡ Short 2 1) ×
-      (signature narrow (start_of (0x00 ∷ 0x03 ∷ [])) ≡ Fault Other 1)
+    (signature narrow (start_of (0x00 ∷ 0x03 ∷ [])) ≡ Fault Other 1)
 
 pub function_bytes : FunctionsAreRead
 unfolding default_limits signature listed_within size_within unsigned repeated value_type value_type_after reference_after
@@ -67,7 +67,7 @@ function_bytes = (refl, refl, refl, refl, refl, refl, refl, refl, refl, refl)
 abbrev pub IndicesAreRead : Type 0
 IndicesAreRead = (module_index (start_of (0x05 ∷ [])) ≡ Done (Module 5) (behind 1)) × (module_index (start_of (0xff ∷ 0xff ∷ 0x3f ∷ [])) ≡ Done (Module 1048575) (behind 3))
     × (module_index (start_of (0x80 ∷ 0x80 ∷ 0xc0 ∷ 0x00 ∷ [])) ≡ Fault Other 0) ×
-      (module_index (start_of (0x80 ∷ 0x80 ∷ 0x80 ∷ 0x80 ∷ 0x10 ∷ [])) ≡ Fault Other 4) × (module_index (start_of (0x80 ∷ [])) ≡ Short 1 1)
+    (module_index (start_of (0x80 ∷ 0x80 ∷ 0x80 ∷ 0x80 ∷ 0x10 ∷ [])) ≡ Fault Other 4) × (module_index (start_of (0x80 ∷ [])) ≡ Short 1 1)
 
 pub index_bytes : IndicesAreRead
 unfolding module_index unsigned
@@ -77,10 +77,10 @@ index_bytes = (refl, refl, refl, refl, refl)
 
 abbrev pub TextsAreWritten : Type 0
 TextsAreWritten = (field_text (field (Val I32) true) ≡ codes "(mut i32)") × (field_text (field I8 false) ≡ codes "i8") ×
-  (array_text (record { 0 = field I16 true }) ≡ codes "(array (mut i16))")
+    (array_text (record { 0 = field I16 true }) ≡ codes "(array (mut i16))")
     × (struct_text [] ≡ codes "(struct)") × (struct_text (field (Val I64) true ∷ field I8 false ∷ []) ≡ codes "(struct (field (mut i64)) (field i8))")
     × (func_text [] [] ≡ codes "(func)") × (func_text [] (I32 ∷ []) ≡ codes "(func (result i32))") ×
-      (func_text (I32 ∷ Ref (reference true (Abstract false heap.Func)) ∷ []) (F32 ∷ []) ≡ codes "(func (param i32 funcref) (result f32))")
+    (func_text (I32 ∷ Ref (reference true (Abstract false heap.Func)) ∷ []) (F32 ∷ []) ≡ codes "(func (param i32 funcref) (result f32))")
     × (cont_text (record { 0 = Module 4 }) ≡ codes "(cont (module " ++ decimal 4 ++ codes ")" ++ codes ")")
 
 pub texts_written : TextsAreWritten

@@ -5,10 +5,31 @@ use Rattle.wasm_types_limits.specs.Rows.{DefaultRows, CeilingRows}
 
 pub default_within : IsWithinCeilings default_limits
 unfolding default_limits ceilings
-default_within = record { types = omega arith; params = omega arith; results = omega arith; fields = omega arith; string_bytes = omega arith;
-  imports = omega arith; exports = omega arith; functions = omega arith; globals = omega arith; tags = omega arith; tables = omega arith; memories =
-  omega arith; element_segments = omega arith; data_segments = omega arith; segment_items = omega arith; body_bytes = omega arith; select_types =
-  omega arith; locals = omega arith; catches = omega arith; subtyping_depth = omega arith; type_size = omega arith }
+default_within = record {
+  types = omega arith;
+  params = omega arith;
+  results = omega arith;
+  fields = omega arith;
+  string_bytes = omega arith;
+  imports = omega arith;
+  exports = omega arith;
+  functions = omega arith;
+  globals = omega arith;
+  tags = omega arith;
+  tables = omega arith;
+  memories =
+      omega arith;
+  element_segments = omega arith;
+  data_segments = omega arith;
+  segment_items = omega arith;
+  body_bytes = omega arith;
+  select_types =
+      omega arith;
+  locals = omega arith;
+  catches = omega arith;
+  subtyping_depth = omega arith;
+  type_size = omega arith;
+}
 
 pub default_rows : DefaultRows
 unfolding default_limits ceilings
@@ -40,10 +61,30 @@ default_rows = record {
 pub ceiling_rows : CeilingRows
 unfolding ceilings
 ceiling_rows = record {
-  most = record { types = omega arith; params = omega arith; results = omega arith; fields = omega arith; string_bytes = omega arith; imports = omega
-    arith; exports = omega arith; functions = omega arith; globals = omega arith; tags = omega arith; tables = omega arith; memories = omega arith;
-    element_segments = omega arith; data_segments = omega arith; segment_items = omega arith; body_bytes = omega arith; select_types = omega arith;
-    locals = omega arith; catches = omega arith; subtyping_depth = omega arith; type_size = omega arith };
+  most = record {
+    types = omega arith;
+    params = omega arith;
+    results = omega arith;
+    fields = omega arith;
+    string_bytes = omega arith;
+    imports = omega
+        arith;
+    exports = omega arith;
+    functions = omega arith;
+    globals = omega arith;
+    tags = omega arith;
+    tables = omega arith;
+    memories = omega arith;
+    element_segments = omega arith;
+    data_segments = omega arith;
+    segment_items = omega arith;
+    body_bytes = omega arith;
+    select_types = omega arith;
+    locals = omega arith;
+    catches = omega arith;
+    subtyping_depth = omega arith;
+    type_size = omega arith;
+  };
   types = λ h. omega (arith, h.types);
   params = λ h. omega (arith, h.params);
   results = λ h. omega (arith, h.results);

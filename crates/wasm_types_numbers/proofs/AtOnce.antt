@@ -75,7 +75,7 @@ module _ (text : List ℕ) (i : ℕ) (two : i + 1 < length text) where
     unsigned_of_one low = by_one (unsigned (suc k) r) _ (λ s e. rw (first s e, lt-ltb (get_or text i 0) 128 low) refl)
 
     pub unsigned_of_two : 128 ≤ get_or text i 0 → get_or text (i + 1) 0 < 128
-      → GivesAt (unsigned (suc (suc k)) r) text i (get_or text (i + 1) 0 * 128 + (get_or text i 0 - 128)) (i + 2)
+        → GivesAt (unsigned (suc (suc k)) r) text i (get_or text (i + 1) 0 * 128 + (get_or text i 0 - 128)) (i + 2)
     unfolding unsigned
     unsigned_of_two high low = by_two (unsigned (suc (suc k)) r) _ (λ s e.
         let turned : get_or text (i + 1) 0 * 128 + (get_or text i 0 - 128) ≡ 128 * get_or text (i + 1) 0 + (get_or text i 0 - 128) = omega arith in
@@ -86,7 +86,7 @@ module _ (text : List ℕ) (i : ℕ) (two : i + 1 < length text) where
     signed_of_one_byte low = by_one (signed (suc k) r) _ (λ s e. rw (first s e, lt-ltb (get_or text i 0) 128 low) refl)
 
     signed_of_two_bytes : 128 ≤ get_or text i 0 → get_or text (i + 1) 0 < 128
-      → GivesAt (signed (suc (suc k)) r) text i (pos 128 *ℤ seven_bits (get_or text (i + 1) 0) +ℤ pos (get_or text i 0 - 128)) (i + 2)
+        → GivesAt (signed (suc (suc k)) r) text i (pos 128 *ℤ seven_bits (get_or text (i + 1) 0) +ℤ pos (get_or text i 0 - 128)) (i + 2)
     unfolding signed
     signed_of_two_bytes high low = by_two (signed (suc (suc k)) r) _ (λ s e.
         rw (first s e, le-ltb (get_or text i 0) 128 high, second s e, lt-ltb (get_or text (i + 1) 0) 128 low) refl)
@@ -100,10 +100,13 @@ module _ (text : List ℕ) (i : ℕ) (two : i + 1 < length text) where
       signed_of_one_32 low is = rw (is, one_in_64 (get_or text i 0) low, one_in_32 (get_or text i 0) low) (signed_of_one_byte low)
 
       pub signed_of_two : 128 ≤ get_or text i 0 → get_or text (i + 1) 0 < 128 → get_or text i 0 < 256
-        → v ≡ two_groups (get_or text i 0) (get_or text (i + 1) 0) → GivesAt (signed (suc (suc k)) r) text i (to_z w64 (of_z w64 v)) (i + 2)
+          → v ≡ two_groups (get_or text i 0) (get_or text (i + 1) 0) → GivesAt (signed (suc (suc k)) r) text i (to_z w64 (of_z w64 v)) (i + 2)
       signed_of_two high low is_byte is = rw (is, two_in_64 (get_or text i 0) (get_or text (i + 1) 0) is_byte low) (signed_of_two_bytes high low)
 
       pub signed_of_two_32 : 128 ≤ get_or text i 0 → get_or text (i + 1) 0 < 128 → get_or text i 0 < 256
-        → v ≡ two_groups (get_or text i 0) (get_or text (i + 1) 0) → GivesAt (signed (suc (suc k)) r) text i (to_z w32 (of_z w32 (to_z w64 (of_z w64 v)))) (i + 2)
-      signed_of_two_32 high low is_byte is = rw (is, two_in_64 (get_or text i 0) (get_or text (i + 1) 0) is_byte low,
-        two_in_32 (get_or text i 0) (get_or text (i + 1) 0) is_byte low) (signed_of_two_bytes high low)
+          → v ≡ two_groups (get_or text i 0) (get_or text (i + 1) 0) → GivesAt (signed (suc (suc k)) r) text i (to_z w32 (of_z w32 (to_z w64 (of_z w64 v)))) (i + 2)
+      signed_of_two_32 high low is_byte is = rw (
+        is,
+        two_in_64 (get_or text i 0) (get_or text (i + 1) 0) is_byte low,
+        two_in_32 (get_or text i 0) (get_or text (i + 1) 0) is_byte low,
+      ) (signed_of_two_bytes high low)

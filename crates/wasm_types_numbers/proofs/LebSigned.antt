@@ -138,15 +138,15 @@ module _ (e shift low : ℕ) (room : e + shift ≤ 63) (below : low < 2 ^ shift)
       let some : 0 < 2 ^ shift = pow_pos shift in
       let x : 18446744073709551616 - suc a + suc a ≡ 18446744073709551616 = omega (arith, pow_mono {i = e} {j = 63} (omega arith)) in
       let x-all : (18446744073709551616 - suc a) * 2 ^ shift + suc a * 2 ^ shift ≡ 18446744073709551616 * 2 ^ shift =
-        sym (add-mul (18446744073709551616 - suc a) (suc a) (2 ^ shift)) ∙ ap (λ (n : ℕ). n * 2 ^ shift) x in
+      sym (add-mul (18446744073709551616 - suc a) (suc a) (2 ^ shift)) ∙ ap (λ (n : ℕ). n * 2 ^ shift) x in
       let y : 2 ^ (64 - shift) - suc a + suc a ≡ 2 ^ (64 - shift) = omega (arith, pow_mono {i = e} {j = 64 - shift} (omega arith)) in
       let whole : 2 ^ (64 - shift) * 2 ^ shift ≡ 2 ^ 64 = (let q : 64 - shift + shift ≡ 64 = omega arith in sym (pow-add 2 (64 - shift) shift) ∙ ap (λ (n : ℕ). 2 ^ n) q) in
       let y-all : (2 ^ (64 - shift) - suc a) * 2 ^ shift + suc a * 2 ^ shift ≡ 2 ^ 64 = sym (add-mul (2 ^ (64 - shift) - suc a) (suc a) (2 ^ shift))
-        ∙ ap (λ (n : ℕ). n * 2 ^ shift) y ∙ whole in
+      ∙ ap (λ (n : ℕ). n * 2 ^ shift) y ∙ whole in
       let next : suc a * 2 ^ shift ≡ a * 2 ^ shift + 2 ^ shift = suc-mul a (2 ^ shift) in
       let word : (18446744073709551616 - suc a) * 2 ^ shift % 18446744073709551616 ≡ (2 ^ (64 - shift) - suc a) * 2 ^ shift = omega arith in
       let j : bit_or low ((18446744073709551616 - suc a) * 2 ^ shift % 18446744073709551616) ≡ (2 ^ (64 - shift) - suc a) * 2 ^ shift + low =
-        rw word (or_shifted_r (2 ^ (64 - shift) - suc a) shift low below) in
+      rw word (or_shifted_r (2 ^ (64 - shift) - suc a) shift low below) in
       let n : (2 ^ (64 - shift) - suc a) * 2 ^ shift + low ≡ 18446744073709551616 - (2 ^ shift * suc a - low) = omega arith in
       rw (j, n) (at_sign (2 ^ shift * suc a - suc low) (2 ^ shift * suc a - low) (omega arith) (omega arith))
 
@@ -202,7 +202,7 @@ ends_low bits shift b (inr (inl lt)) (inl le) = omega (arith, pow_mono {i = bits
 ends_low bits shift b (inr (inr h)) (inl le) = h.1
 
 rejoined : (low scale c : ℕ) (o : Outcome ℤ) → low < scale → c < 128
-  → joined low scale (continue_with o (λ m. pure (pos 128 *ℤ m +ℤ pos c))) ≡ joined (c * scale + low) (scale * 128) o
+    → joined low scale (continue_with o (λ m. pure (pos 128 *ℤ m +ℤ pos c))) ≡ joined (c * scale + low) (scale * 128) o
 rejoined low scale c (Done m t) lt small = ap (λ (n : ℤ). Done n t) (placed_twice scale low c m lt small)
 rejoined low scale c (Short p h) lt small = refl
 rejoined low scale c (Fault k p) lt small = refl
@@ -216,7 +216,7 @@ module _ (bits shift low : ℕ) (s : State) (total : Outcome ℤ) (before : Rema
     left z = omega (arith, before.sizes)
 
     ends_at : (g : ℕ) → 7 * g + before.last_bits + shift ≡ bits → FitsThere bits shift b → b < 128
-      → (signed g before.last_bits s ≡ Done (seven_bits b) t) × ((k : ℕ) × (k + shift + 1 ≤ bits) × IsWithin k (seven_bits b))
+        → (signed g before.last_bits s ≡ Done (seven_bits b) t) × ((k : ℕ) × (k + shift + 1 ≤ bits) × IsWithin k (seven_bits b))
     ends_at zero z (inl more) lt = absurd (omega (arith, before.few))
     ends_at zero z (inr f) lt =
         let r : bits - shift ≡ before.last_bits = omega arith in
@@ -233,7 +233,7 @@ module _ (bits shift low : ℕ) (s : State) (total : Outcome ℤ) (before : Rema
         let k = u.1.0 in
         let in_word : FitsSigned w64 (seven_bits b) = fits_64 6 (seven_bits b) (omega arith) (seven_within b lt) in
         let high : word ≡ cast_unsigned w64 (seven_bits b) = word-is ∙ ap (λ (z : ℤ). cast_unsigned w64 (to_z w64 (of_z w64 z))) v-is
-          ∙ ap (λ (z : ℤ). cast_unsigned w64 z) (to_z-of_z w64 (seven_bits b) in_word) in
+        ∙ ap (λ (z : ℤ). cast_unsigned w64 z) (to_z-of_z w64 (seven_bits b) in_word) in
         let j : w ≡ placed (2 ^ shift) low (seven_bits b) = w-is ∙ rw high (word_is k shift low (omega (arith, u.1.1)) before.below (seven_bits b) u.1.2) in
         let p : IsWithin (bits - 1) (placed (2 ^ shift) low (seven_bits b)) = placed_within k shift low (seven_bits b) (bits - 1) (omega (arith, u.1.1)) before.below u.1.2 in
         let again : to_z w64 (of_z w64 (placed (2 ^ shift) low (seven_bits b))) ≡ placed (2 ^ shift) low (seven_bits b) = to_z-of_z w64 _ (fits_64 (bits - 1) _ (omega arith) p) in

@@ -104,7 +104,7 @@ module _ (bits shift low : ℕ) (s : State) (total : Outcome ℕ) (before : Rema
 
     -- the number is whole
     pub ends : FitsThere bits shift b → b < 128 → (total ≡ Done (bit_or low (bit_and b 127 * 2 ^ shift % 18446744073709551616)) t)
-      × (bit_or low (bit_and b 127 * 2 ^ shift % 18446744073709551616) < 2 ^ bits)
+        × (bit_or low (bit_and b 127 * 2 ^ shift % 18446744073709551616) < 2 ^ bits)
     ends f lt =
         let whole = fits before.groups before.sizes f b (omega arith) lt in
         let same : bit_and b 127 ≡ b = low_bits b ∙ mod-eq_of_lt lt in
@@ -133,7 +133,7 @@ module _ (bits shift low : ℕ) (s : State) (total : Outcome ℕ) (before : Rema
         let c : bit_and b 127 ≡ b - 128 = rw low_bits (omega arith) in
         let whole = fits before.groups before.sizes f (b - 128) (omega arith) (omega arith) in
         let j : bit_or low (bit_and b 127 * 2 ^ shift % 18446744073709551616) ≡ (b - 128) * 2 ^ shift + low =
-          rw c (joins low (b - 128) shift before.below (in_64 (b - 128) whole)) in
+        rw c (joins low (b - 128) shift before.below (in_64 (b - 128) whole)) in
         let k = next_at before.groups before.sizes f le in
         let scale : 2 ^ (shift + 7) ≡ 2 ^ shift * 128 = pow-add 2 shift 7 in
         let at_k : joined low (2 ^ shift) (unsigned (suc k.0) before.last_bits s) ≡ total = rw k.1 at before.answer in

@@ -8,4 +8,4 @@ loop-operators-smaller c = reads_fewer c.loop-operators.operators _ c.read.new.s
 
 pub loop-operators-preserved : goal.loop-operators-preserved
 loop-operators-preserved c = rw c.in_ok-push.ensures.items (run_pushed op_of c.loop-operators.ops.items c.in_ok-op.op _ c.loop-operators.operators
-  c.read.new.self c.loop-operators.invariant c.in_ok-op.ensures.read)
+    c.read.new.self c.loop-operators.invariant c.in_ok-op.ensures.read)

@@ -11,7 +11,7 @@ pub returns-clause-value : goal.returns-clause-value
 returns-clause-value c =
     let last = c.floor_char_boundary.ensures in
     c.range.ensures.value ∙ ap (λ (n : ℕ). take n c.args.text.now) (omega arith) ∙ sym
-      (cut_cuts c.args.room c.args.text.now c.floor_char_boundary.result c.if-text-room.false (last.bound, last.boundary, last.nearest))
+    (cut_cuts c.args.room c.args.text.now c.floor_char_boundary.result c.if-text-room.false (last.bound, last.boundary, last.nearest))
 
 pub range-requires-clause-end_boundary : goal.range-requires-clause-end_boundary
 range-requires-clause-end_boundary c = search rules

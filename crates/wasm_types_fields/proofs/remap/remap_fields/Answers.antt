@@ -20,14 +20,14 @@ returns-in_err-remap_indices g c =
     let p = err_from_is_err_and c.from_residual.result c.from_residual.ensures.1 in
     record {
       remapped = rw (p.1, p.2) (cut field_of field_shape field_indices _ c.in_err-remap_indices.field-0.0 c.args.fields.now c.loop-place.fields
-        c.loop-place.place c.remap_indices.new.self c.index-fields-place.result
+          c.loop-place.place c.remap_indices.new.self c.index-fields-place.result
           (omega (arith, c.loop-place-test.true, c.loop-place.invariant.len)) c.loop-place.invariant.so_far c.in_err-remap_indices.ensures.remapped);
     }
 
 pub returns : goal.returns
 returns g c = record {
   remapped = whole field_of field_shape field_indices _ c.args.fields.now c.loop-place.fields c.loop-place.place
-    (omega (arith, c.loop-place-test.false, c.loop-place.invariant.len)) c.loop-place.invariant.so_far;
+      (omega (arith, c.loop-place-test.false, c.loop-place.invariant.len)) c.loop-place.invariant.so_far;
 }
 
 pub loop-place-init : goal.loop-place-init

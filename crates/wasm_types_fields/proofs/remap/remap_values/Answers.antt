@@ -19,12 +19,12 @@ returns-in_err-remap_indices g c =
     let p = err_from_is_err_and c.from_residual.result c.from_residual.ensures.1 in
     record {
       remapped = rw (p.1, p.2) (cut value_of value_shape value_indices _ c.in_err-remap_indices.field-0.0 c.args.types.now c.loop-place.types
-        c.loop-place.place c.remap_indices.new.self c.index-types-place.result
+          c.loop-place.place c.remap_indices.new.self c.index-types-place.result
           (omega (arith, c.loop-place-test.true, c.loop-place.invariant.len)) c.loop-place.invariant.so_far c.in_err-remap_indices.ensures.remapped);
     }
 
 pub returns : goal.returns
 returns g c = record {
   remapped = whole value_of value_shape value_indices _ c.args.types.now c.loop-place.types c.loop-place.place
-    (omega (arith, c.loop-place-test.false, c.loop-place.invariant.len)) c.loop-place.invariant.so_far;
+      (omega (arith, c.loop-place-test.false, c.loop-place.invariant.len)) c.loop-place.invariant.so_far;
 }

@@ -23,14 +23,14 @@ returns-then-not-ends_signed-clause-answer c =
           let e' = e ∙ sym (left_is c.args.bytes.now c.args.at c.requires.inside) in
           let b = byte_here s _ _ (sym e') c.loop-i-test.true in
           refused _ _ _ _ _ (c.loop-i.invariant.remains s e') c.requires.room _ _ b _ (omega arith) c.if-shift-bits.true
-            (MatchBool-at_false _ _ c.if-not-ends_signed.true c.ends_signed.ensures);
+          (MatchBool-at_false _ _ c.if-not-ends_signed.true c.ends_signed.ensures);
     }
 
 pub returns-then-shift-bits-2-clause-answer : goal.returns-then-shift-bits-2-clause-answer
 returns-then-shift-bits-2-clause-answer c =
     let lt = inside_left _ _ _ c.requires.inside c.loop-i-test.true in
     let f : FitsThere c.args.bits c.loop-i.shift (get_or (take (length c.args.bytes.now - c.args.at) (drop c.args.at c.args.bytes.now)) c.loop-i.i
-      0) = elim c.else-shift-bits.branch [
+    0) = elim c.else-shift-bits.branch [
       | else-shift-bits-via-then-shift-bits+else-not-ends_signed w ↦ inr (MatchBool-at_true _ _ w.if-not-ends_signed.false w.ends_signed.ensures)
       | else-shift-bits-via-else-shift-bits w ↦ inl w.if-shift-bits.false
     ] in
@@ -53,7 +53,7 @@ returns-then-shift-bits-2-clause-within c =
     let s = start_of (take (length c.args.bytes.now - c.args.at) (drop c.args.at c.args.bytes.now)) in
     let b = byte_here s _ _ refl c.loop-i-test.true in
     let f : FitsThere c.args.bits c.loop-i.shift (get_or (take (length c.args.bytes.now - c.args.at) (drop c.args.at c.args.bytes.now)) c.loop-i.i
-      0) = elim c.else-shift-bits.branch [
+    0) = elim c.else-shift-bits.branch [
       | else-shift-bits-via-then-shift-bits+else-not-ends_signed w ↦ inr (MatchBool-at_true _ _ w.if-not-ends_signed.false w.ends_signed.ensures)
       | else-shift-bits-via-else-shift-bits w ↦ inl w.if-shift-bits.false
     ] in
@@ -66,12 +66,15 @@ returns-then-shift-bits-2-clause-within c =
 pub loop-i-preserved : goal.loop-i-preserved
 loop-i-preserved c =
     let f : FitsThere c.args.bits c.loop-i.shift (get_or (take (length c.args.bytes.now - c.args.at) (drop c.args.at c.args.bytes.now)) c.loop-i.i
-      0) = elim c.else-shift-bits.branch [
+    0) = elim c.else-shift-bits.branch [
       | else-shift-bits-via-then-shift-bits+else-not-ends_signed w ↦ inr (MatchBool-at_true _ _ w.if-not-ends_signed.false w.ends_signed.ensures)
       | else-shift-bits-via-else-shift-bits w ↦ inl w.if-shift-bits.false
     ] in
-    record { remains = λ s e. goes _ _ _ _ _ (c.loop-i.invariant.remains s e) c.requires.room _ _ (byte_here s _ _ (sym e) c.loop-i-test.true)
-      (omega arith) f c.if-byte-lt128.false; room = c.if-shift-bits-2.false }
+    record {
+      remains = λ s e. goes _ _ _ _ _ (c.loop-i.invariant.remains s e) c.requires.room _ _ (byte_here s _ _ (sym e) c.loop-i-test.true)
+          (omega arith) f c.if-byte-lt128.false;
+      room = c.if-shift-bits-2.false;
+    }
 
 pub returns-clause-answer : goal.returns-clause-answer
 returns-clause-answer c =

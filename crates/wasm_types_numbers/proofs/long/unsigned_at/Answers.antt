@@ -28,7 +28,7 @@ pub returns-then-shift-bits-2-clause-answer : goal.returns-then-shift-bits-2-cla
 returns-then-shift-bits-2-clause-answer c =
     let lt = inside_left _ _ _ c.requires.inside c.loop-i-test.true in
     let f : FitsThere c.args.bits c.loop-i.shift (get_or (take (length c.args.bytes.now - c.args.at) (drop c.args.at c.args.bytes.now)) c.loop-i.i
-      0) = elim c.else-shift-bits.branch [
+    0) = elim c.else-shift-bits.branch [
       | else-shift-bits-via-then-shift-bits+else-byte-bits w ↦ fits_last _ _ _ w.if-shift-bits.true w.if-byte-bits.false
       | else-shift-bits-via-else-shift-bits w ↦ inl w.if-shift-bits.false
     ] in
@@ -51,7 +51,7 @@ returns-then-shift-bits-2-clause-within c =
     let s = start_of (take (length c.args.bytes.now - c.args.at) (drop c.args.at c.args.bytes.now)) in
     let b = byte_here s _ _ refl c.loop-i-test.true in
     let f : FitsThere c.args.bits c.loop-i.shift (get_or (take (length c.args.bytes.now - c.args.at) (drop c.args.at c.args.bytes.now)) c.loop-i.i
-      0) = elim c.else-shift-bits.branch [
+    0) = elim c.else-shift-bits.branch [
       | else-shift-bits-via-then-shift-bits+else-byte-bits w ↦ fits_last _ _ _ w.if-shift-bits.true w.if-byte-bits.false
       | else-shift-bits-via-else-shift-bits w ↦ inl w.if-shift-bits.false
     ] in
@@ -64,12 +64,15 @@ returns-then-shift-bits-2-clause-within c =
 pub loop-i-preserved : goal.loop-i-preserved
 loop-i-preserved c =
     let f : FitsThere c.args.bits c.loop-i.shift (get_or (take (length c.args.bytes.now - c.args.at) (drop c.args.at c.args.bytes.now)) c.loop-i.i
-      0) = elim c.else-shift-bits.branch [
+    0) = elim c.else-shift-bits.branch [
       | else-shift-bits-via-then-shift-bits+else-byte-bits w ↦ fits_last _ _ _ w.if-shift-bits.true w.if-byte-bits.false
       | else-shift-bits-via-else-shift-bits w ↦ inl w.if-shift-bits.false
     ] in
-    record { remains = λ s e. goes _ _ _ _ _ (c.loop-i.invariant.remains s e) c.requires.room _ _ (byte_here s _ _ (sym e) c.loop-i-test.true)
-      (omega arith) f c.if-byte-lt128.false; room = c.if-shift-bits-2.false }
+    record {
+      remains = λ s e. goes _ _ _ _ _ (c.loop-i.invariant.remains s e) c.requires.room _ _ (byte_here s _ _ (sym e) c.loop-i-test.true)
+          (omega arith) f c.if-byte-lt128.false;
+      room = c.if-shift-bits-2.false;
+    }
 
 pub returns-clause-answer : goal.returns-clause-answer
 returns-clause-answer c =

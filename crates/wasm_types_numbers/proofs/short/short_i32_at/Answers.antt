@@ -8,4 +8,4 @@ returns-then-first-lt128-clause-found c = signed_of_one_32 c.args.bytes.now c.ar
 
 pub returns-then-second-lt128-clause-found : goal.returns-then-second-lt128-clause-found
 returns-then-second-lt128-clause-found c = signed_of_two_32 c.args.bytes.now c.args.at c.if-at-bytes.true 2 4 _ c.if-first-lt128.false
-  c.if-second-lt128.true (omega arith) c.two_groups.ensures
+    c.if-second-lt128.true (omega arith) c.two_groups.ensures

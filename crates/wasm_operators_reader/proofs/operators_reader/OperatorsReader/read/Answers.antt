@@ -11,9 +11,10 @@ misplaced-error-requires c = rw c.clone-start.ensures (some_left _ _ _ _ c.in-Ok
 
 pub returns-in-Err-clause-refused : goal.returns-in-Err-clause-refused
 returns-in-Err-clause-refused c =
-    let refused : Refuses (record { bytes = c.self.inside.reader; frames = c.self.inside.control.frames }) c.in-Err.error = refuses_fault _ _ (cc) c.in-Err.ensures.answer.0 in
-    (subst (λ (s : Standing). Refuses s c.in-Err.error) c.self.view_is refused,
-      ap (λ (b : State). record { bytes = b; frames = c.self.inside.control.frames }) c.in-Err.ensures.answer.1 ∙ c.self.view_is)
+    let refused : Refuses (record { bytes = c.self.inside.reader; frames = c.self.inside.control.frames }) c.in-Err.error = refuses_fault _ _ (cc) c.in-Err.ensures.answer.0 in (
+      subst (λ (s : Standing). Refuses s c.in-Err.error) c.self.view_is refused,
+      ap (λ (b : State). record { bytes = b; frames = c.self.inside.control.frames }) c.in-Err.ensures.answer.1 ∙ c.self.view_is,
+    )
 
 pub returns-in-Err-clause-no_memory : goal.returns-in-Err-clause-no_memory
 returns-in-Err-clause-no_memory c = λ h. c.in-Err.ensures.no_memory (no_list _ (subst (λ (s : Standing). WantsMemory s → ⊥) (sym c.self.view_is) h))
@@ -41,8 +42,8 @@ returns-then-not-fits-clause-refused c =
     } in
     let place = c.misplaced-error.ensures.offset ∙ ap (λ (b : State). b.place + 1) c.clone-start.ensures in
     let refused : Refuses (record { bytes = c.self.inside.reader; frames = c.self.inside.control.frames }) c.misplaced-error.result =
-      refuses_unfit _ _ (cc) unfit c.misplaced-error.ensures.kind place in (
+    refuses_unfit _ _ (cc) unfit c.misplaced-error.ensures.kind place in (
       subst (λ (s : Standing). Refuses s c.misplaced-error.result) c.self.view_is refused,
       same_parts c.clone-start.result c.self.inside.reader _ c.self.inside.control.frames c.clone-start.ensures
-        (ap (λ (f : OpenFrames). f.frames) (c.in-Ok-advance.ensures.stays c.if-not-fits.true)) ∙ c.self.view_is,
+          (ap (λ (f : OpenFrames). f.frames) (c.in-Ok-advance.ensures.stays c.if-not-fits.true)) ∙ c.self.view_is,
     )

@@ -13,7 +13,7 @@ returns-then-is_err-clause-message g c =
 pub returns-clause-message : goal.returns-clause-message
 returns-clause-message g c =
     written_message (λ w. w.kept.bytes) (λ w. w.is_full) (g.M.Display.output c.args.message) c.new-text.result c.write.new.self
-      (of_ok c.write.result _ (sym c.is_err.ensures.value ∙ c.if-is_err.false) c.write.ensures.writes) c.new-text.ensures.kept c.new-text.ensures.open
+    (of_ok c.write.result _ (sym c.is_err.ensures.value ∙ c.if-is_err.false) c.write.ensures.writes) c.new-text.ensures.kept c.new-text.ensures.open
 
 pub returns-clause-kind : goal.returns-clause-kind
 returns-clause-kind c = search rules

@@ -17,5 +17,5 @@ returns c = record {
   ok = λ _ text k.
       let open_still : Keeps text c.args.self.now.kept.bytes false = subst (λ (b : Bool). Keeps text c.args.self.now.kept.bytes b) c.if-self.false k in
       rw (c.push_str.ensures.bytes, c.front.ensures.value) (keeps_more text c.args.s.now c.args.self.now.kept.bytes _
-        (IsCharBoundary-start c.args.s.now c.utf8.s) open_still (ap (λ (n : ℕ). 256 - n) c.len-room.ensures.value));
+      (IsCharBoundary-start c.args.s.now c.utf8.s) open_still (ap (λ (n : ℕ). 256 - n) c.len-room.ensures.value));
 }
