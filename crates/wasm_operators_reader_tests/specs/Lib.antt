@@ -1,0 +1,4 @@
+-- worked rows
+pub mod Rows
+-- that they come out so
+pub mod RowLaws
