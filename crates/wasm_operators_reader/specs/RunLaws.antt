@@ -14,7 +14,7 @@ use Rattle.wasm_operators_expression.specs.Spelling.{SpelledOperators, SpelledEx
 use Rattle.wasm_operators_expression.specs.Frames.{Closes, after, BytesClose}
 use Rattle.wasm_operators_expression.specs.FrameLaws.{closes_step, closes_more}
 use Rattle.wasm_operators_expression.specs.SpellingLaws.{spelled_read, read_spelled, bytes_go_on, bytes_refused, bytes_stuck, bytes_expression, bytes_end}
-use Rattle.wasm_operators_reader.specs.Standing.{Standing, at_start, IsFinished, Reads, RefusesIn, Refuses, Runs}
+use Rattle.wasm_operators_reader.specs.Standing.{Standing, at_start, IsFinished, Reads, RefusesIn, Refuses, Runs, TakesMemory}
 use Rattle.wasm_operators_reader.specs.StandingLaws.{some_left, unread}
 
 -- one more at the end
@@ -25,6 +25,11 @@ run_more (p ∷ os) s t u o (m, r, more) h = (m, r, run_more os m t u o more h)
 -- the same where values stand for the operators
 pub run_pushed : {A : Type 0} (view : A → Op) (xs : List A) (x : A) (s t u : Standing) → Runs s (map view xs) t → Reads t (view x) u → Runs s (map view (xs ++ x ∷ [])) u
 run_pushed view xs x s t u e h = rw map-append (run_more (map view xs) s t u (view x) e h)
+
+-- what takes memory at the end of a run takes it at its start
+pub takes_before : (os : List Op) (s t : Standing) → Runs s os t → TakesMemory t → TakesMemory s
+takes_before [] s t e h = subst (λ (u : Standing). TakesMemory u) e h
+takes_before (o ∷ os) s t (m, r, more) h = inr (o, m, r)
 
 -- ---- from a run to an expression
 

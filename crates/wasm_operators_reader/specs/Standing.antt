@@ -64,6 +64,10 @@ pub record IsOpening (s : Standing) : Type 0 where
 abbrev pub WantsMemory : Standing → Type 0
 WantsMemory s = IsTrue (keeps_list_at s.bytes) ⊎ IsOpening s
 
+-- memory is taken from here on: the first operator takes it, or is read and kept
+abbrev pub TakesMemory : Standing → Type 0
+TakesMemory s = WantsMemory s ⊎ ((o : Op) × (t : Standing) × Reads s o t)
+
 -- it reads these operators, one after the other
 abbrev pub Runs : Standing → List Op → Standing → Type 0
 Runs s [] t = t ≡ s

@@ -1,11 +1,11 @@
 //! Expressions as lists of operators.
 
 ghost use Rattle.std.specs.Prelude.{◌≡◌, List, [], map, IfOk, IfErr};
-ghost use Rattle.wasm_types.specs.reader.Reading.{IsNotMemory};
+ghost use Rattle.wasm_types.specs.reader.Reading.{IsNotMemory, NeedsNoMemory};
 ghost use Rattle.wasm_operators_expression.specs.operator.Op.{Op, op_of};
 ghost use Rattle.wasm_operators_expression.specs.Code.{Code, walk};
 ghost use Rattle.wasm_operators_expression.specs.Spelling.{SpelledExpression};
-ghost use Rattle.wasm_operators_reader.specs.Standing.{at_start, Refuses, Runs, StopsAfter};
+ghost use Rattle.wasm_operators_reader.specs.Standing.{at_start, Refuses, Runs, StopsAfter, TakesMemory};
 
 use crate::OperatorsReader;
 use std::alloc::Global;
@@ -22,6 +22,7 @@ pub fn read_expression<'a>(alloc: Global, reader: BinaryReader<'a>) -> Result<Ve
     ensures spelled { IfOk result (λ ops. (c : Code) × (walk c ≡ map op_of ops.items) × SpelledExpression reader.entry.settings c reader.entry.rest) }
     ensures refused { IfErr result (λ e. IsNotMemory e.kind → (c : Code) → SpelledExpression reader.entry.settings c reader.entry.rest → ⊥) }
     ensures stops { IfErr result (λ e. IsNotMemory e.kind → StopsAfter (at_start reader.entry) e) }
+    ensures no_memory { (TakesMemory (at_start reader.entry) → ⊥) → NeedsNoMemory result }
 {
     let mut operators = OperatorsReader::new(alloc, reader);
     let ops = read_all(alloc, &mut operators)?;
@@ -33,6 +34,7 @@ pub fn read_expression<'a>(alloc: Global, reader: BinaryReader<'a>) -> Result<Ve
 fn read_all<'a>(alloc: Global, operators: &mut OperatorsReader<'a>) -> Result<Vec<Operator<'a>>>
     ensures read { IfOk result (λ ops. Runs operators.old (map op_of ops.items) operators.new × (operators.new.bytes.rest ≡ [])) }
     ensures refused { IfErr result (λ e. IsNotMemory e.kind → ((os : List Op) × Runs operators.old os operators.new) × Refuses operators.new e × (operators.new.bytes.rest ≡ [] → ⊥)) }
+    ensures no_memory { (TakesMemory operators.old → ⊥) → NeedsNoMemory result }
 {
     let mut ops = Vec::new(alloc);
     while !operators.eof() {

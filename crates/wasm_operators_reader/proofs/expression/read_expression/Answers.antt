@@ -1,7 +1,7 @@
-use Rattle.std.proofs.Common.{◌≡◌, [], map, subst, inl, inr}
+use Rattle.std.proofs.Common.{◌≡◌, [], map, sym, subst, inl, inr}
 use Rattle.std.proofs.lemmas.Result.{err_from_is_err_and}
 use Rattle.wasm_operators_expression.specs.operator.Op.{op_of}
-use Rattle.wasm_operators_reader.specs.Standing.{Standing, Runs}
+use Rattle.wasm_operators_reader.specs.Standing.{Standing, Runs, TakesMemory}
 use Rattle.wasm_operators_reader.specs.RunLaws.{run_expression, refused_run, ended_run}
 use Rattle.wasm_operators_reader.proofs.expression.read_expression.Goals as goal
 
@@ -42,3 +42,8 @@ returns-clause-spelled c =
     let run = c.in_ok-ops.ensures.read in
     let starts = subst (λ (s : Standing). Runs s (map op_of c.in_ok-ops.ops.items) c.read_all.new.operators) c.new-operators.ensures run.0 in
     run_expression c.args.reader _ c.read_all.new.operators starts c.in_ok-finish.ensures.finished
+
+pub returns-in_err-ops-clause-no_memory : goal.returns-in_err-ops-clause-no_memory
+returns-in_err-ops-clause-no_memory c = λ n.
+    let p = err_from_is_err_and c.from_residual.result c.from_residual.ensures.1 in
+    rw (p.1, p.2) (c.in_err-ops.ensures.no_memory (subst (λ (s : Standing). TakesMemory s → ⊥) (sym c.new-operators.ensures) n))
