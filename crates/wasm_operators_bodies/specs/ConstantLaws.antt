@@ -113,7 +113,7 @@ module _ (s : State) (e : ErrorValue) (n : IsNotMemory e.kind) (text : List ℕ)
 
   -- where reading stops on the way, no front of the bytes is a constant expression
   pub constant_denied : StopsConstant (at_start s) e → ⊥
-  constant_denied (inl (t, (os, run, none), refused)) =
+  constant_denied (inl (t, (os, run, none), refused, memory)) =
       let met = meets_refusal e os (walk h.code) (at_start s) t behind run refused n full in
       let same : os ≡ (h.once.front ++ h.once.last ∷ []) ++ met.0 = met.1 ∙ ap (λ (xs : List Op). xs ++ met.0) h.once.whole in
       let no = no_end_at h.once.front met.0 h.once.last (subst HasNoEnd same none) in

@@ -100,7 +100,7 @@ module _ (settings : Settings) (e : ErrorValue) where
 
 module _ (s : State) (e : ErrorValue) where
   stops_until : StopsConstant (at_start s) e → Fails e (until (step s.settings) (Block ∷ []) s)
-  stops_until (inl (t, (os, run, none), refused)) = fails_back s.settings e os (at_start s) t refl run none (λ z. refused_in s.settings e t.frames t refl z refused)
+  stops_until (inl (t, (os, run, none), refused, memory)) = fails_back s.settings e os (at_start s) t refl run none (λ z. refused_in s.settings e t.frames t refl z refused)
   stops_until (inr (t, (os, m, o, run, none, read, ended), open_still, kind, place)) =
       fails_back s.settings e os (at_start s) m refl run none (λ z. ended_in s.settings e m t o z read ended open_still kind place)
 

@@ -4,13 +4,14 @@ use Rattle.std.specs.Prelude.{◌≡◌, ◌⊎◌, ℕ, Bool, true, false, List
 use Rattle.wasm_types.specs.limits.Settings.{Settings}
 use Rattle.wasm_types.specs.error.declared.error.ErrorKind.TheVariants.{Other}
 use Rattle.wasm_types.specs.error.ErrorValue.{ErrorValue}
+use Rattle.wasm_types.specs.reader.Reading.{IsNotMemory}
 use Rattle.wasm_operators_reader.specs.operator.Op.{Op}
 use Rattle.wasm_operators_reader.specs.operator.declared.role.Role.{Role}
 use Rattle.wasm_operators_reader.specs.operator.declared.role.Role.TheVariants.{End}
 use Rattle.wasm_operators_reader.specs.operator.Roles.{role_of}
 use Rattle.wasm_operators_reader.specs.expression.Code.{Code, walk}
 use Rattle.wasm_operators_reader.specs.expression.Spelling.{SpelledExpression}
-use Rattle.wasm_operators_reader.specs.Standing.{Standing, Reads, Refuses, Runs}
+use Rattle.wasm_operators_reader.specs.Standing.{Standing, Reads, Refuses, Runs, WantsMemory}
 
 -- of all roles that of `end`
 abbrev pub ends : Role → Bool
@@ -45,7 +46,7 @@ abbrev pub PassesTo : Standing → Bool → Standing → Type 0
 PassesTo s false t = (os : List Op) × Runs s os t × HasNoEnd os
 PassesTo s true t = (os : List Op) × (m : Standing) × (o : Op) × Runs s os m × HasNoEnd os × Reads m o t × (is_end o ≡ true)
 
--- why no constant expression is read: an operator is refused before the first `end`; or a frame is open behind it, which is refused
--- there
+-- why no constant expression is read: an operator is refused before the first `end`, for memory only where it takes some; or a frame
+-- is open behind it, which is refused there
 abbrev pub StopsConstant : Standing → ErrorValue → Type 0
-StopsConstant s e = ((t : Standing) × PassesTo s false t × Refuses t e) ⊎ ((t : Standing) × PassesTo s true t × (t.frames ≡ [] → ⊥) × (e.kind ≡ Other) × (e.offset ≡ t.bytes.place))
+StopsConstant s e = ((t : Standing) × PassesTo s false t × Refuses t e × ((WantsMemory t → ⊥) → IsNotMemory e.kind)) ⊎ ((t : Standing) × PassesTo s true t × (t.frames ≡ [] → ⊥) × (e.kind ≡ Other) × (e.offset ≡ t.bytes.place))

@@ -4,9 +4,9 @@ ghost use Rattle.std.specs.Prelude.{◌≡◌, ℕ, List, false, true, IfOk, IfE
 ghost use Rattle.wasm_types.specs.decoding.Decoder.{State, Takes, Reaches};
 ghost use Rattle.wasm_types.specs.error.declared.error.ErrorKind.TheVariants.{Other};
 ghost use Rattle.wasm_types.specs.reader.Parts.{part_at};
-ghost use Rattle.wasm_types.specs.reader.Reading.{Gives, IsNotMemory, MemoryOnlyIf};
+ghost use Rattle.wasm_types.specs.reader.Reading.{Gives, IsNotMemory, MemoryOnlyIf, NeedsNoMemory};
 ghost use Rattle.wasm_operators_reader.specs.operator.Op.{Op, op_of};
-ghost use Rattle.wasm_operators_reader.specs.Standing.{at_start, Reads, Refuses};
+ghost use Rattle.wasm_operators_reader.specs.Standing.{at_start, Reads, Refuses, WantsMemory};
 ghost use Rattle.wasm_operators_bodies.specs.Constants.{is_end, SpelledConstant, PassesTo, StopsConstant};
 ghost use Rattle.wasm_operators_bodies.specs.ConstantDecoder.{constant};
 
@@ -47,7 +47,7 @@ impl<'a> ConstExpr<'a> {
     /// # Errors
     ///
     /// No front of the bytes spells such an expression: an operator is refused before the first `end`, or a frame is open behind
-    /// it, which is refused there. Or there is no memory. The reader stays as it was.
+    /// it, which is refused there. Or there is no memory for a frame or a list of an operator. The reader stays as it was.
     pub fn read(alloc: Global, reader: &mut BinaryReader<'a>) -> Result<ConstExpr<'a>>
         ensures read { IfOk result (λ it. (text : List ℕ) × SpelledConstant reader.old.settings text × Takes reader.old text reader.new × (it ≡ part_at reader.old text)) }
         ensures refused { IfErr result (λ e. IsNotMemory e.kind → (text : List ℕ) (t : State) → Takes reader.old text t → SpelledConstant reader.old.settings text → ⊥) }
@@ -101,6 +101,7 @@ impl<'a> FromReader<'a> for ConstExpr<'a> {
         ensures answer { Gives (λ e. e.rest) result reader.new (constant reader.old.settings reader.old) }
         ensures part { IfOk result (λ e. e ≡ part_at reader.old e.rest) }
         ensures memory { MemoryOnlyIf true result }
+        ensures stops { IfErr result (λ e. StopsConstant (at_start reader.old) e) }
         ensures forward { Reaches reader.old reader.new }
     {
         match ConstExpr::read(alloc, reader) {
@@ -121,7 +122,7 @@ fn is_end(op: &Operator) -> bool
 /// Goes past the first `end`.
 fn pass_end(operators: &mut OperatorsReader<'_>) -> Result<()>
     ensures passed { IfOk result (λ _. PassesTo operators.old true operators.new) }
-    ensures refused { IfErr result (λ e. PassesTo operators.old false operators.new × Refuses operators.new e) }
+    ensures refused { IfErr result (λ e. PassesTo operators.old false operators.new × Refuses operators.new e × ((WantsMemory operators.new → ⊥) → IsNotMemory e.kind)) }
 {
     let mut ended = false;
     while !ended {
@@ -137,6 +138,7 @@ fn pass_end(operators: &mut OperatorsReader<'_>) -> Result<()>
 fn read_end(operators: &mut OperatorsReader<'_>) -> Result<bool>
     ensures read { IfOk result (λ ended. (o : Op) × Reads operators.old o operators.new × (is_end o ≡ ended)) }
     ensures refused { IfErr result (λ e. Refuses operators.old e × (operators.new ≡ operators.old)) }
+    ensures no_memory { (WantsMemory operators.old → ⊥) → NeedsNoMemory result }
 {
     let op = match operators.read() {
         Ok(op) => op,

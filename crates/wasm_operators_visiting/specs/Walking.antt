@@ -2,9 +2,10 @@
 use Rattle.std.specs.Prelude.{◌≡◌, ◌⊎◌, false, List, [], ◌∷◌}
 use Rattle.wasm_types.specs.error.declared.error.ErrorKind.TheVariants.{Other}
 use Rattle.wasm_types.specs.error.ErrorValue.{ErrorValue}
+use Rattle.wasm_types.specs.reader.Reading.{IsNotMemory}
 use Rattle.wasm_operators_reader.specs.operator.Op.{Op}
 use Rattle.wasm_operators_reader.specs.visit_operator.Vectors.{is_simd}
-use Rattle.wasm_operators_reader.specs.Standing.{Standing, Reads, Runs}
+use Rattle.wasm_operators_reader.specs.Standing.{Standing, Reads, Runs, WantsMemory}
 use Rattle.wasm_operators_reader.specs.Visiting.{RefusesPlain}
 
 -- none of them is on vectors
@@ -25,7 +26,7 @@ WalksTo visits answer s v t w = (os : List Op) × Runs s os t × HasNoVectors os
 abbrev pub WalksUntil : {V A : Type 0} → (V → Op → A → V → Type 0) → A → Standing → V → A → V → Type 0
 WalksUntil {V} visits answer s v last w = (m : Standing) × (n : V) × WalksTo visits answer s v m n × (o : Op) × (t : Standing) × Reads m o t × (is_simd o ≡ false) × visits n o last w
 
--- why a walk without vectors goes no further: bytes are left, and no operator is read, or one on vectors; or none is left while a
--- frame is open, which is refused at their end
+-- why a walk without vectors goes no further: bytes are left, and no operator is read, or one on vectors, for memory only where the
+-- operator takes some; or none is left while a frame is open, which is refused at their end
 abbrev pub StopsPlain : Standing → ErrorValue → Type 0
-StopsPlain s e = ((s.bytes.rest ≡ [] → ⊥) × RefusesPlain s e) ⊎ ((s.bytes.rest ≡ []) × (s.frames ≡ [] → ⊥) × (e.kind ≡ Other) × (e.offset ≡ s.bytes.place))
+StopsPlain s e = ((s.bytes.rest ≡ [] → ⊥) × RefusesPlain s e × ((WantsMemory s → ⊥) → IsNotMemory e.kind)) ⊎ ((s.bytes.rest ≡ []) × (s.frames ≡ [] → ⊥) × (e.kind ≡ Other) × (e.offset ≡ s.bytes.place))

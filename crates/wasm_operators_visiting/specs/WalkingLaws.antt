@@ -10,7 +10,7 @@ use Rattle.wasm_operators_reader.specs.operator.Op.{Op}
 use Rattle.wasm_operators_reader.specs.visit_operator.Vectors.{is_simd}
 use Rattle.wasm_operators_reader.specs.expression.Code.{Code, walk}
 use Rattle.wasm_operators_reader.specs.expression.Spelling.{SpelledExpression}
-use Rattle.wasm_operators_reader.specs.Standing.{Standing, at_start, IsFinished, Reads}
+use Rattle.wasm_operators_reader.specs.Standing.{Standing, at_start, IsFinished, Reads, WantsMemory}
 use Rattle.wasm_operators_reader.specs.Visiting.{VisitsPlain, RefusesVector, RefusesPlain}
 use Rattle.wasm_operators_reader.specs.StandingLaws.{reads_fewer}
 use Rattle.wasm_operators_reader.specs.RunLaws.{run_more, run_expression, expression_run, refused_run, ended_run}
@@ -57,8 +57,8 @@ module _ {V A : Type 0} (visits : V → Op → A → V → Type 0) (answer : A) 
 
     -- where a walk stops before the end, the bytes spell no expression without vectors
     pub stop_denies : StopsPlain t e → ⊥
-    stop_denies (inl (more, inl r)) = refused_run s told.0 t told.1 (λ f. more f.bytes) c h e r n
-    stop_denies (inl (more, inr r)) = vector_denies r
+    stop_denies (inl (more, inl r, memory)) = refused_run s told.0 t told.1 (λ f. more f.bytes) c h e r n
+    stop_denies (inl (more, inr r, memory)) = vector_denies r
     stop_denies (inr (ended, open_still, kind, place)) = ended_run s told.0 t told.1 (λ f. open_still f.frames) c h ended
 
 -- ---- of a reader's visit
@@ -87,8 +87,9 @@ none_rest b (x ∷ xs) t e = absurd (omega (arith, eqb-true (length (x ∷ xs)) 
 
 module _ {V A : Type 0} (visits : V → Op → A → V → Type 0) (answer : A) (s : Standing) (v : V) where
   -- a refused visit leaves all as it was
-  pub walk_stops : (t u : Standing) (w x : V) (e : ErrorValue) → WalksTo visits answer s v t w → (t.bytes.rest ≡ [] → ⊥) → RefusesPlain t e → u ≡ t → x ≡ w → WalksTo visits answer s v u x × StopsPlain u e
-  walk_stops t u w x e told more r same kept = (subst (λ (y : V). WalksTo visits answer s v u y) (sym kept) (subst (λ (z : Standing). WalksTo visits answer s v z w) (sym same) told), subst (λ (z : Standing). StopsPlain z e) (sym same) (inl (more, r)))
+  pub walk_stops : (t u : Standing) (w x : V) (e : ErrorValue) → WalksTo visits answer s v t w → (t.bytes.rest ≡ [] → ⊥) → RefusesPlain t e
+      → ((WantsMemory t → ⊥) → IsNotMemory e.kind) → u ≡ t → x ≡ w → WalksTo visits answer s v u x × StopsPlain u e
+  walk_stops t u w x e told more r memory same kept = (subst (λ (y : V). WalksTo visits answer s v u y) (sym kept) (subst (λ (z : Standing). WalksTo visits answer s v z w) (sym same) told), subst (λ (z : Standing). StopsPlain z e) (sym same) (inl (more, r, memory)))
 
   pub answered : (t u : Standing) (w x : V) (a b : A) → a ≡ b → VisitsPlain visits t w a u x → VisitsPlain visits t w b u x
   answered t u w x a b e h = subst (λ (c : A). VisitsPlain visits t w c u x) e h

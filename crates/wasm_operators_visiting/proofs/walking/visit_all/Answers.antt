@@ -6,7 +6,7 @@ pub returns-in-Err-clause-refused : goal.returns-in-Err-clause-refused
 returns-in-Err-clause-refused g c =
     let at = c.loop-operators.operators in
     walk_stops g.V.Visitor.visits (Ok tt) c.args.operators.now c.args.visitor.now c.loop-operators.operators c.visit_operator.new.self c.loop-operators.visitor c.visit_operator.new.visitor c.in-Err.error
-    c.loop-operators.invariant (some_rest c.eof.result at.bytes.rest c.loop-operators-test.true c.eof.ensures) c.in-Err.ensures.refused.0 c.in-Err.ensures.refused.1 c.in-Err.ensures.told
+    c.loop-operators.invariant (some_rest c.eof.result at.bytes.rest c.loop-operators-test.true c.eof.ensures) c.in-Err.ensures.refused.0 c.in-Err.ensures.no_memory c.in-Err.ensures.refused.1 c.in-Err.ensures.told
 
 pub loop-operators-smaller : goal.loop-operators-smaller
 loop-operators-smaller g c = visit_fewer g.V.Visitor.visits c.loop-operators.operators c.visit_operator.new.self c.loop-operators.visitor c.visit_operator.new.visitor c.in-Ok.answer c.in-Ok.ensures.visited
