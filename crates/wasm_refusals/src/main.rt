@@ -1,4 +1,4 @@
-//! Reads and clones what takes memory: the types of a group, operators with tables, and nested frames.
+//! Reads and clones what takes memory: the types of a group, and operators with tables.
 //!
 //! It ends with status 0 where each clone is equal, with 2 where memory was refused and each refusal was answered as out of
 //! memory, and with 1 otherwise. `bench/refused-memory` refuses it each allocation in turn.
@@ -8,9 +8,9 @@ use std::alloc::{AllocError, AllocFailed, Global};
 use std::process::ExitCode;
 use wasm_operators::{
     BlockType, BrTable, Catch, ContinuationOperator, ControlOperator, ExceptionOperator, Handle,
-    Operator, OperatorsReader, ParametricOperator, ResumeTable, TryTable,
+    Operator, ParametricOperator, ResumeTable, TryTable,
 };
-use wasm_types::{BinaryReader, Error, ErrorKind, FromReader, RecGroup, ValType};
+use wasm_types::{BinaryReader, ErrorKind, FromReader, RecGroup, ValType};
 
 /// Ten types: functions, structs, arrays and a continuation, some of them open and one below another.
 static TEN_TYPES: [u8; 47] = [
@@ -21,13 +21,6 @@ static TEN_TYPES: [u8; 47] = [
 
 /// Three labels and the one where no index is given: 1, 2, 3 and 0.
 static LABELS: [u8; 5] = [0x03, 0x01, 0x02, 0x03, 0x00];
-
-/// Ten blocks, one within the other; in the innermost a `try_table` with a clause, and a `select` of a type.
-static NESTED: [u8; 41] = [
-    0x02, 0x40, 0x02, 0x40, 0x02, 0x40, 0x02, 0x40, 0x02, 0x40, 0x02, 0x40, 0x02, 0x40, 0x02, 0x40,
-    0x02, 0x40, 0x02, 0x40, 0x1f, 0x40, 0x01, 0x02, 0x00, 0x0b, 0x1c, 0x01, 0x7f, 0x0b, 0x0b, 0x0b,
-    0x0b, 0x0b, 0x0b, 0x0b, 0x0b, 0x0b, 0x0b, 0x0b, 0x01,
-];
 
 /// How a part of the run ended, if not well.
 enum Fault {
@@ -49,18 +42,13 @@ impl<T: Drop> From<AllocFailed<T>> for Fault {
     }
 }
 
-/// What a refusal tells.
-fn fault(error: &Error) -> Fault {
-    match error.kind() {
-        ErrorKind::OutOfMemory => Fault::OutOfMemory,
-        _ => Fault::Wrong,
-    }
-}
-
 fn read<'a, T: FromReader<'a>>(alloc: Global, bytes: &'a [u8]) -> Result<T, Fault> {
     match BinaryReader::new(bytes, 0).read::<T>(alloc) {
         Ok(value) => Ok(value),
-        Err(error) => Err(fault(&error)),
+        Err(error) => match error.kind() {
+            ErrorKind::OutOfMemory => Err(Fault::OutOfMemory),
+            _ => Err(Fault::Wrong),
+        },
     }
 }
 
@@ -112,30 +100,9 @@ fn operators(alloc: Global) -> Result<(), Fault> {
     Ok(())
 }
 
-/// Reads the next operator.
-fn pass(reader: &mut OperatorsReader<'_>) -> Result<(), Fault> {
-    match reader.read() {
-        Ok(_) => Ok(()),
-        Err(error) => Err(fault(&error)),
-    }
-}
-
-/// That the operators of the blocks are read one by one, and that what stands behind their last `end` is refused.
-fn frames(alloc: Global) -> Result<(), Fault> {
-    let mut reader = OperatorsReader::new(alloc, BinaryReader::new(&NESTED, 0));
-    for _ in 0..24 {
-        pass(&mut reader)?;
-    }
-    match pass(&mut reader) {
-        Err(Fault::Wrong) => Ok(()),
-        _ => Err(Fault::Wrong),
-    }
-}
-
 fn run(alloc: Global) -> Result<(), Fault> {
     types(alloc)?;
-    operators(alloc)?;
-    frames(alloc)
+    operators(alloc)
 }
 
 fn main(rt: HostRuntime) -> ExitCode {
