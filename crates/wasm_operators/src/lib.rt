@@ -16,39 +16,15 @@
 #![tactic(auto)]
 
 pub use wasm_operators_bodies::{ConstExpr, FunctionBody, LocalsIterator, LocalsReader};
-pub use wasm_operators_visiting::control::{
-    ContinuationOperator, ControlOperator, ExceptionOperator, ParametricOperator,
-};
-pub use wasm_operators_visiting::expression::ControlStack;
-pub use wasm_operators_visiting::gc::{DescriptorOperator, GcOperator};
-pub use wasm_operators_visiting::immediates::{
-    BlockType, BrTable, BrTableTargets, Catch, FrameKind, FrameStack, Handle, MemArg,
-    MemArgOrdering, MemArgTarget, Ordering, ResumeTable, TryTable, V128,
-};
-pub use wasm_operators_visiting::info::{OperatorInfo, Proposal};
-pub use wasm_operators_visiting::memory::{BulkOperator, ConstOperator, MemoryOperator};
-pub use wasm_operators_visiting::numbers::NumericOperator;
-pub use wasm_operators_visiting::operator::Operator;
-pub use wasm_operators_visiting::reader::{
-    OperatorsIterator, OperatorsIteratorWithOffsets, OperatorsReader, OperatorsReaderAllocations,
-    read_expression,
-};
-pub use wasm_operators_visiting::threads::{AtomicOperator, SharedOperator};
-pub use wasm_operators_visiting::vectors::{SimdNumericOperator, SimdOperator};
-pub use wasm_operators_visiting::visit::Visitor;
-pub use wasm_operators_visiting::visit_control::VisitControl;
-pub use wasm_operators_visiting::visit_gc::VisitGc;
-pub use wasm_operators_visiting::visit_memory::VisitMemory;
-pub use wasm_operators_visiting::visit_numbers_floats::VisitFloats;
-pub use wasm_operators_visiting::visit_numbers_integers::VisitIntegers;
-pub use wasm_operators_visiting::visit_operator::{VisitOperator, is_simd};
-pub use wasm_operators_visiting::visit_simd_operator::VisitSimdOperator;
-pub use wasm_operators_visiting::visit_threads_atomic::VisitAtomic;
-pub use wasm_operators_visiting::visit_threads_shared::VisitShared;
-pub use wasm_operators_visiting::visit_vectors_floats::VisitSimdFloats;
-pub use wasm_operators_visiting::visit_vectors_immediates::VisitSimd;
-pub use wasm_operators_visiting::visit_vectors_narrow::VisitSimdNarrow;
-pub use wasm_operators_visiting::visit_vectors_wide::VisitSimdWide;
 pub use wasm_operators_visiting::{
-    ReadOperators, ReadToSimdVisitor, ReadToVisitor, visit_expression,
+    AtomicOperator, BlockType, BrTable, BrTableTargets, BulkOperator, Catch, ConstOperator,
+    ContinuationOperator, ControlOperator, ControlStack, DescriptorOperator, ExceptionOperator,
+    FrameKind, FrameStack, GcOperator, Handle, MemArg, MemArgOrdering, MemArgTarget,
+    MemoryOperator, NumericOperator, Operator, OperatorInfo, OperatorsIterator,
+    OperatorsIteratorWithOffsets, OperatorsReader, OperatorsReaderAllocations, Ordering,
+    ParametricOperator, Proposal, ReadOperators, ReadToSimdVisitor, ReadToVisitor, ResumeTable,
+    SharedOperator, SimdNumericOperator, SimdOperator, TryTable, V128, VisitAtomic, VisitControl,
+    VisitFloats, VisitGc, VisitIntegers, VisitMemory, VisitOperator, VisitShared, VisitSimd,
+    VisitSimdFloats, VisitSimdNarrow, VisitSimdOperator, VisitSimdWide, Visitor, is_simd,
+    read_expression, visit_expression,
 };

@@ -13,9 +13,7 @@ ghost use Rattle.wasm_operators_bodies.specs.ConstantDecoder.{constant};
 use crate::part::front;
 use std::alloc::Global;
 use std::marker::Model;
-use wasm_operators_reader::OperatorsReader;
-use wasm_operators_reader::immediates::FrameStack;
-use wasm_operators_reader::operator::{Operator, Role};
+use wasm_operators_reader::{FrameStack, Operator, OperatorsReader, Role};
 use wasm_types::{BinaryReader, Error, FromReader, Result};
 
 /// The bytes of a constant expression, such as the value of a global (WebAssembly 3.0, binary format, expressions).

@@ -11,7 +11,7 @@ mod read;
 mod refusal;
 
 pub use read::read_operator;
-pub use wasm_operators_decode_encoding::operator;
-pub use wasm_operators_decode_numbers::numbers;
-pub use wasm_operators_decode_threads::threads;
-pub use wasm_operators_decode_vectors::vectors;
+pub use wasm_operators_decode_encoding::Operator;
+pub use wasm_operators_decode_numbers::NumericOperator;
+pub use wasm_operators_decode_threads::{AtomicOperator, SharedOperator};
+pub use wasm_operators_decode_vectors::{SimdNumericOperator, SimdOperator};

@@ -16,7 +16,7 @@ use wasm_operators_decode_control::{
     continuation_shape, control_shape, exception_shape, parametric_shape, read_continuation,
     read_control, read_exception, read_parametric,
 };
-use wasm_operators_decode_encoding::operator::Operator;
+use wasm_operators_decode_encoding::Operator;
 use wasm_operators_decode_gc::gc_plain_of;
 use wasm_operators_decode_memory::{
     bulk_plain_shape, const_shape, memory_shape, read_bulk_plain, read_const, read_memory,

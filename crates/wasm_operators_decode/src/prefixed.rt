@@ -10,7 +10,7 @@ ghost use Rattle.wasm_operators_decode_encoding.specs.Operators.{coded_of};
 
 use crate::refusal::unknown_subopcode;
 use std::alloc::Global;
-use wasm_operators_decode_encoding::operator::Operator;
+use wasm_operators_decode_encoding::Operator;
 use wasm_operators_decode_gc::{descriptor_shape, gc_shape, read_descriptor, read_gc};
 use wasm_operators_decode_memory::{bulk_shape, read_bulk};
 use wasm_operators_decode_numbers::numeric_prefixed_of;

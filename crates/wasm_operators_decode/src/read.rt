@@ -12,7 +12,7 @@ ghost use Rattle.wasm_operators_decode.specs.Memory.{keeps_list_at};
 use crate::plain::read_plain;
 use crate::prefixed::{read_fb, read_fc, read_fd, read_fe};
 use std::alloc::Global;
-use wasm_operators_decode_encoding::operator::Operator;
+use wasm_operators_decode_encoding::Operator;
 use wasm_types::{BinaryReader, Result};
 
 // Whether a code follows this byte.

@@ -14,8 +14,8 @@ ghost use Rattle.wasm_operators_decode_control.specs.declared.continuation.Conti
 ghost use Rattle.wasm_operators_decode_control.specs.Continuation.{continuation_shape_kinds};
 
 use std::alloc::Global;
-use wasm_operators_decode_encoding::control::ContinuationOperator;
-use wasm_operators_decode_immediates::immediates::ResumeTable;
+use wasm_operators_decode_encoding::ContinuationOperator;
+use wasm_operators_decode_immediates::ResumeTable;
 use wasm_types::{BinaryReader, FromReader, Result};
 
 /// What stands behind an opcode of the group.

@@ -13,9 +13,8 @@ ghost use Rattle.wasm_operators_decode_control.specs.declared.control.ControlSha
 ghost use Rattle.wasm_operators_decode_control.specs.Control.{control_shape_kinds};
 
 use std::alloc::Global;
-use wasm_operators_decode_encoding::control::ControlOperator;
-use wasm_operators_decode_immediates::immediates::{BlockType, BrTable};
-use wasm_operators_decode_immediates::read_table_or_zero;
+use wasm_operators_decode_encoding::ControlOperator;
+use wasm_operators_decode_immediates::{BlockType, BrTable, read_table_or_zero};
 use wasm_types::{BinaryReader, FromReader, Result};
 
 /// What stands behind an opcode of the group.

@@ -16,8 +16,8 @@ ghost use Rattle.wasm_operators_decode_control.specs.declared.exception.Exceptio
 ghost use Rattle.wasm_operators_decode_control.specs.Exception.{exception_shape_kinds};
 
 use std::alloc::Global;
-use wasm_operators_decode_encoding::control::ExceptionOperator;
-use wasm_operators_decode_immediates::immediates::{BlockType, TryTable};
+use wasm_operators_decode_encoding::ExceptionOperator;
+use wasm_operators_decode_immediates::{BlockType, TryTable};
 use wasm_types::{BinaryReader, FromReader, Result};
 
 /// What stands behind an opcode of the group.

@@ -13,7 +13,7 @@ ghost use Rattle.wasm_operators_decode_control.specs.declared.parametric.Paramet
 ghost use Rattle.wasm_operators_decode_control.specs.Parametric.{parametric_shape_kinds};
 
 use std::alloc::Global;
-use wasm_operators_decode_encoding::control::ParametricOperator;
+use wasm_operators_decode_encoding::ParametricOperator;
 use wasm_operators_decode_immediates::read_select_types;
 use wasm_types::{BinaryReader, Result, ValType};
 

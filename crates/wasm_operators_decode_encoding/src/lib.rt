@@ -18,9 +18,15 @@ ghost use Rattle.wasm_operators_decode_encoding.specs.Opcodes.{opcode, SpelledOp
 ghost use Rattle.wasm_operators_decode_encoding.specs.Coded.{operator, kinds_at, SpelledCoded};
 ghost use Rattle.wasm_operators_decode_encoding.specs.Operators.{opcode_of, coded_of, SpelledOperator};
 
-pub use wasm_operators_decode_immediates::immediates;
-pub use wasm_operators_operator as operator;
-pub use wasm_operators_operator::{control, gc, info, memory};
+pub use wasm_operators_decode_immediates::{
+    BlockType, BrTable, BrTableTargets, Catch, FrameKind, FrameStack, Handle, MemArg,
+    MemArgOrdering, MemArgTarget, Ordering, ResumeTable, TryTable, V128,
+};
+pub use wasm_operators_operator::{
+    BulkOperator, ConstOperator, ContinuationOperator, ControlOperator, DescriptorOperator, Effect,
+    ExceptionOperator, GcOperator, MemoryOperator, Operator, OperatorInfo, ParametricOperator,
+    Proposal, Role,
+};
 
 /// Opcodes, and immediates one after the other, whatever features are allowed and limits hold: a value and a fault stay whatever bytes
 /// follow, the hint of an end of data is exact, and a value is read exactly where a front of the bytes spells it.

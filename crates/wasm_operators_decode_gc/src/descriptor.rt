@@ -14,7 +14,7 @@ ghost use Rattle.wasm_operators_decode_gc.specs.declared.descriptor.DescriptorSh
 ghost use Rattle.wasm_operators_decode_gc.specs.Descriptor.{descriptor_shape_kinds};
 
 use std::alloc::Global;
-use wasm_operators_decode_encoding::gc::DescriptorOperator;
+use wasm_operators_decode_encoding::DescriptorOperator;
 use wasm_operators_decode_immediates::{CastBranch, read_cast_branch};
 use wasm_types::{BinaryReader, FromReader, HeapType, Result};
 

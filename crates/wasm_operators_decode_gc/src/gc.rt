@@ -14,7 +14,7 @@ ghost use Rattle.wasm_operators_decode_gc.specs.declared.gc.GcShape.TheVariants 
 ghost use Rattle.wasm_operators_decode_gc.specs.Gc.{gc_shape_kinds};
 
 use std::alloc::Global;
-use wasm_operators_decode_encoding::gc::GcOperator;
+use wasm_operators_decode_encoding::GcOperator;
 use wasm_operators_decode_immediates::{CastBranch, read_cast_branch};
 use wasm_types::{BinaryReader, FromReader, HeapType, Result};
 

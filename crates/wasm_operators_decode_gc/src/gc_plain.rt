@@ -5,7 +5,7 @@ ghost use Rattle.wasm_operators_decode_encoding.specs.info.Info.{Info};
 ghost use Rattle.wasm_operators_decode_encoding.specs.gc.Table.{gc_info};
 ghost use Rattle.wasm_operators_decode_encoding.specs.Groups.{gc_plain_kinds};
 
-use wasm_operators_decode_encoding::gc::GcOperator;
+use wasm_operators_decode_encoding::GcOperator;
 
 /// The operator with this code, if there is one in the group. It carries nothing.
 pub fn gc_plain_of(code: u32) -> Option<GcOperator>

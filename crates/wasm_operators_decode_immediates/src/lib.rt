@@ -16,4 +16,7 @@ pub use bytes::{
 };
 pub use cast::{CastBranch, read_cast_branch};
 pub use memory_argument::{Access, read_memarg};
-pub use wasm_operators_immediates as immediates;
+pub use wasm_operators_immediates::{
+    BlockType, BrTable, BrTableTargets, Catch, FrameKind, FrameStack, Handle, MemArg,
+    MemArgOrdering, MemArgTarget, Ordering, ResumeTable, TryTable, V128,
+};

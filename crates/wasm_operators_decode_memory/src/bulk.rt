@@ -12,7 +12,7 @@ ghost use Rattle.wasm_operators_decode_encoding.specs.Sequences.{immediates};
 ghost use Rattle.wasm_operators_decode_memory.specs.declared.bulk.BulkShape.TheVariants as BulkShape;
 ghost use Rattle.wasm_operators_decode_memory.specs.Bulk.{bulk_shape_kinds};
 
-use wasm_operators_decode_encoding::memory::BulkOperator;
+use wasm_operators_decode_encoding::BulkOperator;
 use wasm_types::{BinaryReader, Result};
 
 /// What stands behind an opcode of the group.

@@ -13,7 +13,7 @@ ghost use Rattle.wasm_operators_decode_memory.specs.declared.bulk_plain.BulkPlai
 ghost use Rattle.wasm_operators_decode_memory.specs.BulkPlain.{bulk_plain_shape_kinds};
 
 use std::alloc::Global;
-use wasm_operators_decode_encoding::memory::BulkOperator;
+use wasm_operators_decode_encoding::BulkOperator;
 use wasm_types::{BinaryReader, FromReader, HeapType, Result};
 
 /// What stands behind an opcode of the group.

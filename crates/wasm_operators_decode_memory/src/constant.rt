@@ -11,7 +11,7 @@ ghost use Rattle.wasm_operators_decode_encoding.specs.Sequences.{immediates};
 ghost use Rattle.wasm_operators_decode_memory.specs.declared.constant.ConstShape.TheVariants as ConstShape;
 ghost use Rattle.wasm_operators_decode_memory.specs.Const.{const_shape_kinds};
 
-use wasm_operators_decode_encoding::memory::ConstOperator;
+use wasm_operators_decode_encoding::ConstOperator;
 use wasm_types::{BinaryReader, Ieee32, Ieee64, Result};
 
 /// What stands behind an opcode of the group.

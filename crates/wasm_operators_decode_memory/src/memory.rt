@@ -12,9 +12,8 @@ ghost use Rattle.wasm_operators_decode_encoding.specs.Sequences.{immediates};
 ghost use Rattle.wasm_operators_decode_memory.specs.declared.memory.MemoryShape.TheVariants as MemoryShape;
 ghost use Rattle.wasm_operators_decode_memory.specs.Memory.{memory_shape_kinds};
 
-use wasm_operators_decode_encoding::memory::MemoryOperator;
-use wasm_operators_decode_immediates::immediates::MemArg;
-use wasm_operators_decode_immediates::{Access, read_memarg, read_memory_or_zero};
+use wasm_operators_decode_encoding::MemoryOperator;
+use wasm_operators_decode_immediates::{Access, MemArg, read_memarg, read_memory_or_zero};
 use wasm_types::{BinaryReader, Result};
 
 /// What stands behind an opcode of the group.

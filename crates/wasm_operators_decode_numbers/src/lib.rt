@@ -11,4 +11,4 @@ mod numeric_prefixed;
 
 pub use numeric::numeric_of;
 pub use numeric_prefixed::numeric_prefixed_of;
-pub use wasm_operators_numbers as numbers;
+pub use wasm_operators_numbers::NumericOperator;

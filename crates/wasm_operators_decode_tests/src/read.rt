@@ -2,8 +2,7 @@
 use bitflags::Flags;
 use std::mem::size_of;
 use std::test::Fail;
-use wasm_operators_decode::operator::Operator;
-use wasm_operators_decode::read_operator;
+use wasm_operators_decode::{Operator, read_operator};
 use wasm_types::{BinaryReader, WasmFeatures};
 
 // An operator of each group and shape, by what stands behind its opcode.

@@ -12,8 +12,7 @@ ghost use Rattle.wasm_operators_decode_encoding.specs.Sequences.{immediates};
 ghost use Rattle.wasm_operators_decode_threads.specs.declared.atomic.AtomicShape.TheVariants as AtomicShape;
 ghost use Rattle.wasm_operators_decode_threads.specs.Atomic.{atomic_run, atomic_shape_kinds};
 
-use wasm_operators_decode_immediates::immediates::MemArg;
-use wasm_operators_decode_immediates::{Access, read_memarg, read_zero_byte};
+use wasm_operators_decode_immediates::{Access, MemArg, read_memarg, read_zero_byte};
 use wasm_operators_threads::AtomicOperator;
 use wasm_types::{BinaryReader, Result};
 

@@ -12,8 +12,7 @@ ghost use Rattle.wasm_operators_decode_encoding.specs.Sequences.{immediates};
 ghost use Rattle.wasm_operators_decode_threads.specs.declared.shared.SharedShape.TheVariants as SharedShape;
 ghost use Rattle.wasm_operators_decode_threads.specs.Shared.{shared_shape_kinds};
 
-use wasm_operators_decode_immediates::immediates::Ordering;
-use wasm_operators_decode_immediates::read_ordering;
+use wasm_operators_decode_immediates::{Ordering, read_ordering};
 use wasm_operators_threads::SharedOperator;
 use wasm_types::{BinaryReader, Result};
 

@@ -12,4 +12,4 @@ mod simd_numeric;
 
 pub use simd::{SimdShape, read_simd, simd_shape};
 pub use simd_numeric::simd_numeric_of;
-pub use wasm_operators_vectors as vectors;
+pub use wasm_operators_vectors::{SimdNumericOperator, SimdOperator};

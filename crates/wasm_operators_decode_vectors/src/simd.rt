@@ -12,8 +12,9 @@ ghost use Rattle.wasm_operators_decode_encoding.specs.Sequences.{immediates};
 ghost use Rattle.wasm_operators_decode_vectors.specs.declared.simd.SimdShape.TheVariants as SimdShape;
 ghost use Rattle.wasm_operators_decode_vectors.specs.Simd.{simd_shape_kinds};
 
-use wasm_operators_decode_immediates::immediates::{MemArg, V128};
-use wasm_operators_decode_immediates::{Access, read_lane, read_memarg, read_shuffle, read_vector};
+use wasm_operators_decode_immediates::{
+    Access, MemArg, V128, read_lane, read_memarg, read_shuffle, read_vector,
+};
 use wasm_operators_vectors::SimdOperator;
 use wasm_types::{BinaryReader, Result};
 

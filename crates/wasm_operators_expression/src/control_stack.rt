@@ -8,8 +8,7 @@ ghost use Rattle.wasm_operators_expression.specs.Stack.{innermost, around};
 
 use std::alloc::{AllocError, Global};
 use std::marker::Model;
-use wasm_operators_decode_encoding::immediates::{FrameKind, FrameStack};
-use wasm_operators_decode_encoding::operator::{Effect, Operator, Role};
+use wasm_operators_decode_encoding::{Effect, FrameKind, FrameStack, Operator, Role};
 
 /// The frames that are open, the innermost first, and room for more. Closing a frame gives no room back.
 #[derive(Drop)]

@@ -10,4 +10,9 @@ mod control_stack;
 pub mod laws;
 
 pub use control_stack::ControlStack;
-pub use wasm_operators_decode_encoding::{control, gc, immediates, info, memory, operator};
+pub use wasm_operators_decode_encoding::{
+    BlockType, BrTable, BrTableTargets, BulkOperator, Catch, ConstOperator, ContinuationOperator,
+    ControlOperator, DescriptorOperator, ExceptionOperator, FrameKind, FrameStack, GcOperator,
+    Handle, MemArg, MemArgOrdering, MemArgTarget, MemoryOperator, Operator, OperatorInfo, Ordering,
+    ParametricOperator, Proposal, ResumeTable, Role, TryTable, V128,
+};

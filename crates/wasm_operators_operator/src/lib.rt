@@ -12,11 +12,15 @@ mod role;
 
 pub use operator::Operator;
 pub use role::{Effect, Role};
-pub use wasm_operators_control as control;
-pub use wasm_operators_gc as gc;
-pub use wasm_operators_immediates as immediates;
-pub use wasm_operators_info as info;
-pub use wasm_operators_memory as memory;
-pub use wasm_operators_numbers as numbers;
-pub use wasm_operators_threads as threads;
-pub use wasm_operators_vectors as vectors;
+pub use wasm_operators_control::{
+    ContinuationOperator, ControlOperator, ExceptionOperator, ParametricOperator,
+};
+pub use wasm_operators_gc::{DescriptorOperator, GcOperator};
+pub use wasm_operators_immediates::{
+    BlockType, BrTable, MemArg, Ordering, ResumeTable, TryTable, V128,
+};
+pub use wasm_operators_info::{OperatorInfo, Proposal};
+pub use wasm_operators_memory::{BulkOperator, ConstOperator, MemoryOperator};
+pub use wasm_operators_numbers::NumericOperator;
+pub use wasm_operators_threads::{AtomicOperator, SharedOperator};
+pub use wasm_operators_vectors::{SimdNumericOperator, SimdOperator};

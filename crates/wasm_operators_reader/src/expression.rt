@@ -9,7 +9,7 @@ ghost use Rattle.wasm_operators_reader.specs.Standing.{at_start, Refuses, Runs, 
 
 use crate::OperatorsReader;
 use std::alloc::Global;
-use wasm_operators_expression::operator::Operator;
+use wasm_operators_expression::Operator;
 use wasm_types::{BinaryReader, Result};
 
 /// Reads an expression, which all bytes of the reader spell.

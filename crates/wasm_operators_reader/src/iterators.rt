@@ -7,7 +7,7 @@ ghost use Rattle.wasm_operators_reader.specs.Standing.{Reads};
 ghost use Rattle.wasm_operators_reader.specs.Iterating.{NextOf, items_left};
 
 use crate::{OperatorsReader, OperatorsReaderAllocations};
-use wasm_operators_expression::operator::Operator;
+use wasm_operators_expression::Operator;
 use wasm_types::Result;
 
 /// The operators that a reader reads, up to the end of its bytes or the first error. Nothing comes behind an error.

@@ -16,13 +16,18 @@ pub use expression::read_expression;
 pub use iterators::{OperatorsIterator, OperatorsIteratorWithOffsets};
 pub use operators_reader::{OperatorsReader, OperatorsReaderAllocations, misplaced};
 pub use visiting::unexpected_vector;
-pub use wasm_operators_decode as decode;
-pub use wasm_operators_decode::{numbers, threads, vectors};
-pub use wasm_operators_expression;
-pub use wasm_operators_expression::{control, gc, immediates, info, memory, operator};
-pub use wasm_operators_visit_simd_operator as visit_simd_operator;
+pub use wasm_operators_decode::{
+    AtomicOperator, NumericOperator, SharedOperator, SimdNumericOperator, SimdOperator,
+    read_operator,
+};
+pub use wasm_operators_expression::{
+    BlockType, BrTable, BrTableTargets, BulkOperator, Catch, ConstOperator, ContinuationOperator,
+    ControlOperator, ControlStack, DescriptorOperator, ExceptionOperator, FrameKind, FrameStack,
+    GcOperator, Handle, MemArg, MemArgOrdering, MemArgTarget, MemoryOperator, Operator,
+    OperatorInfo, Ordering, ParametricOperator, Proposal, ResumeTable, Role, TryTable, V128,
+};
 pub use wasm_operators_visit_simd_operator::{
-    visit, visit_control, visit_gc, visit_memory, visit_numbers_floats, visit_numbers_integers,
-    visit_operator, visit_threads_atomic, visit_threads_shared, visit_vectors_floats,
-    visit_vectors_immediates, visit_vectors_narrow, visit_vectors_wide,
+    VisitAtomic, VisitControl, VisitFloats, VisitGc, VisitIntegers, VisitMemory, VisitOperator,
+    VisitShared, VisitSimd, VisitSimdFloats, VisitSimdNarrow, VisitSimdOperator, VisitSimdWide,
+    Visitor, is_simd,
 };

@@ -9,9 +9,7 @@ ghost use Rattle.wasm_operators_reader.specs.Standing.{at_start, IsFinished, Rea
 use std::alloc::Global;
 use std::marker::Model;
 use wasm_operators_decode::read_operator;
-use wasm_operators_expression::ControlStack;
-use wasm_operators_expression::immediates::{FrameKind, FrameStack};
-use wasm_operators_expression::operator::{Operator, Role};
+use wasm_operators_expression::{ControlStack, FrameKind, FrameStack, Operator, Role};
 use wasm_types::{BinaryReader, Error, Result};
 
 /// The memory of a reader's frames.

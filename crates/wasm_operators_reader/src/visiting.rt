@@ -9,9 +9,8 @@ ghost use Rattle.wasm_operators_reader.specs.Standing.{Reads, Refuses, WantsMemo
 ghost use Rattle.wasm_operators_reader.specs.Visiting.{Visits, VisitsPlain, RefusesPlain};
 
 use crate::OperatorsReader;
-use wasm_operators_expression::operator::Operator;
-use wasm_operators_visit_simd_operator::VisitSimdOperator;
-use wasm_operators_visit_simd_operator::visit_operator::{VisitOperator, is_simd};
+use wasm_operators_expression::Operator;
+use wasm_operators_visit_simd_operator::{VisitOperator, VisitSimdOperator, is_simd};
 use wasm_types::{Error, Result};
 
 impl<'a> OperatorsReader<'a> {

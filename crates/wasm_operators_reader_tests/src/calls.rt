@@ -2,8 +2,7 @@
 use bitflags::Flags;
 use std::process::Abort;
 use std::test::Fail;
-use wasm_operators_reader::OperatorsReader;
-use wasm_operators_reader::immediates::FrameStack;
+use wasm_operators_reader::{FrameStack, OperatorsReader};
 use wasm_types::{BinaryReader, WasmFeatures};
 
 // The bytes, with all features.

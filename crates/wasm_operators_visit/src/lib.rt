@@ -8,8 +8,12 @@
 
 ghost use Rattle.wasm_operators_operator.specs.Op.{Op};
 
-pub use wasm_operators_operator as operator;
-pub use wasm_operators_operator::{control, gc, immediates, memory, numbers, threads, vectors};
+pub use wasm_operators_operator::{
+    AtomicOperator, BlockType, BrTable, BulkOperator, ConstOperator, ContinuationOperator,
+    ControlOperator, DescriptorOperator, ExceptionOperator, GcOperator, MemArg, MemoryOperator,
+    NumericOperator, Operator, Ordering, ParametricOperator, ResumeTable, SharedOperator,
+    SimdNumericOperator, SimdOperator, TryTable, V128,
+};
 
 /// What a visitor answers, and what its visits promise.
 pub trait Visitor<'a> {

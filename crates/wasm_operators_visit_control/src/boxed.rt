@@ -1,7 +1,7 @@
 //! Visitors in a box.
 
 use crate::VisitControl;
-use wasm_operators_visit::immediates::{BlockType, BrTable, ResumeTable, TryTable};
+use wasm_operators_visit::{BlockType, BrTable, ResumeTable, TryTable};
 use wasm_types::ValType;
 
 /// A visitor in a box is told by its own visits.

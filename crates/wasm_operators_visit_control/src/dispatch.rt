@@ -3,7 +3,7 @@
 ghost use Rattle.wasm_operators_visit.specs.operator.Op.{Op, parametric_of, exception_of, continuation_of};
 
 use crate::VisitControl;
-use wasm_operators_visit::control::{
+use wasm_operators_visit::{
     ContinuationOperator, ControlOperator, ExceptionOperator, ParametricOperator,
 };
 

@@ -1,7 +1,7 @@
 //! Visitors that are lent.
 
 use crate::VisitControl;
-use wasm_operators_visit::immediates::{BlockType, BrTable, ResumeTable, TryTable};
+use wasm_operators_visit::{BlockType, BrTable, ResumeTable, TryTable};
 use wasm_types::ValType;
 
 /// A visitor that is lent is told by the visits of what lies behind the reference.

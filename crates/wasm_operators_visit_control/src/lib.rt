@@ -13,4 +13,4 @@ mod visits;
 
 pub use dispatch::{visit_continuation, visit_control, visit_exception, visit_parametric};
 pub use visits::VisitControl;
-pub use wasm_operators_visit::operator;
+pub use wasm_operators_visit::Operator;

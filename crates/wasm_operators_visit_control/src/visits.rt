@@ -4,8 +4,7 @@ ghost use Rattle.wasm_operators_visit.specs.operator.Op.{Op, ParametricTree, Exc
 ghost use Rattle.wasm_operators_visit.specs.immediates.Tables.{catch_table_of};
 ghost use Rattle.wasm_operators_visit.specs.control.declared.control.ControlOperator.{ControlOperator};
 
-use wasm_operators_visit::Visitor;
-use wasm_operators_visit::immediates::{BlockType, BrTable, ResumeTable, TryTable};
+use wasm_operators_visit::{BlockType, BrTable, ResumeTable, TryTable, Visitor};
 use wasm_types::ValType;
 
 /// A visit for each operator of control, of exceptions and of continuations, and for what takes operands of any type

@@ -3,7 +3,7 @@
 ghost use Rattle.wasm_operators_visit.specs.operator.Op.{Op};
 
 use crate::VisitGc;
-use wasm_operators_visit::gc::{DescriptorOperator, GcOperator};
+use wasm_operators_visit::{DescriptorOperator, GcOperator};
 
 /// Tells a visitor of this operator on structs, arrays or `i31`, or cast, by the visit that belongs to it.
 #[inline]

@@ -12,5 +12,4 @@ mod visits;
 
 pub use dispatch::{visit_descriptor, visit_gc};
 pub use visits::VisitGc;
-pub use wasm_operators_visit as visit;
-pub use wasm_operators_visit::gc;
+pub use wasm_operators_visit::{DescriptorOperator, GcOperator, Visitor};

@@ -1,7 +1,7 @@
 //! Visitors in a box.
 
 use crate::VisitMemory;
-use wasm_operators_visit::immediates::MemArg;
+use wasm_operators_visit::MemArg;
 use wasm_types::{HeapType, Ieee32, Ieee64};
 
 /// A visitor in a box is told by its own visits.

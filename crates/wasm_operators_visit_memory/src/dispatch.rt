@@ -3,7 +3,7 @@
 ghost use Rattle.wasm_operators_visit.specs.operator.Op.{Op};
 
 use crate::VisitMemory;
-use wasm_operators_visit::memory::{BulkOperator, ConstOperator, MemoryOperator};
+use wasm_operators_visit::{BulkOperator, ConstOperator, MemoryOperator};
 
 /// Tells a visitor of this operator on variables or memories, by the visit that belongs to it.
 #[inline]

@@ -1,7 +1,7 @@
 //! Visitors that are lent.
 
 use crate::VisitMemory;
-use wasm_operators_visit::immediates::MemArg;
+use wasm_operators_visit::MemArg;
 use wasm_types::{HeapType, Ieee32, Ieee64};
 
 /// A visitor that is lent is told by the visits of what lies behind the reference.

@@ -5,8 +5,7 @@ ghost use Rattle.wasm_operators_visit.specs.memory.declared.memory.MemoryOperato
 ghost use Rattle.wasm_operators_visit.specs.memory.declared.bulk.BulkOperator.{BulkOperator};
 ghost use Rattle.wasm_operators_visit.specs.memory.declared.constant.ConstOperator.{ConstOperator};
 
-use wasm_operators_visit::Visitor;
-use wasm_operators_visit::immediates::MemArg;
+use wasm_operators_visit::{MemArg, Visitor};
 use wasm_types::{HeapType, Ieee32, Ieee64};
 
 /// A visit for each operator on variables, memories and tables, for what makes and tests references, and for constants

@@ -7,11 +7,9 @@
 
 ghost use Rattle.wasm_operators_visit_numbers_floats.specs.operator.Op.{Op};
 
-pub use wasm_operators_visit_numbers_floats as visit_numbers_floats;
-use wasm_operators_visit_numbers_floats::VisitFloats;
-use wasm_operators_visit_numbers_floats::numbers::NumericOperator;
-pub use wasm_operators_visit_numbers_integers as visit_numbers_integers;
-use wasm_operators_visit_numbers_integers::VisitIntegers;
+use wasm_operators_visit_numbers_floats::NumericOperator;
+pub use wasm_operators_visit_numbers_floats::VisitFloats;
+pub use wasm_operators_visit_numbers_integers::VisitIntegers;
 
 /// Tells a visitor of this operator on numbers, by the visit that belongs to it.
 #[inline]

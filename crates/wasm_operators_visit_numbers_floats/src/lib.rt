@@ -10,4 +10,4 @@ mod forwarding;
 mod visits;
 
 pub use visits::VisitFloats;
-pub use wasm_operators_visit::numbers;
+pub use wasm_operators_visit::NumericOperator;

@@ -11,25 +11,14 @@ ghost use Rattle.wasm_operators_visit_operator.specs.Vectors.{is_simd};
 ghost use Rattle.wasm_operators_visit_control.specs.operator.Op.{op_of};
 
 use std::alloc::AllocError;
-pub use wasm_operators_visit_control as visit_control;
-use wasm_operators_visit_control::operator::Operator;
-use wasm_operators_visit_control::{
+use wasm_operators_visit_control::Operator;
+pub use wasm_operators_visit_control::{
     VisitControl, visit_continuation, visit_control, visit_exception, visit_parametric,
 };
-pub use wasm_operators_visit_gc as visit_gc;
-use wasm_operators_visit_gc::{VisitGc, visit_descriptor, visit_gc};
-pub use wasm_operators_visit_memory as visit_memory;
-use wasm_operators_visit_memory::{VisitMemory, visit_bulk, visit_const, visit_memory};
-pub use wasm_operators_visit_numbers as visit_numbers;
-use wasm_operators_visit_numbers::visit_numbers_floats::VisitFloats;
-use wasm_operators_visit_numbers::visit_numbers_integers::VisitIntegers;
-use wasm_operators_visit_numbers::visit_numeric;
-pub use wasm_operators_visit_numbers::{visit_numbers_floats, visit_numbers_integers};
-pub use wasm_operators_visit_threads as visit_threads;
-use wasm_operators_visit_threads::visit_threads_atomic::VisitAtomic;
-use wasm_operators_visit_threads::visit_threads_shared::VisitShared;
-use wasm_operators_visit_threads::{visit_atomic, visit_shared};
-pub use wasm_operators_visit_threads::{visit_threads_atomic, visit_threads_shared};
+pub use wasm_operators_visit_gc::{VisitGc, visit_descriptor, visit_gc};
+pub use wasm_operators_visit_memory::{VisitMemory, visit_bulk, visit_const, visit_memory};
+pub use wasm_operators_visit_numbers::{VisitFloats, VisitIntegers, visit_numeric};
+pub use wasm_operators_visit_threads::{VisitAtomic, VisitShared, visit_atomic, visit_shared};
 
 /// Whether an operator is one on vectors (WebAssembly 3.0, structure, vector instructions).
 #[inline]

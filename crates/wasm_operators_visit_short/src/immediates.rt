@@ -9,7 +9,7 @@ ghost use Rattle.wasm_operators_decode_immediates.specs.immediates.Kinds.{Plain}
 ghost use Rattle.wasm_operators_decode_immediates.specs.Bytes.{index_or_zero};
 ghost use Rattle.wasm_operators_decode_immediates.specs.MemoryArguments.{memory_argument, offset as offset_decoder};
 
-use wasm_operators_decode_immediates::immediates::{BlockType, MemArg, MemArgTarget};
+use wasm_operators_decode_immediates::{BlockType, MemArg, MemArgTarget};
 use wasm_types::{Ieee32, Ieee64, ValType, WasmFeatures};
 use wasm_types_numbers::{short_u32_at, short_u64_at};
 

@@ -4,9 +4,7 @@ ghost use Rattle.std.specs.Prelude.{◌≡◌, ◌<◌, IfSome, IfNone};
 ghost use Rattle.wasm_operators_visit_short.specs.Short.{Begins, IsTold};
 
 use wasm_operators_decode_numbers::numeric_of;
-use wasm_operators_visit_numbers::visit_numbers_floats::VisitFloats;
-use wasm_operators_visit_numbers::visit_numbers_integers::VisitIntegers;
-use wasm_operators_visit_numbers::visit_numeric;
+use wasm_operators_visit_numbers::{VisitFloats, VisitIntegers, visit_numeric};
 use wasm_types::WasmFeatures;
 
 /// An operator on numbers, of one byte.

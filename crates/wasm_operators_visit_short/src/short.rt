@@ -11,8 +11,7 @@ use crate::memory::{
 use crate::numbers::numeric;
 use wasm_operators_visit_control::VisitControl;
 use wasm_operators_visit_memory::VisitMemory;
-use wasm_operators_visit_numbers::visit_numbers_floats::VisitFloats;
-use wasm_operators_visit_numbers::visit_numbers_integers::VisitIntegers;
+use wasm_operators_visit_numbers::{VisitFloats, VisitIntegers};
 use wasm_types::WasmFeatures;
 
 /// Tells a visitor of the operator that begins at an offset in `bytes`, if it is a frequent one in a frequent form, and

@@ -10,27 +10,18 @@ ghost use Rattle.wasm_operators_visit_vectors.specs.visit.Memory.{keeps_list};
 ghost use Rattle.wasm_operators_visit_vectors.specs.operator.Op.{op_of};
 
 use std::alloc::AllocError;
-pub use wasm_operators_visit_operator as visit_operator;
-use wasm_operators_visit_operator::visit_control::{
-    visit_continuation, visit_control, visit_exception, visit_parametric,
+use wasm_operators_visit_operator::{
+    copy, visit_atomic, visit_bulk, visit_const, visit_continuation, visit_control,
+    visit_descriptor, visit_exception, visit_gc, visit_memory, visit_numeric, visit_parametric,
+    visit_shared,
 };
-use wasm_operators_visit_operator::visit_gc::{visit_descriptor, visit_gc};
-use wasm_operators_visit_operator::visit_memory::{visit_bulk, visit_const, visit_memory};
-use wasm_operators_visit_operator::visit_numbers::visit_numeric;
-use wasm_operators_visit_operator::visit_threads::{visit_atomic, visit_shared};
-use wasm_operators_visit_operator::{VisitOperator, copy};
 pub use wasm_operators_visit_operator::{
-    visit_control, visit_gc, visit_memory, visit_numbers_floats, visit_numbers_integers,
-    visit_threads_atomic, visit_threads_shared,
+    VisitAtomic, VisitControl, VisitFloats, VisitGc, VisitIntegers, VisitMemory, VisitOperator,
+    VisitShared, is_simd,
 };
-use wasm_operators_visit_vectors::operator::Operator;
-use wasm_operators_visit_vectors::visit_vectors_floats::VisitSimdFloats;
-use wasm_operators_visit_vectors::visit_vectors_immediates::VisitSimd;
-use wasm_operators_visit_vectors::visit_vectors_narrow::VisitSimdNarrow;
-use wasm_operators_visit_vectors::visit_vectors_wide::VisitSimdWide;
-use wasm_operators_visit_vectors::{visit_simd, visit_simd_numeric};
+use wasm_operators_visit_vectors::{Operator, visit_simd, visit_simd_numeric};
 pub use wasm_operators_visit_vectors::{
-    visit, visit_vectors_floats, visit_vectors_immediates, visit_vectors_narrow, visit_vectors_wide,
+    VisitSimd, VisitSimdFloats, VisitSimdNarrow, VisitSimdWide, Visitor,
 };
 
 /// A visitor of all operators, those on vectors too.

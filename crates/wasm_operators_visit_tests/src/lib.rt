@@ -12,7 +12,7 @@ ghost use Rattle.wasm_operators_visit_gc.specs.operator.Table.{info_of};
 mod told;
 mod visits;
 
-use wasm_operators_visit_gc::visit::Visitor;
+use wasm_operators_visit_gc::Visitor;
 
 /// Counts the operators on structs and arrays, casts and descriptors that it is told of, and answers the code of each.
 #[derive(Clone, Copy)]

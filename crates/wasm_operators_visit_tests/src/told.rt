@@ -2,8 +2,9 @@
 use crate::Counter;
 use std::process::Abort;
 use std::test::Fail;
-use wasm_operators_visit_gc::gc::{DescriptorOperator, GcOperator};
-use wasm_operators_visit_gc::{VisitGc, visit_descriptor, visit_gc};
+use wasm_operators_visit_gc::{
+    DescriptorOperator, GcOperator, VisitGc, visit_descriptor, visit_gc,
+};
 use wasm_types::HeapType;
 
 // The answers for an operator without fields, for one with two, and for one of the other group.

@@ -2,8 +2,7 @@
 
 ghost use Rattle.wasm_operators_visit_threads_atomic.specs.operator.Op.{Op};
 
-use wasm_operators_visit_threads_atomic::VisitAtomic;
-use wasm_operators_visit_threads_atomic::threads::AtomicOperator;
+use wasm_operators_visit_threads_atomic::{AtomicOperator, VisitAtomic};
 
 /// Tells a visitor of this atomic access to a memory, by the visit that belongs to it.
 #[inline]

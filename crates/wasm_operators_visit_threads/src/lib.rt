@@ -10,5 +10,5 @@ mod shared;
 
 pub use atomic::visit_atomic;
 pub use shared::visit_shared;
-pub use wasm_operators_visit_threads_atomic as visit_threads_atomic;
-pub use wasm_operators_visit_threads_shared as visit_threads_shared;
+pub use wasm_operators_visit_threads_atomic::VisitAtomic;
+pub use wasm_operators_visit_threads_shared::VisitShared;

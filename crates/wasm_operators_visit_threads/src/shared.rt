@@ -2,7 +2,7 @@
 
 ghost use Rattle.wasm_operators_visit_threads_atomic.specs.operator.Op.{Op};
 
-use wasm_operators_visit_threads_atomic::threads::SharedOperator;
+use wasm_operators_visit_threads_atomic::SharedOperator;
 use wasm_operators_visit_threads_shared::VisitShared;
 
 /// Tells a visitor of this atomic access to a global, a table, a struct or an array, by the visit that belongs to it.

@@ -1,7 +1,7 @@
 //! Visitors in a box.
 
 use crate::VisitAtomic;
-use wasm_operators_visit::immediates::MemArg;
+use wasm_operators_visit::MemArg;
 
 /// A visitor in a box is told by its own visits.
 impl<'a, V: VisitAtomic<'a>> VisitAtomic<'a> for Box<V> {

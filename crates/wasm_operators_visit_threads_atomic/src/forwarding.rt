@@ -1,7 +1,7 @@
 //! Visitors that are lent.
 
 use crate::VisitAtomic;
-use wasm_operators_visit::immediates::MemArg;
+use wasm_operators_visit::MemArg;
 
 /// A visitor that is lent is told by the visits of what lies behind the reference.
 impl<'a, V: VisitAtomic<'a>> VisitAtomic<'a> for &mut V {

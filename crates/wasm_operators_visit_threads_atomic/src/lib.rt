@@ -10,4 +10,4 @@ mod forwarding;
 mod visits;
 
 pub use visits::VisitAtomic;
-pub use wasm_operators_visit::threads;
+pub use wasm_operators_visit::{AtomicOperator, SharedOperator};

@@ -3,8 +3,7 @@
 ghost use Rattle.wasm_operators_visit.specs.operator.Op.{Op};
 ghost use Rattle.wasm_operators_visit.specs.threads.declared.atomic.AtomicOperator.{AtomicOperator};
 
-use wasm_operators_visit::Visitor;
-use wasm_operators_visit::immediates::MemArg;
+use wasm_operators_visit::{MemArg, Visitor};
 
 /// A visit for each atomic access to a memory (the proposal on threads).
 pub trait VisitAtomic<'a>: Visitor<'a> {

@@ -1,7 +1,7 @@
 //! Visitors in a box.
 
 use crate::VisitShared;
-use wasm_operators_visit::immediates::Ordering;
+use wasm_operators_visit::Ordering;
 
 /// A visitor in a box is told by its own visits.
 impl<'a, V: VisitShared<'a>> VisitShared<'a> for Box<V> {

@@ -1,7 +1,7 @@
 //! Visitors that are lent.
 
 use crate::VisitShared;
-use wasm_operators_visit::immediates::Ordering;
+use wasm_operators_visit::Ordering;
 
 /// A visitor that is lent is told by the visits of what lies behind the reference.
 impl<'a, V: VisitShared<'a>> VisitShared<'a> for &mut V {

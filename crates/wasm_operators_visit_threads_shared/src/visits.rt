@@ -3,8 +3,7 @@
 ghost use Rattle.wasm_operators_visit.specs.operator.Op.{Op};
 ghost use Rattle.wasm_operators_visit.specs.threads.declared.atomic.SharedOperator.{SharedOperator};
 
-use wasm_operators_visit::Visitor;
-use wasm_operators_visit::immediates::Ordering;
+use wasm_operators_visit::{Ordering, Visitor};
 
 /// A visit for each atomic access to globals, tables, structs and arrays (the proposal on shared everything).
 pub trait VisitShared<'a>: Visitor<'a> {

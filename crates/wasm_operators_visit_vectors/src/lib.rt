@@ -7,16 +7,11 @@
 
 ghost use Rattle.wasm_operators_visit_vectors_floats.specs.operator.Op.{Op};
 
-pub use wasm_operators_visit_vectors_floats as visit_vectors_floats;
-use wasm_operators_visit_vectors_floats::VisitSimdFloats;
-use wasm_operators_visit_vectors_floats::vectors::{SimdNumericOperator, SimdOperator};
-pub use wasm_operators_visit_vectors_floats::{operator, visit};
-pub use wasm_operators_visit_vectors_immediates as visit_vectors_immediates;
-use wasm_operators_visit_vectors_immediates::VisitSimd;
-pub use wasm_operators_visit_vectors_narrow as visit_vectors_narrow;
-use wasm_operators_visit_vectors_narrow::VisitSimdNarrow;
-pub use wasm_operators_visit_vectors_wide as visit_vectors_wide;
-use wasm_operators_visit_vectors_wide::VisitSimdWide;
+use wasm_operators_visit_vectors_floats::{SimdNumericOperator, SimdOperator};
+pub use wasm_operators_visit_vectors_floats::{Operator, VisitSimdFloats, Visitor};
+pub use wasm_operators_visit_vectors_immediates::VisitSimd;
+pub use wasm_operators_visit_vectors_narrow::VisitSimdNarrow;
+pub use wasm_operators_visit_vectors_wide::VisitSimdWide;
 
 /// Tells a visitor of this operator on vectors that carries something, by the visit that belongs to it.
 #[inline]

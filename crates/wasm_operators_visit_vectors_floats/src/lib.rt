@@ -10,5 +10,4 @@ mod forwarding;
 mod visits;
 
 pub use visits::VisitSimdFloats;
-pub use wasm_operators_visit as visit;
-pub use wasm_operators_visit::{operator, vectors};
+pub use wasm_operators_visit::{Operator, SimdNumericOperator, SimdOperator, Visitor};

@@ -1,7 +1,7 @@
 //! Visitors in a box.
 
 use crate::VisitSimd;
-use wasm_operators_visit::immediates::{MemArg, V128};
+use wasm_operators_visit::{MemArg, V128};
 
 /// A visitor in a box is told by its own visits.
 impl<'a, V: VisitSimd<'a>> VisitSimd<'a> for Box<V> {

@@ -1,7 +1,7 @@
 //! Visitors that are lent.
 
 use crate::VisitSimd;
-use wasm_operators_visit::immediates::{MemArg, V128};
+use wasm_operators_visit::{MemArg, V128};
 
 /// A visitor that is lent is told by the visits of what lies behind the reference.
 impl<'a, V: VisitSimd<'a>> VisitSimd<'a> for &mut V {

@@ -4,8 +4,7 @@ ghost use Rattle.wasm_operators_visit.specs.operator.Op.{Op};
 ghost use Rattle.wasm_operators_visit.specs.vectors.declared.vector.SimdOperator.{SimdOperator};
 ghost use Rattle.wasm_operators_visit.specs.vectors.declared.vector_numeric.SimdNumericOperator.{SimdNumericOperator};
 
-use wasm_operators_visit::Visitor;
-use wasm_operators_visit::immediates::{MemArg, V128};
+use wasm_operators_visit::{MemArg, V128, Visitor};
 
 /// A visit for each operator on vectors that carries something, and for those on all 128 bits (WebAssembly 3.0,
 /// structure, vector instructions).

@@ -12,11 +12,14 @@ mod walking;
 
 pub use read_operators::{ReadOperators, ReadToSimdVisitor, ReadToVisitor};
 pub use walking::visit_expression;
-pub use wasm_operators_reader as reader;
 pub use wasm_operators_reader::{
-    control, gc, immediates, info, memory, numbers, operator, threads, vectors, visit,
-    visit_control, visit_gc, visit_memory, visit_numbers_floats, visit_numbers_integers,
-    visit_operator, visit_simd_operator, visit_threads_atomic, visit_threads_shared,
-    visit_vectors_floats, visit_vectors_immediates, visit_vectors_narrow, visit_vectors_wide,
-    wasm_operators_expression as expression,
+    AtomicOperator, BlockType, BrTable, BrTableTargets, BulkOperator, Catch, ConstOperator,
+    ContinuationOperator, ControlOperator, ControlStack, DescriptorOperator, ExceptionOperator,
+    FrameKind, FrameStack, GcOperator, Handle, MemArg, MemArgOrdering, MemArgTarget,
+    MemoryOperator, NumericOperator, Operator, OperatorInfo, OperatorsIterator,
+    OperatorsIteratorWithOffsets, OperatorsReader, OperatorsReaderAllocations, Ordering,
+    ParametricOperator, Proposal, ResumeTable, SharedOperator, SimdNumericOperator, SimdOperator,
+    TryTable, V128, VisitAtomic, VisitControl, VisitFloats, VisitGc, VisitIntegers, VisitMemory,
+    VisitOperator, VisitShared, VisitSimd, VisitSimdFloats, VisitSimdNarrow, VisitSimdOperator,
+    VisitSimdWide, Visitor, is_simd, read_expression,
 };

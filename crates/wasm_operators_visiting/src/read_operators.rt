@@ -10,12 +10,10 @@ ghost use Rattle.wasm_operators_reader.specs.visit_operator.Vectors.{is_simd};
 ghost use Rattle.wasm_operators_visiting.specs.InFrame.{ReadsIn, RefusesIn, RefusesPlainIn};
 
 use std::alloc::Global;
-use wasm_operators_reader::decode::read_operator;
-use wasm_operators_reader::immediates::{FrameKind, FrameStack};
-use wasm_operators_reader::operator::Operator;
-use wasm_operators_reader::visit_operator::{VisitOperator, is_simd};
-use wasm_operators_reader::visit_simd_operator::VisitSimdOperator;
-use wasm_operators_reader::{misplaced, unexpected_vector};
+use wasm_operators_reader::{
+    FrameKind, FrameStack, Operator, VisitOperator, VisitSimdOperator, is_simd, misplaced,
+    read_operator, unexpected_vector,
+};
 use wasm_types::{BinaryReader, Error, Result};
 
 /// Looks at operators, where a stack knows which frames are open. With no frame open nothing is read: that is refused before a

@@ -8,8 +8,7 @@ ghost use Rattle.wasm_operators_reader.specs.Standing.{Standing, at_start};
 ghost use Rattle.wasm_operators_visiting.specs.Walking.{HasNoVectors, VisitsAll, WalksTo, WalksUntil, StopsPlain};
 
 use std::alloc::Global;
-use wasm_operators_reader::OperatorsReader;
-use wasm_operators_reader::visit_operator::VisitOperator;
+use wasm_operators_reader::{OperatorsReader, VisitOperator};
 use wasm_types::{BinaryReader, Result};
 
 /// Visits the operators of an expression in their order, to the end of the bytes. The visitor answers whether to go on: the walk
