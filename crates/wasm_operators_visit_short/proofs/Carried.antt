@@ -1,13 +1,16 @@
 -- Immediates in their frequent forms, at an offset in a slice.
-use Rattle.std.proofs.Common.{◌≡◌, ℕ, zero, suc, ◌+◌, ◌-◌, ◌/◌, ◌%◌, ◌<◌, ◌≤◌, List, [], ◌∷◌, length, drop, get_or, Bool, true, false, None, ℤ, lt-ltb, le-ltb, w32, w64, refl, sym, ap, ◌∙◌, arith}
+use Rattle.std.proofs.Common.{◌≡◌, ℕ, zero, suc, ◌+◌, ◌-◌, ◌/◌, ◌%◌, ◌<◌, ◌≤◌, List, [], ◌∷◌, length, drop, get_or, Bool, true, false, None, ℤ, pos, negsuc, nat_abs, lt-ltb, le-ltb, w32, w64, refl, sym, ap, ◌∙◌, arith}
 use Rattle.std.specs.Int.{from_le_bytes}
+use Rattle.std.specs.Int.Signed.{lt_z, le_z}
+use Rattle.std.proofs.lemmas.Bool.{leb-false}
 use Rattle.std.proofs.lemmas.List.{drop_more, length-drop}
 use Rattle.wasm_types.specs.decoding.Decoder.{State, Done, Decoder, byte}
-use Rattle.wasm_types.specs.decoding.Leb.{unsigned, u32, s32, s64}
+use Rattle.wasm_types.specs.decoding.Leb.{unsigned, u32, s32, s33, s64}
 use Rattle.wasm_types.specs.decoding.Text.{word, little_endian}
 use Rattle.wasm_types.specs.limits.Settings.{Settings}
 use Rattle.wasm_types.specs.reader.declared.words.Ieee32.{Ieee32}
 use Rattle.wasm_types.specs.reader.declared.words.Ieee64.{Ieee64}
+use Rattle.wasm_types.specs.values.Decode.{begins_index}
 use Rattle.wasm_types.specs.values.DecodeValues.{value_type, value_type_after}
 use Rattle.wasm_types_numbers.specs.Numbers.{behind, GivesAt}
 use Rattle.wasm_types.specs.values.declared.value.ValType.TheVariants.{I32, I64, F32, F64}
@@ -15,7 +18,7 @@ use Rattle.wasm_types.specs.features.Features.{has, Memory64, MultiMemory}
 use Rattle.wasm_operators_decode_immediates.specs.immediates.declared.block.BlockType.{BlockType}
 use Rattle.wasm_operators_decode_immediates.specs.immediates.declared.block.BlockType.TheVariants.{Empty, Val, FuncType}
 use Rattle.wasm_operators_decode_immediates.specs.immediates.declared.memory.MemArg.{MemArg}
-use Rattle.wasm_operators_decode_immediates.specs.immediates.Blocks.{block_type, value_block, empty_block}
+use Rattle.wasm_operators_decode_immediates.specs.immediates.Blocks.{block_type, function_block, value_block, empty_block, indexed}
 use Rattle.wasm_operators_decode_immediates.specs.immediates.Kinds as kind
 use Rattle.wasm_operators_decode_immediates.specs.immediates.Kinds.{IndexSpace, Plain}
 use Rattle.wasm_operators_decode_immediates.specs.immediates.Immediates.{Immediate, Index, IndexOrZero, Label, Block, MemoryArgument, I32Constant}
@@ -113,6 +116,26 @@ module _ (text : List ℕ) (i : ℕ) (lt : i < length text) where
   pub f64_there : get_or text i 0 ≡ 0x7c → GivesAt block_type text i (Val F64) (i + 1)
   unfolding block_type value_block value_type value_type_after
   f64_there is = by_first text i 0x7c lt is block_type (Val F64) (λ s rest. refl)
+
+-- ---- the index of a type, where a block type stands
+
+-- a number that is not negative, of at most 32 bits
+indexed_by : (n : ℤ) (s : State) → lt_z n (pos 0) ≡ false → le_z (pos 0x1_0000_0000) n ≡ false → indexed n s ≡ Done (FuncType (nat_abs n)) s
+indexed_by (pos n) s some small = rw (lt-ltb n 0x1_0000_0000 (leb-false 0x1_0000_0000 n small)) refl
+indexed_by (negsuc n) s some small = absurd cc
+
+module _ (text : List ℕ) (i : ℕ) (lt : i < length text) (is : begins_index (get_or text i 0) ≡ true) where
+  block_by_index : (s : State) → s.rest ≡ drop i text → block_type s ≡ function_block s
+  unfolding block_type
+  block_by_index s same = rw (same ∙ drop_more text i 0 lt, is) refl
+
+  pub index_there : (n : ℤ) (e : ℕ) → lt_z n (pos 0) ≡ false → le_z (pos 0x1_0000_0000) n ≡ false → GivesAt s33 text i n e → GivesAt block_type text i (FuncType (nat_abs n)) e
+  unfolding function_block
+  index_there n e some small g = record {
+    forward = g.forward;
+    inside = g.inside;
+    gives = λ s same. block_by_index s same ∙ rw (g.gives s same) (indexed_by n (behind (e - i) s) some small);
+  }
 
 -- ---- memory arguments
 

@@ -1,8 +1,9 @@
 //! Immediates in their frequent forms, at an offset in the bytes.
 
-ghost use Rattle.std.specs.Prelude.{◌≡◌, Bool, ◌≤◌, length, IfSome};
+ghost use Rattle.std.specs.Prelude.{◌≡◌, Bool, ◌≤◌, ◌<◌, length, IfSome};
 ghost use Rattle.wasm_types.specs.features.Features.{has, Memory64};
 ghost use Rattle.wasm_types.specs.decoding.Text.{word};
+ghost use Rattle.wasm_types.specs.values.Decode.{begins_index};
 ghost use Rattle.wasm_types_numbers.specs.Numbers.{GivesAt};
 ghost use Rattle.wasm_operators_decode_immediates.specs.immediates.Blocks.{block_type};
 ghost use Rattle.wasm_operators_decode_immediates.specs.immediates.Kinds.{Plain};
@@ -11,7 +12,7 @@ ghost use Rattle.wasm_operators_decode_immediates.specs.MemoryArguments.{memory_
 
 use wasm_operators_decode_immediates::{BlockType, MemArg, MemArgTarget};
 use wasm_types::{Ieee32, Ieee64, ValType, WasmFeatures};
-use wasm_types_numbers::{short_u32_at, short_u64_at};
+use wasm_types_numbers::{short_s33_at, short_u32_at, short_u64_at};
 
 /// A zero, where an index or a zero stands.
 #[inline(always)]
@@ -25,7 +26,33 @@ pub(crate) fn zero_at(bytes: &[u8], at: usize) -> Option<(u32, usize)>
     None
 }
 
-/// The empty block type, or a number type as the result.
+// Whether a number that is not negative begins with this byte.
+#[inline(always)]
+fn begins_index(byte: u8) -> bool
+    ensures { result ≡ begins_index byte }
+{
+    byte < 0x40 || 0x7f < byte
+}
+
+/// The function type at an index, where the first byte begins a number that is not negative.
+#[inline(always)]
+fn block_index_at(bytes: &[u8], at: usize) -> Option<(BlockType, usize)>
+    requires { at < length bytes.now }
+    ensures { IfSome result (λ r. GivesAt block_type bytes.now at r.0 r.1) }
+{
+    if !begins_index(bytes[at]) {
+        return None;
+    }
+    let Some((index, end)) = short_s33_at(bytes, at) else {
+        return None;
+    };
+    if index < 0 || index >= 0x1_0000_0000 {
+        return None;
+    }
+    Some((BlockType::FuncType(index as u32), end))
+}
+
+/// The empty block type, a number type as the result, or a function type by its index.
 #[inline(always)]
 #[tactic(auto, using(crate::proofs::Carried::empty_there, crate::proofs::Carried::i32_there, crate::proofs::Carried::i64_there, crate::proofs::Carried::f32_there, crate::proofs::Carried::f64_there))]
 pub(crate) fn block_type_at(bytes: &[u8], at: usize) -> Option<(BlockType, usize)>
@@ -40,7 +67,7 @@ pub(crate) fn block_type_at(bytes: &[u8], at: usize) -> Option<(BlockType, usize
         0x7e => Some((BlockType::Val(ValType::I64), at + 1)),
         0x7d => Some((BlockType::Val(ValType::F32), at + 1)),
         0x7c => Some((BlockType::Val(ValType::F64), at + 1)),
-        _ => None,
+        _ => block_index_at(bytes, at),
     }
 }
 
