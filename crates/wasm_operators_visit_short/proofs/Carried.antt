@@ -1,5 +1,5 @@
 -- Immediates in their frequent forms, at an offset in a slice.
-use Rattle.std.proofs.Common.{◌≡◌, ℕ, zero, suc, ◌+◌, ◌-◌, ◌/◌, ◌%◌, ◌<◌, ◌≤◌, List, [], ◌∷◌, length, drop, get_or, Bool, true, false, None, ℤ, pos, negsuc, nat_abs, lt-ltb, le-ltb, w32, w64, refl, sym, ap, ◌∙◌, arith}
+use Rattle.std.proofs.Common.{◌≡◌, ℕ, ◌+◌, ◌-◌, ◌/◌, ◌%◌, ◌<◌, ◌≤◌, List, [], ◌∷◌, length, drop, get_or, Bool, true, false, None, ℤ, pos, negsuc, nat_abs, lt-ltb, le-ltb, w32, w64, refl, sym, ap, ◌∙◌, arith}
 use Rattle.std.specs.Int.{from_le_bytes}
 use Rattle.std.specs.Int.Signed.{lt_z, le_z}
 use Rattle.std.proofs.lemmas.Bool.{leb-false}
@@ -21,7 +21,7 @@ use Rattle.wasm_operators_decode_immediates.specs.immediates.declared.memory.Mem
 use Rattle.wasm_operators_decode_immediates.specs.immediates.Blocks.{block_type, function_block, value_block, empty_block, indexed}
 use Rattle.wasm_operators_decode_immediates.specs.immediates.Kinds as kind
 use Rattle.wasm_operators_decode_immediates.specs.immediates.Kinds.{IndexSpace, Plain}
-use Rattle.wasm_operators_decode_immediates.specs.immediates.Immediates.{Immediate, Index, IndexOrZero, Label, Block, MemoryArgument, I32Constant}
+use Rattle.wasm_operators_decode_immediates.specs.immediates.Immediates.{Index, IndexOrZero, Label, Block, MemoryArgument, I32Constant}
 use Rattle.wasm_operators_decode_immediates.specs.immediates.Immediates.{I64Constant, F32Constant, F64Constant}
 use Rattle.wasm_operators_decode_immediates.specs.Immediates.{immediate, may_index}
 use Rattle.wasm_operators_decode_immediates.specs.Bytes.{index_or_zero, zero_byte}

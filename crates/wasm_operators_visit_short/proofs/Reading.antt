@@ -1,10 +1,11 @@
 -- Decoders put together, at offsets in a slice; and operators by their opcode and what they carry.
-use Rattle.std.proofs.Common.{◌≡◌, ℕ, ◌+◌, ◌-◌, ◌<◌, ◌≤◌, List, [], ◌∷◌, length, drop, get_or, Bool, true, false, Some, None, Option, map, refl, sym}
-use Rattle.std.proofs.Common.{ap, ◌∙◌, arith, add-zero, IsTrue}
+use Rattle.std.proofs.Common.{◌≡◌, ℕ, ◌+◌, ◌-◌, ◌<◌, ◌≤◌, List, [], ◌∷◌, length, drop, get_or, true, false, Some, None, Option, map, refl}
+use Rattle.std.proofs.Common.{ap, ◌∙◌, arith, IsTrue}
 use Rattle.std.specs.Prelude.{◌==◌}
 use Rattle.std.proofs.lemmas.Bool.{ne_eqb}
 use Rattle.std.proofs.lemmas.List.{drop-drop, drop_more}
 use Rattle.wasm_types.specs.decoding.Decoder.{State, Outcome, Done, Decoder, continue_with, ◌>>=◌, pure, byte}
+use Rattle.wasm_types.specs.decoding.Leb.{u32}
 use Rattle.wasm_types.specs.limits.declared.Limits.{Limits}
 use Rattle.wasm_types.specs.limits.Settings.{Settings}
 use Rattle.wasm_types_numbers.specs.Numbers.{behind, GivesAt}
@@ -13,13 +14,13 @@ use Rattle.wasm_operators_decode_immediates.specs.immediates.Immediates.{Immedia
 use Rattle.wasm_operators_visit_control.specs.operator.Op.{Op}
 use Rattle.wasm_operators_visit_control.specs.operator.Immediates.{immediates_of, is_canonical}
 use Rattle.wasm_operators_decode_immediates.specs.Immediates.{immediate}
-use Rattle.wasm_operators_decode_numbers.specs.decode_encoding.Opcodes.{Opcode, opcode, plain, is_prefix}
+use Rattle.wasm_operators_decode_numbers.specs.decode_encoding.Opcodes.{Opcode, opcode, opcode_after, plain, prefixed, is_prefix}
 use Rattle.wasm_operators_decode_numbers.specs.decode_encoding.Sequences.{immediates}
 use Rattle.wasm_operators_decode_numbers.specs.decode_encoding.Coded.{kinds_at, coded, operator, carried_by, behind as behind_opcode}
 use Rattle.wasm_operators_decode_numbers.specs.decode_encoding.Operators.{opcode_of, coded_of}
 use Rattle.wasm_operators_decode_numbers.specs.decode_encoding.OperatorLaws.{own_kinds_at}
 use Rattle.wasm_operators_visit_control.specs.operator.Table.{info_of}
-use Rattle.wasm_operators_visit_short.specs.Short.{within, IsTold, Begins}
+use Rattle.wasm_operators_visit_short.specs.Short.{within, IsTold, Begins, BeginsPrefixed}
 
 -- ---- offsets
 
@@ -61,7 +62,7 @@ gives_byte text i lt = record {
       rw (one, parts) refl;
 }
 
--- ---- operators of one byte of opcode
+-- ---- operators by the bytes of their opcode
 
 with_kinds : (settings : Settings) (place : ℕ) (o : Opcode) (found : Option (List Kind)) (s t : State) (ks : List Kind) (is : List Immediate)
     → found ≡ Some ks → immediates settings ks s ≡ Done is t → carried_by settings place o found s ≡ Done (coded o is) t
@@ -71,98 +72,112 @@ read_behind : (settings : Settings) (place : ℕ) (read : Outcome Opcode) (o : O
     → read ≡ Done o s → kinds_at o ≡ Some ks → immediates settings ks s ≡ Done is t → continue_with read (behind_opcode settings place) ≡ Done (coded o is) t
 read_behind settings place read o s t ks is first e h = rw first (with_kinds settings place o (kinds_at o) s t ks is e h)
 
-module _ (settings : Settings) (text : List ℕ) (i code n : ℕ) (begins : Begins text i code) (is : code ≡ n) (o : Op)
-    (opcode_is : opcode_of o ≡ plain n) (no_prefix : is_prefix n ≡ false) where
-  kinds : kinds_at (plain n) ≡ Some (map kind_of (immediates_of o))
-  kinds = ap kinds_at (sym opcode_is) ∙ own_kinds_at o
-
-  first : (s : State) → s.rest ≡ drop i text → byte s ≡ Done n (behind 1 s)
-  first s same =
-      let g = gives_byte text i begins.inside in
-      let one : i + 1 - i ≡ 1 = omega arith in
-      let there : get_or text i 0 ≡ n = begins.code_there ∙ is in
-      rw (one, there) at (g.gives s same)
-
-  opcode_read : (s : State) → s.rest ≡ drop i text → opcode s ≡ Done (plain n) (behind 1 s)
-  unfolding opcode
-  opcode_read s same = rw (first s same, no_prefix) refl
-
+-- the opcode of an operator stands from one offset to the other
+module _ (settings : Settings) (text : List ℕ) (i m : ℕ) (o : Op) (first : GivesAt opcode text i (opcode_of o) m) where
   -- an operator of what it carries
-  carries : (s t : State) → s.rest ≡ drop i text → immediates settings (map kind_of (immediates_of o)) (behind 1 s) ≡ Done (immediates_of o) t
+  carries : (s t : State) → s.rest ≡ drop i text → immediates settings (map kind_of (immediates_of o)) (behind (m - i) s) ≡ Done (immediates_of o) t
       → operator settings s ≡ Done (coded_of o) t
   unfolding operator
   carries s t same h =
-      read_behind settings s.place (opcode s) (plain n) (behind 1 s) t (map kind_of (immediates_of o)) (immediates_of o) (opcode_read s same) kinds h
-      ∙ ap (λ (c : Opcode). Done (coded c (immediates_of o)) t) (sym opcode_is)
+      read_behind settings s.place (opcode s) (opcode_of o) (behind (m - i) s) t (map kind_of (immediates_of o)) (immediates_of o) (first.gives s same) (own_kinds_at o) h
 
-  none : immediates_of o ≡ [] → GivesAt (operator settings) text i (coded_of o) (i + 1)
+  none : immediates_of o ≡ [] → GivesAt (operator settings) text i (coded_of o) m
   none nothing = record {
-    forward = omega arith;
-    inside = omega (arith, begins.inside);
-    gives = λ s same.
-        let one : i + 1 - i ≡ 1 = omega arith in
-        rw one (carries s (behind 1 s) same (rw nothing refl));
+    forward = first.forward;
+    inside = first.inside;
+    gives = λ s same. carries s (behind (m - i) s) same (rw nothing refl);
   }
 
-  after_first : (s : State) → s.rest ≡ drop i text → drop 1 s.rest ≡ drop (i + 1) text
-  after_first s same = let one : i + 1 - i ≡ 1 = omega arith in rw one at (stands text i (i + 1) s same (omega arith))
-
-  one_more : (x : Immediate) (e : ℕ) → immediates_of o ≡ x ∷ [] → GivesAt (immediate settings (kind_of x)) text (i + 1) x e → GivesAt (operator settings) text i (coded_of o) e
+  one_more : (x : Immediate) (e : ℕ) → immediates_of o ≡ x ∷ [] → GivesAt (immediate settings (kind_of x)) text m x e → GivesAt (operator settings) text i (coded_of o) e
   one_more x e just g = record {
-    forward = omega (arith, g.forward);
+    forward = omega (arith, first.forward, g.forward);
     inside = g.inside;
     gives = λ s same.
-        let far : 1 + (e - (i + 1)) ≡ e - i = omega (arith, g.forward) in
-        let next : behind (e - (i + 1)) (behind 1 s) ≡ behind (e - i) s = behind_twice s 1 (e - (i + 1)) ∙ ap (λ (k : ℕ). behind k s) far in
-        let read = rw next at (g.gives (behind 1 s) (after_first s same)) in
+        let far : m - i + (e - m) ≡ e - i = omega (arith, first.forward, g.forward) in
+        let next : behind (e - m) (behind (m - i) s) ≡ behind (e - i) s = behind_twice s (m - i) (e - m) ∙ ap (λ (k : ℕ). behind k s) far in
+        let read = rw next at (g.gives (behind (m - i) s) (stands text i m s same (omega (arith, first.forward)))) in
         carries s (behind (e - i) s) same (rw (just, read) refl);
   }
 
-  two_more : (x y : Immediate) (m e : ℕ) → immediates_of o ≡ x ∷ y ∷ [] → GivesAt (immediate settings (kind_of x)) text (i + 1) x m
-      → GivesAt (immediate settings (kind_of y)) text m y e → GivesAt (operator settings) text i (coded_of o) e
-  two_more x y m e both g h = record {
-    forward = omega (arith, g.forward, h.forward);
+  two_more : (x y : Immediate) (n e : ℕ) → immediates_of o ≡ x ∷ y ∷ [] → GivesAt (immediate settings (kind_of x)) text m x n
+      → GivesAt (immediate settings (kind_of y)) text n y e → GivesAt (operator settings) text i (coded_of o) e
+  two_more x y n e both g h = record {
+    forward = omega (arith, first.forward, g.forward, h.forward);
     inside = h.inside;
     gives = λ s same.
-        let far : 1 + (m - (i + 1)) ≡ m - i = omega (arith, g.forward) in
-        let next : behind (m - (i + 1)) (behind 1 s) ≡ behind (m - i) s = behind_twice s 1 (m - (i + 1)) ∙ ap (λ (k : ℕ). behind k s) far in
-        let read = rw next at (g.gives (behind 1 s) (after_first s same)) in
-        let farther : m - i + (e - m) ≡ e - i = omega (arith, g.forward, h.forward) in
-        let last : behind (e - m) (behind (m - i) s) ≡ behind (e - i) s = behind_twice s (m - i) (e - m) ∙ ap (λ (k : ℕ). behind k s) farther in
-        let read_more = rw last at (h.gives (behind (m - i) s) (stands text i m s same (omega (arith, g.forward)))) in
+        let far : m - i + (n - m) ≡ n - i = omega (arith, first.forward, g.forward) in
+        let next : behind (n - m) (behind (m - i) s) ≡ behind (n - i) s = behind_twice s (m - i) (n - m) ∙ ap (λ (k : ℕ). behind k s) far in
+        let read = rw next at (g.gives (behind (m - i) s) (stands text i m s same (omega (arith, first.forward)))) in
+        let farther : n - i + (e - n) ≡ e - i = omega (arith, first.forward, g.forward, h.forward) in
+        let last : behind (e - n) (behind (n - i) s) ≡ behind (e - i) s = behind_twice s (n - i) (e - n) ∙ ap (λ (k : ℕ). behind k s) farther in
+        let read_more = rw last at (h.gives (behind (n - i) s) (stands text i n s same (omega (arith, first.forward, g.forward)))) in
         carries s (behind (e - i) s) same (rw (both, read, read_more) refl);
   }
 
+-- ---- opcodes at an offset
+
+-- an opcode of one byte
+plain_there : (text : List ℕ) (i code n : ℕ) → Begins text i code → code ≡ n → is_prefix n ≡ false → GivesAt opcode text i (plain n) (i + 1)
+unfolding opcode
+plain_there text i code n begins is no_prefix = record {
+  forward = omega arith;
+  inside = omega (arith, begins.inside);
+  gives = λ s same. let there : get_or text i 0 ≡ n = begins.code_there ∙ is in rw ((rw there at ((gives_byte text i begins.inside).gives s same)), no_prefix) refl;
+}
+
+-- one of a prefix and a code
+prefixed_there : (text : List ℕ) (i p code m : ℕ) → BeginsPrefixed text i p code m → is_prefix p ≡ true → GivesAt opcode text i (prefixed p code) m
+unfolding opcode
+prefixed_there text i p code m begins prefix =
+    let there = begins.prefix_there.code_there in
+    let first : GivesAt byte text i p (i + 1) = rw there at (gives_byte text i begins.prefix_there.inside) in
+    let second : GivesAt (opcode_after p) text (i + 1) (prefixed p code) m = rw prefix (gives_as u32 text (i + 1) code (prefixed p) m begins.code_there) in
+    gives_then byte text i p opcode_after (i + 1) (prefixed p code) m first second
+
 -- ---- the same within any limits
 
+module _ (features : ℕ) (text : List ℕ) (i m : ℕ) (o : Op) (first : GivesAt opcode text i (opcode_of o) m) (Told : Op → Type 0) (told : Told o)
+    (canonical : IsTrue (is_canonical o)) where
+  pub is_told : immediates_of o ≡ [] → IsTold features text i m Told
+  is_told nothing = record { op = o; canonical = canonical; reads = λ limits. none (within features limits) text i m o first nothing; told = told }
+
+  pub is_told_with : (x : Immediate) (e : ℕ) → immediates_of o ≡ x ∷ [] → ((limits : Limits) → GivesAt (immediate (within features limits) (kind_of x)) text m x e)
+      → IsTold features text i e Told
+  is_told_with x e just g = record { op = o; canonical = canonical; reads = λ limits. one_more (within features limits) text i m o first x e just (g limits); told = told }
+
+  pub is_told_with_two : (x y : Immediate) (n e : ℕ) → immediates_of o ≡ x ∷ y ∷ [] → ((limits : Limits) → GivesAt (immediate (within features limits) (kind_of x)) text m x n)
+      → ((limits : Limits) → GivesAt (immediate (within features limits) (kind_of y)) text n y e) → IsTold features text i e Told
+  is_told_with_two x y n e both g h = record {
+    op = o;
+    canonical = canonical;
+    reads = λ limits. two_more (within features limits) text i m o first x y n e both (g limits) (h limits);
+    told = told;
+  }
+
+-- of an opcode of one byte
 module _ (features : ℕ) (text : List ℕ) (i code n : ℕ) (begins : Begins text i code) (is : code ≡ n) (o : Op) (opcode_is : opcode_of o ≡ plain n)
     (no_prefix : is_prefix n ≡ false) where
+  plain_of : GivesAt opcode text i (opcode_of o) (i + 1)
+  plain_of = rw opcode_is (plain_there text i code n begins is no_prefix)
+
   module _ (Told : Op → Type 0) (told : Told o) (canonical : IsTrue (is_canonical o)) where
     pub told_alone : immediates_of o ≡ [] → IsTold features text i (i + 1) Told
-    told_alone nothing = record {
-      op = o;
-      canonical = canonical;
-      reads = λ limits. none (within features limits) text i code n begins is o opcode_is no_prefix nothing;
-      told = told;
-    }
+    told_alone = is_told features text i (i + 1) o plain_of Told told canonical
 
     pub told_with : (x : Immediate) (e : ℕ) → immediates_of o ≡ x ∷ []
         → ((limits : Limits) → GivesAt (immediate (within features limits) (kind_of x)) text (i + 1) x e) → IsTold features text i e Told
-    told_with x e just g = record {
-      op = o;
-      canonical = canonical;
-      reads = λ limits. one_more (within features limits) text i code n begins is o opcode_is no_prefix x e just (g limits);
-      told = told;
-    }
+    told_with = is_told_with features text i (i + 1) o plain_of Told told canonical
 
     pub told_with_two : (x y : Immediate) (m e : ℕ) → immediates_of o ≡ x ∷ y ∷ [] → ((limits : Limits) → GivesAt (immediate (within features limits) (kind_of x)) text (i + 1) x m)
         → ((limits : Limits) → GivesAt (immediate (within features limits) (kind_of y)) text m y e) → IsTold features text i e Told
-    told_with_two x y m e both g h = record {
-      op = o;
-      canonical = canonical;
-      reads = λ limits. two_more (within features limits) text i code n begins is o opcode_is no_prefix x y m e both (g limits) (h limits);
-      told = told;
-    }
+    told_with_two = is_told_with_two features text i (i + 1) o plain_of Told told canonical
+
+-- of a code behind a prefix
+pub prefixed_of : (text : List ℕ) (i p code n m : ℕ) → BeginsPrefixed text i p code m → code ≡ n → is_prefix p ≡ true → (o : Op) → opcode_of o ≡ prefixed p n
+    → GivesAt opcode text i (opcode_of o) m
+prefixed_of text i p code n m begins is prefix o opcode_is =
+    let there = prefixed_there text i p code m begins prefix in
+    rw opcode_is (rw is at there)
 
 -- ---- what a code tells
 
@@ -174,3 +189,6 @@ low_is_no_prefix b lt = rw (differs b 0xfb lt, differs b 0xfc (omega arith), dif
 
 pub opcode_is : (o : Op) (n : ℕ) → (info_of o).prefix ≡ None → (info_of o).code ≡ n → opcode_of o ≡ plain n
 opcode_is o n p e = λ i. record { prefix = p i; code = e i }
+
+pub prefixed_is : (o : Op) (p n : ℕ) → (info_of o).prefix ≡ Some p → (info_of o).code ≡ n → opcode_of o ≡ prefixed p n
+prefixed_is o p n f e = λ i. record { prefix = f i; code = e i }

@@ -1,5 +1,6 @@
 -- Operators that were read at an offset in a slice and told to a visitor.
-use Rattle.std.specs.Prelude.{◌≡◌, ℕ, ◌<◌, List, length, get_or, IsTrue}
+use Rattle.std.specs.Prelude.{◌≡◌, ℕ, ◌+◌, ◌<◌, List, length, get_or, IsTrue}
+use Rattle.wasm_types.specs.decoding.Leb.{u32}
 use Rattle.wasm_types.specs.limits.declared.Limits.{Limits}
 use Rattle.wasm_types.specs.limits.Settings.{Settings}
 use Rattle.wasm_types_numbers.specs.Numbers.{GivesAt}
@@ -24,3 +25,8 @@ pub record IsTold (features : ℕ) (text : List ℕ) (at_offset end_offset : ℕ
 pub record Begins (text : List ℕ) (at_offset : ℕ) (code : ℕ) : Type 0 where
   pub inside : at_offset < length text
   pub code_there : get_or text at_offset 0 ≡ code
+
+-- this prefix stands at this offset, and behind it a code, which ends before another offset
+pub record BeginsPrefixed (text : List ℕ) (at_offset prefix code end_offset : ℕ) : Type 0 where
+  pub prefix_there : Begins text at_offset prefix
+  pub code_there : GivesAt u32 text (at_offset + 1) code end_offset

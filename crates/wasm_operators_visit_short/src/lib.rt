@@ -9,6 +9,7 @@
 //! they stand, and that the visitor's relation holds of it.
 #![tactic(auto)]
 
+mod bulk;
 mod control;
 mod immediates;
 mod memory;

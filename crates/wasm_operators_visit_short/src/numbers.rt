@@ -1,9 +1,9 @@
 //! Operators on numbers.
 
 ghost use Rattle.std.specs.Prelude.{◌≡◌, ◌<◌, IfSome, IfNone};
-ghost use Rattle.wasm_operators_visit_short.specs.Short.{Begins, IsTold};
+ghost use Rattle.wasm_operators_visit_short.specs.Short.{Begins, BeginsPrefixed, IsTold};
 
-use wasm_operators_decode_numbers::numeric_of;
+use wasm_operators_decode_numbers::{numeric_of, numeric_prefixed_of};
 use wasm_operators_visit_numbers::{VisitFloats, VisitIntegers, visit_numeric};
 use wasm_types::WasmFeatures;
 
@@ -26,4 +26,25 @@ pub(crate) fn numeric<'a, V: VisitIntegers<'a> + VisitFloats<'a>>(
     };
     let answer = visit_numeric(visitor, op);
     Some((answer, at + 1))
+}
+
+/// An operator on numbers behind the prefix `fc`, the code of which ends at `end`.
+#[inline(always)]
+pub(crate) fn numeric_prefixed<'a, V: VisitIntegers<'a> + VisitFloats<'a>>(
+    bytes: &'a [u8],
+    at: usize,
+    code: u32,
+    end: usize,
+    features: WasmFeatures,
+    visitor: &mut V,
+) -> Option<(V::Output, usize)>
+    requires { BeginsPrefixed bytes.now at 0xfc code end }
+    ensures told { IfSome result (λ r. IsTold features.0 bytes.now at r.1 (λ o. V.visits visitor.old o r.0 visitor.new)) }
+    ensures none { IfNone result (visitor.new ≡ visitor.old) }
+{
+    let Some(op) = numeric_prefixed_of(code) else {
+        return None;
+    };
+    let answer = visit_numeric(visitor, op);
+    Some((answer, end))
 }

@@ -1,18 +1,20 @@
 //! The operator at an offset, by its first byte.
 
 ghost use Rattle.std.specs.Prelude.{◌≡◌, IfSome, IfNone};
-ghost use Rattle.wasm_operators_visit_short.specs.Short.{IsTold};
+ghost use Rattle.wasm_operators_visit_short.specs.Short.{Begins, IsTold};
 
+use crate::bulk::{memory_copy, memory_fill};
 use crate::control::{control_alone, control_block, control_index, control_indirect};
 use crate::memory::{
     access_1, access_2, access_4, access_8, f32_const, f64_const, i32_const, i64_const,
     memory_size, variable,
 };
-use crate::numbers::numeric;
+use crate::numbers::{numeric, numeric_prefixed};
 use wasm_operators_visit_control::VisitControl;
 use wasm_operators_visit_memory::VisitMemory;
 use wasm_operators_visit_numbers::{VisitFloats, VisitIntegers};
 use wasm_types::WasmFeatures;
+use wasm_types_numbers::short_u32_at;
 
 /// Tells a visitor of the operator that begins at an offset in `bytes`, if it is a frequent one in a frequent form, and
 /// gives the visitor's answer with the offset behind the operator. None where it is another, or where the bytes spell
@@ -53,6 +55,32 @@ where
         0x43 => f32_const(bytes, at, code, features, visitor),
         0x44 => f64_const(bytes, at, code, features, visitor),
         0x45..=0xc4 => numeric(bytes, at, code, features, visitor),
+        0xfc => prefixed(bytes, at, features, visitor),
+        _ => None,
+    }
+}
+
+/// An operator behind the prefix `fc`.
+#[inline]
+fn prefixed<'a, V>(
+    bytes: &'a [u8],
+    at: usize,
+    features: WasmFeatures,
+    visitor: &mut V,
+) -> Option<(V::Output, usize)>
+where
+    V: VisitMemory<'a> + VisitIntegers<'a> + VisitFloats<'a>,
+    requires { Begins bytes.now at 0xfc }
+    ensures told { IfSome result (λ r. IsTold features.0 bytes.now at r.1 (λ o. V.visits visitor.old o r.0 visitor.new)) }
+    ensures none { IfNone result (visitor.new ≡ visitor.old) }
+{
+    let Some((code, end)) = short_u32_at(bytes, at + 1) else {
+        return None;
+    };
+    match code {
+        0x00..=0x07 => numeric_prefixed(bytes, at, code, end, features, visitor),
+        0x0a => memory_copy(bytes, at, code, end, features, visitor),
+        0x0b => memory_fill(bytes, at, code, end, features, visitor),
         _ => None,
     }
 }
