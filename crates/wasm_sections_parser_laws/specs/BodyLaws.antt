@@ -24,7 +24,7 @@ body_in the_end = []
 abbrev number : ℕ → State → Outcome ℕ
 number n u = Done n u
 
-kept_done : (end start n : ℕ) (u : State) (o : Outcome ℕ) → kept end start o ≡ Done n u → (o ≡ Done n u) × (u.place ≤ end)
+pub kept_done : (end start n : ℕ) (u : State) (o : Outcome ℕ) → kept end start o ≡ Done n u → (o ≡ Done n u) × (u.place ≤ end)
 kept_done end start n u (Done m v) e = go (nat_lt end v.place) refl e
   where
     go : (b : Bool) → nat_lt end v.place ≡ b → cond b (Fault Other start) (number m v) ≡ number n u → (number m v ≡ number n u) × (u.place ≤ end)

@@ -46,7 +46,7 @@ is_custom (entry c) = false
 is_custom the_end = false
 
 -- the byte that was read is the one that was taken
-byte_takes : (s t : State) (i : ℕ) → byte s ≡ Done i t → Takes s (i ∷ []) t
+pub byte_takes : (s t : State) (i : ℕ) → byte s ≡ Done i t → Takes s (i ∷ []) t
 byte_takes s t i e = go s.rest refl e
   where
     go : (text : List ℕ) → s.rest ≡ text → first_of_rest text s ≡ Done i t → Takes s (i ∷ []) t

@@ -1,4 +1,9 @@
+-- Rules: runs of a parser, and the frames of a module.
+pub mod Runs
 -- Laws.
 pub mod SpelledLaws
 pub mod CustomLaws
 pub mod BodyLaws
+pub mod SectionCases
+pub mod OrderLaws
+pub mod RunLaws
