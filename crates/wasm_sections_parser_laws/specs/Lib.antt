@@ -7,3 +7,4 @@ pub mod BodyLaws
 pub mod SectionCases
 pub mod OrderLaws
 pub mod RunLaws
+pub mod NoteLaws
