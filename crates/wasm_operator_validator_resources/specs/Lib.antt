@@ -1,0 +1,3 @@
+-- What names in code stand for, and what each look-up answers.
+pub mod Meaning
+pub mod Answers

@@ -1,0 +1,158 @@
+//! The stack.
+
+ghost use Rattle.std.specs.Prelude.{◌≡◌, true, false, ◌∷◌, ◌++◌, ◌+◌, ◌<◌, List, [], length, Option, Some, None, OnOk, IfOk, IfErr, MatchOption, MatchResult, reverse, take};
+ghost use Rattle.std.specs.Vec.{vec_capacity};
+ghost use Rattle.wasm_operator_validator_tape.specs.Kept.{saved, IsKept, HasRoom, ReplacesLast};
+
+use std::alloc::{AllocError, Global};
+use std::marker::Model;
+
+/// A stack. In an attempt it keeps the items that stood where the attempt began and were taken off since; those below
+/// `kept` still lie in place. A contract sees the items, the top last, and what stood where the attempt began.
+#[derive(Drop)]
+pub struct Tape<T: Copy + Drop> {
+    items: Vec<T>,
+    attempt: bool,
+    kept: usize,
+    lost: Vec<T>,
+}
+
+impl<T: Copy + Drop> Model for Tape<T> {
+    ghost Value = { List T × Option (List T) };
+
+    ghost view = { λ t. (t.items.items, saved t.attempt t.kept t.items.items t.lost.items) };
+
+    ghost invariant = { λ t. IsKept t.attempt t.kept (length t.items.items) (length t.lost.items) (vec_capacity t.items) };
+}
+
+impl<T: Copy + Drop> Tape<T> {
+    /// An empty stack, outside an attempt. It takes no memory.
+    pub fn new(alloc: Global) -> Tape<T>
+        ensures { result ≡ ([], None) }
+    {
+        Tape {
+            items: Vec::new(alloc),
+            attempt: false,
+            kept: 0,
+            lost: Vec::new(alloc),
+        }
+    }
+
+    /// The items, the top last.
+    #[inline]
+    pub fn as_slice(&self) -> &[T]
+        ensures { result.now ≡ self.now.0 }
+    {
+        self.items.as_slice()
+    }
+
+    /// Whether an attempt has begun.
+    pub fn is_in_attempt(&self) -> bool
+        ensures { MatchOption self.now.1 (result ≡ false) (λ was. result ≡ true) }
+    {
+        self.attempt
+    }
+
+    /// Puts an item on.
+    #[inline]
+    pub fn push(&mut self, item: T) -> Result<(), AllocError>
+        ensures saved { self.new.1 ≡ self.old.1 }
+        ensures pushed { OnOk result (self.new.0 ≡ self.old.0 ++ item ∷ []) }
+        ensures refused { IfErr result (λ _. self.new.0 ≡ self.old.0) }
+    {
+        self.items.push(item)?;
+        Ok(())
+    }
+
+    /// Takes an item off.
+    #[inline]
+    pub fn pop(&mut self) -> Result<Option<T>, AllocError>
+        ensures saved { self.new.1 ≡ self.old.1 }
+        ensures popped { IfOk result (λ r. MatchOption r ((self.old.0 ≡ []) × (self.new.0 ≡ [])) (λ x. self.old.0 ≡ self.new.0 ++ x ∷ [])) }
+        ensures refused { IfErr result (λ _. self.new.0 ≡ self.old.0) }
+    {
+        let Some(item) = self.items.last().copied() else {
+            return Ok(None);
+        };
+        if self.attempt && self.items.len() == self.kept {
+            self.lost.push(item)?;
+            self.kept -= 1;
+        }
+        self.items.pop();
+        Ok(Some(item))
+    }
+
+    /// Puts this item in the place of the top.
+    #[inline]
+    pub fn replace_last(&mut self, item: T) -> Result<(), AllocError>
+        requires { 0 < length self.old.0 }
+        ensures saved { self.new.1 ≡ self.old.1 }
+        ensures replaced { OnOk result (ReplacesLast item self.old.0 self.new.0) }
+        ensures refused { IfErr result (λ _. self.new.0 ≡ self.old.0) }
+    {
+        let Some(was) = self.items.last().copied() else {
+            unreachable!()
+        };
+        if self.attempt && self.items.len() == self.kept {
+            self.lost.push(was)?;
+            self.kept -= 1;
+        }
+        self.items.pop();
+        let Ok(()) = self.items.push(item) else {
+            unreachable!()
+        };
+        Ok(())
+    }
+
+    /// Takes items off until there are no more than so many. Where memory is refused, some may have been taken off.
+    pub fn truncate(&mut self, keep: usize) -> Result<(), AllocError>
+        ensures saved { self.new.1 ≡ self.old.1 }
+        ensures kept { take keep self.new.0 ≡ take keep self.old.0 }
+        ensures done { OnOk result (self.new.0 ≡ take keep self.old.0) }
+    {
+        while self.as_slice().len() > keep {
+            let _item = self.pop()?;
+        }
+        Ok(())
+    }
+
+    /// Begins an attempt.
+    pub fn begin(&mut self)
+        ensures { self.new ≡ (self.old.0, Some self.old.0) }
+    {
+        self.attempt = true;
+        self.kept = self.items.len();
+        self.lost.clear();
+    }
+
+    /// Ends an attempt, if one has begun: what was done stays.
+    pub fn commit(&mut self)
+        ensures { self.new ≡ (self.old.0, None) }
+    {
+        self.attempt = false;
+    }
+
+    /// Ends an attempt, if one has begun: what stood where it began stands again. It takes no memory.
+    pub fn rollback(&mut self)
+        ensures { MatchOption self.old.1 (self.new ≡ self.old) (λ was. self.new ≡ (was, None)) }
+    {
+        if !self.attempt {
+            return;
+        }
+        self.attempt = false;
+        self.items.truncate(self.kept);
+        put_back(&mut self.items, &mut self.lost);
+    }
+}
+
+// Puts the items back that were taken off, the last first, in room that is there.
+fn put_back<T: Copy + Drop>(items: &mut Vec<T>, lost: &mut Vec<T>)
+    requires { HasRoom (length items.old.items) (length lost.old.items) (vec_capacity items.old) }
+    ensures items { items.new.items ≡ items.old.items ++ reverse lost.old.items }
+{
+    while let Some(item) = lost.pop() {
+        let Ok(()) = items.push(item) else {
+            unreachable!()
+        };
+    }
+}
