@@ -8,3 +8,5 @@ pub mod SectionCases
 pub mod OrderLaws
 pub mod RunLaws
 pub mod NoteLaws
+pub mod StepsComplete
+pub mod RunsComplete
