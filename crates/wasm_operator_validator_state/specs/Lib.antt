@@ -1,0 +1,8 @@
+-- What is known, which operators may come, what steps do, and what refusals are: definitions, in the order in which they are read.
+pub mod Refusals
+pub mod State
+pub mod Steps
+-- Worked operands and refusals.
+pub mod worked
+-- How a visit's promise follows from its steps: laws, with the proofs.
+pub mod laws

@@ -1,0 +1,4 @@
+pub mod Operands
+pub mod Closing
+pub mod Accepting
+pub mod Rows

@@ -1,0 +1,21 @@
+-- The kinds of refusals.
+use Rattle.std.specs.Prelude.{◌≡◌, ℕ}
+use Rattle.wasm_types.specs.error.declared.error.ErrorKind.TheVariants as kinds
+use Rattle.wasm_types.specs.features.declared.WasmFeatures.{WasmFeatures}
+use Rattle.wasm_types.specs.values.declared.value.ValType.TheVariants.{I32}
+use Rattle.wasm_operator_validator_state.specs.declared.operand.MaybeType.TheVariants as maybe
+use Rattle.wasm_operator_validator_state.specs.declared.refusal.Refusal.TheVariants as refusals
+use Rattle.wasm_operator_validator_state.specs.Refusals.{kind_of}
+
+pub record RefusalsWorked : Type 0 where
+  pub memory : kind_of refusals.OutOfMemory ≡ kinds.OutOfMemory
+  pub before : kind_of refusals.AfterRefusal ≡ kinds.Failed
+  pub ended : kind_of refusals.AfterEnd ≡ kinds.Other
+  pub feature : (f : WasmFeatures) → kind_of (refusals.NotEnabled f) ≡ kinds.MissingFeature f
+  pub mismatch : kind_of (refusals.TypeMismatch I32 maybe.Bottom) ≡ kinds.Other
+  pub empty : kind_of (refusals.EmptyStack I32) ≡ kinds.Other
+  pub empty_of_any : kind_of refusals.EmptyStackOfAny ≡ kinds.Other
+  pub remaining : kind_of refusals.ValuesRemain ≡ kinds.Other
+  pub label : kind_of refusals.UnknownLabel ≡ kinds.Other
+  pub local : (x : ℕ) → kind_of (refusals.UnknownLocal x) ≡ kinds.Other
+  pub unset : (x : ℕ) → kind_of (refusals.UninitializedLocal x) ≡ kinds.Other

@@ -1,0 +1,15 @@
+//! What a validator of operators knows at a place in a body, and what it stands for.
+//!
+//! `specs/State.antt` says what is known and which operators may still come; `specs/Steps.antt` what the steps of a validator do,
+//! by the stacks that its operands stand for; `specs/Refusals.antt` what refusals of a few bytes are; `specs/laws/` how a visit's
+//! promise follows from what its steps did.
+#![tactic(auto)]
+
+mod frame;
+pub mod laws;
+mod operand;
+mod refusal;
+
+pub use frame::Frame;
+pub use operand::MaybeType;
+pub use refusal::Refusal;

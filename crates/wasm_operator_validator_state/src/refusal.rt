@@ -1,0 +1,112 @@
+//! Why an operator is refused, in few bytes.
+
+ghost use Rattle.std.specs.Prelude.{◌≡◌};
+ghost use Rattle.wasm_types.specs.error.declared.error.ErrorKind.TheVariants.{Other};
+ghost use Rattle.wasm_operator_validator_state.specs.Refusals.{kind_of, OfContent};
+
+use crate::MaybeType;
+use std::fmt::Display;
+use wasm_types::{Error, ValType, WasmFeatures};
+
+/// Why an operator is refused. It has no text and no offset, so that it is answered in few registers.
+#[derive(Clone, Copy)]
+pub enum Refusal {
+    /// A growth was refused.
+    OutOfMemory,
+    /// The validator has refused an operator before.
+    AfterRefusal,
+    /// Every frame has ended.
+    AfterEnd,
+    /// The operator needs a feature.
+    NotEnabled { feature: WasmFeatures },
+    /// The operand on top does not fit the type.
+    TypeMismatch { expected: ValType, found: MaybeType },
+    /// There is no operand where one of this type is expected.
+    EmptyStack { expected: ValType },
+    /// There is no operand where one of any type is expected.
+    EmptyStackOfAny,
+    /// Operands are left over at the end of a frame.
+    ValuesRemain,
+    /// No frame is so far outwards.
+    UnknownLabel,
+    /// No local has this index.
+    UnknownLocal { local_index: u32 },
+    /// The local has no value yet.
+    UninitializedLocal { local_index: u32 },
+}
+
+impl Refusal {
+    /// The error of a refusal of the operator at this offset. Out of memory has no offset.
+    #[cold]
+    #[inline(never)]
+    pub fn error(self, offset: u64) -> Error
+        ensures kind { result.kind ≡ kind_of self }
+        ensures at { OfContent result.kind (result.offset ≡ offset) }
+    {
+        match self {
+            Refusal::OutOfMemory => Error::out_of_memory(0),
+            Refusal::AfterRefusal => Error::failed("an operator was refused before", offset),
+            Refusal::AfterEnd => Error::new("operators remaining after end of function", offset),
+            Refusal::NotEnabled { feature } => {
+                Error::missing_feature(feature, "support is not enabled", offset)
+            }
+            Refusal::TypeMismatch { expected, found } => type_mismatch(offset, expected, found),
+            Refusal::EmptyStack { expected } => empty_stack(offset, expected),
+            Refusal::EmptyStackOfAny => empty_stack(offset, "a type"),
+            Refusal::ValuesRemain => Error::new(
+                "type mismatch: values remaining on stack at end of block",
+                offset,
+            ),
+            Refusal::UnknownLabel => { Error::new("unknown label: branch depth too large", offset) }
+            Refusal::UnknownLocal { local_index } => unknown_local(offset, local_index),
+            Refusal::UninitializedLocal { local_index } => uninitialized_local(offset, local_index),
+        }
+    }
+}
+
+#[cold]
+fn type_mismatch(offset: u64, expected: ValType, found: MaybeType) -> Error
+    ensures kind { result.kind ≡ Other }
+    ensures offset { result.offset ≡ offset }
+{
+    match found {
+        MaybeType::Bottom | MaybeType::UnknownRef(_) => Error::fmt(
+            format_args!("type mismatch: expected {expected}, found a reference"),
+            offset,
+        ),
+        MaybeType::Known(found) => Error::fmt(
+            format_args!("type mismatch: expected {expected}, found {found}"),
+            offset,
+        ),
+    }
+}
+
+#[cold]
+fn empty_stack<D: Display + Drop>(offset: u64, expected: D) -> Error
+    ensures kind { result.kind ≡ Other }
+    ensures offset { result.offset ≡ offset }
+{
+    Error::fmt(
+        format_args!("type mismatch: expected {expected} but nothing on stack"),
+        offset,
+    )
+}
+
+#[cold]
+fn unknown_local(offset: u64, local_index: u32) -> Error
+    ensures kind { result.kind ≡ Other }
+    ensures offset { result.offset ≡ offset }
+{
+    Error::fmt(
+        format_args!("unknown local {local_index}: local index out of bounds"),
+        offset,
+    )
+}
+
+#[cold]
+fn uninitialized_local(offset: u64, local_index: u32) -> Error
+    ensures kind { result.kind ≡ Other }
+    ensures offset { result.offset ≡ offset }
+{
+    Error::fmt(format_args!("uninitialized local: {local_index}"), offset)
+}
