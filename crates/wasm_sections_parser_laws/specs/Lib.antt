@@ -1,5 +1,6 @@
 -- Rules: runs of a parser, and the frames of a module.
 pub mod Runs
+pub mod Calls
 -- Laws.
 pub mod SpelledLaws
 pub mod CustomLaws
@@ -10,3 +11,5 @@ pub mod RunLaws
 pub mod NoteLaws
 pub mod StepsComplete
 pub mod RunsComplete
+pub mod PlainLaws
+pub mod CallLaws
