@@ -1,24 +1,23 @@
 -- Calls of a parser are a run, however the text is cut into pieces.
-use Rattle.std.proofs.Common.{◌≡◌, ◌⊎◌, inl, inr, ℕ, zero, suc, ◌+◌, ◌-◌, ◌<◌, ◌≤◌, List, [], ◌∷◌, ◌++◌, length, drop, refl, sym, ap, ◌∙◌, subst, append_assoc, arith, cond, Bool, true, false, Ok, Err}
+use Rattle.std.proofs.Common.{◌≡◌, ◌⊎◌, inl, inr, ℕ, List, [], ◌∷◌, ◌++◌, length, drop, refl, sym, ap, ◌∙◌, subst, append_assoc, arith, cond, Bool, true, false, Ok}
 use Rattle.std.specs.Prelude.{◌==◌}
 use Rattle.std.proofs.lemmas.Bool.{eqb-true}
-use Rattle.std.proofs.lemmas.List.{drop_at, length-append}
+use Rattle.std.proofs.lemmas.List.{drop_at}
 use Rattle.wasm_types.specs.limits.Limits.{default_limits}
 use Rattle.wasm_types.specs.limits.Settings.{Settings}
-use Rattle.wasm_types.specs.decoding.Decoder.{State, extended, Outcome, Done, Short, Fault, GoesForward, GoesOn, Takes}
+use Rattle.wasm_types.specs.decoding.Decoder.{State, extended, Outcome, Done, GoesForward, GoesOn, Takes}
 use Rattle.wasm_types.specs.decoding.Exact.{same_state}
 use Rattle.wasm_sections_parser.specs.declared.frame.Frame.{Frame}
 use Rattle.wasm_sections_parser.specs.declared.frame.Frame.TheVariants as frames
 use Rattle.wasm_sections_parser.specs.declared.parser.Parser.{Parser}
 use Rattle.wasm_sections_parser.specs.declared.parser.Chunk.TheVariants.{Parsed}
 use Rattle.wasm_sections_parser.specs.declared.progress.Stage.TheVariants as stages
-use Rattle.wasm_sections_parser.specs.declared.progress.Progress.{Progress}
-use Rattle.wasm_sections_parser.specs.Steps.{Shape, counts_agree, is_over, Next, step}
+use Rattle.wasm_sections_parser.specs.Steps.{counts_agree, is_over, Next, step}
 use Rattle.wasm_sections_parser.specs.StepLaws.{lawful-step}
 use Rattle.wasm_sections_parser.specs.Parsing.{shape_of, reads, between, at_end, staged, IsNext, Ends, Comes, one_of}
 use Rattle.wasm_sections_parser_laws.specs.Runs.{Run}
-use Rattle.wasm_sections_parser_laws.specs.Calls.{settings_of, shapes_of, Called, Calls}
-use Rattle.wasm_sections_parser_laws.specs.PlainLaws.{restart, run_restarts}
+use Rattle.wasm_sections_parser_laws.specs.Calls.{settings_of, shapes_of, stands, Called, Calls}
+use Rattle.wasm_sections_parser_laws.specs.PlainLaws.{run_restarts}
 
 abbrev given : Next → State → Outcome Next
 given y t = Done y t
@@ -26,10 +25,6 @@ given y t = Done y t
 no_bytes : (xs : List ℕ) → length xs ≡ 0 → xs ≡ []
 no_bytes [] e = refl
 no_bytes (x ∷ xs) e = absurd (omega arith)
-
--- where a parser stands in the bytes that are left, which began there
-abbrev pub stands : Parser → List ℕ → ℕ → State
-stands p rest start = record { rest = rest; place = p.offset; settings = settings_of p; start = start }
 
 -- the end was given: no byte is left, and the counts agree
 pub record AtEnd (p : Parser) (text : List ℕ) (n : ℕ) (f : Frame) (q : Parser) : Type 0 where

@@ -1,6 +1,7 @@
 -- Rules: runs of a parser, and the frames of a module.
 pub mod Runs
 pub mod Calls
+pub mod Modules
 -- Laws.
 pub mod SpelledLaws
 pub mod CustomLaws
@@ -13,3 +14,5 @@ pub mod StepsComplete
 pub mod RunsComplete
 pub mod PlainLaws
 pub mod CallLaws
+pub mod ModuleLaws
+pub mod RefusalLaws

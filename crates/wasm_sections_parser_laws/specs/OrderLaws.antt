@@ -1,7 +1,7 @@
 -- A section is not late exactly where the places of a module ascend through its own.
-use Rattle.std.proofs.Common.{◌≡◌, ℕ, ◌<◌, ◌≤◌, List, [], ◌∷◌, refl, sym, ap, ◌∙◌, subst, arith, cond, Bool, true, false, Option, Some, None}
+use Rattle.std.proofs.Common.{◌≡◌, ℕ, ◌<◌, List, [], ◌∷◌, refl, subst, arith, cond, Bool, true, false, Option, Some, None}
 use Rattle.std.specs.Prelude.{◌==◌, nat_le}
-use Rattle.std.proofs.lemmas.Bool.{eqb-false, leb-false, leb-true, eqb-true}
+use Rattle.std.proofs.lemmas.Bool.{leb-false, leb-true, eqb-true}
 use Rattle.wasm_types.specs.values.Decode.{find}
 use Rattle.wasm_sections_frames.specs.Outer.{places, rank, with_rank, Ascends}
 use Rattle.wasm_sections_parser.specs.Steps.{or_zero}

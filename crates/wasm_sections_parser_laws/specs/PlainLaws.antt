@@ -5,6 +5,7 @@ use Rattle.wasm_types.specs.limits.Settings.{Settings}
 use Rattle.wasm_types.specs.decoding.declared.Refusal.{Refusal}
 use Rattle.wasm_types.specs.decoding.declared.Refusal.TheVariants.{Other}
 use Rattle.wasm_types.specs.decoding.Decoder.{State, Outcome, Done, Short, Fault, Decoder, continue_with, ◌>>=◌, pure, refuse, first_of_rest, byte, bytes}
+use Rattle.wasm_types.specs.decoding.Exact.{value_is}
 use Rattle.wasm_types.specs.decoding.Leb.{u32, unsigned}
 use Rattle.wasm_types.specs.decoding.Lists.{refuse_at}
 use Rattle.wasm_types.specs.decoding.Text.{name, text_of, counted_within, if_utf8, little_endian}
@@ -14,7 +15,7 @@ use Rattle.wasm_sections_frames.specs.Decode.{is_magic, header_of, header_after,
 use Rattle.wasm_sections_parser.specs.declared.progress.Stage.{Stage}
 use Rattle.wasm_sections_parser.specs.declared.progress.Stage.TheVariants as stages
 use Rattle.wasm_sections_parser.specs.declared.progress.Progress.{Progress}
-use Rattle.wasm_sections_parser.specs.Steps.{Shape, version, entry, begun, is_late, one_less, kept, number_before, found, in_part, has_count, custom_next, section_next, contents_next, contents, code_next, code_at, code_start, ordered, next_section, body_at, body, next_entry, behind_code_at, behind_code, next_header, at_stage, step}
+use Rattle.wasm_sections_parser.specs.Steps.{Shape, version, entry, Next, begun, is_late, one_less, kept, number_before, found, in_part, has_count, custom_next, section_next, contents_next, contents, code_next, code_start, ordered, next_section, body, next_entry, behind_code, next_header, at_stage, step}
 use Rattle.wasm_sections_parser_laws.specs.Runs.{Run}
 
 -- the same bytes, with another beginning
@@ -150,6 +151,15 @@ module _ (z : Settings) (p : Progress) where
   plain-step : IsPlain (step z p)
   unfolding step
   plain-step = plain-at_stage p.stage
+
+-- a step that succeeds from another beginning succeeds from this one
+pub restart_done : (z : Settings) (p : Progress) (n : ℕ) (s t : State) (y : Next) → step z p (restart n s) ≡ Done y t → (u : State) × (step z p s ≡ Done y u)
+restart_done z p n s t y e = go (step z p s) (sym (plain-step z p n s) ∙ e)
+  where
+    go : (o : Outcome Next) → restarted n o ≡ Done y t → (u : State) × (o ≡ Done y u)
+    go (Done x u) f = (u, ap (λ (v : Next). Done v u) (value_is x y (restart n u) t f))
+    go (Short a h) f = absurd cc
+    go (Fault k a) f = absurd cc
 
 pub run_restarts : (z : Settings) (xs : List Shape) (p q : Progress) (s t : State) (n : ℕ) → Run z p s xs q t → Run z p (restart n s) xs q (restart n t)
 run_restarts z [] p q s t n h = (h.0, ap (restart n) h.1)

@@ -1,13 +1,13 @@
 -- What a run gives is spelled by what it took: whole sections in order, and behind them nothing or a part of a code section.
-use Rattle.std.proofs.Common.{◌≡◌, ◌⊎◌, inl, inr, ℕ, suc, zero, ◌+◌, ◌-◌, ◌<◌, ◌≤◌, List, [], ◌∷◌, ◌++◌, length, refl, sym, ap, ◌∙◌, subst, append_assoc, arith, cond, Bool, true, false}
+use Rattle.std.proofs.Common.{◌≡◌, ◌⊎◌, inl, inr, ℕ, suc, zero, ◌-◌, ◌<◌, ◌≤◌, List, [], ◌∷◌, ◌++◌, length, refl, sym, ap, ◌∙◌, subst, append_assoc, arith, cond, Bool, true, false}
 use Rattle.std.specs.Prelude.{nat_lt, nat_le, ◌==◌}
-use Rattle.std.proofs.lemmas.Bool.{eqb-true, leb-true, leb-false, ltb-false, le-leb, le-ltb, lt-ltb}
-use Rattle.std.proofs.lemmas.List.{append-nil, length-append}
+use Rattle.std.proofs.lemmas.Bool.{eqb-true, leb-true, leb-false, ltb-false, le-ltb}
+use Rattle.std.proofs.lemmas.List.{length-append}
 use Rattle.wasm_types.specs.limits.Settings.{Settings}
 use Rattle.wasm_types.specs.decoding.declared.Refusal.TheVariants.{Other}
-use Rattle.wasm_types.specs.decoding.Decoder.{State, Outcome, Done, Short, Fault, ◌>>=◌, pure, bytes, Many, Takes}
+use Rattle.wasm_types.specs.decoding.Decoder.{State, Outcome, Done, ◌>>=◌, pure, bytes, Many, Takes}
 use Rattle.wasm_types.specs.decoding.Laws.{takes_none, Takes-then}
-use Rattle.wasm_types.specs.decoding.Exact.{value_is, state_is, done_then}
+use Rattle.wasm_types.specs.decoding.Exact.{value_is, done_then}
 use Rattle.wasm_types.specs.decoding.Leb.{IsUnsigned, IsListed}
 use Rattle.wasm_types.specs.decoding.Lists.{refuse_at}
 use Rattle.wasm_sections_frames.specs.Outer as outer
@@ -15,11 +15,11 @@ use Rattle.wasm_sections_frames.specs.Outer.{Part, SpelledPart, SpelledEntry, Co
 use Rattle.wasm_sections_parser.specs.declared.progress.Stage.{Stage}
 use Rattle.wasm_sections_parser.specs.declared.progress.Stage.TheVariants as stages
 use Rattle.wasm_sections_parser.specs.declared.progress.Progress.{Progress}
-use Rattle.wasm_sections_parser.specs.Steps.{Shape, version, custom, section, code, entry, the_end, counted, in_code, one_less, begun, is_late, has_count, Next, number_before, body, behind_code, behind_code_at, next_section, next_entry, at_stage, step}
+use Rattle.wasm_sections_parser.specs.Steps.{Shape, version, custom, section, code, entry, the_end, in_code, one_less, begun, Next, number_before, body, behind_code, next_section, next_entry, at_stage, step}
 use Rattle.wasm_sections_parser.specs.Parsing.{between}
-use Rattle.wasm_sections_parser_laws.specs.Runs.{Run, entries, Framed, AreFramed, Noted, AreNoted, Opened, IsOpen, IsBetween, Seen}
+use Rattle.wasm_sections_parser_laws.specs.Runs.{Run, entries, Framed, Noted, Seen}
 use Rattle.wasm_sections_parser_laws.specs.BodyLaws.{body_spelled}
-use Rattle.wasm_sections_parser_laws.specs.SectionCases.{Start, Given, section_given}
+use Rattle.wasm_sections_parser_laws.specs.SectionCases.{Given, section_given}
 use Rattle.wasm_sections_parser_laws.specs.OrderLaws.{in_order}
 
 -- ---- where a parser stands
@@ -66,7 +66,7 @@ module _ (p : Progress) (left end : ℕ) where
           let m = done_then (bytes n u) (λ text. pure (entry text, one_less p left end)) y t f in
           (m.0, value_is (entry m.0, one_less p left end) y m.1 t m.3)
 
-  entry_is : (s t : State) (y : Next) → next_entry p left end s ≡ given y t → (c : List ℕ) × ((entry c, one_less p left end) ≡ y)
+  pub entry_is : (s t : State) (y : Next) → next_entry p left end s ≡ given y t → (c : List ℕ) × ((entry c, one_less p left end) ≡ y)
   unfolding next_entry
   entry_is s t y e =
       let m = done_then (number_before end s) (body p left end) y t e in
@@ -270,9 +270,9 @@ module _ (z : Settings) (p : Progress) (s : State) (n k : ℕ) (r : Progress) (u
       let noted : begun c.middle ≡ begun (in_code p n g.1.end) = c.noted ∙ ap begun g.1.noted in
       let frames : code n k ∷ entries c.bodies ≡ code (length c.bodies) (length content) ∷ entries c.bodies = λ i. code (sym c.count i) (sym long i) ∷ entries c.bodies in
       subst (λ (ys : List Shape). Seen z p s (code n k ∷ ys) q t) (sym c.frames)
-          (add_part z p s c.middle c.there q t (outer.code c.bodies) (outer.code_id ∷ (g.1.size ++ content)) (code n k ∷ entries c.bodies) c.others taken (spelled, frames)
-          (g.1.end, noted ∙ ap (λ (v : ℕ). begun (in_code p v g.1.end)) (sym c.count))
-          (λ rs a. in_order p.last outer.code_id rs g.0 (subst (λ (l : ℕ). Ascends l rs) (ap (λ (v : Progress). v.last) noted) a)) c.rest)
+      (add_part z p s c.middle c.there q t (outer.code c.bodies) (outer.code_id ∷ (g.1.size ++ content)) (code n k ∷ entries c.bodies) c.others taken (spelled, frames)
+      (g.1.end, noted ∙ ap (λ (v : ℕ). begun (in_code p v g.1.end)) (sym c.count))
+      (λ rs a. in_order p.last outer.code_id rs g.0 (subst (λ (l : ℕ). Ascends l rs) (ap (λ (v : Progress). v.last) noted) a)) c.rest)
 
 -- ---- runs
 

@@ -1,5 +1,5 @@
 -- Runs of a parser over a whole text, and which frames a module has (WebAssembly 3.0, binary format, modules).
-use Rattle.std.specs.Prelude.{◌≡◌, ◌⊎◌, ℕ, ◌+◌, ◌-◌, ◌≤◌, List, [], ◌∷◌, ◌++◌, length, true, false, None}
+use Rattle.std.specs.Prelude.{◌≡◌, ◌⊎◌, ℕ, ◌-◌, ◌≤◌, List, [], ◌∷◌, ◌++◌, length, true, false, None}
 use Rattle.wasm_types.specs.limits.Settings.{Settings}
 use Rattle.wasm_types.specs.decoding.Decoder.{State, Done, Many, Takes}
 use Rattle.wasm_types.specs.decoding.Leb.{IsUnsigned}

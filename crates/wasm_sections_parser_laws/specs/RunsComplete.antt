@@ -1,21 +1,20 @@
 -- Sections that are spelled, in order and with readable counts, are what a run gives.
-use Rattle.std.proofs.Common.{◌≡◌, ℕ, suc, zero, ◌+◌, ◌-◌, ◌<◌, ◌≤◌, ◌^◌, List, [], ◌∷◌, ◌++◌, length, refl, sym, ap, ◌∙◌, subst, append_assoc, arith, cond, Bool, true, false}
-use Rattle.std.specs.Prelude.{nat_le, ◌==◌}
-use Rattle.std.proofs.lemmas.Bool.{eq-eqb, le-leb}
+use Rattle.std.proofs.Common.{◌≡◌, ℕ, ◌+◌, ◌<◌, ◌^◌, List, [], ◌∷◌, ◌++◌, length, refl, sym, ap, ◌∙◌, subst, append_assoc, arith, true, false}
+use Rattle.std.proofs.lemmas.Bool.{le-leb}
 use Rattle.std.proofs.lemmas.List.{length-append}
 use Rattle.wasm_types.specs.limits.Settings.{Settings}
-use Rattle.wasm_types.specs.decoding.Decoder.{State, Many, Takes}
+use Rattle.wasm_types.specs.decoding.Decoder.{State, Takes}
 use Rattle.wasm_types.specs.decoding.Exact.{same_state}
 use Rattle.wasm_sections_frames.specs.Outer as outer
 use Rattle.wasm_sections_frames.specs.Outer.{Part, SpelledPart, id_of, rank, ranks, Ascends}
 use Rattle.wasm_sections_parser.specs.declared.progress.Stage.{Stage}
 use Rattle.wasm_sections_parser.specs.declared.progress.Stage.TheVariants as stages
 use Rattle.wasm_sections_parser.specs.declared.progress.Progress.{Progress}
-use Rattle.wasm_sections_parser.specs.Steps.{Shape, custom, section, code, counted, in_code, begun, is_late, has_count}
+use Rattle.wasm_sections_parser.specs.Steps.{Shape, counted, in_code, is_late}
 use Rattle.wasm_sections_parser.specs.Parsing.{between}
-use Rattle.wasm_sections_parser_laws.specs.Runs.{Run, entries, Framed, AreFramed, IsCounted, AreCounted, Noted, AreNoted}
+use Rattle.wasm_sections_parser_laws.specs.Runs.{Run, Framed, AreFramed, IsCounted, AreCounted, Noted, AreNoted}
 use Rattle.wasm_sections_parser_laws.specs.RunLaws.{step_between}
-use Rattle.wasm_sections_parser_laws.specs.OrderLaws.{late_at, last_at, order_gives}
+use Rattle.wasm_sections_parser_laws.specs.OrderLaws.{last_at, order_gives}
 use Rattle.wasm_sections_parser_laws.specs.StepsComplete.{custom_next_is, section_next_at, start_next_is, entries_run}
 
 pub run_then : (z : Settings) (xs ys : List Shape) (p r q : Progress) (s u t : State) → Run z p s xs r u → Run z r u ys q t → Run z p s (xs ++ ys) q t

@@ -1,18 +1,17 @@
 -- What `next_section` gives, by what it is: the section and what is remembered.
 use Rattle.std.proofs.Common.{◌≡◌, ℕ, ◌+◌, ◌≤◌, ◌^◌, List, [], ◌∷◌, ◌++◌, length, refl, sym, ap, ◌∙◌, subst, arith, cond, Bool, true, false}
-use Rattle.std.proofs.lemmas.List.{length-append}
 use Rattle.std.specs.Prelude.{nat_lt, ◌-◌, ◌==◌}
 use Rattle.std.proofs.lemmas.Bool.{eqb-true}
 use Rattle.wasm_types.specs.limits.Settings.{Settings}
 use Rattle.wasm_types.specs.decoding.declared.Refusal.TheVariants.{Other}
-use Rattle.wasm_types.specs.decoding.Decoder.{State, Outcome, Done, Short, Fault, ◌>>=◌, pure, refuse, byte, bytes, Takes}
+use Rattle.wasm_types.specs.decoding.Decoder.{State, Outcome, Done, Short, Fault, ◌>>=◌, pure, refuse, byte, Takes}
 use Rattle.wasm_types.specs.decoding.Laws.{Takes-then}
 use Rattle.wasm_types.specs.decoding.Exact.{value_is, state_is, done_then}
 use Rattle.wasm_types.specs.decoding.Leb.{u32, IsUnsigned}
 use Rattle.wasm_types.specs.decoding.LebLaws.{decides-u32}
 use Rattle.wasm_types.specs.decoding.Lists.{refuse_at}
 use Rattle.wasm_types.specs.decoding.Text.{name}
-use Rattle.wasm_types.specs.reader.Parts.{part_at, next_part}
+use Rattle.wasm_types.specs.reader.Parts.{next_part}
 use Rattle.wasm_sections_frames.specs.Outer as outer
 use Rattle.wasm_sections_frames.specs.Outer.{SpelledPart, Counts}
 use Rattle.wasm_sections_parser.specs.declared.progress.Progress.{Progress}

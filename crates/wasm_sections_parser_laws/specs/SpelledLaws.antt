@@ -1,9 +1,9 @@
 -- The header and each whole section that a parser gives is spelled by exactly the bytes that it took.
-use Rattle.std.proofs.Common.{◌≡◌, ℕ, ◌+◌, ◌^◌, List, [], refl, sym, ap, ◌∙◌, subst, cond, Bool, true, false}
+use Rattle.std.proofs.Common.{◌≡◌, ℕ, ◌+◌, ◌^◌, List, [], refl, ap, ◌∙◌, cond, Bool, true, false}
 use Rattle.std.specs.Prelude.{nat_lt, ◌-◌, ◌==◌}
 use Rattle.wasm_types.specs.limits.Settings.{Settings}
 use Rattle.wasm_types.specs.decoding.declared.Refusal.TheVariants.{Other}
-use Rattle.wasm_types.specs.decoding.Decoder.{State, Outcome, Done, Short, Fault, Decoder, ◌>>=◌, continue_with, pure, refuse, byte, bytes, Takes}
+use Rattle.wasm_types.specs.decoding.Decoder.{State, Outcome, Done, Short, Fault, ◌>>=◌, pure, refuse, byte, bytes, Takes}
 use Rattle.wasm_types.specs.decoding.Exact.{value_is, state_is, done_then}
 use Rattle.wasm_types.specs.decoding.Leb.{u32}
 use Rattle.wasm_types.specs.decoding.Lists.{refuse_at}
@@ -14,7 +14,7 @@ use Rattle.wasm_sections_frames.specs.Outer.{Header, Part, SpelledHeader, Spelle
 use Rattle.wasm_sections_frames.specs.Decode.{header, counted_bytes, part_after, part}
 use Rattle.wasm_sections_frames.specs.PartLaws.{decides-header, decides-part}
 use Rattle.wasm_sections_parser.specs.declared.progress.Progress.{Progress}
-use Rattle.wasm_sections_parser.specs.Steps.{Shape, version, custom, section, code, entry, the_end, begun, is_late, found, in_part, Next, has_count, custom_next, section_next, contents_next, contents, code_next, code_at, code_start, number_before, ordered, next_section, next_header}
+use Rattle.wasm_sections_parser.specs.Steps.{Shape, version, custom, section, code, entry, the_end, begun, is_late, found, in_part, Next, has_count, custom_next, section_next, contents_next, contents, code_next, code_start, number_before, ordered, next_section, next_header}
 
 abbrev given : Shape → Progress → State → Outcome Next
 given x q t = Done (x, q) t

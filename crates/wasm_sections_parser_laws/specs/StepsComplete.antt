@@ -1,24 +1,24 @@
 -- Where a section is spelled, in order and with a readable count, that is what a parser gives next.
-use Rattle.std.proofs.Common.{◌≡◌, inl, inr, ℕ, suc, zero, ◌+◌, ◌-◌, ◌<◌, ◌≤◌, ◌^◌, List, [], ◌∷◌, ◌++◌, length, refl, sym, ap, ◌∙◌, subst, append_assoc, arith, cond, Bool, true, false}
-use Rattle.std.specs.Prelude.{nat_lt, nat_le, ◌==◌}
-use Rattle.std.proofs.lemmas.Bool.{eqb-true, eqb-false, le-ltb, lt-ltb, le-leb, false_from_ne_true}
+use Rattle.std.proofs.Common.{◌≡◌, ℕ, ◌+◌, ◌-◌, ◌<◌, ◌≤◌, ◌^◌, List, [], ◌∷◌, ◌++◌, length, refl, sym, ap, ◌∙◌, subst, append_assoc, arith, cond, Bool, true, false}
+use Rattle.std.specs.Prelude.{nat_lt, ◌==◌}
+use Rattle.std.proofs.lemmas.Bool.{eqb-true, le-ltb, lt-ltb, false_from_ne_true}
 use Rattle.std.proofs.lemmas.List.{length-append}
 use Rattle.wasm_types.specs.limits.Settings.{Settings}
 use Rattle.wasm_types.specs.decoding.declared.Refusal.TheVariants.{Other}
-use Rattle.wasm_types.specs.decoding.Decoder.{State, Outcome, Done, Fault, Decoder, ◌>>=◌, continue_with, pure, first_of_rest, refuse, bytes, Many, Takes}
+use Rattle.wasm_types.specs.decoding.Decoder.{State, Outcome, Done, Fault, ◌>>=◌, continue_with, pure, first_of_rest, bytes, Many, Takes}
 use Rattle.wasm_types.specs.decoding.Exact.{decides-bytes, same_state}
 use Rattle.wasm_types.specs.decoding.Leb.{u32, IsUnsigned}
 use Rattle.wasm_types.specs.decoding.LebLaws.{decides-u32}
 use Rattle.wasm_types.specs.decoding.Lists.{refuse_at}
 use Rattle.wasm_types.specs.decoding.Text.{name}
 use Rattle.wasm_types.specs.decoding.TextLaws.{decides-name}
-use Rattle.wasm_types.specs.reader.Parts.{part_at, next_part}
+use Rattle.wasm_types.specs.reader.Parts.{part_at}
 use Rattle.wasm_sections_frames.specs.Outer as outer
 use Rattle.wasm_sections_frames.specs.Outer.{SpelledPart, SpelledEntry, Counts}
 use Rattle.wasm_sections_parser.specs.declared.progress.Stage.{Stage}
 use Rattle.wasm_sections_parser.specs.declared.progress.Stage.TheVariants as stages
 use Rattle.wasm_sections_parser.specs.declared.progress.Progress.{Progress}
-use Rattle.wasm_sections_parser.specs.Steps.{Shape, custom, section, code, entry, counted, in_code, one_less, begun, is_late, found, in_part, Next, has_count, custom_next, section_next, contents_next, contents, code_next, code_start, number_before, kept, body, behind_code, next_entry, ordered, next_section, at_stage, step}
+use Rattle.wasm_sections_parser.specs.Steps.{custom, section, code, entry, counted, in_code, one_less, begun, is_late, found, in_part, Next, has_count, custom_next, section_next, contents_next, contents, code_next, code_start, number_before, kept, body, behind_code, next_entry, ordered, next_section, at_stage, step}
 use Rattle.wasm_sections_parser_laws.specs.Runs.{Run, entries}
 
 abbrev given : Next → State → Outcome Next
