@@ -1,0 +1,8 @@
+use Rattle.std.proofs.Common.{◌≡◌, refl, sym, ◌∙◌}
+use Rattle.wasm_types.specs.values.declared.value.ValType.TheVariants.{Ref}
+use Rattle.wasm_operator_validator_resources.specs.Meaning.{type_in}
+use Rattle.wasm_operator_validator_stacks.proofs.Fits.{abstract_fit}
+use Rattle.wasm_operator_validator_stacks.proofs.fitting.is_abstract_fit.Goals as goal
+
+pub returns : goal.returns
+returns g c = abstract_fit (g.R.WasmModuleResources.meaning c.args.resources.now) c.in-Some.reference c.args.shared c.args.ty c.args.expected.now c.is_subtype.result c.in-Some.ensures.value c.is_subtype.ensures

@@ -1,0 +1,14 @@
+use Rattle.std.proofs.Common.{◌≡◌, ◌-◌, ◌∙◌, sym, ap, Some, length, slice_get}
+use Rattle.wasm_operator_validator_stacks.proofs.Layers.{fixed, held_pop}
+use Rattle.wasm_operator_validator_stacks.proofs.Popping.{when_some}
+use Rattle.wasm_operator_validator_stacks.proofs.validator.OperatorValidator.pop_any.Goals as goal
+
+pub returns-clause-does : goal.returns-clause-does
+returns-clause-does c = λ m.
+    let e : Some c.in-Some.frame ≡ slice_get c.self.inside.control.0 (length c.self.inside.control.0 - 1) =
+    rw (← c.as_slice.ensures) (c.in-Some.ensures ∙ c.last.ensures.value) in
+    let d = when_some c.in-Ok.popped c.in-Some-popped.operand _ _ c.in-Some-popped.is c.in-Ok.ensures.popped in
+    rw (← c.self.view_is)
+    (rw c.in-Ok.ensures.saved
+    (held_pop m (fixed c.self.inside.features.0 c.self.inside.locals.items c.self.inside.params c.self.inside.shared c.self.inside.operands.1 c.self.inside.control.1 c.self.inside.inits.1) c.self.inside.control.0 c.self.inside.operands.0 c.pop.new.self.0 c.self.inside.inits.0 c.in-Some.frame c.in-Some-popped.operand (sym e) c.self.invariant
+    (λ h. c.if-as_slice-frame.false (ap length c.as_slice-2.ensures ∙ h)) d))

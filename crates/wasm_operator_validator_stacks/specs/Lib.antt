@@ -1,0 +1,2 @@
+-- How the open frames lie in memory.
+pub mod Layout

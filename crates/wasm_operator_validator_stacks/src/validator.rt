@@ -1,0 +1,189 @@
+//! The stacks of a validator of operators, and what is done to them (WebAssembly 3.0, appendix, validation algorithm).
+
+ghost use Rattle.std.specs.Prelude.{◌≡◌, ◌↔◌, ◌∷◌, [], IsTrue, MatchResult, length, true};
+ghost use Rattle.wasm_types.specs.error.Denials.{Denies};
+ghost use Rattle.wasm_operator_validator_rules.specs.Operands.{known, stack};
+ghost use Rattle.wasm_operator_validator_resources.specs.Meaning.{Meaning, type_in};
+ghost use Rattle.wasm_operator_validator_state.specs.Refusals.{Does, kind_of, refused};
+ghost use Rattle.wasm_operator_validator_state.specs.State.{State, types_in};
+ghost use Rattle.wasm_operator_validator_state.specs.Steps.{IsOpen, MayPopAny, PoppedAny, PushedAny, Popped, MayPop, Pushed, Jumped, Exchanged};
+ghost use Rattle.wasm_operator_validator_stacks.specs.Layout.{state_of, IsLayered};
+
+use crate::fitting::{is_fit, type_mismatch};
+use std::marker::Model;
+use wasm_operator_validator_resources::WasmModuleResources;
+use wasm_operator_validator_state::{Frame, MaybeType, Refusal};
+use wasm_operator_validator_tape::Tape;
+use wasm_types::{ValType, WasmFeatures};
+
+/// What is known of a body: the locals, and the operands of all open frames in one place. After a refusal it may stand for
+/// anything, but what an attempt has saved stays as it was.
+#[derive(Drop)]
+pub struct OperatorValidator {
+    features: WasmFeatures,
+    locals: Vec<ValType>,
+    params: u32,
+    shared: bool,
+    operands: Tape<MaybeType>,
+    control: Tape<Frame>,
+    inits: Tape<u32>,
+}
+
+impl Model for OperatorValidator {
+    ghost Value = { State };
+
+    ghost view = { λ v. state_of (record { bits = v.features.0; locals = v.locals.items; params = v.params; shared = v.shared }) (record { operands = v.operands.1; frames = v.control.1; inits = v.inits.1 }) v.control.0 v.operands.0 v.inits.0 };
+
+    ghost invariant = { λ v. IsLayered v.control.0 v.operands.0 v.inits.0 };
+}
+
+impl OperatorValidator {
+    /// Whether every frame has ended.
+    #[inline]
+    pub fn is_done(&self) -> bool
+        ensures { IsTrue result ↔ (self.now.opens ≡ []) }
+    {
+        self.control.as_slice().is_empty()
+    }
+
+    /// The features that operators may need.
+    #[inline]
+    pub fn features(&self) -> WasmFeatures
+        ensures { result.0 ≡ self.now.given.bits }
+    {
+        self.features
+    }
+
+    /// Takes an operand off, whatever it is.
+    #[inline]
+    pub fn pop_any(&mut self) -> Result<MaybeType, Refusal>
+        ensures does { (m : Meaning) → MatchResult result (λ a. PoppedAny m self.old a self.new) (λ r. Denies (kind_of r) (MayPopAny m self.old)) }
+        ensures saved { self.new.saved ≡ self.old.saved }
+    {
+        let Some(frame) = self.control.as_slice().last().copied() else {
+            return Err(Refusal::AfterEnd);
+        };
+        if self.operands.as_slice().len() == frame.height {
+            if frame.unreachable {
+                return Ok(MaybeType::Bottom);
+            }
+            return Err(Refusal::EmptyStackOfAny);
+        }
+        let Ok(popped) = self.operands.pop() else {
+            return Err(Refusal::OutOfMemory);
+        };
+        let Some(operand) = popped else {
+            return Err(Refusal::EmptyStackOfAny);
+        };
+        Ok(operand)
+    }
+
+    /// Puts an operand on. It is refused for memory alone.
+    #[inline]
+    pub fn push_operand(&mut self, operand: MaybeType) -> Result<(), Refusal>
+        requires { IsOpen self.old.opens }
+        ensures does { (m : Meaning) → Does (refused result) (PushedAny m self.old operand self.new) (Unit {0}) }
+        ensures saved { self.new.saved ≡ self.old.saved }
+    {
+        let Ok(()) = self.operands.push(operand) else {
+            return Err(Refusal::OutOfMemory);
+        };
+        Ok(())
+    }
+
+    /// Nothing after this is reached. It is refused for memory alone, which it takes in an attempt.
+    pub fn set_unreachable(&mut self) -> Result<(), Refusal>
+        requires { IsOpen self.old.opens }
+        ensures does { (m : Meaning) → Does (refused result) (Jumped m self.old self.new) (Unit {0}) }
+        ensures saved { self.new.saved ≡ self.old.saved }
+    {
+        let Some(frame) = self.control.as_slice().last().copied() else {
+            return Err(Refusal::AfterEnd);
+        };
+        let Ok(()) = self.operands.truncate(frame.height) else {
+            return Err(Refusal::OutOfMemory);
+        };
+        let Ok(()) = self.control.replace_last(unreached(frame)) else {
+            return Err(Refusal::OutOfMemory);
+        };
+        Ok(())
+    }
+
+    /// Takes an operand off that may be taken for one of this type.
+    pub fn pop_operand<R: WasmModuleResources>(
+        &mut self,
+        resources: &R,
+        expected: &ValType,
+    ) -> Result<(), Refusal>
+        ensures does { Does (refused result) (Popped (R.meaning resources.now) self.old (known (type_in (R.meaning resources.now) expected.now) ∷ []) self.new) (MayPop (R.meaning resources.now) self.old (known (type_in (R.meaning resources.now) expected.now) ∷ [])) }
+        ensures saved { self.new.saved ≡ self.old.saved }
+    {
+        let found = match self.pop_any() {
+            Ok(found) => found,
+            Err(refusal) => return Err(refusal),
+        };
+        if !is_fit(resources, &found, expected) {
+            return Err(type_mismatch(&found, expected));
+        }
+        Ok(())
+    }
+
+    /// Takes operands off, the last first.
+    pub fn pop_operands<R: WasmModuleResources>(
+        &mut self,
+        resources: &R,
+        types: &[ValType],
+    ) -> Result<(), Refusal>
+        requires { IsOpen self.old.opens }
+        ensures does { Does (refused result) (Popped (R.meaning resources.now) self.old (stack (types_in (R.meaning resources.now) types.now)) self.new) (MayPop (R.meaning resources.now) self.old (stack (types_in (R.meaning resources.now) types.now))) }
+        ensures saved { self.new.saved ≡ self.old.saved }
+    {
+        let mut left = types;
+        while let Some((last, rest)) = left.split_last() {
+            left = rest;
+            self.pop_operand(resources, last)?;
+        }
+        Ok(())
+    }
+
+    /// Puts operands on, the last on top. It is refused for memory alone.
+    pub fn push_operands<R: WasmModuleResources>(
+        &mut self,
+        resources: &R,
+        types: &[ValType],
+    ) -> Result<(), Refusal>
+        requires { IsOpen self.old.opens }
+        ensures does { Does (refused result) (Pushed (R.meaning resources.now) self.old (stack (types_in (R.meaning resources.now) types.now)) self.new) (Unit {0}) }
+        ensures saved { self.new.saved ≡ self.old.saved }
+    {
+        let _resources = resources;
+        for one in types {
+            self.push_operand(MaybeType::Known(*one))?;
+        }
+        Ok(())
+    }
+
+    /// The ordinary operator: takes operands of the first types and gives some of the others.
+    pub fn exchange<R: WasmModuleResources>(
+        &mut self,
+        resources: &R,
+        popped: &[ValType],
+        pushed: &[ValType],
+    ) -> Result<(), Refusal>
+        requires { IsOpen self.old.opens }
+        ensures does { Does (refused result) (Exchanged (R.meaning resources.now) self.old (types_in (R.meaning resources.now) popped.now) (types_in (R.meaning resources.now) pushed.now) self.new) (MayPop (R.meaning resources.now) self.old (stack (types_in (R.meaning resources.now) popped.now))) }
+        ensures saved { self.new.saved ≡ self.old.saved }
+    {
+        self.pop_operands(resources, popped)?;
+        self.push_operands(resources, pushed)
+    }
+}
+
+/// The frame, from where nothing is reached.
+fn unreached(frame: Frame) -> Frame
+    ensures { result ≡ record frame { unreachable = true } }
+{
+    let mut frame = frame;
+    frame.unreachable = true;
+    frame
+}
