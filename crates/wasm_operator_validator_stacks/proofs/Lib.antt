@@ -1,3 +1,4 @@
 pub mod Layers
 pub mod Popping
 pub mod Fits
+pub mod Leaving

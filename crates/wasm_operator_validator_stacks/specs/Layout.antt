@@ -1,5 +1,5 @@
 -- How the open frames lie in memory.
-use Rattle.std.specs.Prelude.{◌≤◌, ◌-◌, ℕ, reverse, Option, Some, None, Bool, List, [], ◌∷◌, length, take, drop, false}
+use Rattle.std.specs.Prelude.{◌≡◌, ◌≤◌, ◌-◌, ℕ, reverse, Option, Some, None, Bool, List, [], ◌∷◌, length, take, drop, false}
 use Rattle.wasm_types.specs.trees.Types.{ref, abstract}
 use Rattle.wasm_types.specs.values.declared.heap.AbstractHeapType.{AbstractHeapType}
 use Rattle.wasm_types.specs.values.declared.value.ValType.{ValType}
@@ -31,6 +31,37 @@ state_of w saved frames operands inits = record { given = w; inits = inits; open
 abbrev pub IsLayered : List Frame → List MaybeType → List ℕ → Type 0
 IsLayered frames operands inits = Layered (reverse frames) (length operands) (length inits)
 
+-- what an attempt has saved is in order, and it has saved all three or none
+abbrev pub IsSavedLayered : Option (List Frame) → Option (List MaybeType) → Option (List ℕ) → Type 0
+IsSavedLayered None None None = Unit {0}
+IsSavedLayered (Some frames) (Some operands) (Some inits) = IsLayered frames operands inits
+IsSavedLayered frames operands inits = ⊥
+
+-- outside an attempt
+abbrev pub none_saved : Saved
+none_saved = record { operands = None; frames = None; inits = None }
+
+abbrev pub restored : State → Option (List Frame) → Option (List MaybeType) → Option (List ℕ) → State
+restored σ (Some frames) (Some operands) (Some inits) = state_of σ.given none_saved frames operands inits
+restored σ frames operands inits = record σ { saved = none_saved }
+
+-- the state that a rollback gives: what was saved, outside an attempt, or nothing changes where nothing was
+abbrev pub rolled_back : State → State
+rolled_back σ = restored σ σ.saved.frames σ.saved.operands σ.saved.inits
+
 -- a reference to this abstract type may be taken for one of this type
 abbrev pub IsAbstractFit : Meaning → Bool → AbstractHeapType → ValType → Type 0
 IsAbstractFit m s a t = OperandBelow (known (ref false (abstract s (abstract_of a)))) (known (type_in m t))
+
+-- the innermost frame has no operands of its own
+abbrev pub IsBare : List Open → Type 0
+IsBare [] = ⊥
+IsBare (o ∷ outer) = o.operands ≡ []
+
+-- the innermost frame was left, and is the one that was given; what was set in it is not set any more
+abbrev pub LeavesTo : List Open → State → Frame → State → Type 0
+LeavesTo [] σ f τ = ⊥
+LeavesTo (o ∷ outer) σ f τ = (o.operands ≡ []) × (f.kind ≡ o.kind) × (f.block_type ≡ o.block) × (τ ≡ record σ { opens = outer; inits = o.before })
+
+abbrev pub Leaves : State → Frame → State → Type 0
+Leaves σ f τ = LeavesTo σ.opens σ f τ

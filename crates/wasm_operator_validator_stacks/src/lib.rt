@@ -4,7 +4,9 @@
 //! in one place, and a frame knows how many lay below it where it began (`specs/Layout.antt`).
 #![tactic(auto)]
 
+mod attempts;
 mod fitting;
+mod frames;
 mod validator;
 
 pub use fitting::is_fit;

@@ -7,7 +7,7 @@ ghost use Rattle.wasm_operator_validator_resources.specs.Meaning.{Meaning, type_
 ghost use Rattle.wasm_operator_validator_state.specs.Refusals.{Does, kind_of, refused};
 ghost use Rattle.wasm_operator_validator_state.specs.State.{State, types_in};
 ghost use Rattle.wasm_operator_validator_state.specs.Steps.{IsOpen, MayPopAny, PoppedAny, PushedAny, Popped, MayPop, Pushed, Jumped, Exchanged};
-ghost use Rattle.wasm_operator_validator_stacks.specs.Layout.{state_of, IsLayered};
+ghost use Rattle.wasm_operator_validator_stacks.specs.Layout.{state_of, IsLayered, IsSavedLayered};
 
 use crate::fitting::{is_fit, type_mismatch};
 use std::marker::Model;
@@ -20,13 +20,13 @@ use wasm_types::{ValType, WasmFeatures};
 /// anything, but what an attempt has saved stays as it was.
 #[derive(Drop)]
 pub struct OperatorValidator {
-    features: WasmFeatures,
-    locals: Vec<ValType>,
-    params: u32,
-    shared: bool,
-    operands: Tape<MaybeType>,
-    control: Tape<Frame>,
-    inits: Tape<u32>,
+    pub(crate) features: WasmFeatures,
+    pub(crate) locals: Vec<ValType>,
+    pub(crate) params: u32,
+    pub(crate) shared: bool,
+    pub(crate) operands: Tape<MaybeType>,
+    pub(crate) control: Tape<Frame>,
+    pub(crate) inits: Tape<u32>,
 }
 
 impl Model for OperatorValidator {
@@ -34,7 +34,7 @@ impl Model for OperatorValidator {
 
     ghost view = { λ v. state_of (record { bits = v.features.0; locals = v.locals.items; params = v.params; shared = v.shared }) (record { operands = v.operands.1; frames = v.control.1; inits = v.inits.1 }) v.control.0 v.operands.0 v.inits.0 };
 
-    ghost invariant = { λ v. IsLayered v.control.0 v.operands.0 v.inits.0 };
+    ghost invariant = { λ v. IsLayered v.control.0 v.operands.0 v.inits.0 × IsSavedLayered v.control.1 v.operands.1 v.inits.1 };
 }
 
 impl OperatorValidator {
@@ -58,6 +58,7 @@ impl OperatorValidator {
     #[inline]
     pub fn pop_any(&mut self) -> Result<MaybeType, Refusal>
         ensures does { (m : Meaning) → MatchResult result (λ a. PoppedAny m self.old a self.new) (λ r. Denies (kind_of r) (MayPopAny m self.old)) }
+        ensures given { self.new.given ≡ self.old.given }
         ensures saved { self.new.saved ≡ self.old.saved }
     {
         let Some(frame) = self.control.as_slice().last().copied() else {
@@ -83,6 +84,7 @@ impl OperatorValidator {
     pub fn push_operand(&mut self, operand: MaybeType) -> Result<(), Refusal>
         requires { IsOpen self.old.opens }
         ensures does { (m : Meaning) → Does (refused result) (PushedAny m self.old operand self.new) (Unit {0}) }
+        ensures given { self.new.given ≡ self.old.given }
         ensures saved { self.new.saved ≡ self.old.saved }
     {
         let Ok(()) = self.operands.push(operand) else {
@@ -95,6 +97,7 @@ impl OperatorValidator {
     pub fn set_unreachable(&mut self) -> Result<(), Refusal>
         requires { IsOpen self.old.opens }
         ensures does { (m : Meaning) → Does (refused result) (Jumped m self.old self.new) (Unit {0}) }
+        ensures given { self.new.given ≡ self.old.given }
         ensures saved { self.new.saved ≡ self.old.saved }
     {
         let Some(frame) = self.control.as_slice().last().copied() else {
@@ -116,6 +119,7 @@ impl OperatorValidator {
         expected: &ValType,
     ) -> Result<(), Refusal>
         ensures does { Does (refused result) (Popped (R.meaning resources.now) self.old (known (type_in (R.meaning resources.now) expected.now) ∷ []) self.new) (MayPop (R.meaning resources.now) self.old (known (type_in (R.meaning resources.now) expected.now) ∷ [])) }
+        ensures given { self.new.given ≡ self.old.given }
         ensures saved { self.new.saved ≡ self.old.saved }
     {
         let found = match self.pop_any() {
@@ -136,6 +140,7 @@ impl OperatorValidator {
     ) -> Result<(), Refusal>
         requires { IsOpen self.old.opens }
         ensures does { Does (refused result) (Popped (R.meaning resources.now) self.old (stack (types_in (R.meaning resources.now) types.now)) self.new) (MayPop (R.meaning resources.now) self.old (stack (types_in (R.meaning resources.now) types.now))) }
+        ensures given { self.new.given ≡ self.old.given }
         ensures saved { self.new.saved ≡ self.old.saved }
     {
         let mut left = types;
@@ -154,6 +159,7 @@ impl OperatorValidator {
     ) -> Result<(), Refusal>
         requires { IsOpen self.old.opens }
         ensures does { Does (refused result) (Pushed (R.meaning resources.now) self.old (stack (types_in (R.meaning resources.now) types.now)) self.new) (Unit {0}) }
+        ensures given { self.new.given ≡ self.old.given }
         ensures saved { self.new.saved ≡ self.old.saved }
     {
         let _resources = resources;
@@ -172,6 +178,7 @@ impl OperatorValidator {
     ) -> Result<(), Refusal>
         requires { IsOpen self.old.opens }
         ensures does { Does (refused result) (Exchanged (R.meaning resources.now) self.old (types_in (R.meaning resources.now) popped.now) (types_in (R.meaning resources.now) pushed.now) self.new) (MayPop (R.meaning resources.now) self.old (stack (types_in (R.meaning resources.now) popped.now))) }
+        ensures given { self.new.given ≡ self.old.given }
         ensures saved { self.new.saved ≡ self.old.saved }
     {
         self.pop_operands(resources, popped)?;

@@ -1,0 +1,60 @@
+//! Attempts: an operator is tried, and taken back.
+
+ghost use Rattle.std.specs.Prelude.{◌≡◌, []};
+ghost use Rattle.wasm_operator_validator_stacks.specs.Layout.{none_saved, rolled_back};
+
+use crate::OperatorValidator;
+use std::alloc::Global;
+use wasm_operator_validator_tape::Tape;
+use wasm_types::{ValType, WasmFeatures};
+
+impl OperatorValidator {
+    /// What is known where no frame is open yet: the locals, of which the first so many are parameters. It takes no memory.
+    pub fn new(
+        alloc: Global,
+        features: WasmFeatures,
+        locals: Vec<ValType>,
+        params: u32,
+        shared: bool,
+    ) -> OperatorValidator
+        ensures { result ≡ record { given = record { bits = features.0; locals = locals.items; params = params; shared = shared }; inits = []; opens = []; saved = none_saved } }
+    {
+        OperatorValidator {
+            features,
+            locals,
+            params,
+            shared,
+            operands: Tape::new(alloc),
+            control: Tape::new(alloc),
+            inits: Tape::new(alloc),
+        }
+    }
+
+    /// Begins an attempt: a rollback gives what stands here.
+    pub fn begin_try_op(&mut self)
+        ensures same { self.new ≡ record self.old { saved = self.new.saved } }
+        ensures saves { rolled_back self.new ≡ record self.old { saved = none_saved } }
+    {
+        self.operands.begin();
+        self.control.begin();
+        self.inits.begin();
+    }
+
+    /// Ends an attempt, if one has begun: what was done stays.
+    pub fn commit(&mut self)
+        ensures { self.new ≡ record self.old { saved = none_saved } }
+    {
+        self.operands.commit();
+        self.control.commit();
+        self.inits.commit();
+    }
+
+    /// Ends an attempt, if one has begun: what stood where it began stands again. It takes no memory.
+    pub fn rollback(&mut self)
+        ensures { self.new ≡ rolled_back self.old }
+    {
+        self.operands.rollback();
+        self.control.rollback();
+        self.inits.rollback();
+    }
+}

@@ -1,0 +1,76 @@
+//! Open frames.
+
+ghost use Rattle.std.specs.Prelude.{◌≡◌, ◌∷◌, OnOk, IfErr, MatchResult, option_map, slice_get, length};
+ghost use Rattle.wasm_types.specs.error.Denials.{Denies};
+ghost use Rattle.wasm_operator_validator_state.specs.Refusals.{kind_of};
+ghost use Rattle.wasm_operator_validator_state.specs.State.{Open};
+ghost use Rattle.wasm_operator_validator_state.specs.Steps.{IsOpen, begun};
+ghost use Rattle.wasm_operator_validator_state.specs.declared.refusal.Refusal.TheVariants.{OutOfMemory};
+ghost use Rattle.wasm_operator_validator_stacks.specs.Layout.{Leaves, IsBare};
+
+use crate::OperatorValidator;
+use wasm_operator_validator_state::{Frame, Refusal};
+use wasm_operators_expression::{BlockType, FrameKind};
+
+impl OperatorValidator {
+    /// How many frames are open.
+    #[inline]
+    pub fn control_stack_height(&self) -> usize
+        ensures { result ≡ length self.now.opens }
+    {
+        self.control.as_slice().len()
+    }
+
+    /// The type and the kind of the frame that a label names, which counts outwards from the innermost.
+    pub fn jump(&self, depth: u32) -> Option<(BlockType, FrameKind)>
+        ensures { result ≡ option_map (λ o. (o.block, o.kind)) (slice_get self.now.opens depth) }
+    {
+        let frames = self.control.as_slice();
+        let depth = depth as usize;
+        if depth >= frames.len() {
+            return None;
+        }
+        let frame = frames[frames.len() - 1 - depth];
+        Some((frame.block_type, frame.kind))
+    }
+
+    /// Opens a frame. Its parameters are not on the operands yet. It is refused for memory alone, and nothing changes then.
+    pub fn enter(&mut self, kind: FrameKind, block_type: BlockType) -> Result<(), Refusal>
+        ensures entered { OnOk result (self.new ≡ record self.old { opens = begun kind block_type self.old.inits ∷ self.old.opens }) }
+        ensures refused { IfErr result (λ r. (r ≡ OutOfMemory) × (self.new ≡ self.old)) }
+    {
+        let frame = Frame {
+            kind,
+            block_type,
+            height: self.operands.as_slice().len(),
+            unreachable: false,
+            init_height: self.inits.as_slice().len(),
+        };
+        let Ok(()) = self.control.push(frame) else {
+            return Err(Refusal::OutOfMemory);
+        };
+        Ok(())
+    }
+
+    /// Leaves the innermost frame, which may have no operands of its own any more; what was set in it is not set any more.
+    pub fn leave(&mut self) -> Result<Frame, Refusal>
+        requires { IsOpen self.old.opens }
+        ensures left { MatchResult result (λ frame. Leaves self.old frame self.new) (λ r. Denies (kind_of r) (IsBare self.old.opens)) }
+        ensures given { self.new.given ≡ self.old.given }
+        ensures saved { self.new.saved ≡ self.old.saved }
+    {
+        let Some(frame) = self.control.as_slice().last().copied() else {
+            return Err(Refusal::AfterEnd);
+        };
+        if self.operands.as_slice().len() != frame.height {
+            return Err(Refusal::ValuesRemain);
+        }
+        let Ok(()) = self.inits.truncate(frame.init_height) else {
+            return Err(Refusal::OutOfMemory);
+        };
+        let Ok(_) = self.control.pop() else {
+            return Err(Refusal::OutOfMemory);
+        };
+        Ok(frame)
+    }
+}
