@@ -29,7 +29,7 @@ abbrev pub shape_of : Frame → Shape
 shape_of (frames.Version n e r) = version (record { version = n; layer = layer_of e })
 shape_of (frames.Custom c) = custom c.name.now c.«data».now
 shape_of (frames.Section id r) = section id r.rest
-shape_of (frames.CodeStart n size) = code n size
+shape_of (frames.CodeStart n r size) = code n size
 shape_of (frames.CodeEntry r) = entry r.rest
 shape_of (frames.End place) = the_end
 

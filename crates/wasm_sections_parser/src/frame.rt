@@ -50,6 +50,8 @@ pub enum Frame<'a> {
     CodeStart {
         /// How many bodies follow.
         count: u32,
+        /// The offsets of the contents, the count too; they may end behind all that there is.
+        range: Range<u64>,
         /// The size of the contents in bytes, the count too.
         size: u32,
     },

@@ -142,7 +142,11 @@ fn read_code_start<'a>(
     let end = place + u64::from(size);
     let count = read_number_before(end, reader)?;
     Ok(Read {
-        frame: Frame::CodeStart { count, size },
+        frame: Frame::CodeStart {
+            count,
+            range: Range { start: place, end },
+            size,
+        },
         progress: in_code(progress, count, end),
     })
 }

@@ -1,0 +1,2 @@
+-- Rules: which payload a frame is.
+pub mod Payloads

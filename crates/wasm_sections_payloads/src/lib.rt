@@ -1,0 +1,15 @@
+//! The frames of a module as payloads, each section with a reader of its items (WebAssembly 3.0, binary format, modules).
+//!
+//! `specs/Payloads.antt` says which payload a frame is. The items are read as they are asked for; here only a section's count is.
+#![tactic(auto)]
+
+mod counts;
+mod items;
+mod payload;
+
+pub use items::{
+    Data, DataKind, DataSectionReader, Element, ElementItems, ElementKind, ElementSectionReader,
+    ExportSectionReader, FunctionSectionReader, Global, GlobalSectionReader, ImportSectionReader,
+    MemorySectionReader, Table, TableInit, TableSectionReader, TagSectionReader, TypeSectionReader,
+};
+pub use payload::Payload;
