@@ -16,3 +16,4 @@ pub mod PlainLaws
 pub mod CallLaws
 pub mod ModuleLaws
 pub mod RefusalLaws
+pub mod Advance

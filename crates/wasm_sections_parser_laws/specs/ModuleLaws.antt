@@ -65,7 +65,7 @@ spelled_frames z m text h =
 
 -- ---- the header
 
-header_given : (p : Progress) (s t : State) (y : Next) → next_header p s ≡ given y t → (h : Header) × ((version h, begun p) ≡ y) × (header s ≡ Done h t)
+pub header_given : (p : Progress) (s t : State) (y : Next) → next_header p s ≡ given y t → (h : Header) × ((version h, begun p) ≡ y) × (header s ≡ Done h t)
 unfolding next_header
 header_given p s t y e =
     let m = done_then (header s) (λ k. pure (version k, begun p)) y t e in
