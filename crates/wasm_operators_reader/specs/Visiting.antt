@@ -1,8 +1,14 @@
 -- What a visitor is told of what is read, and what is refused because a visitor has no visit of it.
-use Rattle.std.specs.Prelude.{◌≡◌, ◌⊎◌, true, false}
+use Rattle.std.specs.Prelude.{◌≡◌, ◌⊎◌, IsTrue, true, false}
+use Rattle.wasm_types.specs.decoding.Decoder.{State, Done}
 use Rattle.wasm_types.specs.error.declared.error.ErrorKind.TheVariants.{Other}
 use Rattle.wasm_types.specs.error.ErrorValue.{ErrorValue}
 use Rattle.wasm_operators_expression.specs.operator.Op.{Op}
+use Rattle.wasm_operators_expression.specs.operator.declared.role.Role.{Role}
+use Rattle.wasm_operators_expression.specs.operator.Roles.{role_of}
+use Rattle.wasm_operators_expression.specs.operator.Immediates.{is_canonical}
+use Rattle.wasm_operators_expression.specs.decode_encoding.Coded.{operator}
+use Rattle.wasm_operators_expression.specs.decode_encoding.Operators.{coded_of}
 use Rattle.wasm_operators_visit_simd_operator.specs.visit_operator.Vectors.{is_simd}
 use Rattle.wasm_operators_reader.specs.Standing.{Standing, Reads, Refuses}
 
@@ -26,3 +32,12 @@ pub record RefusesVector (s : Standing) (e : ErrorValue) : Type 0 where
 -- why no operator is read, or one on vectors
 abbrev pub RefusesPlain : Standing → ErrorValue → Type 0
 RefusesPlain s e = Refuses s e ⊎ RefusesVector s e
+
+-- an operator of this role, which is not on vectors, is read from one state to the other, and the visitor is told of it
+pub record Tells {V A : Type 0} (visits : V → Op → A → V → Type 0) (role : Role) (s : State) (v : V) (answer : A) (t : State) (w : V) : Type 0 where
+  pub op : Op
+  pub canonical : IsTrue (is_canonical op)
+  pub read : operator s.settings s ≡ Done (coded_of op) t
+  pub role_is : role_of op ≡ role
+  pub no_vector : is_simd op ≡ false
+  pub told : visits v op answer w

@@ -6,7 +6,9 @@
 //! what the iterators give, and `specs/Visiting.antt` what a visitor is told.
 #![tactic(auto)]
 
+mod cursor;
 mod expression;
+mod frequent;
 mod iterators;
 pub mod laws;
 mod operators_reader;

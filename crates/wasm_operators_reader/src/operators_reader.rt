@@ -1,15 +1,19 @@
 //! The reader of operators in frames.
 
-ghost use Rattle.std.specs.Prelude.{◌≡◌, ◌↔◌, ◌==◌, ◌+◌, ◌<◌, [], ◌∷◌, IsTrue, IfOk, IfErr, length};
+ghost use Rattle.std.specs.Prelude.{◌≡◌, ◌↔◌, ◌==◌, ◌+◌, ◌<◌, [], ◌∷◌, IsTrue, IfOk, IfErr, IfSome, IfNone, length};
 ghost use Rattle.wasm_types.specs.error.declared.error.ErrorKind.TheVariants.{Other};
 ghost use Rattle.wasm_types.specs.reader.Reading.{NeedsNoMemory};
 ghost use Rattle.wasm_operators_expression.specs.operator.Op.{op_of};
 ghost use Rattle.wasm_operators_reader.specs.Standing.{at_start, IsFinished, Reads, Refuses, WantsMemory};
+ghost use Rattle.wasm_operators_reader.specs.Visiting.{VisitsPlain};
 
+use crate::cursor::Cursor;
+use crate::frequent::visit_frequent;
 use std::alloc::Global;
 use std::marker::Model;
 use wasm_operators_decode::read_operator;
 use wasm_operators_expression::{ControlStack, FrameKind, FrameStack, Operator, Role};
+use wasm_operators_visit_simd_operator::VisitOperator;
 use wasm_types::{BinaryReader, Error, Result};
 
 /// The memory of a reader's frames.
@@ -28,7 +32,7 @@ impl OperatorsReaderAllocations {
 /// Reads operators one after the other, and knows which frames are open.
 #[derive(Drop)]
 pub struct OperatorsReader<'a> {
-    reader: BinaryReader<'a>,
+    reader: Cursor<'a>,
     control: ControlStack,
     alloc: Global,
 }
@@ -49,7 +53,7 @@ impl<'a> OperatorsReader<'a> {
         let mut control = ControlStack::new(alloc);
         let _ = control.push(FrameKind::Block);
         OperatorsReader {
-            reader,
+            reader: Cursor::new(reader),
             control,
             alloc,
         }
@@ -67,7 +71,7 @@ impl<'a> OperatorsReader<'a> {
         control.clear();
         let _ = control.push(FrameKind::Block);
         OperatorsReader {
-            reader,
+            reader: Cursor::new(reader),
             control,
             alloc,
         }
@@ -89,7 +93,7 @@ impl<'a> OperatorsReader<'a> {
     pub fn get_binary_reader(&self) -> BinaryReader<'a>
         ensures { result ≡ self.now.bytes }
     {
-        self.reader.clone()
+        self.reader.reader()
     }
 
     /// Whether no byte is left.
@@ -113,7 +117,7 @@ impl<'a> OperatorsReader<'a> {
     pub fn is_end_then_eof(&self) -> bool
         ensures { IsTrue result ↔ (self.now.bytes.rest ≡ 0x0b ∷ []) }
     {
-        self.reader.is_end_then_eof()
+        self.reader.reader().is_end_then_eof()
     }
 
     /// The next operator, whose frame it opens, closes or turns.
@@ -133,21 +137,18 @@ impl<'a> OperatorsReader<'a> {
                 self.original_position(),
             ));
         }
-        let start = self.reader.clone();
-        let op = match read_operator(self.alloc, &mut self.reader) {
+        let mut ahead = self.reader.reader();
+        let op = match read_operator(self.alloc, &mut ahead) {
             Ok(op) => op,
             Err(error) => return Err(error),
         };
         let Ok(fits) = self.control.advance(&op) else {
-            let place = start.original_position();
-            self.reader = start;
-            return Err(Error::out_of_memory(place));
+            return Err(Error::out_of_memory(self.original_position()));
         };
         if !fits {
-            let error = misplaced(&op, &start);
-            self.reader = start;
-            return Err(error);
+            return Err(misplaced(&op, &self.reader.reader()));
         }
+        self.reader.go_to(&ahead);
         Ok(op)
     }
 
@@ -166,11 +167,26 @@ impl<'a> OperatorsReader<'a> {
         Ok((op, place))
     }
 
+    /// Reads the next operator, as `read` does, and calls the visit that belongs to it, where it is a frequent one in a frequent
+    /// form: no operator is built, and no error made. None where it is another, where it is one on vectors, and where `read`
+    /// would refuse it. The reader stays as it was then, and the visitor is told nothing.
+    #[inline(always)]
+    pub fn visit_frequent<V: VisitOperator<'a>>(&mut self, visitor: &mut V) -> Option<V::Output>
+        ensures visited { IfSome result (λ answer. VisitsPlain V.visits self.old visitor.old answer self.new visitor.new) }
+        ensures stays { IfNone result (self.new ≡ self.old) }
+        ensures told { IfNone result (visitor.new ≡ visitor.old) }
+    {
+        let Some(answer) = visit_frequent(&mut self.reader, &mut self.control, visitor) else {
+            return None;
+        };
+        Some(answer)
+    }
+
     /// Lets it stand at other bytes, with the same frames.
     pub(crate) fn put_back(&mut self, reader: BinaryReader<'a>)
         ensures { self.new ≡ record { bytes = reader.entry; frames = self.old.frames } }
     {
-        self.reader = reader;
+        self.reader = Cursor::new(reader);
     }
 
     /// That all frames are closed, and all bytes read.

@@ -1,6 +1,6 @@
 -- Decoders put together, at offsets in a slice; and operators by their opcode and what they carry.
 use Rattle.std.proofs.Common.{◌≡◌, ℕ, ◌+◌, ◌-◌, ◌<◌, ◌≤◌, List, [], ◌∷◌, length, drop, get_or, true, false, Some, None, Option, map, refl}
-use Rattle.std.proofs.Common.{ap, ◌∙◌, arith, IsTrue}
+use Rattle.std.proofs.Common.{ap, sym, subst, ◌∙◌, arith, IsTrue}
 use Rattle.std.specs.Prelude.{◌==◌}
 use Rattle.std.proofs.lemmas.Bool.{ne_eqb}
 use Rattle.std.proofs.lemmas.List.{drop-drop, drop_more}
@@ -20,7 +20,8 @@ use Rattle.wasm_operators_decode_numbers.specs.decode_encoding.Coded.{kinds_at, 
 use Rattle.wasm_operators_decode_numbers.specs.decode_encoding.Operators.{opcode_of, coded_of}
 use Rattle.wasm_operators_decode_numbers.specs.decode_encoding.OperatorLaws.{own_kinds_at}
 use Rattle.wasm_operators_visit_control.specs.operator.Table.{info_of}
-use Rattle.wasm_operators_visit_short.specs.Short.{within, IsTold, Begins, BeginsPrefixed}
+use Rattle.wasm_operators_visit_operator.specs.Vectors.{is_simd}
+use Rattle.wasm_operators_visit_short.specs.Short.{within, BeginsWith, IsTold, Begins, BeginsPrefixed}
 
 -- ---- offsets
 
@@ -136,48 +137,58 @@ prefixed_there text i p code m begins prefix =
 
 -- ---- the same within any limits
 
-module _ (features : ℕ) (text : List ℕ) (i m : ℕ) (o : Op) (first : GivesAt opcode text i (opcode_of o) m) (Told : Op → Type 0) (told : Told o)
-    (canonical : IsTrue (is_canonical o)) where
+-- the opcode of an operator stands from one offset to the other
+pub record OpcodeAt (text : List ℕ) (i : ℕ) (o : Op) (m : ℕ) : Type 0 where
+  pub read : GivesAt opcode text i (opcode_of o) m
+  pub begins : BeginsWith (info_of o).prefix (info_of o).code (get_or text i 0)
+
+module _ (features : ℕ) (text : List ℕ) (i m : ℕ) (o : Op) (first : OpcodeAt text i o m) (Told : Op → Type 0) (told : Told o)
+    (canonical : IsTrue (is_canonical o)) (no_vector : is_simd o ≡ false) where
+  told_by : (e : ℕ) → ((limits : Limits) → GivesAt (operator (within features limits)) text i (coded_of o) e) → IsTold features text i e Told
+  told_by e reads = record { op = o; canonical = canonical; begins = first.begins; no_vector = no_vector; reads = reads; told = told }
+
   pub is_told : immediates_of o ≡ [] → IsTold features text i m Told
-  is_told nothing = record { op = o; canonical = canonical; reads = λ limits. none (within features limits) text i m o first nothing; told = told }
+  is_told nothing = told_by m (λ limits. none (within features limits) text i m o first.read nothing)
 
   pub is_told_with : (x : Immediate) (e : ℕ) → immediates_of o ≡ x ∷ [] → ((limits : Limits) → GivesAt (immediate (within features limits) (kind_of x)) text m x e)
       → IsTold features text i e Told
-  is_told_with x e just g = record { op = o; canonical = canonical; reads = λ limits. one_more (within features limits) text i m o first x e just (g limits); told = told }
+  is_told_with x e just g = told_by e (λ limits. one_more (within features limits) text i m o first.read x e just (g limits))
 
   pub is_told_with_two : (x y : Immediate) (n e : ℕ) → immediates_of o ≡ x ∷ y ∷ [] → ((limits : Limits) → GivesAt (immediate (within features limits) (kind_of x)) text m x n)
       → ((limits : Limits) → GivesAt (immediate (within features limits) (kind_of y)) text n y e) → IsTold features text i e Told
-  is_told_with_two x y n e both g h = record {
-    op = o;
-    canonical = canonical;
-    reads = λ limits. two_more (within features limits) text i m o first x y n e both (g limits) (h limits);
-    told = told;
-  }
+  is_told_with_two x y n e both g h = told_by e (λ limits. two_more (within features limits) text i m o first.read x y n e both (g limits) (h limits))
 
 -- of an opcode of one byte
 module _ (features : ℕ) (text : List ℕ) (i code n : ℕ) (begins : Begins text i code) (is : code ≡ n) (o : Op) (opcode_is : opcode_of o ≡ plain n)
     (no_prefix : is_prefix n ≡ false) where
-  plain_of : GivesAt opcode text i (opcode_of o) (i + 1)
-  plain_of = rw opcode_is (plain_there text i code n begins is no_prefix)
+  plain_of : OpcodeAt text i o (i + 1)
+  plain_of = record {
+    read = rw opcode_is (plain_there text i code n begins is no_prefix);
+    begins = subst (λ (c : Opcode). BeginsWith c.prefix c.code (get_or text i 0)) (sym opcode_is) (sym (begins.code_there ∙ is));
+  }
 
-  module _ (Told : Op → Type 0) (told : Told o) (canonical : IsTrue (is_canonical o)) where
+  module _ (Told : Op → Type 0) (told : Told o) (canonical : IsTrue (is_canonical o)) (no_vector : is_simd o ≡ false) where
     pub told_alone : immediates_of o ≡ [] → IsTold features text i (i + 1) Told
-    told_alone = is_told features text i (i + 1) o plain_of Told told canonical
+    told_alone = is_told features text i (i + 1) o plain_of Told told canonical no_vector
 
     pub told_with : (x : Immediate) (e : ℕ) → immediates_of o ≡ x ∷ []
         → ((limits : Limits) → GivesAt (immediate (within features limits) (kind_of x)) text (i + 1) x e) → IsTold features text i e Told
-    told_with = is_told_with features text i (i + 1) o plain_of Told told canonical
+    told_with = is_told_with features text i (i + 1) o plain_of Told told canonical no_vector
 
     pub told_with_two : (x y : Immediate) (m e : ℕ) → immediates_of o ≡ x ∷ y ∷ [] → ((limits : Limits) → GivesAt (immediate (within features limits) (kind_of x)) text (i + 1) x m)
         → ((limits : Limits) → GivesAt (immediate (within features limits) (kind_of y)) text m y e) → IsTold features text i e Told
-    told_with_two = is_told_with_two features text i (i + 1) o plain_of Told told canonical
+    told_with_two = is_told_with_two features text i (i + 1) o plain_of Told told canonical no_vector
 
 -- of a code behind a prefix
 pub prefixed_of : (text : List ℕ) (i p code n m : ℕ) → BeginsPrefixed text i p code m → code ≡ n → is_prefix p ≡ true → (o : Op) → opcode_of o ≡ prefixed p n
-    → GivesAt opcode text i (opcode_of o) m
+    → OpcodeAt text i o m
 prefixed_of text i p code n m begins is prefix o opcode_is =
     let there = prefixed_there text i p code m begins prefix in
-    rw opcode_is (rw is at there)
+    let first = begins.prefix_there.code_there in
+    record {
+      read = rw opcode_is (rw is at there);
+      begins = subst (λ (c : Opcode). BeginsWith c.prefix c.code (get_or text i 0)) (sym opcode_is) (sym first, ap is_prefix first ∙ prefix);
+    }
 
 -- ---- what a code tells
 

@@ -54,9 +54,15 @@ fn visit_all<'a, E: Drop, V: VisitOperator<'a, Output = std::result::Result<(), 
     ensures refused { IfErr result (λ e. WalksTo V.visits (Ok tt) operators.old visitor.old operators.new visitor.new × StopsPlain operators.new e) }
 {
     while !operators.eof() {
-        let answer = match operators.visit_operator(visitor) {
-            Ok(answer) => answer,
-            Err(error) => return Err(error),
+        let Some(answer) = operators.visit_frequent(visitor) else {
+            let complete = match operators.visit_operator(visitor) {
+                Ok(answer) => answer,
+                Err(error) => return Err(error),
+            };
+            if let Err(last) = complete {
+                return Ok(Err(last));
+            }
+            continue;
         };
         if let Err(last) = answer {
             return Ok(Err(last));

@@ -9,25 +9,25 @@ use Rattle.wasm_operators_visit_short.proofs.memory.variable.Goals as goal
 
 pub returns-in-32-clause-told : goal.returns-in-32-clause-told
 returns-in-32-clause-told g c = told_with c.args.features.0 c.args.bytes.now c.args.at c.args.code 32 c.requires c.in-32.is
-    (op.Memory (memory.LocalGet c.in-Some.index)) refl refl _ c.visit_local_get.ensures refl (Index kind.Locals c.in-Some.index) c.in-Some.end refl
+    (op.Memory (memory.LocalGet c.in-Some.index)) refl refl _ c.visit_local_get.ensures refl refl (Index kind.Locals c.in-Some.index) c.in-Some.end refl
     (λ limits. index_of _ _ _ _ kind.Locals c.in-Some.index c.in-Some.ensures.found)
 
 pub returns-in-33-clause-told : goal.returns-in-33-clause-told
 returns-in-33-clause-told g c = told_with c.args.features.0 c.args.bytes.now c.args.at c.args.code 33 c.requires c.in-33.is
-    (op.Memory (memory.LocalSet c.in-Some.index)) refl refl _ c.visit_local_set.ensures refl (Index kind.Locals c.in-Some.index) c.in-Some.end refl
+    (op.Memory (memory.LocalSet c.in-Some.index)) refl refl _ c.visit_local_set.ensures refl refl (Index kind.Locals c.in-Some.index) c.in-Some.end refl
     (λ limits. index_of _ _ _ _ kind.Locals c.in-Some.index c.in-Some.ensures.found)
 
 pub returns-in-34-clause-told : goal.returns-in-34-clause-told
 returns-in-34-clause-told g c = told_with c.args.features.0 c.args.bytes.now c.args.at c.args.code 34 c.requires c.in-34.is
-    (op.Memory (memory.LocalTee c.in-Some.index)) refl refl _ c.visit_local_tee.ensures refl (Index kind.Locals c.in-Some.index) c.in-Some.end refl
+    (op.Memory (memory.LocalTee c.in-Some.index)) refl refl _ c.visit_local_tee.ensures refl refl (Index kind.Locals c.in-Some.index) c.in-Some.end refl
     (λ limits. index_of _ _ _ _ kind.Locals c.in-Some.index c.in-Some.ensures.found)
 
 pub returns-in-35-clause-told : goal.returns-in-35-clause-told
 returns-in-35-clause-told g c = told_with c.args.features.0 c.args.bytes.now c.args.at c.args.code 35 c.requires c.in-35.is
-    (op.Memory (memory.GlobalGet c.in-Some.index)) refl refl _ c.visit_global_get.ensures refl (Index kind.Globals c.in-Some.index) c.in-Some.end refl
+    (op.Memory (memory.GlobalGet c.in-Some.index)) refl refl _ c.visit_global_get.ensures refl refl (Index kind.Globals c.in-Some.index) c.in-Some.end refl
     (λ limits. index_of _ _ _ _ kind.Globals c.in-Some.index c.in-Some.ensures.found)
 
 pub returns-in-36-clause-told : goal.returns-in-36-clause-told
 returns-in-36-clause-told g c = told_with c.args.features.0 c.args.bytes.now c.args.at c.args.code 36 c.requires c.in-36.is
-    (op.Memory (memory.GlobalSet c.in-Some.index)) refl refl _ c.visit_global_set.ensures refl (Index kind.Globals c.in-Some.index) c.in-Some.end refl
+    (op.Memory (memory.GlobalSet c.in-Some.index)) refl refl _ c.visit_global_set.ensures refl refl (Index kind.Globals c.in-Some.index) c.in-Some.end refl
     (λ limits. index_of _ _ _ _ kind.Globals c.in-Some.index c.in-Some.ensures.found)

@@ -7,4 +7,4 @@ pub returns-clause-told : goal.returns-clause-told
 returns-clause-told g c =
     told_alone c.args.features.0 c.args.bytes.now c.args.at c.args.code c.args.code c.requires.begins refl (op.Numeric c.in-Some.op)
     (opcode_is (op.Numeric c.in-Some.op) c.args.code c.in-Some.ensures.prefix c.in-Some.ensures.code)
-    (low_is_no_prefix c.args.code c.requires.low) _ c.visit_numeric-answer.ensures refl refl
+    (low_is_no_prefix c.args.code c.requires.low) _ c.visit_numeric-answer.ensures refl refl refl

@@ -8,4 +8,4 @@ returns-clause-told g c =
     let of_numbers = op.Numeric c.in-Some.op in
     let first = prefixed_of c.args.bytes.now c.args.at 0xfc c.args.code c.args.code c.args.end c.requires refl refl of_numbers
     (prefixed_is of_numbers 0xfc c.args.code c.in-Some.ensures.prefix c.in-Some.ensures.code) in
-    is_told c.args.features.0 c.args.bytes.now c.args.at c.args.end of_numbers first _ c.visit_numeric-answer.ensures refl refl
+    is_told c.args.features.0 c.args.bytes.now c.args.at c.args.end of_numbers first _ c.visit_numeric-answer.ensures refl refl refl

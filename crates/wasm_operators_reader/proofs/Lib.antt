@@ -1,0 +1,2 @@
+-- operators that were told at once
+pub mod AtOnce

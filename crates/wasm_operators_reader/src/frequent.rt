@@ -1,0 +1,147 @@
+//! The frequent operators, visited straight from their bytes.
+
+ghost use Rattle.std.specs.Prelude.{◌≡◌, get_or, IfSome, IfNone};
+ghost use Rattle.wasm_operators_decode_codes.specs.OpcodeRoles.{plain_role};
+ghost use Rattle.wasm_operators_expression.specs.operator.declared.role.Role.TheVariants.{Plain, Opens, End};
+ghost use Rattle.wasm_operators_reader.specs.Visiting.{Tells, VisitsPlain};
+
+use crate::cursor::Cursor;
+use wasm_operators_expression::{ControlStack, FrameKind, Role};
+use wasm_operators_visit_short::visit_short;
+use wasm_operators_visit_simd_operator::VisitOperator;
+
+/// The next operator, read and visited, and the role of its first byte.
+#[inline(always)]
+fn visit_next<'a, V: VisitOperator<'a>>(
+    reader: &mut Cursor<'a>,
+    visitor: &mut V,
+) -> Option<V::Output>
+    ensures visited { IfSome result (λ answer. Tells V.visits (plain_role (get_or reader.old.rest 0 0)) reader.old visitor.old answer reader.new visitor.new) }
+    ensures stays { IfNone result (reader.new ≡ reader.old) }
+    ensures told { IfNone result (visitor.new ≡ visitor.old) }
+{
+    let features = reader.features();
+    let Some((answer, end)) = visit_short(reader.bytes, reader.position, features, visitor) else {
+        return None;
+    };
+    reader.position = end;
+    Some(answer)
+}
+
+/// The same of an operator that leaves the frames.
+#[inline(always)]
+fn visit_inside<'a, V: VisitOperator<'a>>(
+    reader: &mut Cursor<'a>,
+    control: &ControlStack,
+    visitor: &mut V,
+) -> Option<V::Output>
+    requires { plain_role (get_or reader.old.rest 0 0) ≡ Plain }
+    ensures visited { IfSome result (λ answer. VisitsPlain V.visits (record { bytes = reader.old; frames = control.now.frames }) visitor.old answer (record { bytes = reader.new; frames = control.now.frames }) visitor.new) }
+    ensures stays { IfNone result (reader.new ≡ reader.old) }
+    ensures told { IfNone result (visitor.new ≡ visitor.old) }
+{
+    if control.is_empty() {
+        return None;
+    }
+    let Some(answer) = visit_next(reader, visitor) else {
+        return None;
+    };
+    Some(answer)
+}
+
+/// The same of one that opens a frame.
+#[inline]
+fn visit_opening<'a, V: VisitOperator<'a>>(
+    frame: FrameKind,
+    reader: &mut Cursor<'a>,
+    control: &mut ControlStack,
+    visitor: &mut V,
+) -> Option<V::Output>
+    requires { plain_role (get_or reader.old.rest 0 0) ≡ Opens frame }
+    ensures visited { IfSome result (λ answer. VisitsPlain V.visits (record { bytes = reader.old; frames = control.old.frames }) visitor.old answer (record { bytes = reader.new; frames = control.new.frames }) visitor.new) }
+    ensures stays { IfNone result ((reader.new ≡ reader.old) × (control.new.frames ≡ control.old.frames)) }
+    ensures told { IfNone result (visitor.new ≡ visitor.old) }
+{
+    if control.is_empty() {
+        return None;
+    }
+    let Ok(()) = control.push(frame) else {
+        return None;
+    };
+    let Some(answer) = visit_next(reader, visitor) else {
+        control.pop();
+        return None;
+    };
+    Some(answer)
+}
+
+/// The same of `end`.
+#[inline(always)]
+fn visit_closing<'a, V: VisitOperator<'a>>(
+    reader: &mut Cursor<'a>,
+    control: &mut ControlStack,
+    visitor: &mut V,
+) -> Option<V::Output>
+    requires { plain_role (get_or reader.old.rest 0 0) ≡ End }
+    ensures visited { IfSome result (λ answer. VisitsPlain V.visits (record { bytes = reader.old; frames = control.old.frames }) visitor.old answer (record { bytes = reader.new; frames = control.new.frames }) visitor.new) }
+    ensures stays { IfNone result ((reader.new ≡ reader.old) × (control.new.frames ≡ control.old.frames)) }
+    ensures told { IfNone result (visitor.new ≡ visitor.old) }
+{
+    if control.is_empty() {
+        return None;
+    }
+    let Some(answer) = visit_next(reader, visitor) else {
+        return None;
+    };
+    control.pop();
+    Some(answer)
+}
+
+/// Reads the next operator and calls the visit that belongs to it, where it is a frequent one in a frequent form. None
+/// where it is another, and where none is read: then nothing changes.
+#[inline(always)]
+pub(crate) fn visit_frequent<'a, V: VisitOperator<'a>>(
+    reader: &mut Cursor<'a>,
+    control: &mut ControlStack,
+    visitor: &mut V,
+) -> Option<V::Output>
+    ensures visited { IfSome result (λ answer. VisitsPlain V.visits (record { bytes = reader.old; frames = control.old.frames }) visitor.old answer (record { bytes = reader.new; frames = control.new.frames }) visitor.new) }
+    ensures stays { IfNone result ((reader.new ≡ reader.old) × (control.new.frames ≡ control.old.frames)) }
+    ensures told { IfNone result (visitor.new ≡ visitor.old) }
+{
+    if reader.eof() {
+        return None;
+    }
+    match role_of(reader.first()) {
+        Role::Plain => {
+            let answer = visit_inside(reader, control, visitor)?;
+            Some(answer)
+        }
+        Role::Opens(frame) => visit_opening(frame, reader, control, visitor),
+        Role::End => visit_closing(reader, control, visitor),
+        Role::Else => None,
+        Role::Catch => None,
+        Role::CatchAll => None,
+        Role::Delegate => None,
+    }
+}
+
+/// The role of the operators that begin with this byte.
+#[inline(always)]
+fn role_of(byte: u8) -> Role
+    ensures { result ≡ plain_role byte }
+{
+    match byte {
+        0x02 => Role::Opens(FrameKind::Block),
+        0x03 => Role::Opens(FrameKind::Loop),
+        0x04 => Role::Opens(FrameKind::If),
+        0x05 => Role::Else,
+        0x06 => Role::Opens(FrameKind::LegacyTry),
+        0x07 => Role::Catch,
+        0x0b => Role::End,
+        0x18 => Role::Delegate,
+        0x19 => Role::CatchAll,
+        0x1f => Role::Opens(FrameKind::TryTable),
+        _ => Role::Plain,
+    }
+}
