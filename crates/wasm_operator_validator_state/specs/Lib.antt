@@ -2,6 +2,7 @@
 pub mod Refusals
 pub mod State
 pub mod Steps
+pub mod Bodies
 -- Worked operands and refusals.
 pub mod worked
 -- How a visit's promise follows from its steps: laws, with the proofs.

@@ -87,7 +87,7 @@ signature_of m (block.FuncType x) = signature_of_type (expanded (type_at m.«mod
 
 -- the locals that are initialised once those of a list were set
 abbrev pub initialised : Meaning → Given → List ℕ → Initialised
-initialised m w inits x = initialised_at_first w.params (types_in m w.locals) x || list_any (λ k. k == x) inits
+initialised m w inits x = list_any (λ k. k == x) inits || initialised_at_first w.params (types_in m w.locals) x
 
 abbrev pub label : Meaning → Open → List ValueType
 label m o = label_of o.kind (signature_of m o.block)
