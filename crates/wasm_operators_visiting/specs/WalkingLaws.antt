@@ -86,10 +86,14 @@ none_rest b [] t e = refl
 none_rest b (x ∷ xs) t e = absurd (omega (arith, eqb-true (length (x ∷ xs)) 0 (sym e ∙ t)))
 
 module _ {V A : Type 0} (visits : V → Op → A → V → Type 0) (answer : A) (s : Standing) (v : V) where
+  -- what leaves all as it was visits nothing
+  pub walk_same : (t u : Standing) (w x : V) → u ≡ t → x ≡ w → WalksTo visits answer s v t w → WalksTo visits answer s v u x
+  walk_same t u w x same kept told = subst (λ (y : V). WalksTo visits answer s v u y) (sym kept) (subst (λ (z : Standing). WalksTo visits answer s v z w) (sym same) told)
+
   -- a refused visit leaves all as it was
   pub walk_stops : (t u : Standing) (w x : V) (e : ErrorValue) → WalksTo visits answer s v t w → (t.bytes.rest ≡ [] → ⊥) → RefusesPlain t e
       → ((WantsMemory t → ⊥) → IsNotMemory e.kind) → u ≡ t → x ≡ w → WalksTo visits answer s v u x × StopsPlain u e
-  walk_stops t u w x e told more r memory same kept = (subst (λ (y : V). WalksTo visits answer s v u y) (sym kept) (subst (λ (z : Standing). WalksTo visits answer s v z w) (sym same) told), subst (λ (z : Standing). StopsPlain z e) (sym same) (inl (more, r, memory)))
+  walk_stops t u w x e told more r memory same kept = (walk_same t u w x same kept told, subst (λ (z : Standing). StopsPlain z e) (sym same) (inl (more, r, memory)))
 
   pub answered : (t u : Standing) (w x : V) (a b : A) → a ≡ b → VisitsPlain visits t w a u x → VisitsPlain visits t w b u x
   answered t u w x a b e h = subst (λ (c : A). VisitsPlain visits t w c u x) e h
