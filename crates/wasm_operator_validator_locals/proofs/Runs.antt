@@ -1,0 +1,168 @@
+-- Runs of locals: one more at the end, and the run that has a local.
+use Rattle.std.proofs.Common.{◌≡◌, ℕ, zero, suc, ◌+◌, ◌-◌, ◌<◌, ◌≤◌, List, [], ◌∷◌, ◌++◌, Some, None, true, false, leb, length, take, get_or, replicate, refl, sym, ap, ◌∙◌, arith, subst, append_assoc, slice_get, option_map}
+use Rattle.std.proofs.lemmas.List.{append-nil, length-append, length-replicate, take_all}
+use Rattle.std.proofs.lemmas.Bool.{leb-true, leb-false, le-leb}
+use Rattle.std.proofs.lemmas.Option.{slice_get_past, slice_get_read}
+use Rattle.std.specs.List.Sorted.{IsPartitionPoint, IsPartitionedBy}
+use Rattle.wasm_types.specs.values.declared.value.ValType.{ValType}
+use Rattle.wasm_operator_validator_locals.specs.declared.locals.Run.{Run}
+use Rattle.wasm_operator_validator_locals.specs.Locals.{locals_from, AreRunsFrom, IsFront}
+
+-- where the last run ends
+abbrev pub end_from : ℕ → List Run → ℕ
+end_from start [] = start
+end_from start (r ∷ rs) = end_from r.end rs
+
+pub end_above : (start : ℕ) (rs : List Run) → AreRunsFrom start rs → (start ≤ end_from start rs) × (end_from start rs ≤ 50000)
+end_above start [] a = (omega arith, a)
+end_above start (r ∷ rs) a = let e = end_above r.end rs a.1 in (omega (arith, a.0, e.0), e.1)
+
+pub length-locals_from : (start : ℕ) (rs : List Run) → AreRunsFrom start rs → start + length (locals_from start rs) ≡ end_from start rs
+length-locals_from start [] a = omega arith
+length-locals_from start (r ∷ rs) a =
+    omega (arith, a.0, length-locals_from r.end rs a.1, length-append (replicate (r.end - start) r.ty) (locals_from r.end rs), length-replicate (r.end - start) r.ty)
+
+pub end_from-last : (start : ℕ) (rs : List Run) (r : Run) → slice_get rs (length rs - 1) ≡ Some r → end_from start rs ≡ r.end
+end_from-last start [] r e = absurd cc
+end_from-last start (q ∷ []) r e = let s : q ≡ r = cc in ap (λ (x : Run). x.end) s
+end_from-last start (q ∷ p ∷ rs) r e =
+    let k : suc (suc (length rs)) - 1 ≡ suc (suc (length rs) - 1) = omega arith in
+    let e' : slice_get (p ∷ rs) (suc (length rs) - 1) ≡ Some r = rw k at e in
+    end_from-last q.end (p ∷ rs) r e'
+
+-- one more run
+pub runs_more : (start : ℕ) (rs : List Run) (r : Run) → AreRunsFrom start rs → end_from start rs ≤ r.end → r.end ≤ 50000 → AreRunsFrom start (rs ++ r ∷ [])
+runs_more start [] r a le within = (le, within)
+runs_more start (q ∷ rs) r a le within = (a.0, runs_more q.end rs r a.1 le within)
+
+pub locals_more : (start : ℕ) (rs : List Run) (r : Run) → locals_from start (rs ++ r ∷ []) ≡ locals_from start rs ++ replicate (r.end - end_from start rs) r.ty
+locals_more start [] r = append-nil (replicate (r.end - start) r.ty)
+locals_more start (q ∷ rs) r =
+    ap (λ (xs : List ValType). replicate (q.end - start) q.ty ++ xs) (locals_more q.end rs r) ∙ sym (append_assoc (replicate (q.end - start) q.ty) (locals_from q.end rs) (replicate (r.end - end_from q.end rs) r.ty))
+
+-- ---- a local by its index
+
+get-replicate_front : (n : ℕ) (t : ValType) (ts : List ValType) (k : ℕ) → k < n → slice_get (replicate n t ++ ts) k ≡ Some t
+get-replicate_front zero t ts k h = absurd (omega arith)
+get-replicate_front (suc n) t ts zero h = refl
+get-replicate_front (suc n) t ts (suc k) h = get-replicate_front n t ts k (omega arith)
+
+get-replicate_back : (n : ℕ) (t : ValType) (ts : List ValType) (k : ℕ) → slice_get (replicate n t ++ ts) (n + k) ≡ slice_get ts k
+get-replicate_back zero t ts k = let e : 0 + k ≡ k = omega arith in rw e refl
+get-replicate_back (suc n) t ts k = let e : suc n + k ≡ suc (n + k) = omega arith in rw e (get-replicate_back n t ts k)
+
+abbrev pub Ends : ℕ → List Run → ℕ → Type 0
+Ends index rs i = IsPartitionPoint (λ (r : Run). leb r.end index ≡ true) (λ (r : Run). leb r.end index ≡ false) rs i
+
+tail_ends : (index : ℕ) (r : Run) (rs : List Run) (i : ℕ) → Ends index (r ∷ rs) (suc i) → Ends index rs i
+tail_ends index r rs i p = (
+  λ k d low high. p.0 (suc k) d (omega arith) (omega arith),
+  λ k d low high. p.1 (suc k) d (omega arith) (omega arith),
+)
+
+-- the run that a search finds has the local
+pub local_found : (start : ℕ) (rs : List Run) (index i : ℕ) → AreRunsFrom start rs → start ≤ index → i ≤ length rs → Ends index rs i
+    → slice_get (locals_from start rs) (index - start) ≡ option_map (λ (r : Run). r.ty) (slice_get rs i)
+local_found start [] index i a le bound p = refl
+local_found start (r ∷ rs) index zero a le bound p =
+    let above : index < r.end = leb-false _ _ (p.1 0 r (omega arith) (omega arith)) in
+    get-replicate_front (r.end - start) r.ty (locals_from r.end rs) (index - start) (omega (arith, a.0))
+local_found start (r ∷ rs) index (suc i) a le bound p =
+    let below : r.end ≤ index = leb-true _ _ (p.0 0 r (omega arith) (omega arith)) in
+    let e : index - start ≡ (r.end - start) + (index - r.end) = omega (arith, a.0) in
+    rw e (get-replicate_back (r.end - start) r.ty (locals_from r.end rs) (index - r.end) ∙ local_found r.end rs index i a.1 below (omega arith) (tail_ends index r rs i p))
+
+-- runs end one after the other
+ends_above : (start : ℕ) (rs : List Run) → AreRunsFrom start rs → (k : ℕ) (d : Run) → k < length rs → start ≤ (get_or rs k d).end
+ends_above start [] a k d h = absurd (omega arith)
+ends_above start (r ∷ rs) a zero d h = a.0
+ends_above start (r ∷ rs) a (suc k) d h = omega (arith, a.0, ends_above r.end rs a.1 k d (omega arith))
+
+ends_rise : (start : ℕ) (rs : List Run) → AreRunsFrom start rs → (i j : ℕ) (d : Run) → i ≤ j → j < length rs → (get_or rs i d).end ≤ (get_or rs j d).end
+ends_rise start [] a i j d le h = absurd (omega arith)
+ends_rise start (r ∷ rs) a zero zero d le h = omega arith
+ends_rise start (r ∷ rs) a zero (suc j) d le h = ends_above r.end rs a.1 j d (omega arith)
+ends_rise start (r ∷ rs) a (suc i) zero d le h = absurd (omega arith)
+ends_rise start (r ∷ rs) a (suc i) (suc j) d le h = ends_rise r.end rs a.1 i j d (omega arith) (omega arith)
+
+pub ends_partitioned : (start : ℕ) (rs : List Run) (index : ℕ) → AreRunsFrom start rs → IsPartitionedBy (λ (r : Run). leb r.end index) rs
+ends_partitioned start rs index a i j d le h up = le-leb _ _ (let e = ends_rise start rs a i j d le h in let f = leb-true _ _ up in omega arith)
+
+pub local_at : (rs : List Run) (index i : ℕ) → AreRunsFrom 0 rs → i ≤ length rs → Ends index rs i → slice_get (locals_from 0 rs) index ≡ option_map (λ (r : Run). r.ty) (slice_get rs i)
+local_at rs index i a bound p =
+    let e : index - 0 ≡ index = omega arith in
+    subst (λ (k : ℕ). slice_get (locals_from 0 rs) k ≡ option_map (λ (r : Run). r.ty) (slice_get rs i)) e (local_found 0 rs index i a (omega arith) bound p)
+
+-- ---- what the code knows
+
+pub last_end : (rs items : List Run) (r : Run) (ts : List ValType) → rs ≡ items → Some r ≡ slice_get rs (length rs - 1) → AreRunsFrom 0 items → locals_from 0 items ≡ ts → (r.end ≡ length ts) × (r.end ≤ 50000)
+last_end rs items r ts same e a is =
+    let last : slice_get items (length items - 1) ≡ Some r = rw same at (sym e) in
+    let end = end_from-last 0 items r last in
+    let count = length-locals_from 0 items a in
+    (omega (arith, ap (λ (x : List ValType). length x) is), omega (arith, (end_above 0 items a).1))
+
+-- one more run at the end of all
+pub run_fits : (items : List Run) (ts : List ValType) (n count : ℕ) (t : ValType) → AreRunsFrom 0 items → locals_from 0 items ≡ ts → n ≡ length ts → count ≤ 50000 - n → n ≤ 50000
+    → AreRunsFrom 0 (items ++ record { end = n + count; ty = t } ∷ []) × (locals_from 0 (items ++ record { end = n + count; ty = t } ∷ []) ≡ ts ++ replicate count t)
+run_fits items ts n count t a is e fits within =
+    let k : end_from 0 items ≡ n = omega (arith, length-locals_from 0 items a, ap (λ (x : List ValType). length x) is) in
+    let more : (n + count) - end_from 0 items ≡ count = omega arith in
+    (runs_more 0 items (record { end = n + count; ty = t }) a (omega arith) (omega arith), locals_more 0 items (record { end = n + count; ty = t }) ∙ rw (more, is) refl)
+
+pub none_more : (ts : List ValType) (n count : ℕ) (t : ValType) → n ≡ length ts → n ≤ 50000 → count ≡ 0 → (ts ≡ ts ++ replicate count t) × (length ts ≤ 50000)
+none_more ts n count t e within none = (rw none (sym (append-nil ts)), omega arith)
+
+pub length-more : (ts us : List ValType) (n count : ℕ) (t : ValType) → n ≡ length ts → n ≤ 50000 → count ≤ 50000 - n → us ≡ ts ++ replicate count t → length us ≤ 50000
+length-more ts us n count t e within fits is = omega (arith, ap (λ (x : List ValType). length x) is, length-append ts (replicate count t), length-replicate count t)
+
+pub local_past : (rs items : List Run) (ts : List ValType) (index i : ℕ) → rs ≡ items → AreRunsFrom 0 items → locals_from 0 items ≡ ts → i ≡ length rs → Ends index rs i → None ≡ slice_get ts index
+local_past rs items ts index i same a is past p =
+    let p' : Ends index items i = subst (λ (x : List Run). Ends index x i) same p in
+    let k : length items ≤ i = omega (arith, ap (λ (x : List Run). length x) same) in
+    let e = local_at items index i a (omega (arith, ap (λ (x : List Run). length x) same)) p' in
+    sym (subst (λ (x : List ValType). slice_get x index ≡ None) is (e ∙ ap (option_map (λ (r : Run). r.ty)) (slice_get_past items i k)))
+
+pub local_here : (rs items : List Run) (ts : List ValType) (index i : ℕ) (r : Run) → rs ≡ items → AreRunsFrom 0 items → locals_from 0 items ≡ ts → i < length items → r ≡ get_or items i r → Ends index rs i → Some r.ty ≡ slice_get ts index
+local_here rs items ts index i r same a is h at p =
+    let p' : Ends index items i = subst (λ (x : List Run). Ends index x i) same p in
+    let e = local_at items index i a (omega arith) p' in
+    sym (subst (λ (x : List ValType). slice_get x index ≡ Some r.ty) is (e ∙ ap (option_map (λ (q : Run). q.ty)) (slice_get_read items (length items) i r refl h at)))
+
+-- ---- the first locals
+
+-- what is among the first is there among all
+pub front_get : (front all : List ValType) (k : ℕ) → IsFront front all → k < length front → slice_get all k ≡ slice_get front k
+front_get front all k f lt = rw f.1 (go front f.0 k lt)
+  where
+    go : (front rest : List ValType) (k : ℕ) → k < length front → slice_get (front ++ rest) k ≡ slice_get front k
+    go [] rest k lt = absurd (omega arith)
+    go (t ∷ ts) rest zero lt = refl
+    go (t ∷ ts) rest (suc k) lt = go ts rest k (omega arith)
+
+-- more at the end leave the first as they are
+pub front_kept : (front all more : List ValType) → IsFront front all → IsFront front (all ++ more)
+front_kept front all more f = (f.0 ++ more, ap (λ (xs : List ValType). xs ++ more) f.1 ∙ append_assoc front f.0 more)
+
+nothing_left : (rest : List ValType) → length rest ≡ 0 → rest ≡ []
+nothing_left [] e = refl
+nothing_left (t ∷ ts) e = absurd (omega (arith, e))
+
+-- where the first are all, some of what comes at the end are the next of them
+pub front_grown : (front all : List ValType) (t : ValType) (k count : ℕ) → IsFront front all → length front ≡ length all → k ≤ count → IsFront (front ++ replicate k t) (all ++ replicate count t)
+front_grown front all t k count f same le =
+    let none : f.0 ≡ [] = nothing_left f.0 (omega (arith, same, ap (λ (xs : List ValType). length xs) f.1, length-append front f.0)) in
+    let whole : all ≡ front = f.1 ∙ ap (λ (xs : List ValType). front ++ xs) none ∙ append-nil front in
+    (replicate (count - k) t, ap (λ (xs : List ValType). xs ++ replicate count t) whole ∙ ap (λ (xs : List ValType). front ++ xs) (split k count le) ∙ sym (append_assoc front (replicate k t) (replicate (count - k) t)))
+  where
+    split : (k count : ℕ) → k ≤ count → replicate count t ≡ replicate k t ++ replicate (count - k) t
+    split zero count le = let e : count - 0 ≡ count = omega arith in rw e refl
+    split (suc k) zero le = absurd (omega arith)
+    split (suc k) (suc count) le = let e : suc count - suc k ≡ count - k = omega arith in rw e (ap (λ (xs : List ValType). t ∷ xs) (split k count (omega arith)))
+
+pub front_resized : (front us all : List ValType) (t : ValType) (len v more count : ℕ) → IsFront front all → length all ≡ len → length front ≡ len → v ≡ len → more ≤ count → us ≡ take (len + more) front ++ replicate (len + more - v) t → IsFront us (all ++ replicate count t)
+front_resized front us all t len v more count f whole held is le e =
+    let whole_front : take (len + more) front ≡ front = take_all (len + more) front (omega (arith, held)) in
+    let size : len + more - v ≡ more = omega (arith, is) in
+    let new : us ≡ front ++ replicate more t = rw size at (rw whole_front at e) in
+    rw new (front_grown front all t more count f (omega (arith, whole, held)) le)

@@ -1,0 +1,2 @@
+-- Locals as runs of one type, and what a refusal is.
+pub mod Locals

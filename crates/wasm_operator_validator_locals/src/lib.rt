@@ -1,0 +1,6 @@
+//! The locals of a function: the first one by one, and all as runs of one type.
+#![tactic(auto)]
+
+mod locals;
+
+pub use locals::Locals;

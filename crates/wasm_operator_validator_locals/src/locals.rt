@@ -1,0 +1,143 @@
+//! The locals of a function.
+
+ghost use Rattle.std.specs.Prelude.{◌≡◌, ◌+◌, ◌≤◌, List, [], ◌++◌, length, replicate, slice_get, IfErr, IfSome, Some};
+ghost use Rattle.wasm_types.specs.error.declared.error.ErrorKind.TheVariants.{Other, OutOfMemory};
+ghost use Rattle.wasm_types.specs.values.declared.value.ValType.{ValType as TheValType};
+ghost use Rattle.wasm_operator_validator_locals.specs.Locals.{IsFront};
+
+use std::alloc::Global;
+use std::cmp::min;
+use std::marker::Model;
+use wasm_types::{Error, Result, ValType};
+
+/// How many locals a function may have, with its parameters.
+const MAX_WASM_FUNCTION_LOCALS: u32 = 50_000;
+
+/// How many of the first locals are found by their index alone.
+const FIRST: usize = 64;
+
+/// Locals of one type, up to an index.
+#[derive(Clone, Copy)]
+pub struct Run {
+    pub end: u32,
+    pub ty: ValType,
+}
+
+/// The locals of a function: the first one by one, and all of them as runs of one type, so that they take no more room
+/// than the bytes that declare them.
+#[derive(Drop)]
+pub struct Locals {
+    first: Vec<ValType>,
+    runs: Vec<Run>,
+}
+
+impl Model for Locals {
+    ghost use Rattle.std.specs.Prelude.{List, ◌≤◌, length};
+    ghost use Rattle.wasm_types.specs.values.declared.value.ValType.{ValType as TheValType};
+    ghost use Rattle.wasm_operator_validator_locals.specs.Locals.{locals_from, AreRunsFrom, IsFront};
+
+    ghost Value = { List TheValType };
+
+    ghost view = { λ l. locals_from 0 l.runs.items };
+
+    ghost invariant = { λ l. AreRunsFrom 0 l.runs.items × IsFront l.first.items (locals_from 0 l.runs.items) × (length l.first.items ≤ 64) };
+}
+
+impl Locals {
+    ghost use Rattle.wasm_operator_validator_locals.specs.Locals.{Does, RefusedAt};
+
+    /// No locals. It takes no memory.
+    pub fn new(alloc: Global) -> Locals
+        ensures { result ≡ [] }
+    {
+        Locals {
+            first: Vec::new(alloc),
+            runs: Vec::new(alloc),
+        }
+    }
+
+    /// No locals from now on.
+    pub fn clear(&mut self)
+        ensures { self.new ≡ [] }
+    {
+        self.first.clear();
+        self.runs.clear();
+    }
+
+    /// How many there are, which is at most 50,000.
+    pub fn len_locals(&self) -> u32
+        ensures value { result ≡ length self.now }
+        ensures within { result ≤ 50000 }
+    {
+        match self.runs.last() {
+            None => 0,
+            Some(run) => run.end,
+        }
+    }
+
+    /// Puts `count` locals of a type at the end. It refuses more than 50,000 in all, at this offset.
+    pub fn define(&mut self, offset: u64, count: u32, ty: &ValType) -> Result<()>
+        ensures does { Does result ((self.new ≡ self.old ++ replicate count ty.now) × (length self.new ≤ 50000)) (length self.old + count ≤ 50000) }
+        ensures at { RefusedAt offset result }
+    {
+        let defined = self.len_locals();
+        if count > MAX_WASM_FUNCTION_LOCALS - defined {
+            return Err(too_many_locals(offset));
+        }
+        if count == 0 {
+            return Ok(());
+        }
+        let end = defined + count;
+        self.runs.push(Run { end, ty: *ty })?;
+        grow_first(&mut self.first, defined, count, ty)?;
+        Ok(())
+    }
+
+    /// The type of a local, by its index, if it is one of the first.
+    #[inline(always)]
+    pub fn get_first(&self, index: u32) -> Option<ValType>
+        ensures { IfSome result (λ ty. Some ty ≡ slice_get self.now index) }
+    {
+        let first = self.first.as_slice();
+        if (index as usize) < first.len() {
+            return Some(first[index as usize]);
+        }
+        None
+    }
+
+    /// The type of a local, by its index.
+    pub fn get(&self, index: u32) -> Option<ValType>
+        ensures { result ≡ slice_get self.now index }
+    {
+        let at = self.runs.partition_point(|run| run.end <= index);
+        if at == self.runs.len() {
+            return None;
+        }
+        Some(self.runs[at].ty)
+    }
+}
+
+/// Puts as many of `count` further locals of a type at the end of the first as have room there, where those are all of
+/// the `defined` ones.
+fn grow_first(first: &mut Vec<ValType>, defined: u32, count: u32, ty: &ValType) -> Result<()>
+    requires { length first.old.items ≤ 64 }
+    ensures front { (all : List TheValType) → length all ≡ defined → IsFront first.old.items all → IsFront first.new.items (all ++ replicate count ty.now) }
+    ensures within { length first.new.items ≤ 64 }
+    ensures memory { IfErr result (λ e. e.kind ≡ OutOfMemory) }
+{
+    let held = first.as_slice().len();
+    if held != defined as usize || held >= FIRST {
+        return Ok(());
+    }
+    let more = min(count as usize, FIRST - held);
+    first.resize(held + more, *ty)?;
+    Ok(())
+}
+
+#[cold]
+fn too_many_locals(offset: u64) -> Error
+    ensures kind { result.kind ≡ Other }
+    ensures offset { result.offset ≡ offset }
+{
+    Error::new("too many locals: locals exceed maximum", offset)
+}
