@@ -1,13 +1,13 @@
 -- Open frames: how many, which by its label, and the innermost left.
 use Rattle.std.proofs.Common.{◌≡◌, ◌≤◌, ◌<◌, ◌-◌, ◌+◌, ℕ, zero, suc, List, [], ◌∷◌, ◌++◌, Option, Some, None, refl, sym, ◌∙◌, ap, subst, arith, length, take, drop, reverse, option_map, get_or, slice_get, MatchOption}
-use Rattle.std.proofs.lemmas.List.{length-reverse, length-take-le, get_or-reverse}
+use Rattle.std.proofs.lemmas.List.{length-reverse, length-take-le, get_or-reverse, length_push, take-append-le}
 use Rattle.std.proofs.lemmas.Option.{slice_get-get_or, slice_get_past}
 use Rattle.wasm_operators_expression.specs.immediates.declared.block.BlockType.{BlockType}
 use Rattle.wasm_operators_expression.specs.immediates.declared.frames.FrameKind.{FrameKind}
 use Rattle.wasm_operator_validator_state.specs.declared.operand.MaybeType.{MaybeType}
 use Rattle.wasm_operator_validator_state.specs.declared.frame.Frame.{Frame}
 use Rattle.wasm_operator_validator_state.specs.State.{Open}
-use Rattle.wasm_operator_validator_stacks.specs.Layout.{opens_of, IsBare, Leaves}
+use Rattle.wasm_operator_validator_stacks.specs.Layout.{opens_of, Layered, IsBare, Leaves}
 use Rattle.wasm_operator_validator_stacks.proofs.Layers.{Fixed, held, Sound, top_frame, height_below, reverse_last}
 
 opens_count : (fs : List Frame) (ms : List MaybeType) (inits : List ℕ) → length (opens_of fs ms inits) ≡ length fs
@@ -74,3 +74,15 @@ some_label w cs xs ms inits n f d x h e =
     let r = length-reverse xs in
     let k : n < length (reverse xs) = omega (arith, r, h) in
     rw (← x) (sym (held_get w xs ms inits n ∙ ap (option_map sort_of) (slice_get-get_or (reverse xs) n d k ∙ ap Some (get_or-reverse xs n d h ∙ sym e))))
+
+-- ---- one more local is set
+
+pub opens_set : (fs : List Frame) (ms : List MaybeType) (inits : List ℕ) (x height : ℕ) → Layered fs height (length inits)
+    → opens_of fs ms (inits ++ x ∷ []) ≡ opens_of fs ms inits
+opens_set [] ms inits x height l = refl
+opens_set (f ∷ fs) ms inits x height l =
+    let k = l.1 in rw (take-append-le f.init_height inits (x ∷ []) k) refl
+
+pub layered_set : (fs : List Frame) (inits : List ℕ) (x height : ℕ) → Layered fs height (length inits) → Layered fs height (length (inits ++ x ∷ []))
+layered_set [] inits x height l = tt
+layered_set (f ∷ fs) inits x height l = let k = l.1 in let n = length_push inits x in (l.0, omega (arith, k, n), l.2)

@@ -5,19 +5,20 @@ ghost use Rattle.wasm_operator_validator_stacks.specs.Layout.{none_saved, rolled
 
 use crate::OperatorValidator;
 use std::alloc::Global;
+use wasm_operator_validator_locals::Locals;
 use wasm_operator_validator_tape::Tape;
-use wasm_types::{ValType, WasmFeatures};
+use wasm_types::WasmFeatures;
 
 impl OperatorValidator {
     /// What is known where no frame is open yet: the locals, of which the first so many are parameters. It takes no memory.
     pub fn new(
         alloc: Global,
         features: WasmFeatures,
-        locals: Vec<ValType>,
+        locals: Locals,
         params: u32,
         shared: bool,
     ) -> OperatorValidator
-        ensures { result ≡ record { given = record { bits = features.0; locals = locals.items; params = params; shared = shared }; inits = []; opens = []; saved = none_saved } }
+        ensures { result ≡ record { given = record { bits = features.0; locals = locals; params = params; shared = shared }; inits = []; opens = []; saved = none_saved } }
     {
         OperatorValidator {
             features,

@@ -1,6 +1,6 @@
 //! Open frames.
 
-ghost use Rattle.std.specs.Prelude.{◌≡◌, ◌∷◌, OnOk, IfErr, MatchResult, option_map, slice_get, length};
+ghost use Rattle.std.specs.Prelude.{◌≡◌, ◌∷◌, ◌++◌, [], OnOk, IfErr, MatchResult, option_map, slice_get, length};
 ghost use Rattle.wasm_types.specs.error.Denials.{Denies};
 ghost use Rattle.wasm_operator_validator_state.specs.Refusals.{kind_of};
 ghost use Rattle.wasm_operator_validator_state.specs.State.{Open};
@@ -11,6 +11,7 @@ ghost use Rattle.wasm_operator_validator_stacks.specs.Layout.{Leaves, IsBare};
 use crate::OperatorValidator;
 use wasm_operator_validator_state::{Frame, Refusal};
 use wasm_operators_expression::{BlockType, FrameKind};
+use wasm_types::ValType;
 
 impl OperatorValidator {
     /// How many frames are open.
@@ -72,5 +73,25 @@ impl OperatorValidator {
             return Err(Refusal::OutOfMemory);
         };
         Ok(frame)
+    }
+
+    /// Notes that a local was set. It is refused for memory alone, and nothing changes then.
+    #[inline]
+    pub fn set_init(&mut self, local_index: u32) -> Result<(), Refusal>
+        ensures set { OnOk result (self.new ≡ record self.old { inits = self.old.inits ++ local_index ∷ [] }) }
+        ensures refused { IfErr result (λ r. (r ≡ OutOfMemory) × (self.new ≡ self.old)) }
+    {
+        let Ok(()) = self.inits.push(local_index) else {
+            return Err(Refusal::OutOfMemory);
+        };
+        Ok(())
+    }
+
+    /// The type of a local, by its index.
+    #[inline]
+    pub fn local(&self, local_index: u32) -> Option<ValType>
+        ensures { result ≡ slice_get self.now.given.locals local_index }
+    {
+        self.locals.get(local_index)
     }
 }

@@ -11,6 +11,7 @@ ghost use Rattle.wasm_operator_validator_stacks.specs.Layout.{state_of, IsLayere
 
 use crate::fitting::{is_fit, type_mismatch};
 use std::marker::Model;
+use wasm_operator_validator_locals::Locals;
 use wasm_operator_validator_resources::WasmModuleResources;
 use wasm_operator_validator_state::{Frame, MaybeType, Refusal};
 use wasm_operator_validator_tape::Tape;
@@ -21,7 +22,7 @@ use wasm_types::{ValType, WasmFeatures};
 #[derive(Drop)]
 pub struct OperatorValidator {
     pub(crate) features: WasmFeatures,
-    pub(crate) locals: Vec<ValType>,
+    pub(crate) locals: Locals,
     pub(crate) params: u32,
     pub(crate) shared: bool,
     pub(crate) operands: Tape<MaybeType>,
@@ -32,7 +33,7 @@ pub struct OperatorValidator {
 impl Model for OperatorValidator {
     ghost Value = { State };
 
-    ghost view = { λ v. state_of (record { bits = v.features.0; locals = v.locals.items; params = v.params; shared = v.shared }) (record { operands = v.operands.1; frames = v.control.1; inits = v.inits.1 }) v.control.0 v.operands.0 v.inits.0 };
+    ghost view = { λ v. state_of (record { bits = v.features.0; locals = v.locals; params = v.params; shared = v.shared }) (record { operands = v.operands.1; frames = v.control.1; inits = v.inits.1 }) v.control.0 v.operands.0 v.inits.0 };
 
     ghost invariant = { λ v. IsLayered v.control.0 v.operands.0 v.inits.0 × IsSavedLayered v.control.1 v.operands.1 v.inits.1 };
 }
