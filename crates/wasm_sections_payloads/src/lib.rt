@@ -5,11 +5,15 @@
 
 mod counts;
 mod items;
+
 mod payload;
+mod walk;
 
 pub use items::{
     Data, DataKind, DataSectionReader, Element, ElementItems, ElementKind, ElementSectionReader,
     ExportSectionReader, FunctionSectionReader, Global, GlobalSectionReader, ImportSectionReader,
     MemorySectionReader, Table, TableInit, TableSectionReader, TagSectionReader, TypeSectionReader,
 };
+
 pub use payload::Payload;
+pub use walk::{ParseAll, parse_all};
