@@ -1,10 +1,19 @@
 -- Fewer payloads are left behind each.
-use Rattle.std.proofs.Common.{◌≡◌, ℕ, ◌+◌, ◌<◌, ◌≤◌, List, length, drop, refl, ap, arith, Bool, true, false}
-use Rattle.std.proofs.lemmas.List.{length-drop}
+use Rattle.std.proofs.Common.{◌≡◌, ℕ, ◌+◌, ◌<◌, ◌≤◌, List, [], ◌∷◌, ◌++◌, length, drop, refl, sym, ap, ◌∙◌, subst, arith, Bool, true, false, Some, Ok}
+use Rattle.std.proofs.lemmas.List.{append-nil, length-drop}
 use Rattle.wasm_sections_parser.specs.declared.frame.Frame.{Frame}
 use Rattle.wasm_sections_parser.specs.declared.parser.Parser.{Parser}
 use Rattle.wasm_sections_parser_laws.specs.Advance.{parsed_within}
-use Rattle.wasm_sections_payloads.specs.Walking.{is_end, IsFrameOf, payloads_left}
+use Rattle.wasm_sections_parser.specs.declared.frame.Frame.TheVariants as frames
+use Rattle.wasm_sections_parser.specs.declared.parser.Chunk.TheVariants.{Parsed}
+use Rattle.wasm_sections_parser_laws.specs.Runs.{fresh}
+use Rattle.wasm_sections_parser_laws.specs.Calls.{settings_of, shapes_of, Called, Calls}
+use Rattle.wasm_sections_parser_laws.specs.Modules.{IsModule}
+use Rattle.wasm_sections_parser_laws.specs.ModuleLaws.{end_given}
+use Rattle.wasm_sections_payloads.specs.declared.payload.Payload.{Payload}
+use Rattle.wasm_sections_payloads.specs.declared.payload.Payload.TheVariants as payloads
+use Rattle.wasm_sections_payloads.specs.Payloads.{IsPayloadOf}
+use Rattle.wasm_sections_payloads.specs.Walking.{is_end, Standing, IsFrameOf, NextPayload, payloads_left, Walks, ArePayloads}
 
 pub fewer_left : (p : Parser) (text : List ℕ) (f : Frame) (q : Parser) (rest : List ℕ) → IsFrameOf p text f q rest → payloads_left (is_end f) rest + 1 ≤ payloads_left false text
 fewer_left p text f q rest h = go (is_end f) refl
@@ -14,3 +23,33 @@ fewer_left p text f q rest h = go (is_end f) refl
     go false e =
         let k = parsed_within p text true h.0 f q h.1 in
         omega (arith, k.0, k.1 e, ap length h.2, length-drop h.0 text)
+
+-- a frame of all the bytes that are left is given by a call
+frame_called : (p : Parser) (text : List ℕ) (f : Frame) (q : Parser) (rest : List ℕ) (h : IsFrameOf p text f q rest) → Called p text (Ok (Parsed h.0 f)) q
+frame_called p text f q rest h = record { piece = text; later = []; eof = true; whole = sym (append-nil text); told = λ e. refl; parses = h.1 }
+
+-- a walk is made of calls
+pub walk_calls : (ps : List Payload) (s t : Standing) → Walks s ps t → (fs : List Frame) × ArePayloads fs ps × Calls s.parser s.rest fs t.parser t.rest
+walk_calls [] s t h = ([], tt, (ap (λ (v : Standing). v.parser) h, ap (λ (v : Standing). v.rest) h))
+walk_calls (p ∷ ps) s t h =
+    let f : Frame = h.1.1.0 in
+    let given = h.1.1.1 in
+    let others = walk_calls ps h.0 t h.2 in
+    let calls : Calls h.0.parser (drop given.0 s.rest) others.0 t.parser t.rest = subst (λ (x : List ℕ). Calls h.0.parser x others.0 t.parser t.rest) given.2 others.2 in
+    (f ∷ others.0, (h.1.1.2, others.1), (given.0, h.0.parser, frame_called s.parser s.rest f h.0.parser h.0.rest given, calls))
+
+-- the last payload is the end, and those before it are of a module
+pub walk_ends : (ps : List Payload) (p : Payload) (s u t : Standing) → s.parser.progress ≡ fresh → Walks s ps u → NextPayload u (Some (Ok p)) t → t.over ≡ true
+    → (fs : List Frame) × ArePayloads fs ps × IsModule (settings_of s.parser) s.rest (shapes_of fs) × (p ≡ payloads.End (s.parser.offset + length s.rest))
+walk_ends ps p s u t first walk next over = go next.1.0 next.1.1 next.1.2 (sym next.1.3 ∙ over)
+  where
+    go : (f : Frame) → IsFrameOf u.parser u.rest f t.parser t.rest → IsPayloadOf f p → is_end f ≡ true → (fs : List Frame) × ArePayloads fs ps × IsModule (settings_of s.parser) s.rest (shapes_of fs) × (p ≡ payloads.End (s.parser.offset + length s.rest))
+    go (frames.End place) h e k =
+        let calls = walk_calls ps s u walk in
+        let m = end_given calls.0 s.parser u.parser t.parser s.rest u.rest h.0 place first calls.2 (frame_called u.parser u.rest (frames.End place) t.parser t.rest h) in
+        (calls.0, calls.1, m.0, e ∙ ap (λ (n : ℕ). payloads.End n) m.2)
+    go (frames.Version n e r) h i k = absurd cc
+    go (frames.Custom c) h i k = absurd cc
+    go (frames.Section id b) h i k = absurd cc
+    go (frames.CodeStart n r k) h i l = absurd cc
+    go (frames.CodeEntry b) h i k = absurd cc

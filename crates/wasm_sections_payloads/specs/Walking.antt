@@ -1,6 +1,7 @@
 -- What comes next of the payloads of a module that is all there.
-use Rattle.std.specs.Prelude.{◌≡◌, ◌⊎◌, ℕ, ◌+◌, List, length, drop, Bool, true, false, Option, Some, None, Result, Ok, Err}
+use Rattle.std.specs.Prelude.{◌≡◌, ◌⊎◌, ℕ, ◌+◌, List, [], ◌∷◌, length, drop, Bool, true, false, Option, Some, None, Result, Ok, Err}
 use Rattle.wasm_types.specs.error.ErrorValue.{ErrorValue}
+use Rattle.wasm_types.specs.reader.Reading.{IsNotMemory}
 use Rattle.wasm_sections_parser.specs.declared.frame.Frame.{Frame}
 use Rattle.wasm_sections_parser.specs.declared.parser.Parser.{Parser}
 use Rattle.wasm_sections_parser.specs.declared.parser.Chunk.TheVariants.{Parsed}
@@ -24,13 +25,25 @@ abbrev pub IsFaultOf : Parser → List ℕ → ErrorValue → Parser → Type 0
 IsFaultOf p text e q = Parses p text true (Err e) q
 
 -- What comes next: the payload that the next frame is, and nothing behind the end; an error where a parser gives none, or where the
--- frame is no payload, and nothing behind that.
+-- frame is no payload, and nothing behind that. No error is for memory.
 abbrev pub NextPayload : Standing → Option (Result Payload ErrorValue) → Standing → Type 0
 NextPayload s None t = (s.over ≡ true) × (t ≡ s)
 NextPayload s (Some (Ok p)) t = (s.over ≡ false) × ((f : Frame) × IsFrameOf s.parser s.rest f t.parser t.rest × IsPayloadOf f p × (t.over ≡ is_end f))
-NextPayload s (Some (Err e)) t = (s.over ≡ false) × (t.over ≡ true) × (IsFaultOf s.parser s.rest e t.parser ⊎ ((f : Frame) × IsFrameOf s.parser s.rest f t.parser t.rest × IsRefusedAs f e))
+NextPayload s (Some (Err e)) t = (s.over ≡ false) × (t.over ≡ true) × IsNotMemory e.kind × (IsFaultOf s.parser s.rest e t.parser ⊎ ((f : Frame) × IsFrameOf s.parser s.rest f t.parser t.rest × IsRefusedAs f e))
 
 -- no more come than this: a byte at least for each, and the end
 abbrev pub payloads_left : Bool → List ℕ → ℕ
 payloads_left true text = 0
 payloads_left false text = length text + 1
+
+-- payloads, one after the other
+abbrev pub Walks : Standing → List Payload → Standing → Type 0
+Walks s [] t = s ≡ t
+Walks s (p ∷ ps) t = (u : Standing) × NextPayload s (Some (Ok p)) u × Walks u ps t
+
+-- each is the payload of a frame
+abbrev pub ArePayloads : List Frame → List Payload → Type 0
+ArePayloads [] [] = Unit {0}
+ArePayloads [] (p ∷ ps) = ⊥
+ArePayloads (f ∷ fs) [] = ⊥
+ArePayloads (f ∷ fs) (p ∷ ps) = IsPayloadOf f p × ArePayloads fs ps

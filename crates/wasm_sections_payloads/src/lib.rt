@@ -5,6 +5,7 @@
 
 mod counts;
 mod items;
+pub mod laws;
 
 mod payload;
 mod walk;

@@ -2,6 +2,7 @@
 
 ghost use Rattle.std.specs.Prelude.{◌≡◌, ◌+◌, ◌<◌, ◌≤◌, ◌^◌, length, false, Some, MatchResult};
 ghost use Rattle.std.specs.Iterator.{at_most};
+ghost use Rattle.wasm_types.specs.reader.Reading.{NeedsNoMemory};
 ghost use Rattle.wasm_sections_payloads.specs.Walking.{IsFrameOf, IsFaultOf, is_end, NextPayload, payloads_left};
 
 use crate::Payload;
@@ -70,6 +71,7 @@ fn is_end(frame: &Frame<'_>) -> bool
 fn next_frame<'a>(parser: &mut Parser, bytes: &'a [u8]) -> Result<(Frame<'a>, &'a [u8])>
     requires { parser.old.offset + length bytes.now < 2 ^ 64 }
     ensures answer { MatchResult result (λ x. IsFrameOf parser.old bytes.now x.0 parser.new x.1.now) (λ e. IsFaultOf parser.old bytes.now e parser.new) }
+    ensures no_memory { NeedsNoMemory result }
     ensures fits { MatchResult result (λ x. parser.new.offset + length x.1.now ≡ parser.old.offset + length bytes.now) (λ e. parser.new.offset ≡ parser.old.offset) }
 {
     match parser.parse(bytes, true) {

@@ -1,0 +1,9 @@
+-- By the laws of walks.
+use Rattle.wasm_sections_payloads.specs.WalkLaws.{walk_calls, walk_ends}
+use Rattle.wasm_sections_payloads.proofs.laws.payloads_are_of_modules.Goals as goal
+
+pub returns-clause-calls : goal.returns-clause-calls
+returns-clause-calls c = walk_calls
+
+pub returns-clause-ends : goal.returns-clause-ends
+returns-clause-ends c = walk_ends
