@@ -17,7 +17,7 @@ use wasm_types_numbers::{short_s33_at, short_u32_at, short_u64_at};
 /// A zero, where an index or a zero stands.
 #[inline(always)]
 #[tactic(auto, using(crate::proofs::Carried::zero_there))]
-pub(crate) fn zero_at(bytes: &[u8], at: usize) -> Option<(u32, usize)>
+pub fn zero_at(bytes: &[u8], at: usize) -> Option<(u32, usize)>
     ensures { IfSome result (λ r. (r.0 ≡ 0) × ((allowed : Bool) → GivesAt (index_or_zero allowed) bytes.now at r.0 r.1)) }
 {
     if at < bytes.len() && bytes[at] == 0 {
@@ -55,7 +55,7 @@ fn block_index_at(bytes: &[u8], at: usize) -> Option<(BlockType, usize)>
 /// The empty block type, a number type as the result, or a function type by its index.
 #[inline(always)]
 #[tactic(auto, using(crate::proofs::Carried::empty_there, crate::proofs::Carried::i32_there, crate::proofs::Carried::i64_there, crate::proofs::Carried::f32_there, crate::proofs::Carried::f64_there))]
-pub(crate) fn block_type_at(bytes: &[u8], at: usize) -> Option<(BlockType, usize)>
+pub fn block_type_at(bytes: &[u8], at: usize) -> Option<(BlockType, usize)>
     ensures { IfSome result (λ r. GivesAt block_type bytes.now at r.0 r.1) }
 {
     if at >= bytes.len() {
@@ -90,7 +90,7 @@ fn offset_at(bytes: &[u8], at: usize, wide: bool) -> Option<(u64, usize)>
 /// The argument of a plain access to memory 0, the natural alignment of which is `2^max_align` bytes.
 #[inline(always)]
 #[tactic(auto, using(crate::proofs::Carried::access_there))]
-pub(crate) fn memarg_at(
+pub fn memarg_at(
     bytes: &[u8],
     at: usize,
     features: WasmFeatures,
@@ -119,7 +119,7 @@ pub(crate) fn memarg_at(
 
 /// The bits of a float of 32 bits, the lowest byte first.
 #[inline(always)]
-pub(crate) fn f32_at(bytes: &[u8], at: usize) -> Option<(Ieee32, usize)>
+pub fn f32_at(bytes: &[u8], at: usize) -> Option<(Ieee32, usize)>
     requires { at ≤ length bytes.now }
     ensures { IfSome result (λ r. GivesAt (word 4) bytes.now at r.0.0 r.1) }
 {
@@ -132,7 +132,7 @@ pub(crate) fn f32_at(bytes: &[u8], at: usize) -> Option<(Ieee32, usize)>
 
 /// The bits of a float of 64 bits, the lowest byte first.
 #[inline(always)]
-pub(crate) fn f64_at(bytes: &[u8], at: usize) -> Option<(Ieee64, usize)>
+pub fn f64_at(bytes: &[u8], at: usize) -> Option<(Ieee64, usize)>
     requires { at ≤ length bytes.now }
     ensures { IfSome result (λ r. GivesAt (word 8) bytes.now at r.0.0 r.1) }
 {

@@ -16,4 +16,5 @@ mod memory;
 mod numbers;
 mod short;
 
+pub use immediates::{block_type_at, f32_at, f64_at, memarg_at, zero_at};
 pub use short::visit_short;

@@ -1,0 +1,38 @@
+use Rattle.std.proofs.Common.{refl}
+use Rattle.wasm_operators_decode_immediates.specs.immediates.Kinds as kind
+use Rattle.wasm_operators_decode_immediates.specs.immediates.Immediates.{MemoryArgument}
+use Rattle.wasm_operators_visit_control.specs.operator.Op as op
+use Rattle.wasm_operators_visit_control.specs.memory.declared.memory.MemoryOperator.TheVariants as memory
+use Rattle.wasm_operators_visit_short.proofs.Reading.{told_with}
+use Rattle.wasm_operators_visit_short.proofs.Carried.{access_of}
+use Rattle.wasm_operators_read_short.proofs.memory.access_1.Goals as goal
+
+pub returns-in-44 : goal.returns-in-44
+returns-in-44 c = told_with c.args.features.0 c.args.bytes.now c.args.at c.args.code 44 c.requires c.in-44.is
+    (op.Memory (memory.I32Load8S c.in-Some.memarg)) refl refl _ refl refl refl
+    (MemoryArgument kind.Plain 0 c.in-Some.memarg) c.in-Some.end refl (λ limits. access_of _ _ _ _ 0 c.in-Some.memarg c.in-Some.ensures)
+
+pub returns-in-45 : goal.returns-in-45
+returns-in-45 c = told_with c.args.features.0 c.args.bytes.now c.args.at c.args.code 45 c.requires c.in-45.is
+    (op.Memory (memory.I32Load8U c.in-Some.memarg)) refl refl _ refl refl refl
+    (MemoryArgument kind.Plain 0 c.in-Some.memarg) c.in-Some.end refl (λ limits. access_of _ _ _ _ 0 c.in-Some.memarg c.in-Some.ensures)
+
+pub returns-in-48 : goal.returns-in-48
+returns-in-48 c = told_with c.args.features.0 c.args.bytes.now c.args.at c.args.code 48 c.requires c.in-48.is
+    (op.Memory (memory.I64Load8S c.in-Some.memarg)) refl refl _ refl refl refl
+    (MemoryArgument kind.Plain 0 c.in-Some.memarg) c.in-Some.end refl (λ limits. access_of _ _ _ _ 0 c.in-Some.memarg c.in-Some.ensures)
+
+pub returns-in-49 : goal.returns-in-49
+returns-in-49 c = told_with c.args.features.0 c.args.bytes.now c.args.at c.args.code 49 c.requires c.in-49.is
+    (op.Memory (memory.I64Load8U c.in-Some.memarg)) refl refl _ refl refl refl
+    (MemoryArgument kind.Plain 0 c.in-Some.memarg) c.in-Some.end refl (λ limits. access_of _ _ _ _ 0 c.in-Some.memarg c.in-Some.ensures)
+
+pub returns-in-58 : goal.returns-in-58
+returns-in-58 c = told_with c.args.features.0 c.args.bytes.now c.args.at c.args.code 58 c.requires c.in-58.is
+    (op.Memory (memory.I32Store8 c.in-Some.memarg)) refl refl _ refl refl refl
+    (MemoryArgument kind.Plain 0 c.in-Some.memarg) c.in-Some.end refl (λ limits. access_of _ _ _ _ 0 c.in-Some.memarg c.in-Some.ensures)
+
+pub returns-in-60 : goal.returns-in-60
+returns-in-60 c = told_with c.args.features.0 c.args.bytes.now c.args.at c.args.code 60 c.requires c.in-60.is
+    (op.Memory (memory.I64Store8 c.in-Some.memarg)) refl refl _ refl refl refl
+    (MemoryArgument kind.Plain 0 c.in-Some.memarg) c.in-Some.end refl (λ limits. access_of _ _ _ _ 0 c.in-Some.memarg c.in-Some.ensures)
