@@ -1,19 +1,14 @@
 -- What is known of an operand against a type.
-use Rattle.std.proofs.Common.{◌≡◌, ◌↔◌, Bool, true, false, IsTrue, subst, refl, Option, Some, None}
-use Rattle.wasm_types.specs.trees.Types.{ref, abstract}
+use Rattle.std.proofs.Common.{◌≡◌, ◌↔◌, Bool, true, false, IsTrue, subst}
 use Rattle.wasm_types.specs.values.declared.heap.AbstractHeapType.{AbstractHeapType}
 use Rattle.wasm_types.specs.values.declared.heap.HeapType.TheVariants.{Abstract}
 use Rattle.wasm_types.specs.values.declared.value.ValType.{ValType}
 use Rattle.wasm_types.specs.values.declared.value.ValType.TheVariants as vals
 use Rattle.wasm_types.specs.values.Reference.{Reference}
-use Rattle.wasm_types.specs.values.Trees.{abstract_of}
 use Rattle.wasm_types.specs.values.ValueKinds.{is_reference}
 use Rattle.wasm_types.specs.trees.Below.{Below}
-use Rattle.wasm_operator_validator_rules.specs.Operands.{known, some_reference, OperandBelow, IsReference}
+use Rattle.wasm_operator_validator_rules.specs.Operands.{known, some_reference, OperandBelow}
 use Rattle.wasm_operator_validator_resources.specs.Meaning.{Meaning, type_in}
-use Rattle.wasm_operator_validator_state.specs.declared.operand.MaybeType.{MaybeType}
-use Rattle.wasm_operator_validator_state.specs.declared.operand.MaybeType.TheVariants as maybe
-use Rattle.wasm_operator_validator_state.specs.State.{Stands}
 use Rattle.wasm_operator_validator_stacks.specs.Layout.{IsAbstractFit}
 
 pub abstract_fit : (m : Meaning) (r : Reference) (s : Bool) (a : AbstractHeapType) (t : ValType) (b : Bool) → r ≡ record { nullable = false; heap = Abstract s a }

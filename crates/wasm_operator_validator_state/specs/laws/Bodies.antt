@@ -1,12 +1,9 @@
 -- A body's operators are accepted exactly where they are those of a well-typed body.
-use Rattle.std.proofs.Common.{◌≡◌, ◌↔◌, ◌∙◌, List, [], ◌∷◌, ◌++◌, Bool, false, Option, Some, None, refl, sym, subst, append-nil}
-use Rattle.wasm_operators_expression.specs.immediates.declared.block.BlockType.{BlockType}
+use Rattle.std.proofs.Common.{◌≡◌, ◌∙◌, List, [], ◌∷◌, ◌++◌, false, Some, refl, sym, subst, append-nil}
 use Rattle.wasm_operators_expression.specs.immediates.declared.frames.FrameKind.{FrameKind}
 use Rattle.wasm_operators_expression.specs.immediates.declared.frames.FrameKind.TheVariants as frames
-use Rattle.wasm_operators_expression.specs.operator.Op.{Op}
 use Rattle.wasm_operators_expression.specs.operator.declared.role.Role.{Role}
 use Rattle.wasm_operators_expression.specs.operator.declared.role.Role.TheVariants as role
-use Rattle.wasm_operators_expression.specs.operator.declared.role.Effect.{Effect}
 use Rattle.wasm_operators_expression.specs.operator.declared.role.Effect.TheVariants as effects
 use Rattle.wasm_operators_expression.specs.operator.Roles.{role_of, effect}
 use Rattle.wasm_operators_expression.specs.Code.{Code, close, plain, nested, turn, walk, IsIn}
@@ -15,8 +12,7 @@ use Rattle.wasm_operator_validator_rules.specs.Context.{Context, Initialised, Fr
 use Rattle.wasm_operator_validator_rules.specs.Row.{after}
 use Rattle.wasm_operator_validator_rules.specs.Typed.{Typed, IsBody}
 use Rattle.wasm_operator_validator_resources.specs.Meaning.{Meaning}
-use Rattle.wasm_operator_validator_state.specs.declared.operand.MaybeType.{MaybeType}
-use Rattle.wasm_operator_validator_state.specs.State.{Given, Saved, State, Covers, signature_of, initialised, Accepts}
+use Rattle.wasm_operator_validator_state.specs.State.{Covers, signature_of, initialised, Accepts}
 use Rattle.wasm_operator_validator_state.specs.Bodies.{fresh, body_context, BodiesAreAccepted}
 
 -- nothing turns a block

@@ -1,6 +1,3 @@
-use Rattle.std.proofs.Common.{◌≡◌, refl, sym, ◌∙◌}
-use Rattle.wasm_types.specs.values.declared.value.ValType.TheVariants.{Ref}
-use Rattle.wasm_operator_validator_resources.specs.Meaning.{type_in}
 use Rattle.wasm_operator_validator_stacks.proofs.Fits.{abstract_fit}
 use Rattle.wasm_operator_validator_stacks.proofs.fitting.is_abstract_fit.Goals as goal
 

@@ -4,13 +4,12 @@ use Rattle.wasm_types.specs.values.declared.value.ValType.TheVariants.{I32}
 use Rattle.wasm_operators_expression.specs.immediates.declared.block.BlockType.TheVariants as block
 use Rattle.wasm_operators_expression.specs.operator.Op.{Op}
 use Rattle.wasm_operators_expression.specs.Code.{plain, close}
-use Rattle.wasm_operator_validator_rules.specs.Operands.{Operand, known}
+use Rattle.wasm_operator_validator_rules.specs.Operands.{known}
 use Rattle.wasm_operator_validator_resources.specs.Meaning.{type_in}
-use Rattle.wasm_operator_validator_state.specs.laws.Accepting.{accepts_nothing, ends, closes_left}
+use Rattle.wasm_operator_validator_state.specs.laws.Accepting.{accepts_nothing, ends}
 use Rattle.wasm_operator_validator_state.specs.laws.Closing.{in_else}
 use Rattle.wasm_operator_validator_state.specs.laws.Bodies.{bodies_are_accepted}
-use Rattle.wasm_operator_validator_state.specs.State.{Open}
-use Rattle.wasm_operator_validator_state.specs.worked.Bodies.{end, else, unreachable, body_of}
+use Rattle.wasm_operator_validator_state.specs.worked.Bodies.{end, unreachable, body_of}
 use Rattle.wasm_operator_validator_state.proofs.laws.first_operators_are_worked.Goals as goal
 
 pub returns : goal.returns
@@ -21,8 +20,7 @@ returns c = λ m. record {
   behind_end = λ a. let e : ◌≡◌ {A = List Op} (end ∷ []) [] = ((ends m (body_of block.Empty) (end ∷ []) tt).0 a).2 in cc;
   result_missing = λ a. ((ends m (body_of (block.Val I32)) [] tt).0 a).0;
   result_unreached =
-      (bodies_are_accepted m (body_of (block.Val I32)).given (block.Val I32) (body_of (block.Val I32)).saved (unreachable ∷ end ∷ [])).1
-      (
+      (bodies_are_accepted m (body_of (block.Val I32)).given (block.Val I32) (body_of (block.Val I32)).saved (unreachable ∷ end ∷ [])).1 (
         plain unreachable (close end),
         record {
           expression = (refl, refl);

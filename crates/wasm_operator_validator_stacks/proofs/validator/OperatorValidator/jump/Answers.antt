@@ -1,4 +1,4 @@
-use Rattle.std.proofs.Common.{◌≡◌, ◌∙◌, ◌≤◌, ap, length}
+use Rattle.std.proofs.Common.{◌≤◌, length}
 use Rattle.wasm_operator_validator_stacks.proofs.Layers.{fixed}
 use Rattle.wasm_operator_validator_stacks.proofs.Leaving.{no_label, some_label}
 use Rattle.wasm_operator_validator_stacks.proofs.validator.OperatorValidator.jump.Goals as goal

@@ -1,6 +1,4 @@
 use Rattle.std.proofs.Common.{◌≡◌, ◌-◌, ◌∙◌, sym, ap, Some, length, slice_get}
-use Rattle.wasm_operator_validator_state.specs.State.{Open}
-use Rattle.wasm_operator_validator_stacks.specs.Layout.{IsBare}
 use Rattle.wasm_operator_validator_stacks.proofs.Layers.{fixed}
 use Rattle.wasm_operator_validator_stacks.proofs.Leaving.{held_not_bare, held_leave}
 use Rattle.wasm_operator_validator_stacks.proofs.validator.OperatorValidator.leave.Goals as goal

@@ -1,6 +1,6 @@
 use Rattle.std.proofs.lemmas.Result.{err_from_is_err_and}
 use Rattle.std.proofs.lemmas.List.{get_or_default}
-use Rattle.std.proofs.Common.{◌≡◌, ◌∙◌, sym}
+use Rattle.std.proofs.Common.{◌∙◌}
 use Rattle.wasm_operator_validator_stacks.proofs.Popping.{pushed_none, pushed_next}
 use Rattle.wasm_operator_validator_stacks.proofs.validator.OperatorValidator.push_operands.Goals as goal
 
