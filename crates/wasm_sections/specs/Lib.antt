@@ -5,4 +5,6 @@ pub use Rattle.wasm_sections_imports.specs as imports
 pub use Rattle.wasm_sections_segments.specs as segments
 pub use Rattle.wasm_sections_elements.specs as elements
 pub use Rattle.wasm_sections_parser.specs as parser
+pub use Rattle.wasm_sections_parser_laws.specs as runs
+pub use Rattle.wasm_sections_payloads.specs as payloads
 pub use Rattle.wasm_operators_bodies.specs as bodies

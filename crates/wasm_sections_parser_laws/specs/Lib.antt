@@ -17,3 +17,5 @@ pub mod CallLaws
 pub mod ModuleLaws
 pub mod RefusalLaws
 pub mod Advance
+-- Worked rows.
+pub mod Worked

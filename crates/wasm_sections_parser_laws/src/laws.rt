@@ -15,6 +15,7 @@ ghost use Rattle.wasm_sections_frames.specs.Outer.{Header, SpelledHeader, Spelle
 ghost use Rattle.wasm_sections_parser_laws.specs.Runs.{fresh, Frames, AreCounted};
 ghost use Rattle.wasm_sections_parser_laws.specs.Calls.{settings_of, shapes_of, stands, Called, Calls};
 ghost use Rattle.wasm_sections_parser_laws.specs.Modules.{IsModule, IsFront};
+ghost use Rattle.wasm_sections_parser_laws.specs.Worked.{RunRows};
 
 /// The header, each whole section and each body that a parser gives is spelled by exactly the bytes that it took; a body's lie
 /// within the code section.
@@ -40,4 +41,10 @@ pub const fn calls_give_modules()
     ensures accepted { (p q r : Parser) (text rest : List ℕ) (fs : List Frame) (e : ErrorValue) (xs : List Shape) → p.progress ≡ fresh → p.offset + length text < 2 ^ 64 → IsModule (settings_of p) text xs → Calls p text fs q rest → is_over q.progress ≡ false → Called q rest (Err e) r → ⊥ }
     ensures before { (p q : Parser) (text rest : List ℕ) (fs : List Frame) → p.progress ≡ fresh → Calls p text fs q rest → is_over q.progress ≡ false → IsFront (settings_of p) (reads p text) (shapes_of fs) q.progress (stands q rest p.offset) }
     ensures refused { (p q r : Parser) (text rest : List ℕ) (fs : List Frame) (e : ErrorValue) (m : Outer) (front back : List ℕ) (xs : List Shape) → p.progress ≡ fresh → p.offset + length front < 2 ^ 64 → text ≡ front ++ back → Frames (settings_of p) m front xs → IsOrdered m.parts → AreCounted m.parts → Calls p text fs q rest → is_over q.progress ≡ false → Called q rest (Err e) r → (zs : List Shape) × (shapes_of fs ≡ xs ++ zs) }
+{}
+
+/// Worked runs: what they give, and where they end or are refused.
+#[tactic(auto, using(crate::specs::Worked::run_rows))]
+pub const fn runs_are_worked()
+    ensures { RunRows }
 {}

@@ -1,0 +1,76 @@
+-- Worked runs from the start of a module.
+use Rattle.std.proofs.Common.{◌≡◌, ℕ, List, [], ◌∷◌, ◌++◌, refl, true, false, None}
+use Rattle.wasm_types.specs.limits.Settings.{no_features}
+use Rattle.wasm_types.specs.decoding.declared.Refusal.TheVariants.{Other}
+use Rattle.wasm_types.specs.decoding.Decoder.{State, Fault}
+use Rattle.wasm_types.specs.decoding.Leb.{unsigned}
+use Rattle.wasm_types.specs.values.WorkedTypeLaws.{start_of}
+use Rattle.wasm_sections_frames.specs.Decode.{header}
+use Rattle.wasm_sections_parser.specs.declared.progress.Stage.{Stage}
+use Rattle.wasm_sections_parser.specs.declared.progress.Stage.TheVariants as stages
+use Rattle.wasm_sections_parser.specs.declared.progress.Progress.{Progress}
+use Rattle.wasm_sections_parser.specs.Steps.{Shape, version, section, code, entry, counts_agree, number_before, in_part, contents, code_start, next_section, next_entry, behind_code, next_header, step}
+use Rattle.wasm_sections_parser_laws.specs.Runs.{fresh, Run}
+
+abbrev first_eight : List ℕ
+first_eight = 0x00 ∷ 0x61 ∷ 0x73 ∷ 0x6d ∷ 0x01 ∷ 0x00 ∷ 0x00 ∷ 0x00 ∷ []
+
+-- what is left at an offset
+abbrev at : ℕ → List ℕ → State
+at place rest = record { rest = rest; place = place; settings = no_features; start = 0 }
+
+-- behind sections up to this place, with so many functions and bodies
+abbrev behind : Stage → ℕ → ℕ → ℕ → Progress
+behind g last f b = record { stage = g; last = last; functions = f; bodies = b; data_count = None; segments = 0 }
+
+-- one type of a function
+abbrev a_type : List ℕ
+a_type = 0x01 ∷ 0x04 ∷ 0x01 ∷ 0x60 ∷ 0x00 ∷ 0x00 ∷ []
+
+-- one function
+abbrev a_function : List ℕ
+a_function = 0x03 ∷ 0x02 ∷ 0x01 ∷ 0x00 ∷ []
+
+abbrev declared : List ℕ
+declared = first_eight ++ (a_type ++ a_function)
+
+abbrev declared_frames : List Shape → List Shape
+declared_frames xs = version (record { version = 1; layer = 0 }) ∷ section 1 (0x01 ∷ 0x60 ∷ 0x00 ∷ 0x00 ∷ []) ∷ section 3 (0x01 ∷ 0x00 ∷ []) ∷ xs
+
+abbrev sections : Progress
+sections = behind stages.Sections 0 0 0
+
+abbrev types : Progress
+types = behind stages.Sections 1 0 0
+
+abbrev functions : Progress
+functions = behind stages.Sections 3 1 0
+
+-- A bare header, which is a module. A section of a padded size. Functions without code, which are no module; with a body they are.
+-- A body that passes its section's end, and two sections exchanged, are refused.
+pub record RunRows : Type 0 where
+  pub bare_header : Run no_features fresh (start_of first_eight) (version (record { version = 1; layer = 0 }) ∷ []) sections (at 8 [])
+  pub bare_counts : counts_agree sections ≡ true
+  pub padded_size : Run no_features fresh (start_of (first_eight ++ (0x01 ∷ 0x84 ∷ 0x00 ∷ 0x01 ∷ 0x60 ∷ 0x00 ∷ 0x00 ∷ []))) (version (record { version = 1; layer = 0 }) ∷ section 1 (0x01 ∷ 0x60 ∷ 0x00 ∷ 0x00 ∷ []) ∷ []) types (at 15 [])
+  pub missing_code : Run no_features fresh (start_of declared) (declared_frames []) functions (at 18 [])
+  pub missing_counts : counts_agree functions ≡ false
+  pub body : Run no_features functions (at 18 (0x0a ∷ 0x06 ∷ 0x01 ∷ 0x04 ∷ 0x00 ∷ 0x41 ∷ 0x2a ∷ 0x0b ∷ [])) (code 1 6 ∷ entry (0x00 ∷ 0x41 ∷ 0x2a ∷ 0x0b ∷ []) ∷ []) (behind (stages.Code 0 26) 12 1 1) (at 26 [])
+  pub body_counts : counts_agree (behind (stages.Code 0 26) 12 1 1) ≡ true
+  pub long_body : Run no_features functions (at 18 (0x0a ∷ 0x03 ∷ 0x01 ∷ 0x04 ∷ 0x00 ∷ [])) (code 1 3 ∷ []) (behind (stages.Code 1 23) 12 1 1) (at 21 (0x04 ∷ 0x00 ∷ []))
+  pub long_body_refused : step no_features (behind (stages.Code 1 23) 12 1 1) (at 21 (0x04 ∷ 0x00 ∷ [])) ≡ Fault Other 22
+  pub exchanged : step no_features (behind stages.Sections 5 0 0) (at 13 (0x04 ∷ 0x04 ∷ 0x01 ∷ 0x70 ∷ 0x00 ∷ 0x00 ∷ [])) ≡ Fault Other 15
+
+pub run_rows : RunRows
+unfolding step next_header header next_section contents in_part code_start next_entry behind_code number_before unsigned
+run_rows = record {
+  bare_header = (sections, at 8 [], refl, (refl, refl));
+  bare_counts = refl;
+  padded_size = (sections, at 8 (0x01 ∷ 0x84 ∷ 0x00 ∷ 0x01 ∷ 0x60 ∷ 0x00 ∷ 0x00 ∷ []), refl, (types, at 15 [], refl, (refl, refl)));
+  missing_code = (sections, at 8 (a_type ++ a_function), refl, (types, at 14 a_function, refl, (functions, at 18 [], refl, (refl, refl))));
+  missing_counts = refl;
+  body = (behind (stages.Code 1 26) 12 1 1, at 21 (0x04 ∷ 0x00 ∷ 0x41 ∷ 0x2a ∷ 0x0b ∷ []), refl, (behind (stages.Code 0 26) 12 1 1, at 26 [], refl, (refl, refl)));
+  body_counts = refl;
+  long_body = (behind (stages.Code 1 23) 12 1 1, at 21 (0x04 ∷ 0x00 ∷ []), refl, (refl, refl));
+  long_body_refused = refl;
+  exchanged = refl;
+}
