@@ -1,4 +1,4 @@
-//! Reads and clones what takes memory: the types of a group, and operators with tables.
+//! Reads and clones what takes memory: the types of a group, operators with tables, and operators in nested blocks.
 //!
 //! It ends with status 0 where each clone is equal, with 2 where memory was refused and each refusal was answered as out of
 //! memory, and with 1 otherwise. `bench/refused-memory` refuses it each allocation in turn.
@@ -8,9 +8,9 @@ use std::alloc::{AllocError, AllocFailed, Global};
 use std::process::ExitCode;
 use wasm_operators::{
     BlockType, BrTable, Catch, ContinuationOperator, ControlOperator, ExceptionOperator, Handle,
-    Operator, ParametricOperator, ResumeTable, TryTable,
+    Operator, OperatorsReader, ParametricOperator, ResumeTable, TryTable,
 };
-use wasm_types::{BinaryReader, ErrorKind, FromReader, RecGroup, ValType};
+use wasm_types::{BinaryReader, Error, ErrorKind, FromReader, RecGroup, ValType};
 
 /// Ten types: functions, structs, arrays and a continuation, some of them open and one below another.
 static TEN_TYPES: [u8; 47] = [
@@ -21,6 +21,14 @@ static TEN_TYPES: [u8; 47] = [
 
 /// Three labels and the one where no index is given: 1, 2, 3 and 0.
 static LABELS: [u8; 5] = [0x03, 0x01, 0x02, 0x03, 0x00];
+
+/// Twenty blocks, one in the other, and the end of the expression: the list of open frames grows more than once.
+static BLOCKS: [u8; 61] = [
+    0x02, 0x40, 0x02, 0x40, 0x02, 0x40, 0x02, 0x40, 0x02, 0x40, 0x02, 0x40, 0x02, 0x40, 0x02, 0x40,
+    0x02, 0x40, 0x02, 0x40, 0x02, 0x40, 0x02, 0x40, 0x02, 0x40, 0x02, 0x40, 0x02, 0x40, 0x02, 0x40,
+    0x02, 0x40, 0x02, 0x40, 0x02, 0x40, 0x02, 0x40, 0x0b, 0x0b, 0x0b, 0x0b, 0x0b, 0x0b, 0x0b, 0x0b,
+    0x0b, 0x0b, 0x0b, 0x0b, 0x0b, 0x0b, 0x0b, 0x0b, 0x0b, 0x0b, 0x0b, 0x0b, 0x0b,
+];
 
 /// How a part of the run ended, if not well.
 enum Fault {
@@ -42,14 +50,17 @@ impl<T: Drop> From<AllocFailed<T>> for Fault {
     }
 }
 
-fn read<'a, T: FromReader<'a>>(alloc: Global, bytes: &'a [u8]) -> Result<T, Fault> {
-    match BinaryReader::new(bytes, 0).read::<T>(alloc) {
-        Ok(value) => Ok(value),
-        Err(error) => match error.kind() {
-            ErrorKind::OutOfMemory => Err(Fault::OutOfMemory),
-            _ => Err(Fault::Wrong),
-        },
+impl From<Error> for Fault {
+    fn from(error: Error) -> Fault {
+        match error.kind() {
+            ErrorKind::OutOfMemory => Fault::OutOfMemory,
+            _ => Fault::Wrong,
+        }
     }
+}
+
+fn read<'a, T: FromReader<'a>>(alloc: Global, bytes: &'a [u8]) -> Result<T, Fault> {
+    Ok(BinaryReader::new(bytes, 0).read::<T>(alloc)?)
 }
 
 /// That a group of ten types is read, and that its clone is equal.
@@ -100,9 +111,25 @@ fn operators(alloc: Global) -> Result<(), Fault> {
     Ok(())
 }
 
+/// That the operators of nested blocks are read up to the last.
+fn frames(alloc: Global) -> Result<(), Fault> {
+    let reader = OperatorsReader::new(alloc, BinaryReader::new(&BLOCKS, 0));
+    let mut last = 0;
+    for found in reader.into_iter_with_offsets() {
+        let (_, offset) = found?;
+        last = offset;
+    }
+    if last == 60 {
+        Ok(())
+    } else {
+        Err(Fault::Wrong)
+    }
+}
+
 fn run(alloc: Global) -> Result<(), Fault> {
     types(alloc)?;
-    operators(alloc)
+    operators(alloc)?;
+    frames(alloc)
 }
 
 fn main(rt: HostRuntime) -> ExitCode {
