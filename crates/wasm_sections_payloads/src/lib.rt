@@ -6,7 +6,6 @@
 mod counts;
 mod items;
 pub mod laws;
-
 mod payload;
 mod walk;
 
@@ -15,6 +14,5 @@ pub use items::{
     ExportSectionReader, FunctionSectionReader, Global, GlobalSectionReader, ImportSectionReader,
     MemorySectionReader, Table, TableInit, TableSectionReader, TagSectionReader, TypeSectionReader,
 };
-
 pub use payload::Payload;
 pub use walk::{ParseAll, parse_all};

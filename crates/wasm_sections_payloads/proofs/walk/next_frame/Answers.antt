@@ -1,5 +1,5 @@
 -- A frame's bytes are there.
-use Rattle.std.proofs.Common.{arith, true, ◌≤◌, ◌≡◌, ◌+◌, ◌-◌, length, drop, subst, Ok}
+use Rattle.std.proofs.Common.{arith, true, ◌-◌, length, drop, subst, Ok}
 use Rattle.std.proofs.lemmas.List.{length-take, length-drop}
 use Rattle.wasm_sections_parser.specs.declared.parser.Chunk.{Chunk}
 use Rattle.wasm_sections_parser.specs.Parsing.{Parses}
