@@ -3,10 +3,13 @@
 ghost use Rattle.std.specs.Prelude.{◌≡◌, get_or, IfSome, IfNone};
 ghost use Rattle.wasm_operators_decode_codes.specs.OpcodeRoles.{plain_role};
 ghost use Rattle.wasm_operators_expression.specs.operator.declared.role.Role.TheVariants.{Plain, Opens, End};
+ghost use Rattle.wasm_operators_expression.specs.operator.Op.{op_of};
+ghost use Rattle.wasm_operators_reader.specs.Standing.{Reads};
 ghost use Rattle.wasm_operators_reader.specs.Visiting.{Tells, VisitsPlain};
 
 use crate::cursor::Cursor;
-use wasm_operators_expression::{ControlStack, FrameKind, Role};
+use wasm_operators_expression::{ControlStack, FrameKind, Operator, Role};
+use wasm_operators_read_short::short_operator_at;
 use wasm_operators_visit_short::visit_short;
 use wasm_operators_visit_simd_operator::VisitOperator;
 
@@ -124,6 +127,30 @@ pub(crate) fn visit_frequent<'a, V: VisitOperator<'a>>(
         Role::CatchAll => None,
         Role::Delegate => None,
     }
+}
+
+/// Reads the next operator, where it is a frequent one in a frequent form that may come next. None where it is another, and
+/// where none is read, or memory for a frame is refused: then nothing changes.
+#[inline(always)]
+pub(crate) fn read_frequent<'a>(
+    reader: &mut Cursor<'a>,
+    control: &mut ControlStack,
+) -> Option<Operator<'a>>
+    ensures read { IfSome result (λ op. Reads (record { bytes = reader.old; frames = control.old.frames }) (op_of op) (record { bytes = reader.new; frames = control.new.frames })) }
+    ensures stays { IfNone result ((reader.new ≡ reader.old) × (control.new.frames ≡ control.old.frames)) }
+{
+    let features = reader.features();
+    let Some((op, end)) = short_operator_at(reader.bytes, reader.position, features) else {
+        return None;
+    };
+    let Ok(fits) = control.advance(&op) else {
+        return None;
+    };
+    if !fits {
+        return None;
+    }
+    reader.position = end;
+    Some(op)
 }
 
 /// The role of the operators that begin with this byte.

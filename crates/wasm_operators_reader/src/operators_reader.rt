@@ -8,7 +8,7 @@ ghost use Rattle.wasm_operators_reader.specs.Standing.{at_start, IsFinished, Rea
 ghost use Rattle.wasm_operators_reader.specs.Visiting.{VisitsPlain};
 
 use crate::cursor::Cursor;
-use crate::frequent::visit_frequent;
+use crate::frequent::{read_frequent, visit_frequent};
 use std::alloc::Global;
 use std::marker::Model;
 use wasm_operators_decode::read_operator;
@@ -127,6 +127,31 @@ impl<'a> OperatorsReader<'a> {
     /// No frame is open; the bytes spell no operator that the features of the reader allow; the operator may not come next in
     /// the innermost frame; or there is no memory for a list that it keeps, or for a frame. The reader stays as it was.
     pub fn read(&mut self) -> Result<Operator<'a>>
+        ensures read { IfOk result (λ op. Reads self.old (op_of op) self.new) }
+        ensures refused { IfErr result (λ e. Refuses self.old e × (self.new ≡ self.old)) }
+        ensures no_memory { (WantsMemory self.old → ⊥) → NeedsNoMemory result }
+    {
+        if let Some(op) = self.read_frequent() {
+            return Ok(op);
+        }
+        self.read_complete()
+    }
+
+    /// The next operator, where it is a frequent one in a frequent form that may come next.
+    #[inline(always)]
+    fn read_frequent(&mut self) -> Option<Operator<'a>>
+        ensures read { IfSome result (λ op. Reads self.old (op_of op) self.new) }
+        ensures stays { IfNone result (self.new ≡ self.old) }
+    {
+        let Some(op) = read_frequent(&mut self.reader, &mut self.control) else {
+            return None;
+        };
+        Some(op)
+    }
+
+    /// The next operator, whichever it is.
+    #[inline(never)]
+    fn read_complete(&mut self) -> Result<Operator<'a>>
         ensures read { IfOk result (λ op. Reads self.old (op_of op) self.new) }
         ensures refused { IfErr result (λ e. Refuses self.old e × (self.new ≡ self.old)) }
         ensures no_memory { (WantsMemory self.old → ⊥) → NeedsNoMemory result }
