@@ -1,15 +1,13 @@
 -- Operators on integers by their types.
-use Rattle.std.proofs.Common.{◌≡◌, ◌↔◌, ◌∙◌, ◌==◌, ℕ, List, [], ◌∷◌, Bool, true, false, IsTrue, refl, sym, ap, subst, map, eq-eqb, Option, Some, None, bit_and, Result, Ok, Err}
+use Rattle.std.proofs.Common.{◌≡◌, ◌↔◌, ◌∙◌, ◌==◌, ℕ, List, [], ◌∷◌, Bool, true, false, IsTrue, refl, sym, ap, subst, map, eq-eqb, Option, Some, bit_and}
 use Rattle.std.proofs.lemmas.Bool.{eqb-true}
-use Rattle.wasm_types.specs.error.ErrorValue.{ErrorValue}
 use Rattle.wasm_types.specs.error.declared.error.ErrorKind.{ErrorKind}
-use Rattle.wasm_types.specs.trees.Types.{Number, ValueOf, number, value_map}
+use Rattle.wasm_types.specs.trees.Types.{Number, number, value_map}
 use Rattle.wasm_types.specs.values.declared.value.ValType.{ValType}
 use Rattle.wasm_types.specs.values.Values.{value_of}
 use Rattle.wasm_operators_expression.specs.info.Info.{features_of}
 use Rattle.wasm_operators_expression.specs.info.declared.proposal.Proposal.{Proposal}
 use Rattle.wasm_operators_expression.specs.numbers.declared.numeric.NumericOperator.{NumericOperator}
-use Rattle.wasm_operators_expression.specs.numbers.Table.{numeric_info}
 use Rattle.wasm_operators_expression.specs.operator.Op as op
 use Rattle.wasm_operators_expression.specs.operator.Op.{Op}
 use Rattle.wasm_operator_validator_rules.specs.Operands.{Operand, stack}
@@ -17,8 +15,7 @@ use Rattle.wasm_operator_validator_rules.specs.Numbers.{class_of, taken_by, give
 use Rattle.wasm_operator_validator_rules.specs.InstructionTypes.{InstructionType, ◌⟶◌}
 use Rattle.wasm_operator_validator_rules.specs.Row.{Takes}
 use Rattle.wasm_operator_validator_resources.specs.Meaning.{Meaning, type_in, named_type}
-use Rattle.wasm_operator_validator_state.specs.Refusals.{Does, kind_of, refused, refused_by}
-use Rattle.wasm_operator_validator_state.specs.declared.refusal.Refusal.{Refusal}
+use Rattle.wasm_operator_validator_state.specs.Refusals.{Does}
 use Rattle.wasm_operator_validator_state.specs.State.{Open, State, types_in, Accepts, Decides}
 use Rattle.wasm_operator_validator_state.specs.Steps.{IsOpen, MayPop, Exchanged}
 use Rattle.wasm_operator_validator_state.specs.laws.Rows.{IsOrdinary, ordinary, by_no_row}

@@ -1,4 +1,4 @@
-use Rattle.std.proofs.Common.{◌≡◌, ◌∙◌, ◌==◌, ℕ, ap, bit_and}
+use Rattle.std.proofs.Common.{◌∙◌, ◌==◌, ℕ, ap, bit_and}
 use Rattle.wasm_operators_expression.specs.info.Info.{features_of}
 use Rattle.wasm_operators_expression.specs.operator.Op as op
 use Rattle.wasm_operator_validator_state.specs.Refusals.{refused}
