@@ -1,7 +1,7 @@
 //! Control and parametric operators.
 
 ghost use Rattle.std.specs.Prelude.{◌≡◌, IfSome};
-ghost use Rattle.wasm_operators_visit_control.specs.operator.Op.{op_of};
+ghost use Rattle.wasm_operators_visit.specs.operator.Op.{op_of};
 ghost use Rattle.wasm_operators_visit_short.specs.Short.{Begins, IsTold};
 
 use wasm_operators_visit::{ControlOperator, Operator, ParametricOperator};

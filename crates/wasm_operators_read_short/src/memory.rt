@@ -1,7 +1,7 @@
 //! Variables, accesses to memories, and constants.
 
 ghost use Rattle.std.specs.Prelude.{◌≡◌, IfSome};
-ghost use Rattle.wasm_operators_visit_control.specs.operator.Op.{op_of};
+ghost use Rattle.wasm_operators_visit.specs.operator.Op.{op_of};
 ghost use Rattle.wasm_operators_visit_short.specs.Short.{Begins, IsTold};
 
 use wasm_operators_visit::{ConstOperator, MemoryOperator, Operator};

@@ -1,7 +1,7 @@
 //! Operators on numbers.
 
 ghost use Rattle.std.specs.Prelude.{◌≡◌, ◌<◌, IfSome};
-ghost use Rattle.wasm_operators_visit_control.specs.operator.Op.{op_of};
+ghost use Rattle.wasm_operators_visit.specs.operator.Op.{op_of};
 ghost use Rattle.wasm_operators_visit_short.specs.Short.{Begins, BeginsPrefixed, IsTold};
 
 use wasm_operators_decode_numbers::{numeric_of, numeric_prefixed_of};

@@ -1,7 +1,7 @@
 //! The operator at an offset, by its first byte.
 
 ghost use Rattle.std.specs.Prelude.{◌≡◌, IfSome};
-ghost use Rattle.wasm_operators_visit_control.specs.operator.Op.{op_of};
+ghost use Rattle.wasm_operators_visit.specs.operator.Op.{op_of};
 ghost use Rattle.wasm_operators_visit_short.specs.Short.{Begins, IsTold};
 
 use crate::bulk::{memory_copy, memory_fill};

@@ -20,7 +20,7 @@ use Rattle.wasm_operators_expression.specs.decode_encoding.CodedLaws.{decides-op
 use Rattle.wasm_operators_expression.specs.decode_encoding.Operators.{coded_of}
 use Rattle.wasm_operators_expression.specs.Frames.{behind as frames_after, after}
 use Rattle.wasm_operators_expression.specs.Stack.{around}
-use Rattle.wasm_operators_visit_short.specs.Short.{BeginsWith, IsTold}
+use Rattle.wasm_operators_read_short.specs.Short.{BeginsWith, IsTold}
 use Rattle.wasm_operators_reader.specs.Standing.{Reads}
 use Rattle.wasm_operators_reader.specs.Visiting.{Tells, VisitsPlain}
 

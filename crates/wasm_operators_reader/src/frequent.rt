@@ -9,8 +9,7 @@ ghost use Rattle.wasm_operators_reader.specs.Visiting.{Tells, VisitsPlain};
 
 use crate::cursor::Cursor;
 use wasm_operators_expression::{ControlStack, FrameKind, Operator, Role};
-use wasm_operators_read_short::short_operator_at;
-use wasm_operators_visit_short::visit_short;
+use wasm_operators_read_short::{short_operator_at, visit_short};
 use wasm_operators_visit_simd_operator::VisitOperator;
 
 /// The next operator, read and visited, and the role of its first byte.

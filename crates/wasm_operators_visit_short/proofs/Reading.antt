@@ -11,15 +11,15 @@ use Rattle.wasm_types.specs.limits.Settings.{Settings}
 use Rattle.wasm_types_numbers.specs.Numbers.{behind, GivesAt}
 use Rattle.wasm_operators_decode_immediates.specs.immediates.Kinds.{Kind}
 use Rattle.wasm_operators_decode_immediates.specs.immediates.Immediates.{Immediate, kind_of}
-use Rattle.wasm_operators_visit_control.specs.operator.Op.{Op}
-use Rattle.wasm_operators_visit_control.specs.operator.Immediates.{immediates_of, is_canonical}
+use Rattle.wasm_operators_visit_operator.specs.operator.Op.{Op}
+use Rattle.wasm_operators_visit_operator.specs.operator.Immediates.{immediates_of, is_canonical}
 use Rattle.wasm_operators_decode_immediates.specs.Immediates.{immediate}
 use Rattle.wasm_operators_decode_numbers.specs.decode_encoding.Opcodes.{Opcode, opcode, opcode_after, plain, prefixed, is_prefix}
 use Rattle.wasm_operators_decode_numbers.specs.decode_encoding.Sequences.{immediates}
 use Rattle.wasm_operators_decode_numbers.specs.decode_encoding.Coded.{kinds_at, coded, operator, carried_by, behind as behind_opcode}
 use Rattle.wasm_operators_decode_numbers.specs.decode_encoding.Operators.{opcode_of, coded_of}
 use Rattle.wasm_operators_decode_numbers.specs.decode_encoding.OperatorLaws.{own_kinds_at}
-use Rattle.wasm_operators_visit_control.specs.operator.Table.{info_of}
+use Rattle.wasm_operators_visit_operator.specs.operator.Table.{info_of}
 use Rattle.wasm_operators_visit_operator.specs.Vectors.{is_simd}
 use Rattle.wasm_operators_visit_short.specs.Short.{within, BeginsWith, IsTold, Begins, BeginsPrefixed}
 

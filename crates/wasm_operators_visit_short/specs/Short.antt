@@ -4,9 +4,9 @@ use Rattle.wasm_types.specs.decoding.Leb.{u32}
 use Rattle.wasm_types.specs.limits.declared.Limits.{Limits}
 use Rattle.wasm_types.specs.limits.Settings.{Settings}
 use Rattle.wasm_types_numbers.specs.Numbers.{GivesAt}
-use Rattle.wasm_operators_visit_control.specs.operator.Op.{Op}
-use Rattle.wasm_operators_visit_control.specs.operator.Immediates.{is_canonical}
-use Rattle.wasm_operators_visit_control.specs.operator.Table.{info_of}
+use Rattle.wasm_operators_visit_operator.specs.operator.Op.{Op}
+use Rattle.wasm_operators_visit_operator.specs.operator.Immediates.{is_canonical}
+use Rattle.wasm_operators_visit_operator.specs.operator.Table.{info_of}
 use Rattle.wasm_operators_visit_operator.specs.Vectors.{is_simd}
 use Rattle.wasm_operators_decode_numbers.specs.decode_encoding.Opcodes.{is_prefix}
 use Rattle.wasm_operators_decode_numbers.specs.decode_encoding.Coded.{operator}

@@ -3,7 +3,7 @@
 ghost use Rattle.std.specs.Prelude.{◌≡◌, IfSome, IfNone};
 ghost use Rattle.wasm_operators_visit_short.specs.Short.{BeginsPrefixed, IsTold};
 
-use wasm_operators_visit_memory::VisitMemory;
+use wasm_operators_visit_operator::VisitMemory;
 use wasm_types::WasmFeatures;
 use wasm_types_numbers::short_u32_at;
 

@@ -4,7 +4,7 @@ ghost use Rattle.std.specs.Prelude.{◌≡◌, IfSome, IfNone};
 ghost use Rattle.wasm_operators_visit_short.specs.Short.{Begins, IsTold};
 
 use crate::immediates::{block_type_at, zero_at};
-use wasm_operators_visit_control::VisitControl;
+use wasm_operators_visit_operator::VisitControl;
 use wasm_types::WasmFeatures;
 use wasm_types_numbers::short_u32_at;
 

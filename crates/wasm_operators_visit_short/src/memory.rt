@@ -4,7 +4,7 @@ ghost use Rattle.std.specs.Prelude.{◌≡◌, IfSome, IfNone};
 ghost use Rattle.wasm_operators_visit_short.specs.Short.{Begins, IsTold};
 
 use crate::immediates::{f32_at, f64_at, memarg_at, zero_at};
-use wasm_operators_visit_memory::VisitMemory;
+use wasm_operators_visit_operator::VisitMemory;
 use wasm_types::WasmFeatures;
 use wasm_types_numbers::{short_i32_at, short_i64_at, short_u32_at};
 

@@ -4,7 +4,7 @@ ghost use Rattle.std.specs.Prelude.{◌≡◌, ◌<◌, IfSome, IfNone};
 ghost use Rattle.wasm_operators_visit_short.specs.Short.{Begins, BeginsPrefixed, IsTold};
 
 use wasm_operators_decode_numbers::{numeric_of, numeric_prefixed_of};
-use wasm_operators_visit_numbers::{VisitFloats, VisitIntegers, visit_numeric};
+use wasm_operators_visit_operator::{VisitFloats, VisitIntegers, visit_numeric};
 use wasm_types::WasmFeatures;
 
 /// An operator on numbers, of one byte.

@@ -10,9 +10,7 @@ use crate::memory::{
     memory_size, variable,
 };
 use crate::numbers::{numeric, numeric_prefixed};
-use wasm_operators_visit_control::VisitControl;
-use wasm_operators_visit_memory::VisitMemory;
-use wasm_operators_visit_numbers::{VisitFloats, VisitIntegers};
+use wasm_operators_visit_operator::{VisitControl, VisitFloats, VisitIntegers, VisitMemory};
 use wasm_types::WasmFeatures;
 use wasm_types_numbers::short_u32_at;
 

@@ -6,7 +6,7 @@
 
 use std::alloc::{AllocError, AllocFailed, Global};
 use std::process::ExitCode;
-use wasm_operators::{
+use wasm_operators_reader::{
     BlockType, BrTable, Catch, ContinuationOperator, ControlOperator, ExceptionOperator, Handle,
     Operator, OperatorsReader, ParametricOperator, ResumeTable, TryTable,
 };

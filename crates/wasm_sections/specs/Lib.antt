@@ -7,4 +7,4 @@ pub use Rattle.wasm_sections_elements.specs as elements
 pub use Rattle.wasm_sections_parser.specs as parser
 pub use Rattle.wasm_sections_parser_laws.specs as runs
 pub use Rattle.wasm_sections_payloads.specs as payloads
-pub use Rattle.wasm_operators_bodies.specs as bodies
+pub use Rattle.wasm_sections_payloads.specs.bodies as bodies

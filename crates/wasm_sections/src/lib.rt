@@ -13,7 +13,6 @@
 //! Here the constant expressions are those of `wasm_operators_bodies`, [`ConstExpr`].
 #![tactic(auto)]
 
-pub use wasm_operators_bodies::{ConstExpr, FunctionBody};
 pub use wasm_sections_elements::{ElementItemsOf, ElementKindOf, ElementOf};
 pub use wasm_sections_imports::{Export, ExternalKind, Import, TypeRef};
 pub use wasm_sections_limited::{
@@ -21,9 +20,9 @@ pub use wasm_sections_limited::{
 };
 pub use wasm_sections_parser::{Chunk, CustomSectionReader, Encoding, Frame, Parser};
 pub use wasm_sections_payloads::{
-    Data, DataKind, DataSectionReader, Element, ElementItems, ElementKind, ElementSectionReader,
-    ExportSectionReader, FunctionSectionReader, Global, GlobalSectionReader, ImportSectionReader,
-    MemorySectionReader, ParseAll, Payload, Table, TableInit, TableSectionReader, TagSectionReader,
-    TypeSectionReader, parse_all,
+    ConstExpr, Data, DataKind, DataSectionReader, Element, ElementItems, ElementKind,
+    ElementSectionReader, ExportSectionReader, FunctionBody, FunctionSectionReader, Global,
+    GlobalSectionReader, ImportSectionReader, MemorySectionReader, ParseAll, Payload, Table,
+    TableInit, TableSectionReader, TagSectionReader, TypeSectionReader, parse_all,
 };
 pub use wasm_sections_segments::{DataKindOf, DataOf, GlobalOf, TableInitOf, TableOf};

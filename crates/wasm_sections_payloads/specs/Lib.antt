@@ -4,3 +4,5 @@ pub mod Payloads
 pub mod Walking
 -- Laws.
 pub mod WalkLaws
+-- The rules of bodies and constant expressions, which the public crate passes on.
+pub use Rattle.wasm_operators_bodies.specs as bodies

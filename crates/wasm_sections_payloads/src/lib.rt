@@ -16,3 +16,4 @@ pub use items::{
 };
 pub use payload::Payload;
 pub use walk::{ParseAll, parse_all};
+pub use wasm_operators_bodies::{ConstExpr, FunctionBody};

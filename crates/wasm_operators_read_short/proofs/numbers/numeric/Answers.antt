@@ -1,5 +1,5 @@
 use Rattle.std.proofs.Common.{refl}
-use Rattle.wasm_operators_visit_control.specs.operator.Op as op
+use Rattle.wasm_operators_visit.specs.operator.Op as op
 use Rattle.wasm_operators_visit_short.proofs.Reading.{told_alone, low_is_no_prefix, opcode_is}
 use Rattle.wasm_operators_read_short.proofs.numbers.numeric.Goals as goal
 

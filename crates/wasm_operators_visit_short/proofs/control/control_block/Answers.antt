@@ -1,8 +1,8 @@
 use Rattle.std.proofs.Common.{refl}
 use Rattle.wasm_operators_decode_immediates.specs.immediates.Immediates.{Block}
-use Rattle.wasm_operators_visit_control.specs.operator.Op as op
-use Rattle.wasm_operators_visit_control.specs.control.declared.control.ControlOperator.TheVariants as control
-use Rattle.wasm_operators_visit_control.specs.operator.Op.{Drop, Select}
+use Rattle.wasm_operators_visit_operator.specs.operator.Op as op
+use Rattle.wasm_operators_visit_operator.specs.control.declared.control.ControlOperator.TheVariants as control
+use Rattle.wasm_operators_visit_operator.specs.operator.Op.{Drop, Select}
 use Rattle.wasm_operators_visit_short.proofs.Reading.{told_with}
 use Rattle.wasm_operators_visit_short.proofs.Carried.{block_of}
 use Rattle.wasm_operators_visit_short.proofs.control.control_block.Goals as goal

@@ -1,5 +1,5 @@
 use Rattle.std.proofs.Common.{refl}
-use Rattle.wasm_operators_visit_control.specs.operator.Op as op
+use Rattle.wasm_operators_visit_operator.specs.operator.Op as op
 use Rattle.wasm_operators_visit_short.proofs.Reading.{is_told, prefixed_of, prefixed_is}
 use Rattle.wasm_operators_visit_short.proofs.numbers.numeric_prefixed.Goals as goal
 
