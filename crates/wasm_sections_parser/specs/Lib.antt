@@ -1,5 +1,6 @@
 -- Rules: what comes next where a parser stands, and what a call answers.
 pub mod Steps
+pub mod Places
 pub mod Parsing
 pub mod Settled
 -- Laws.

@@ -17,6 +17,7 @@ use Rattle.wasm_sections_parser.specs.declared.progress.Progress.{Progress}
 use Rattle.wasm_sections_parser.specs.declared.parser.Parser.{Parser}
 use Rattle.wasm_sections_parser.specs.declared.parser.Chunk.{Chunk}
 use Rattle.wasm_sections_parser.specs.declared.parser.Chunk.TheVariants.{NeedMoreData, Parsed}
+use Rattle.wasm_sections_parser.specs.Places.{IsPlaced}
 use Rattle.wasm_sections_parser.specs.Steps.{Shape, version, custom, section, code, entry, the_end, is_over, counts_agree, step}
 
 -- the layer that says so
@@ -61,6 +62,7 @@ staged p s = record { offset = p.offset; features = p.features; progress = recor
 pub record IsNext (p : Parser) (text : List ℕ) (n : ℕ) (f : Frame) (q : Parser) : Type 0 where
   pub after : State
   pub read : comes p text ≡ Done (shape_of f, q.progress) after
+  pub placed : IsPlaced f q.progress after.place
   pub consumed : after.place ≡ p.offset + n
   pub offset : q.offset ≡ after.place
   pub features : q.features ≡ p.features

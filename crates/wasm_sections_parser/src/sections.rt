@@ -1,6 +1,6 @@
 //! Reading what comes next.
 
-ghost use Rattle.std.specs.Prelude.{◌≡◌, ◌+◌, ◌≤◌, length, take, drop};
+ghost use Rattle.std.specs.Prelude.{◌≡◌, ◌+◌, ◌≤◌, length, take, drop, IfOk};
 ghost use Rattle.wasm_types.specs.decoding.Decoder.{Reaches};
 ghost use Rattle.wasm_types.specs.decoding.Leb.{u32 as u32_decoder};
 ghost use Rattle.wasm_types.specs.decoding.Text.{name};
@@ -10,6 +10,7 @@ ghost use Rattle.wasm_sections_frames.specs.Decode.{is_magic, header_of};
 ghost use Rattle.wasm_types.specs.decoding.Text.{little_endian};
 ghost use Rattle.wasm_sections_parser.specs.Steps.{in_part, custom_next, section_next, contents, code_start, next_section, body, next_entry, behind_code, next_header, step};
 ghost use Rattle.wasm_sections_parser.specs.Parsing.{shape_of, layer_of};
+ghost use Rattle.wasm_sections_parser.specs.Places.{IsPlaced};
 
 use crate::numbers::{read_number_before, settled};
 use crate::progress::{begun, counted, in_code, is_late, one_less};
@@ -41,6 +42,7 @@ fn part_between<'a>(
 #[tactic(auto, using(wasm_types::specs::Laws::reaches_self, wasm_types::specs::Laws::reaches_then))]
 fn read_part<'a>(size: u32, reader: &mut BinaryReader<'a>) -> Result<BinaryReader<'a>>
     ensures answer { Gives (λ r. r) result reader.new (next_part size reader.old) }
+    ensures ends { IfOk result (λ r. r.place + length r.rest ≡ reader.new.place) }
     ensures no_memory { NeedsNoMemory result }
     ensures forward { Reaches reader.old reader.new }
 {
@@ -57,6 +59,7 @@ fn read_custom<'a>(
     _reader: &BinaryReader<'a>,
 ) -> Result<Read<'a>>
     ensures answer { Gives (λ x. (shape_of x.frame, x.progress)) result _reader.now (in_part (name part.entry.settings.limits.string_bytes) (custom_next progress) part.entry _reader.now) }
+    ensures placed { IfOk result (λ x. IsPlaced x.frame x.progress (part.entry.place + length part.entry.rest)) }
     ensures no_memory { NeedsNoMemory result }
 {
     let mut part = part;
@@ -86,6 +89,7 @@ fn read_counted<'a>(
     _reader: &BinaryReader<'a>,
 ) -> Result<Read<'a>>
     ensures answer { Gives (λ x. (shape_of x.frame, x.progress)) result _reader.now (in_part u32_decoder (section_next progress id part.entry.rest) part.entry _reader.now) }
+    ensures placed { IfOk result (λ x. IsPlaced x.frame x.progress (part.entry.place + length part.entry.rest)) }
     ensures no_memory { NeedsNoMemory result }
 {
     let mut ahead = part.clone();
@@ -108,6 +112,7 @@ fn read_contents<'a>(
     reader: &mut BinaryReader<'a>,
 ) -> Result<Read<'a>>
     ensures answer { Gives (λ x. (shape_of x.frame, x.progress)) result reader.new (contents reader.old.settings progress id size reader.old) }
+    ensures placed { IfOk result (λ x. IsPlaced x.frame x.progress reader.new.place) }
     ensures no_memory { NeedsNoMemory result }
     ensures forward { Reaches reader.old reader.new }
 {
@@ -132,6 +137,7 @@ fn read_code_start<'a>(
     reader: &mut BinaryReader<'a>,
 ) -> Result<Read<'a>>
     ensures answer { Gives (λ x. (shape_of x.frame, x.progress)) result reader.new (code_start progress size reader.old) }
+    ensures placed { IfOk result (λ x. IsPlaced x.frame x.progress reader.new.place) }
     ensures no_memory { NeedsNoMemory result }
     ensures forward { Reaches reader.old reader.new }
 {
@@ -155,6 +161,7 @@ fn read_code_start<'a>(
 #[tactic(auto, using(wasm_types::specs::Laws::reaches_self, wasm_types::specs::Laws::reaches_then), unfolding(crate::specs::Steps::next_section))]
 fn read_section<'a>(progress: Progress, reader: &mut BinaryReader<'a>) -> Result<Read<'a>>
     ensures answer { Gives (λ x. (shape_of x.frame, x.progress)) result reader.new (next_section reader.old.settings progress reader.old) }
+    ensures placed { IfOk result (λ x. IsPlaced x.frame x.progress reader.new.place) }
     ensures no_memory { NeedsNoMemory result }
     ensures forward { Reaches reader.old reader.new }
 {
@@ -179,6 +186,7 @@ fn read_body<'a>(
     reader: &mut BinaryReader<'a>,
 ) -> Result<Read<'a>>
     ensures answer { Gives (λ x. (shape_of x.frame, x.progress)) result reader.new (body progress left end size reader.old) }
+    ensures placed { IfOk result (λ x. IsPlaced x.frame x.progress reader.new.place) }
     ensures no_memory { NeedsNoMemory result }
     ensures forward { Reaches reader.old reader.new }
 {
@@ -203,6 +211,7 @@ fn read_entry<'a>(
     reader: &mut BinaryReader<'a>,
 ) -> Result<Read<'a>>
     ensures answer { Gives (λ x. (shape_of x.frame, x.progress)) result reader.new (next_entry progress left end reader.old) }
+    ensures placed { IfOk result (λ x. IsPlaced x.frame x.progress reader.new.place) }
     ensures no_memory { NeedsNoMemory result }
     ensures forward { Reaches reader.old reader.new }
 {
@@ -218,6 +227,7 @@ fn read_behind_code<'a>(
     reader: &mut BinaryReader<'a>,
 ) -> Result<Read<'a>>
     ensures answer { Gives (λ x. (shape_of x.frame, x.progress)) result reader.new (behind_code reader.old.settings progress end reader.old) }
+    ensures placed { IfOk result (λ x. IsPlaced x.frame x.progress reader.new.place) }
     ensures no_memory { NeedsNoMemory result }
     ensures forward { Reaches reader.old reader.new }
 {
@@ -265,6 +275,7 @@ fn layer_in(text: &[u8]) -> u16
 #[tactic(auto, using(wasm_types::specs::Laws::reaches_self, wasm_types::specs::Laws::reaches_then), unfolding(crate::specs::Steps::next_header, wasm_sections_frames::specs::Decode::header))]
 fn read_header<'a>(progress: Progress, reader: &mut BinaryReader<'a>) -> Result<Read<'a>>
     ensures answer { Gives (λ x. (shape_of x.frame, x.progress)) result reader.new (next_header progress reader.old) }
+    ensures placed { IfOk result (λ x. IsPlaced x.frame x.progress reader.new.place) }
     ensures no_memory { NeedsNoMemory result }
     ensures forward { Reaches reader.old reader.new }
 {
@@ -307,6 +318,7 @@ fn encoding_of(layer: u16) -> Encoding
 #[tactic(auto, using(wasm_types::specs::Laws::reaches_self, wasm_types::specs::Laws::reaches_then), unfolding(crate::specs::Steps::step))]
 pub(crate) fn read_frame<'a>(progress: Progress, reader: &mut BinaryReader<'a>) -> Result<Read<'a>>
     ensures answer { Gives (λ x. (shape_of x.frame, x.progress)) result reader.new (step reader.old.settings progress reader.old) }
+    ensures placed { IfOk result (λ x. IsPlaced x.frame x.progress reader.new.place) }
     ensures no_memory { NeedsNoMemory result }
     ensures forward { Reaches reader.old reader.new }
 {
