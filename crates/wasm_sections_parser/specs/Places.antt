@@ -10,7 +10,7 @@ use Rattle.wasm_sections_parser.specs.declared.progress.Progress.{Progress}
 abbrev pub IsPlaced : Frame → Progress → ℕ → Type 0
 IsPlaced (frames.Version n e r) q to = (r.start + 8 ≡ to) × (r.end ≡ to)
 IsPlaced (frames.Custom c) q to = (c.range.end ≡ to) × (c.data_offset + length c.«data».now ≡ to)
-IsPlaced (frames.Section id r) q to = r.place + length r.rest ≡ to
+IsPlaced (frames.Section id r) q to = (r.start ≡ r.place) × (r.place + length r.rest ≡ to)
 IsPlaced (frames.CodeStart n r size) q to = (r.start + size ≡ r.end) × (q.stage ≡ stages.Code n r.end)
-IsPlaced (frames.CodeEntry r) q to = r.place + length r.rest ≡ to
+IsPlaced (frames.CodeEntry r) q to = (r.start ≡ r.place) × (r.place + length r.rest ≡ to)
 IsPlaced (frames.End place) q to = place ≡ to

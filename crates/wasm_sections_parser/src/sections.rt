@@ -43,6 +43,7 @@ fn part_between<'a>(
 fn read_part<'a>(size: u32, reader: &mut BinaryReader<'a>) -> Result<BinaryReader<'a>>
     ensures answer { Gives (λ r. r) result reader.new (next_part size reader.old) }
     ensures ends { IfOk result (λ r. r.place + length r.rest ≡ reader.new.place) }
+    ensures begins { IfOk result (λ r. r.start ≡ r.place) }
     ensures no_memory { NeedsNoMemory result }
     ensures forward { Reaches reader.old reader.new }
 {
@@ -89,7 +90,7 @@ fn read_counted<'a>(
     _reader: &BinaryReader<'a>,
 ) -> Result<Read<'a>>
     ensures answer { Gives (λ x. (shape_of x.frame, x.progress)) result _reader.now (in_part u32_decoder (section_next progress id part.entry.rest) part.entry _reader.now) }
-    ensures placed { IfOk result (λ x. IsPlaced x.frame x.progress (part.entry.place + length part.entry.rest)) }
+    ensures placed { IfOk result (λ x. part.entry.start ≡ part.entry.place → IsPlaced x.frame x.progress (part.entry.place + length part.entry.rest)) }
     ensures no_memory { NeedsNoMemory result }
 {
     let mut ahead = part.clone();
