@@ -1,4 +1,5 @@
 -- Runs of locals: one more at the end, and the run that has a local.
+use Rattle.wasm_types_limits.specs.Limits.{default_limits}
 use Rattle.std.proofs.Common.{◌≡◌, ℕ, zero, suc, ◌+◌, ◌-◌, ◌<◌, ◌≤◌, List, [], ◌∷◌, ◌++◌, Some, None, true, false, leb, length, take, get_or, replicate, refl, sym, ap, ◌∙◌, arith, subst, append_assoc, slice_get, option_map}
 use Rattle.std.proofs.lemmas.List.{append-nil, length-append, length-replicate, take_all}
 use Rattle.std.proofs.lemmas.Bool.{leb-true, leb-false, le-leb}
@@ -13,7 +14,7 @@ abbrev pub end_from : ℕ → List Run → ℕ
 end_from start [] = start
 end_from start (r ∷ rs) = end_from r.end rs
 
-pub end_above : (start : ℕ) (rs : List Run) → AreRunsFrom start rs → (start ≤ end_from start rs) × (end_from start rs ≤ 50000)
+pub end_above : (start : ℕ) (rs : List Run) → AreRunsFrom start rs → (start ≤ end_from start rs) × (end_from start rs ≤ default_limits.locals)
 end_above start [] a = (omega arith, a)
 end_above start (r ∷ rs) a = let e = end_above r.end rs a.1 in (omega (arith, a.0, e.0), e.1)
 
@@ -31,7 +32,7 @@ end_from-last start (q ∷ p ∷ rs) r e =
     end_from-last q.end (p ∷ rs) r e'
 
 -- one more run
-pub runs_more : (start : ℕ) (rs : List Run) (r : Run) → AreRunsFrom start rs → end_from start rs ≤ r.end → r.end ≤ 50000 → AreRunsFrom start (rs ++ r ∷ [])
+pub runs_more : (start : ℕ) (rs : List Run) (r : Run) → AreRunsFrom start rs → end_from start rs ≤ r.end → r.end ≤ default_limits.locals → AreRunsFrom start (rs ++ r ∷ [])
 runs_more start [] r a le within = (le, within)
 runs_more start (q ∷ rs) r a le within = (a.0, runs_more q.end rs r a.1 le within)
 
@@ -95,7 +96,7 @@ local_at rs index i a bound p =
 
 -- ---- what the code knows
 
-pub last_end : (rs items : List Run) (r : Run) (ts : List ValType) → rs ≡ items → Some r ≡ slice_get rs (length rs - 1) → AreRunsFrom 0 items → locals_from 0 items ≡ ts → (r.end ≡ length ts) × (r.end ≤ 50000)
+pub last_end : (rs items : List Run) (r : Run) (ts : List ValType) → rs ≡ items → Some r ≡ slice_get rs (length rs - 1) → AreRunsFrom 0 items → locals_from 0 items ≡ ts → (r.end ≡ length ts) × (r.end ≤ default_limits.locals)
 last_end rs items r ts same e a is =
     let last : slice_get items (length items - 1) ≡ Some r = rw same at (sym e) in
     let end = end_from-last 0 items r last in
@@ -103,17 +104,17 @@ last_end rs items r ts same e a is =
     (omega (arith, ap (λ (x : List ValType). length x) is), omega (arith, (end_above 0 items a).1))
 
 -- one more run at the end of all
-pub run_fits : (items : List Run) (ts : List ValType) (n count : ℕ) (t : ValType) → AreRunsFrom 0 items → locals_from 0 items ≡ ts → n ≡ length ts → count ≤ 50000 - n → n ≤ 50000
+pub run_fits : (items : List Run) (ts : List ValType) (n count : ℕ) (t : ValType) → AreRunsFrom 0 items → locals_from 0 items ≡ ts → n ≡ length ts → count ≤ default_limits.locals - n → n ≤ default_limits.locals
     → AreRunsFrom 0 (items ++ record { end = n + count; ty = t } ∷ []) × (locals_from 0 (items ++ record { end = n + count; ty = t } ∷ []) ≡ ts ++ replicate count t)
 run_fits items ts n count t a is e fits within =
     let k : end_from 0 items ≡ n = omega (arith, length-locals_from 0 items a, ap (λ (x : List ValType). length x) is) in
     let more : (n + count) - end_from 0 items ≡ count = omega arith in
     (runs_more 0 items (record { end = n + count; ty = t }) a (omega arith) (omega arith), locals_more 0 items (record { end = n + count; ty = t }) ∙ rw (more, is) refl)
 
-pub none_more : (ts : List ValType) (n count : ℕ) (t : ValType) → n ≡ length ts → n ≤ 50000 → count ≡ 0 → (ts ≡ ts ++ replicate count t) × (length ts ≤ 50000)
+pub none_more : (ts : List ValType) (n count : ℕ) (t : ValType) → n ≡ length ts → n ≤ default_limits.locals → count ≡ 0 → (ts ≡ ts ++ replicate count t) × (length ts ≤ default_limits.locals)
 none_more ts n count t e within none = (rw none (sym (append-nil ts)), omega arith)
 
-pub length-more : (ts us : List ValType) (n count : ℕ) (t : ValType) → n ≡ length ts → n ≤ 50000 → count ≤ 50000 - n → us ≡ ts ++ replicate count t → length us ≤ 50000
+pub length-more : (ts us : List ValType) (n count : ℕ) (t : ValType) → n ≡ length ts → n ≤ default_limits.locals → count ≤ default_limits.locals - n → us ≡ ts ++ replicate count t → length us ≤ default_limits.locals
 length-more ts us n count t e within fits is = omega (arith, ap (λ (x : List ValType). length x) is, length-append ts (replicate count t), length-replicate count t)
 
 pub local_past : (rs items : List Run) (ts : List ValType) (index i : ℕ) → rs ≡ items → AreRunsFrom 0 items → locals_from 0 items ≡ ts → i ≡ length rs → Ends index rs i → None ≡ slice_get ts index

@@ -1,4 +1,5 @@
 -- Locals as runs of one type.
+use Rattle.wasm_types_limits.specs.Limits.{default_limits}
 use Rattle.std.specs.Prelude.{◌≡◌, ℕ, ◌-◌, ◌≤◌, List, [], ◌∷◌, ◌++◌, replicate, Result, Ok, Err}
 use Rattle.wasm_types.specs.error.ErrorValue.{ErrorValue}
 use Rattle.wasm_types.specs.error.Denials.{Denies}
@@ -14,7 +15,7 @@ locals_from start (r ∷ rs) = replicate (r.end - start) r.ty ++ locals_from r.e
 
 -- from this index on each run ends where it begins or later, and the last within the limit
 abbrev pub AreRunsFrom : ℕ → List Run → Type 0
-AreRunsFrom start [] = start ≤ 50000
+AreRunsFrom start [] = start ≤ default_limits.locals
 AreRunsFrom start (r ∷ rs) = (start ≤ r.end) × AreRunsFrom r.end rs
 
 -- these are the first of all

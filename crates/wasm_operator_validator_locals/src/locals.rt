@@ -1,5 +1,6 @@
 //! The locals of a function.
 
+ghost use Rattle.wasm_types_limits.specs.Limits.{default_limits};
 ghost use Rattle.std.specs.Prelude.{◌≡◌, ◌+◌, ◌≤◌, List, [], ◌++◌, length, replicate, slice_get, IfErr, IfSome, Some};
 ghost use Rattle.wasm_types.specs.error.declared.error.ErrorKind.TheVariants.{Other, OutOfMemory};
 ghost use Rattle.wasm_types.specs.values.declared.value.ValType.{ValType as TheValType};
@@ -67,7 +68,7 @@ impl Locals {
     /// How many there are, which is at most 50,000.
     pub fn len_locals(&self) -> u32
         ensures value { result ≡ length self.now }
-        ensures within { result ≤ 50000 }
+        ensures within { result ≤ default_limits.locals }
     {
         match self.runs.last() {
             None => 0,
@@ -77,7 +78,7 @@ impl Locals {
 
     /// Puts `count` locals of a type at the end. It refuses more than 50,000 in all, at this offset.
     pub fn define(&mut self, offset: u64, count: u32, ty: &ValType) -> Result<()>
-        ensures does { Does result ((self.new ≡ self.old ++ replicate count ty.now) × (length self.new ≤ 50000)) (length self.old + count ≤ 50000) }
+        ensures does { Does result ((self.new ≡ self.old ++ replicate count ty.now) × (length self.new ≤ default_limits.locals)) (length self.old + count ≤ default_limits.locals) }
         ensures at { RefusedAt offset result }
     {
         let defined = self.len_locals();

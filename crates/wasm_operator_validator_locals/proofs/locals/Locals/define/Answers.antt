@@ -1,10 +1,12 @@
-use Rattle.std.proofs.Common.{List, sym, subst}
+use Rattle.std.proofs.Common.{List, sym, subst, rules}
+use Rattle.wasm_types_limits.specs.Limits.{default_limits}
 use Rattle.wasm_types.specs.values.declared.value.ValType.{ValType}
 use Rattle.wasm_operator_validator_locals.specs.Locals.{IsFront}
 use Rattle.wasm_operator_validator_locals.proofs.Runs.{run_fits, none_more, length-more}
 use Rattle.wasm_operator_validator_locals.proofs.locals.Locals.define.Goals as goal
 
 pub invariant_of-self-2 : goal.invariant_of-self-2
+unfolding default_limits
 invariant_of-self-2 c =
     let fits = run_fits _ _ _ c.args.count c.args.ty.now c.self.invariant.0 c.self.view_is c.len_locals-defined.ensures.value c.if-count-defined.false c.len_locals-defined.ensures.within in
     let f = subst (λ (xs : List ValType). IsFront c.self.inside.first.items xs) c.self.view_is c.self.invariant.1 in
@@ -12,6 +14,7 @@ invariant_of-self-2 c =
     rw c.in_ok-push.ensures.items (fits.0, subst (λ (xs : List ValType). IsFront c.grow_first.new.first.items xs) (sym fits.1) g, c.grow_first.ensures.within)
 
 pub invariant_of-self-in_err-grow_first : goal.invariant_of-self-in_err-grow_first
+unfolding default_limits
 invariant_of-self-in_err-grow_first c =
     let fits = run_fits _ _ _ c.args.count c.args.ty.now c.self.invariant.0 c.self.view_is c.len_locals-defined.ensures.value c.if-count-defined.false c.len_locals-defined.ensures.within in
     let f = subst (λ (xs : List ValType). IsFront c.self.inside.first.items xs) c.self.view_is c.self.invariant.1 in
@@ -19,9 +22,18 @@ invariant_of-self-in_err-grow_first c =
     rw c.in_ok-push.ensures.items (fits.0, subst (λ (xs : List ValType). IsFront c.grow_first.new.first.items xs) (sym fits.1) g, c.grow_first.ensures.within)
 
 pub returns-clause-does : goal.returns-clause-does
+unfolding default_limits
 returns-clause-does c =
     let e = (run_fits _ _ _ c.args.count c.args.ty.now c.self.invariant.0 c.self.view_is c.len_locals-defined.ensures.value c.if-count-defined.false c.len_locals-defined.ensures.within).1 in
     rw c.in_ok-push.ensures.items (e, length-more _ _ _ c.args.count c.args.ty.now c.len_locals-defined.ensures.value c.len_locals-defined.ensures.within c.if-count-defined.false e)
 
 pub returns-then-count-eq0-clause-does : goal.returns-then-count-eq0-clause-does
 returns-then-count-eq0-clause-does c = none_more _ _ c.args.count c.args.ty.now c.len_locals-defined.ensures.value c.len_locals-defined.ensures.within c.if-count-eq0.true
+
+pub returns-then-count-defined-clause-does : goal.returns-then-count-defined-clause-does
+unfolding default_limits
+returns-then-count-defined-clause-does c = search rules
+
+pub overflow_sub-defined : goal.overflow_sub-defined
+unfolding default_limits
+overflow_sub-defined c = c.len_locals-defined.ensures.within
