@@ -1,10 +1,47 @@
 -- Runs of locals: one more at the end, and the run that has a local.
 use Rattle.wasm_types_limits.specs.Limits.{default_limits}
-use Rattle.std.proofs.Common.{◌≡◌, ℕ, zero, suc, ◌+◌, ◌-◌, ◌<◌, ◌≤◌, List, [], ◌∷◌, ◌++◌, Some, None, true, false, leb, length, take, get_or, replicate, refl, sym, ap, ◌∙◌, arith, subst, append_assoc, slice_get, option_map}
+use Rattle.std.proofs.Common.{
+  ◌≡◌,
+  ℕ,
+  zero,
+  suc,
+  ◌+◌,
+  ◌-◌,
+  ◌<◌,
+  ◌≤◌,
+  List,
+  [],
+  ◌∷◌,
+  ◌++◌,
+  Some,
+  None,
+  true,
+  false,
+  leb,
+  length,
+  take,
+  get_or,
+  replicate,
+  refl,
+  sym,
+  ap,
+  ◌∙◌,
+  arith,
+  subst,
+  append_assoc,
+  slice_get,
+  option_map,
+  Result,
+  Ok,
+  Err,
+  IfErr,
+}
 use Rattle.std.proofs.lemmas.List.{append-nil, length-append, length-replicate, take_all}
 use Rattle.std.proofs.lemmas.Bool.{leb-true, leb-false, le-leb}
 use Rattle.std.proofs.lemmas.Option.{slice_get_past, slice_get_read}
 use Rattle.std.specs.List.Sorted.{IsPartitionPoint, IsPartitionedBy}
+use Rattle.wasm_types.specs.error.ErrorValue.{ErrorValue}
+use Rattle.wasm_types.specs.error.declared.error.ErrorKind.TheVariants as kinds
 use Rattle.wasm_types.specs.values.declared.value.ValType.{ValType}
 use Rattle.wasm_operator_validator_locals.specs.declared.locals.Run.{Run}
 use Rattle.wasm_operator_validator_locals.specs.Locals.{locals_from, AreRunsFrom, IsFront}
@@ -39,7 +76,9 @@ runs_more start (q ∷ rs) r a le within = (a.0, runs_more q.end rs r a.1 le wit
 pub locals_more : (start : ℕ) (rs : List Run) (r : Run) → locals_from start (rs ++ r ∷ []) ≡ locals_from start rs ++ replicate (r.end - end_from start rs) r.ty
 locals_more start [] r = append-nil (replicate (r.end - start) r.ty)
 locals_more start (q ∷ rs) r =
-    ap (λ (xs : List ValType). replicate (q.end - start) q.ty ++ xs) (locals_more q.end rs r) ∙ sym (append_assoc (replicate (q.end - start) q.ty) (locals_from q.end rs) (replicate (r.end - end_from q.end rs) r.ty))
+    ap (λ (xs : List ValType). replicate (q.end - start) q.ty ++ xs) (locals_more q.end rs r)
+    ∙ sym (append_assoc (replicate (q.end - start) q.ty) (locals_from q.end rs)
+    (replicate (r.end - end_from q.end rs) r.ty))
 
 -- ---- a local by its index
 
@@ -96,7 +135,8 @@ local_at rs index i a bound p =
 
 -- ---- what the code knows
 
-pub last_end : (rs items : List Run) (r : Run) (ts : List ValType) → rs ≡ items → Some r ≡ slice_get rs (length rs - 1) → AreRunsFrom 0 items → locals_from 0 items ≡ ts → (r.end ≡ length ts) × (r.end ≤ default_limits.locals)
+pub last_end : (rs items : List Run) (r : Run) (ts : List ValType) → rs ≡ items → Some r ≡ slice_get rs (length rs - 1)
+    → AreRunsFrom 0 items → locals_from 0 items ≡ ts → (r.end ≡ length ts) × (r.end ≤ default_limits.locals)
 last_end rs items r ts same e a is =
     let last : slice_get items (length items - 1) ≡ Some r = rw same at (sym e) in
     let end = end_from-last 0 items r last in
@@ -104,7 +144,8 @@ last_end rs items r ts same e a is =
     (omega (arith, ap (λ (x : List ValType). length x) is), omega (arith, (end_above 0 items a).1))
 
 -- one more run at the end of all
-pub run_fits : (items : List Run) (ts : List ValType) (n count : ℕ) (t : ValType) → AreRunsFrom 0 items → locals_from 0 items ≡ ts → n ≡ length ts → count ≤ default_limits.locals - n → n ≤ default_limits.locals
+pub run_fits : (items : List Run) (ts : List ValType) (n count : ℕ) (t : ValType) → AreRunsFrom 0 items → locals_from 0 items ≡ ts
+    → n ≡ length ts → count ≤ default_limits.locals - n → n ≤ default_limits.locals
     → AreRunsFrom 0 (items ++ record { end = n + count; ty = t } ∷ []) × (locals_from 0 (items ++ record { end = n + count; ty = t } ∷ []) ≡ ts ++ replicate count t)
 run_fits items ts n count t a is e fits within =
     let k : end_from 0 items ≡ n = omega (arith, length-locals_from 0 items a, ap (λ (x : List ValType). length x) is) in
@@ -114,7 +155,8 @@ run_fits items ts n count t a is e fits within =
 pub none_more : (ts : List ValType) (n count : ℕ) (t : ValType) → n ≡ length ts → n ≤ default_limits.locals → count ≡ 0 → (ts ≡ ts ++ replicate count t) × (length ts ≤ default_limits.locals)
 none_more ts n count t e within none = (rw none (sym (append-nil ts)), omega arith)
 
-pub length-more : (ts us : List ValType) (n count : ℕ) (t : ValType) → n ≡ length ts → n ≤ default_limits.locals → count ≤ default_limits.locals - n → us ≡ ts ++ replicate count t → length us ≤ default_limits.locals
+pub length-more : (ts us : List ValType) (n count : ℕ) (t : ValType) → n ≡ length ts → n ≤ default_limits.locals
+    → count ≤ default_limits.locals - n → us ≡ ts ++ replicate count t → length us ≤ default_limits.locals
 length-more ts us n count t e within fits is = omega (arith, ap (λ (x : List ValType). length x) is, length-append ts (replicate count t), length-replicate count t)
 
 pub local_past : (rs items : List Run) (ts : List ValType) (index i : ℕ) → rs ≡ items → AreRunsFrom 0 items → locals_from 0 items ≡ ts → i ≡ length rs → Ends index rs i → None ≡ slice_get ts index
@@ -124,7 +166,8 @@ local_past rs items ts index i same a is past p =
     let e = local_at items index i a (omega (arith, ap (λ (x : List Run). length x) same)) p' in
     sym (subst (λ (x : List ValType). slice_get x index ≡ None) is (e ∙ ap (option_map (λ (r : Run). r.ty)) (slice_get_past items i k)))
 
-pub local_here : (rs items : List Run) (ts : List ValType) (index i : ℕ) (r : Run) → rs ≡ items → AreRunsFrom 0 items → locals_from 0 items ≡ ts → i < length items → r ≡ get_or items i r → Ends index rs i → Some r.ty ≡ slice_get ts index
+pub local_here : (rs items : List Run) (ts : List ValType) (index i : ℕ) (r : Run) → rs ≡ items → AreRunsFrom 0 items
+    → locals_from 0 items ≡ ts → i < length items → r ≡ get_or items i r → Ends index rs i → Some r.ty ≡ slice_get ts index
 local_here rs items ts index i r same a is h at p =
     let p' : Ends index items i = subst (λ (x : List Run). Ends index x i) same p in
     let e = local_at items index i a (omega arith) p' in
@@ -153,17 +196,28 @@ nothing_left (t ∷ ts) e = absurd (omega (arith, e))
 pub front_grown : (front all : List ValType) (t : ValType) (k count : ℕ) → IsFront front all → length front ≡ length all → k ≤ count → IsFront (front ++ replicate k t) (all ++ replicate count t)
 front_grown front all t k count f same le =
     let none : f.0 ≡ [] = nothing_left f.0 (omega (arith, same, ap (λ (xs : List ValType). length xs) f.1, length-append front f.0)) in
-    let whole : all ≡ front = f.1 ∙ ap (λ (xs : List ValType). front ++ xs) none ∙ append-nil front in
-    (replicate (count - k) t, ap (λ (xs : List ValType). xs ++ replicate count t) whole ∙ ap (λ (xs : List ValType). front ++ xs) (split k count le) ∙ sym (append_assoc front (replicate k t) (replicate (count - k) t)))
+    let whole : all ≡ front = f.1 ∙ ap (λ (xs : List ValType). front ++ xs) none ∙ append-nil front in (
+      replicate (count - k) t,
+      ap (λ (xs : List ValType). xs ++ replicate count t) whole
+          ∙ ap (λ (xs : List ValType). front ++ xs) (split k count le)
+          ∙ sym (append_assoc front (replicate k t) (replicate (count - k) t)),
+    )
   where
     split : (k count : ℕ) → k ≤ count → replicate count t ≡ replicate k t ++ replicate (count - k) t
     split zero count le = let e : count - 0 ≡ count = omega arith in rw e refl
     split (suc k) zero le = absurd (omega arith)
     split (suc k) (suc count) le = let e : suc count - suc k ≡ count - k = omega arith in rw e (ap (λ (xs : List ValType). t ∷ xs) (split k count (omega arith)))
 
-pub front_resized : (front us all : List ValType) (t : ValType) (len v more count : ℕ) → IsFront front all → length all ≡ len → length front ≡ len → v ≡ len → more ≤ count → us ≡ take (len + more) front ++ replicate (len + more - v) t → IsFront us (all ++ replicate count t)
+pub front_resized : (front us all : List ValType) (t : ValType) (len v more count : ℕ) → IsFront front all → length all ≡ len
+    → length front ≡ len → v ≡ len → more ≤ count → us ≡ take (len + more) front ++ replicate (len + more - v) t
+    → IsFront us (all ++ replicate count t)
 front_resized front us all t len v more count f whole held is le e =
     let whole_front : take (len + more) front ≡ front = take_all (len + more) front (omega (arith, held)) in
     let size : len + more - v ≡ more = omega (arith, is) in
     let new : us ≡ front ++ replicate more t = rw size at (rw whole_front at e) in
     rw new (front_grown front all t more count f (omega (arith, whole, held)) le)
+
+-- what holds where memory is refused
+pub memory_only : {X : Type 0} (r : Result X ErrorValue) (Q : Type 0) → Q → IfErr r (λ e. e.kind ≡ kinds.OutOfMemory → Q)
+memory_only (Ok x) Q q = tt
+memory_only (Err e) Q q = λ is. q

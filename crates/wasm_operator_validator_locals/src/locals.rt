@@ -1,7 +1,7 @@
 //! The locals of a function.
 
 ghost use Rattle.wasm_types_limits.specs.Limits.{default_limits};
-ghost use Rattle.std.specs.Prelude.{◌≡◌, ◌+◌, ◌≤◌, List, [], ◌++◌, length, replicate, slice_get, IfErr, IfSome, Some};
+ghost use Rattle.std.specs.Prelude.{◌≡◌, ◌+◌, ◌≤◌, ◌<◌, List, [], ◌++◌, length, replicate, slice_get, IfErr, IfSome, Some};
 ghost use Rattle.wasm_types.specs.error.declared.error.ErrorKind.TheVariants.{Other, OutOfMemory};
 ghost use Rattle.wasm_types.specs.values.declared.value.ValType.{ValType as TheValType};
 ghost use Rattle.wasm_operator_validator_locals.specs.Locals.{IsFront};
@@ -76,10 +76,17 @@ impl Locals {
         }
     }
 
-    /// Puts `count` locals of a type at the end. It refuses more than 50,000 in all, at this offset.
+    /// Puts `count` locals of a type at the end.
+    ///
+    /// # Errors
+    ///
+    /// There would be more than 50,000 in all: that is refused at this offset, and nothing changes. Or there is no memory for a
+    /// count above 0 within that limit.
     pub fn define(&mut self, offset: u64, count: u32, ty: &ValType) -> Result<()>
         ensures does { Does result ((self.new ≡ self.old ++ replicate count ty.now) × (length self.new ≤ default_limits.locals)) (length self.old + count ≤ default_limits.locals) }
         ensures at { RefusedAt offset result }
+        ensures stays { IfErr result (λ e. e.kind ≡ Other → self.new ≡ self.old) }
+        ensures memory { IfErr result (λ e. e.kind ≡ OutOfMemory → (0 < count) × (length self.old + count ≤ default_limits.locals)) }
     {
         let defined = self.len_locals();
         if count > MAX_WASM_FUNCTION_LOCALS - defined {

@@ -1,5 +1,33 @@
 -- Open frames: how many, which by its label, and the innermost left.
-use Rattle.std.proofs.Common.{◌≡◌, ◌≤◌, ◌<◌, ◌-◌, ℕ, zero, suc, List, [], ◌∷◌, ◌++◌, Option, Some, None, refl, sym, ◌∙◌, ap, arith, length, take, drop, reverse, option_map, get_or, slice_get, MatchOption}
+use Rattle.std.proofs.Common.{
+  ◌≡◌,
+  ◌≤◌,
+  ◌<◌,
+  ◌-◌,
+  ℕ,
+  zero,
+  suc,
+  List,
+  [],
+  ◌∷◌,
+  ◌++◌,
+  Option,
+  Some,
+  None,
+  refl,
+  sym,
+  ◌∙◌,
+  ap,
+  arith,
+  length,
+  take,
+  drop,
+  reverse,
+  option_map,
+  get_or,
+  slice_get,
+  MatchOption,
+}
 use Rattle.std.proofs.lemmas.List.{length-reverse, length-take-le, get_or-reverse, length_push, take-append-le}
 use Rattle.std.proofs.lemmas.Option.{slice_get-get_or, slice_get_past}
 use Rattle.wasm_operators_expression.specs.immediates.declared.block.BlockType.{BlockType}

@@ -109,7 +109,8 @@ pushed_more m σ ρ τ xs t p q =
       );
     }
 
-pub pushed_next : (m : Meaning) (σ ρ τ : State) (ts : List ValType) (i : ℕ) (t : ValType) → i < length ts → t ≡ get_or ts i t → Pushed m σ (stack (types_in m (take i ts))) ρ → PushedAny m ρ (maybe.Known t) τ
+pub pushed_next : (m : Meaning) (σ ρ τ : State) (ts : List ValType) (i : ℕ) (t : ValType) → i < length ts → t ≡ get_or ts i t
+    → Pushed m σ (stack (types_in m (take i ts))) ρ → PushedAny m ρ (maybe.Known t) τ
     → Pushed m σ (stack (types_in m (take (i + 1) ts))) τ
 pushed_next m σ ρ τ ts i t h e p q =
     let f : take (i + 1) ts ≡ take i ts ++ t ∷ [] = take_more ts i t h ∙ ap (λ (x : ValType). take i ts ++ x ∷ []) (sym e) in

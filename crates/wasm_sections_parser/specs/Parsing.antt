@@ -56,7 +56,20 @@ at_end p text = if length text == 0 then between p.progress.stage p.offset else 
 
 -- the same parser in another stage
 abbrev pub staged : Parser → Stage → Parser
-staged p s = record { offset = p.offset; features = p.features; progress = record { stage = s; last = p.progress.last; functions = p.progress.functions; bodies = p.progress.bodies; data_count = p.progress.data_count; segments = p.progress.segments } }
+staged p s = record {
+  offset = p.offset;
+  features = p.features;
+  progress =
+      record {
+        stage = s;
+        last = p.progress.last;
+        functions = p.progress.functions;
+        bodies = p.progress.bodies;
+        data_count =
+            p.progress.data_count;
+        segments = p.progress.segments;
+      };
+}
 
 -- the next frame was read, of so many bytes
 pub record IsNext (p : Parser) (text : List ℕ) (n : ℕ) (f : Frame) (q : Parser) : Type 0 where

@@ -17,7 +17,36 @@ use Rattle.wasm_sections_frames.specs.PartLaws.{lawful-header}
 use Rattle.wasm_sections_parser.specs.declared.progress.Stage.{Stage}
 use Rattle.wasm_sections_parser.specs.declared.progress.Stage.TheVariants as stages
 use Rattle.wasm_sections_parser.specs.declared.progress.Progress.{Progress}
-use Rattle.wasm_sections_parser.specs.Steps.{Shape, version, entry, begun, one_less, kept, number_before, found, in_part, Next, has_count, custom_next, section_next, contents_next, contents, code_next, code_at, code_start, ordered, next_section, body_at, body, next_entry, behind_code_at, behind_code, next_header, at_stage, step}
+use Rattle.wasm_sections_parser.specs.Steps.{
+  Shape,
+  version,
+  entry,
+  begun,
+  one_less,
+  kept,
+  number_before,
+  found,
+  in_part,
+  Next,
+  has_count,
+  custom_next,
+  section_next,
+  contents_next,
+  contents,
+  code_next,
+  code_at,
+  code_start,
+  ordered,
+  next_section,
+  body_at,
+  body,
+  next_entry,
+  behind_code_at,
+  behind_code,
+  next_header,
+  at_stage,
+  step,
+}
 
 -- ---- a number before an offset
 
@@ -61,7 +90,9 @@ module _ {A : Type 0} (end start : ℕ) where
   kept_beyond p (Fault k q) b = tt
 
   -- how many bytes came
-  came : (more : List ℕ) (h : ℕ) (o : Outcome A) (p : ℕ) → end ≤ p → (length more < h → o ≡ Short p (h - length more)) × (h ≤ length more → IsBeyond p o) → (b : Bool) → nat_lt (length more) h ≡ b → kept end start o ≡ Fault Other start
+  came : (more : List ℕ) (h : ℕ) (o : Outcome A) (p : ℕ) → end ≤ p
+      → (length more < h → o ≡ Short p (h - length more)) × (h ≤ length more → IsBeyond p o) → (b : Bool)
+      → nat_lt (length more) h ≡ b → kept end start o ≡ Fault Other start
   came more h o p le g true e = rw (g.0 (ltb-true _ _ e)) (rw (le-ltb p end le) refl)
   came more h o p le g false e = kept_past p o le (g.1 (ltb-false _ _ e))
 

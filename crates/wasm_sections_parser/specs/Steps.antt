@@ -122,7 +122,8 @@ abbrev pub section_next : Progress → ℕ → List ℕ → ℕ → List ℕ →
 section_next p id text k rest = (section id text, counted p id k)
 
 abbrev pub contents_next : Settings → Progress → ℕ → State → Decoder Next
-contents_next z p id part = if id == 0 then in_part (name z.limits.string_bytes) (custom_next p) part else (if has_count id then in_part u32 (section_next p id part.rest) part else pure (section_next p id part.rest 0 []))
+contents_next z p id part = if id == 0 then in_part (name z.limits.string_bytes) (custom_next p) part else
+    (if has_count id then in_part u32 (section_next p id part.rest) part else pure (section_next p id part.rest 0 []))
 
 -- a whole section, behind its id and size
 unfoldable pub contents : Settings → Progress → ℕ → ℕ → Decoder Next

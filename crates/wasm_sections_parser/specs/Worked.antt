@@ -11,7 +11,26 @@ use Rattle.wasm_sections_frames.specs.Decode.{header}
 use Rattle.wasm_sections_parser.specs.declared.progress.Stage.{Stage}
 use Rattle.wasm_sections_parser.specs.declared.progress.Stage.TheVariants as stages
 use Rattle.wasm_sections_parser.specs.declared.progress.Progress.{Progress}
-use Rattle.wasm_sections_parser.specs.Steps.{version, section, code, entry, counted, in_code, one_less, begun, counts_agree, number_before, in_part, contents, code_start, next_section, next_entry, behind_code, next_header, step}
+use Rattle.wasm_sections_parser.specs.Steps.{
+  version,
+  section,
+  code,
+  entry,
+  counted,
+  in_code,
+  one_less,
+  begun,
+  counts_agree,
+  number_before,
+  in_part,
+  contents,
+  code_start,
+  next_section,
+  next_entry,
+  behind_code,
+  next_header,
+  step,
+}
 
 -- a parser in this stage, behind sections up to this place
 abbrev at : Stage → ℕ → Progress
@@ -38,7 +57,22 @@ pub record SectionRows : Type 0 where
 
 pub section_rows : SectionRows
 unfolding step next_header header next_section contents in_part unsigned
-section_rows = record { first = refl; magic = refl; no_header = refl; types = refl; functions = refl; no_count = refl; unknown = refl; cut_short = refl; late = refl; twice = refl; in_time = refl; no_size = refl; ended = refl }
+section_rows = record {
+  first = refl;
+  magic = refl;
+  no_header = refl;
+  types = refl;
+  functions = refl;
+  no_count = refl;
+  unknown =
+      refl;
+  cut_short = refl;
+  late = refl;
+  twice = refl;
+  in_time = refl;
+  no_size = refl;
+  ended = refl;
+}
 
 -- The start of the code section, and a count that ends behind it. A body, one byte of which is missing, and one that takes a byte
 -- behind the section. The section's end, a byte before it, and what follows it.

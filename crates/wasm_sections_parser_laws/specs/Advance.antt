@@ -95,7 +95,9 @@ module _ (p : Parser) (text : List ℕ) (eof : Bool) (n : ℕ) (f : Frame) (q : 
       between true g = (omega (arith, g.2), (λ e. let k : false ≡ true = sym e ∙ ap is_end g.3 in absurd cc), ap (λ (v : Parser). v.offset) g.4 ∙ omega (arith, g.2))
       between false g = let k = next_within g in (k.0, (λ e. k.1), k.2)
 
-      over : (b : Bool) → one_of b (IsOver p (Ok (Parsed n f)) q) (one_of (at_end p text) (Ends p eof (Ok (Parsed n f)) q) (Comes p text eof (Ok (Parsed n f)) q)) → (n ≤ length text) × (is_end f ≡ false → 0 < n) × (q.offset ≡ p.offset + n)
+      over : (b : Bool) → one_of b (IsOver p (Ok (Parsed n f)) q)
+          (one_of (at_end p text) (Ends p eof (Ok (Parsed n f)) q) (Comes p text eof (Ok (Parsed n f)) q))
+          → (n ≤ length text) × (is_end f ≡ false → 0 < n) × (q.offset ≡ p.offset + n)
       over true g = absurd g
       over false g = between (at_end p text) g
 

@@ -41,7 +41,9 @@ module _ (p q : Progress) (left end : ℕ) (s t : State) (c : List ℕ) where
   body_bytes : (n : ℕ) (u : State) → body p left end n u ≡ Done (entry c, q) t → (n ≤ end - u.place) × (bytes n u ≡ Done c t)
   body_bytes n u e = go (nat_lt (end - u.place) n) refl e
     where
-      go : (b : Bool) → nat_lt (end - u.place) n ≡ b → cond b (refuse_at {A = Next} Other u.place) (bytes n >>= λ text. pure (entry text, one_less p left end)) u ≡ Done (entry c, q) t → (n ≤ end - u.place) × (bytes n u ≡ Done c t)
+      go : (b : Bool) → nat_lt (end - u.place) n ≡ b
+          → cond b (refuse_at {A = Next} Other u.place) (bytes n >>= λ text. pure (entry text, one_less p left end)) u ≡ Done
+          (entry c, q) t → (n ≤ end - u.place) × (bytes n u ≡ Done c t)
       go true k f = absurd cc
       go false k f =
           let m = done_then (bytes n u) (λ text. pure (entry text, one_less p left end)) (entry c, q) t f in

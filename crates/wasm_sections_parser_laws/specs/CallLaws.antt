@@ -51,8 +51,14 @@ module _ (p : Parser) (text : List ℕ) (n : ℕ) (f : Frame) (q : Parser) (c : 
   stepped h =
       let lawful = lawful-step (settings_of p) p.progress in
       let after : State = h.after in
-      let front : (front : List ℕ) × Takes (reads p c.piece) front after = taken (shape_of f, q.progress) (reads p c.piece) after (step (settings_of p) p.progress (reads p c.piece)) h.read (lawful.forward (reads p c.piece)) in
-      let steady : step (settings_of p) p.progress (extended (reads p c.piece) c.later) ≡ given (shape_of f, q.progress) (extended after c.later) = steadily (shape_of f, q.progress) after c.later (step (settings_of p) p.progress (reads p c.piece)) (step (settings_of p) p.progress (extended (reads p c.piece) c.later)) h.read (lawful.steady (reads p c.piece) c.later) in
+      let front : (front : List ℕ) × Takes (reads p c.piece) front after =
+      taken (shape_of f, q.progress) (reads p c.piece) after (step (settings_of p) p.progress (reads p c.piece)) h.read
+      (lawful.forward (reads p c.piece)) in
+      let steady : step (settings_of p) p.progress (extended (reads p c.piece) c.later) ≡ given (shape_of f, q.progress)
+      (extended after c.later) = steadily (shape_of f, q.progress) after c.later
+      (step (settings_of p) p.progress (reads p c.piece))
+      (step (settings_of p) p.progress (extended (reads p c.piece) c.later)) h.read
+      (lawful.steady (reads p c.piece) c.later) in
       let count : length front.0 ≡ n = omega (arith, front.1.place, h.consumed) in
       let left : text ≡ front.0 ++ (after.rest ++ c.later) = c.whole ∙ ap (λ (x : List ℕ). x ++ c.later) front.1.parts ∙ append_assoc front.0 after.rest c.later in
       let rest : after.rest ++ c.later ≡ drop n text = sym (drop_at front.0 (after.rest ++ c.later) n count) ∙ ap (drop n) (sym left) in
@@ -64,7 +70,9 @@ module _ (p : Parser) (text : List ℕ) (n : ℕ) (f : Frame) (q : Parser) (c : 
   pub call_cases : (is_over p.progress ≡ false) × (AtEnd p text n f q ⊎ Stepped p text n f q)
   call_cases = over (is_over p.progress) refl c.parses
     where
-      bytes : (k : Bool) → (length c.piece == 0) ≡ k → (b : Bool) → cond k (between p.progress.stage p.offset) false ≡ b → one_of b (Ends p c.eof (Ok (Parsed n f)) q) (Comes p c.piece c.eof (Ok (Parsed n f)) q) → AtEnd p text n f q ⊎ Stepped p text n f q
+      bytes : (k : Bool) → (length c.piece == 0) ≡ k → (b : Bool) → cond k (between p.progress.stage p.offset) false ≡ b
+          → one_of b (Ends p c.eof (Ok (Parsed n f)) q) (Comes p c.piece c.eof (Ok (Parsed n f)) q)
+          → AtEnd p text n f q ⊎ Stepped p text n f q
       bytes k e false h g = inr (stepped g)
       bytes true e true h g = inl (record {
         none = c.whole ∙ ap (λ (x : List ℕ). x ++ c.later) (no_bytes c.piece (eqb-true _ _ e)) ∙ c.told g.0;
@@ -76,7 +84,10 @@ module _ (p : Parser) (text : List ℕ) (n : ℕ) (f : Frame) (q : Parser) (c : 
       })
       bytes false e true h g = absurd cc
 
-      over : (k : Bool) → is_over p.progress ≡ k → one_of k ⊥ (one_of (at_end p c.piece) (Ends p c.eof (Ok (Parsed n f)) q) (Comes p c.piece c.eof (Ok (Parsed n f)) q)) → (is_over p.progress ≡ false) × (AtEnd p text n f q ⊎ Stepped p text n f q)
+      over : (k : Bool) → is_over p.progress ≡ k
+          → one_of k ⊥ (one_of (at_end p c.piece) (Ends p c.eof (Ok (Parsed n f)) q)
+          (Comes p c.piece c.eof (Ok (Parsed n f)) q))
+          → (is_over p.progress ≡ false) × (AtEnd p text n f q ⊎ Stepped p text n f q)
       over true e g = absurd g
       over false e g = (e, bytes (length c.piece == 0) refl (at_end p c.piece) refl g)
 
@@ -85,16 +96,42 @@ module _ (p : Parser) (text : List ℕ) (n : ℕ) (f : Frame) (q : Parser) (c : 
 -- behind calls the end was given, or the frames are those of a run
 pub calls_run : (fs : List Frame) (p q : Parser) (text rest : List ℕ) → Calls p text fs q rest → is_over q.progress ≡ false
     → Run (settings_of p) p.progress (reads p text) (shapes_of fs) q.progress (stands q rest p.offset) × (settings_of q ≡ settings_of p)
-calls_run [] p q text rest h going = ((ap (λ (v : Parser). v.progress) h.0, λ i. record { rest = h.1 i; place = (h.0 i).offset; settings = settings_of (h.0 i); start = p.offset }), ap settings_of (sym h.0))
+calls_run [] p q text rest h going = (
+  (
+    ap
+        (λ (v : Parser). v.progress) h.0,
+    λ i. record {
+      rest = h.1 i;
+      place = (h.0 i).offset;
+      settings = settings_of (h.0 i);
+      start =
+          p.offset;
+    },
+  ),
+  ap settings_of (sym h.0),
+)
 calls_run (f ∷ fs) p q text rest h going = go (call_cases p text h.0 f h.1 h.2).1 (calls_run fs h.1 q (drop h.0 text) rest h.3 going)
   where
     ended : (gs : List Frame) (r : Parser) (left : List ℕ) → r ≡ staged p stages.Ended → Calls r left gs q rest → ⊥
     ended [] r left e k = let over : false ≡ true = sym going ∙ ap (λ (v : Parser). is_over v.progress) (sym k.0 ∙ e) in cc
     ended (g ∷ gs) r left e k = let over : false ≡ true = sym (call_cases r left k.0 g k.1 k.2).0 ∙ ap (λ (v : Parser). is_over v.progress) e in cc
 
-    go : AtEnd p text h.0 f h.1 ⊎ Stepped p text h.0 f h.1 → Run (settings_of h.1) h.1.progress (reads h.1 (drop h.0 text)) (shapes_of fs) q.progress (stands q rest h.1.offset) × (settings_of q ≡ settings_of h.1)
+    go : AtEnd p text h.0 f h.1 ⊎ Stepped p text h.0 f h.1
+        → Run (settings_of h.1) h.1.progress (reads h.1 (drop h.0 text)) (shapes_of fs) q.progress (stands q rest h.1.offset)
+        × (settings_of q ≡ settings_of h.1)
         → Run (settings_of p) p.progress (reads p text) (shapes_of (f ∷ fs)) q.progress (stands q rest p.offset) × (settings_of q ≡ settings_of p)
     go (inl e) r = absurd (ended fs h.1 (drop h.0 text) e.next h.3)
     go (inr e) r =
-        let same : settings_of h.1 ≡ settings_of p = λ i. record { features = (e.features i).0; limits = default_limits } in
-        ((h.1.progress, stands h.1 (drop h.0 text) p.offset, e.step, subst (λ (z : Settings). Run z h.1.progress (stands h.1 (drop h.0 text) p.offset) (shapes_of fs) q.progress (stands q rest p.offset)) same (run_restarts (settings_of h.1) (shapes_of fs) h.1.progress q.progress (reads h.1 (drop h.0 text)) (stands q rest h.1.offset) p.offset r.0)), r.1 ∙ same)
+        let same : settings_of h.1 ≡ settings_of p = λ i. record { features = (e.features i).0; limits = default_limits } in (
+          (
+            h.1.progress,
+            stands h.1 (drop h.0 text) p.offset,
+            e.step,
+            subst
+                (λ (z : Settings). Run z h.1.progress (stands h.1 (drop h.0 text) p.offset) (shapes_of fs) q.progress
+                (stands q rest p.offset)) same
+                (run_restarts (settings_of h.1) (shapes_of fs) h.1.progress q.progress (reads h.1 (drop h.0 text))
+                (stands q rest h.1.offset) p.offset r.0),
+          ),
+          r.1 ∙ same,
+        )

@@ -16,7 +16,29 @@ use Rattle.wasm_types.specs.reader.Parts.{part_at, next_part}
 use Rattle.wasm_sections_frames.specs.Outer as outer
 use Rattle.wasm_sections_frames.specs.Outer.{SpelledPart}
 use Rattle.wasm_sections_parser.specs.declared.progress.Progress.{Progress}
-use Rattle.wasm_sections_parser.specs.Steps.{Shape, version, custom, section, code, entry, the_end, is_late, found, in_part, Next, has_count, custom_next, section_next, contents_next, contents, code_next, code_start, number_before, ordered, next_section}
+use Rattle.wasm_sections_parser.specs.Steps.{
+  Shape,
+  version,
+  custom,
+  section,
+  code,
+  entry,
+  the_end,
+  is_late,
+  found,
+  in_part,
+  Next,
+  has_count,
+  custom_next,
+  section_next,
+  contents_next,
+  contents,
+  code_next,
+  code_start,
+  number_before,
+  ordered,
+  next_section,
+}
 
 abbrev given : Shape → Progress → State → Outcome Next
 given x q t = Done (x, q) t
@@ -85,7 +107,9 @@ module _ (z : Settings) (p q : Progress) (s t : State) (n c : List ℕ) where
       counts true f = no_counted i r.rest u (u32 r) f
       counts false f = no_section i r.rest u 0 [] f
 
-      go : (b : Bool) → (i == 0) ≡ b → cond b (in_part (name z.limits.string_bytes) (custom_next p) r) (cond (has_count i) (in_part u32 (section_next p i r.rest) r) (pure (section_next p i r.rest 0 []))) u ≡ given (custom n c) q t → (i ≡ 0) × ((w : State) × (name z.limits.string_bytes r ≡ Done n w) × (w.rest ≡ c) × (u ≡ t))
+      go : (b : Bool) → (i == 0) ≡ b → cond b (in_part (name z.limits.string_bytes) (custom_next p) r)
+          (cond (has_count i) (in_part u32 (section_next p i r.rest) r) (pure (section_next p i r.rest 0 []))) u ≡ given
+          (custom n c) q t → (i ≡ 0) × ((w : State) × (name z.limits.string_bytes r ≡ Done n w) × (w.rest ≡ c) × (u ≡ t))
       go true k f = (eqb-true _ _ k, named u (name z.limits.string_bytes r) f)
       go false k f = absurd (counts (has_count i) f)
 

@@ -19,7 +19,25 @@ use Rattle.wasm_sections_parser.specs.declared.parser.Chunk.TheVariants.{Parsed}
 use Rattle.wasm_sections_parser.specs.declared.progress.Stage.{Stage}
 use Rattle.wasm_sections_parser.specs.declared.progress.Stage.TheVariants as stages
 use Rattle.wasm_sections_parser.specs.declared.progress.Progress.{Progress}
-use Rattle.wasm_sections_parser.specs.Steps.{Shape, version, custom, section, code, entry, the_end, begun, counts_agree, is_over, Next, behind_code, next_section, next_entry, next_header, at_stage, step}
+use Rattle.wasm_sections_parser.specs.Steps.{
+  Shape,
+  version,
+  custom,
+  section,
+  code,
+  entry,
+  the_end,
+  begun,
+  counts_agree,
+  is_over,
+  Next,
+  behind_code,
+  next_section,
+  next_entry,
+  next_header,
+  at_stage,
+  step,
+}
 use Rattle.wasm_sections_parser.specs.Parsing.{between, reads}
 use Rattle.wasm_sections_parser_laws.specs.Runs.{fresh, Run, entries, Framed, AreFramed, Frames, AreCounted, Noted, AreNoted, IsBetween, IsOpen, IsCounted}
 use Rattle.wasm_sections_parser_laws.specs.Calls.{settings_of, shapes_of, stands, Called, Calls}
@@ -110,11 +128,13 @@ between_only z s xs q t h b = go h.seen.tail
     go (inl k) = k
     go (inr k) = let e : true ≡ false = sym b ∙ k.going in absurd cc
 
-pub front_module : (z : Settings) (s : State) (xs : List Shape) (q : Progress) (t : State) → Begun z s xs q t → t.rest ≡ [] → between q.stage t.place ≡ true → counts_agree q ≡ true → IsModule z s.rest xs
+pub front_module : (z : Settings) (s : State) (xs : List Shape) (q : Progress) (t : State) → Begun z s xs q t → t.rest ≡ []
+    → between q.stage t.place ≡ true → counts_agree q ≡ true → IsModule z s.rest xs
 front_module z s xs q t h end b counts =
     let k = between_only z s xs q t h b in
     let m : Outer = record { header = h.header; parts = h.seen.parts } in
-    let back : h.there.rest ≡ h.seen.front = h.seen.taken.parts ∙ ap (λ (x : List ℕ). (h.seen.front ++ h.seen.back) ++ x) end ∙ append-nil (h.seen.front ++ h.seen.back) ∙ ap (λ (x : List ℕ). h.seen.front ++ x) k.none ∙ append-nil h.seen.front in
+    let back : h.there.rest ≡ h.seen.front = h.seen.taken.parts ∙ ap (λ (x : List ℕ). (h.seen.front ++ h.seen.back) ++ x) end
+    ∙ append-nil (h.seen.front ++ h.seen.back) ∙ ap (λ (x : List ℕ). h.seen.front ++ x) k.none ∙ append-nil h.seen.front in
     let shapes : h.others ≡ h.seen.whole_frames = h.seen.frames ∙ ap (λ (x : List Shape). h.seen.whole_frames ++ x) k.frames ∙ append-nil h.seen.whole_frames in
     let frames : Frames z m s.rest xs = record {
       header_text = h.text;
@@ -136,7 +156,8 @@ front_module z s xs q t h end b counts =
 
 -- ---- calls
 
-pub calls_front : (fs : List Frame) (p q : Parser) (text rest : List ℕ) → p.progress ≡ fresh → Calls p text fs q rest → is_over q.progress ≡ false → IsFront (settings_of p) (reads p text) (shapes_of fs) q.progress (stands q rest p.offset)
+pub calls_front : (fs : List Frame) (p q : Parser) (text rest : List ℕ) → p.progress ≡ fresh → Calls p text fs q rest
+    → is_over q.progress ≡ false → IsFront (settings_of p) (reads p text) (shapes_of fs) q.progress (stands q rest p.offset)
 calls_front fs p q text rest e h going =
     run_front (settings_of p) (shapes_of fs) (reads p text) q.progress (stands q rest p.offset)
     (subst (λ (v : Progress). Run (settings_of p) v (reads p text) (shapes_of fs) q.progress (stands q rest p.offset)) e (calls_run fs p q text rest h going).0)
@@ -187,8 +208,13 @@ module _ (fs : List Frame) (p q r : Parser) (text rest : List ℕ) (n place : �
   at_the_end k (inl none) = absurd (no_stage q.progress.stage q.offset (ap (λ (v : Progress). v.stage) (sym none.1)) k.here)
   at_the_end k (inr b) =
       let taken = begun_takes (settings_of p) (reads p text) (shapes_of fs) q.progress (stands q rest p.offset) b in
-      let long : length text ≡ length taken.0 = ap length taken.1.parts ∙ ap (λ (x : List ℕ). length (taken.0 ++ x)) k.none ∙ ap length (append-nil taken.0) in
-      (front_module (settings_of p) (reads p text) (shapes_of fs) q.progress (stands q rest p.offset) b k.none k.here k.agree, k.none, end_place place q.offset k.frame ∙ omega (arith, taken.1.place, long))
+      let long : length text ≡ length taken.0 = ap length taken.1.parts ∙ ap (λ (x : List ℕ). length (taken.0 ++ x)) k.none ∙ ap length (append-nil taken.0) in (
+        front_module (settings_of p) (reads p text) (shapes_of fs) q.progress
+            (stands q rest p.offset) b k.none k.here k.agree,
+        k.none,
+        end_place place q.offset k.frame
+            ∙ omega (arith, taken.1.place, long),
+      )
 
   pub end_given : p.progress ≡ fresh → Calls p text fs q rest → Called q rest (Ok (Parsed n (frames.End place))) r → Whole p text fs place rest
   end_given e h c = go (call_cases q rest n (frames.End place) r c).0 (call_cases q rest n (frames.End place) r c).1

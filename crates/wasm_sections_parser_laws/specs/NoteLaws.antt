@@ -41,7 +41,8 @@ module _ (id r : ℕ) (ranked : rank id ≡ Some r) where
       let b = behind_first low (rank (id_of x)) (ranks ps) h in
       (λ e. omega (arith, le, place_is low (rank (id_of x)) (ranks ps) h (ap rank e ∙ ranked)), late ps b.0 b.2 (omega (arith, le, b.1)))
 
-  module _ {A : Type 0} (get : Progress → A) (same : (p q : Progress) → begun p ≡ begun q → get p ≡ get q) (keeps : (p q : Progress) (x : Part) → Noted p x q → (id_of x ≡ id → ⊥) → get q ≡ get p) where
+  module _ {A : Type 0} (get : Progress → A) (same : (p q : Progress) → begun p ≡ begun q → get p ≡ get q)
+      (keeps : (p q : Progress) (x : Part) → Noted p x q → (id_of x ≡ id → ⊥) → get q ≡ get p) where
     kept : (ps : List Part) (p q : Progress) → AreNoted p ps q → IsAbsent id ps → get q ≡ get p
     kept [] p q h a = sym (same p q h)
     kept (x ∷ ps) p q h a = kept ps h.0 q h.2 a.1 ∙ keeps p h.0 x h.1 a.0
@@ -77,7 +78,8 @@ module _ (id r : ℕ) (ranked : rank id ≡ Some r) where
           go (inr a) false e = inr (eqb-false _ _ e, a)
 
       -- what is remembered is what is declared
-      declared : (0 ≡ id → ⊥) → (10 ≡ id → ⊥) → (ps : List Part) (p q : Progress) (low : ℕ) → AreNoted p ps q → Ascends low (ranks ps) → ((n : ℕ) × Declares id n ps × (get q ≡ make n)) ⊎ (IsAbsent id ps × (get q ≡ get p))
+      declared : (0 ≡ id → ⊥) → (10 ≡ id → ⊥) → (ps : List Part) (p q : Progress) (low : ℕ) → AreNoted p ps q
+          → Ascends low (ranks ps) → ((n : ℕ) × Declares id n ps × (get q ≡ make n)) ⊎ (IsAbsent id ps × (get q ≡ get p))
       declared zero ten ps p q low h o = go (some_or zero ten ps p q h)
         where
           go : ((n : ℕ) × Declares id n ps) ⊎ IsAbsent id ps → ((n : ℕ) × Declares id n ps × (get q ≡ make n)) ⊎ (IsAbsent id ps × (get q ≡ get p))
@@ -123,13 +125,19 @@ tells_data_count p q i c h e = (h.0, h.1 (ap has_count e), ap (λ (v : Progress)
 
 module _ (ps : List Part) (p q : Progress) (low : ℕ) (noted : AreNoted p ps q) (ordered : Ascends low (ranks ps)) where
   functions : ((n : ℕ) × Declares 3 n ps × (q.functions ≡ n)) ⊎ (IsAbsent 3 ps × (q.functions ≡ p.functions))
-  functions = declared 3 3 refl (λ v. v.functions) (λ v w e. ap (λ (y : Progress). y.functions) e) keeps_functions number tells_functions (λ e. omega (arith, e)) (λ e. omega (arith, e)) ps p q low noted ordered
+  functions = declared 3 3 refl (λ v. v.functions)
+      (λ v w e. ap (λ (y : Progress). y.functions) e) keeps_functions number tells_functions (λ e. omega (arith, e))
+      (λ e. omega (arith, e)) ps p q low noted ordered
 
   segments : ((n : ℕ) × Declares 11 n ps × (q.segments ≡ n)) ⊎ (IsAbsent 11 ps × (q.segments ≡ p.segments))
-  segments = declared 11 13 refl (λ v. v.segments) (λ v w e. ap (λ (y : Progress). y.segments) e) keeps_segments number tells_segments (λ e. omega (arith, e)) (λ e. omega (arith, e)) ps p q low noted ordered
+  segments = declared 11 13 refl (λ v. v.segments)
+      (λ v w e. ap (λ (y : Progress). y.segments) e) keeps_segments number tells_segments (λ e. omega (arith, e))
+      (λ e. omega (arith, e)) ps p q low noted ordered
 
   data_count : ((n : ℕ) × Declares 12 n ps × (q.data_count ≡ Some n)) ⊎ (IsAbsent 12 ps × (q.data_count ≡ p.data_count))
-  data_count = declared 12 11 refl (λ v. v.data_count) (λ v w e. ap (λ (y : Progress). y.data_count) e) keeps_data_count some tells_data_count (λ e. omega (arith, e)) (λ e. omega (arith, e)) ps p q low noted ordered
+  data_count = declared 12 11 refl (λ v. v.data_count)
+      (λ v w e. ap (λ (y : Progress). y.data_count) e) keeps_data_count some tells_data_count (λ e. omega (arith, e))
+      (λ e. omega (arith, e)) ps p q low noted ordered
 
 -- as many bodies stand as are remembered
 defined : (ps : List Part) (p q : Progress) (low : ℕ) → AreNoted p ps q → Ascends low (ranks ps) → p.bodies ≡ 0 → Defines q.bodies ps

@@ -23,7 +23,25 @@ find_some (c ∷ cs) b r all e = go (b == c.0) (find_some cs b r all.1) e
     go false others f = others f
 
 rank_some : (id r : ℕ) → rank id ≡ Some r → 0 < r
-rank_some id r e = find_some places id r (omega arith, (omega arith, (omega arith, (omega arith, (omega arith, (omega arith, (omega arith, (omega arith, (omega arith, (omega arith, (omega arith, (omega arith, (omega arith, tt))))))))))))) e
+rank_some id r e = find_some places id r (
+  omega arith,
+  (
+    omega arith,
+    (
+      omega arith,
+      (
+        omega arith,
+        (
+          omega arith,
+          (
+            omega arith,
+            (omega arith, (omega arith, (omega arith, (omega arith, (omega arith, (omega arith, (omega arith, tt))))))),
+          ),
+        ),
+      ),
+    ),
+  ),
+) e
 
 -- whether a place comes too late behind this one, and the last place behind it
 abbrev pub late_at : ℕ → Option ℕ → Bool

@@ -15,7 +15,34 @@ use Rattle.wasm_sections_frames.specs.Decode.{is_magic, header_of, header_after,
 use Rattle.wasm_sections_parser.specs.declared.progress.Stage.{Stage}
 use Rattle.wasm_sections_parser.specs.declared.progress.Stage.TheVariants as stages
 use Rattle.wasm_sections_parser.specs.declared.progress.Progress.{Progress}
-use Rattle.wasm_sections_parser.specs.Steps.{Shape, version, entry, Next, begun, is_late, one_less, kept, number_before, found, in_part, has_count, custom_next, section_next, contents_next, contents, code_next, code_start, ordered, next_section, body, next_entry, behind_code, next_header, at_stage, step}
+use Rattle.wasm_sections_parser.specs.Steps.{
+  Shape,
+  version,
+  entry,
+  Next,
+  begun,
+  is_late,
+  one_less,
+  kept,
+  number_before,
+  found,
+  in_part,
+  has_count,
+  custom_next,
+  section_next,
+  contents_next,
+  contents,
+  code_next,
+  code_start,
+  ordered,
+  next_section,
+  body,
+  next_entry,
+  behind_code,
+  next_header,
+  at_stage,
+  step,
+}
 use Rattle.wasm_sections_parser_laws.specs.Runs.{Run}
 
 -- the same bytes, with another beginning
@@ -73,7 +100,9 @@ plain-unsigned (suc k) r = plain->>= byte _ plain-byte (λ b. plain-if (nat_lt b
 
 plain-name : (limit : ℕ) → IsPlain (name limit)
 unfolding counted_within text_of
-plain-name limit = plain->>= u32 _ (plain-unsigned 4 4) (λ n. plain-if (nat_lt limit n) _ _ (plain-refuse Other 1) (plain->>= (bytes n) if_utf8 (plain-bytes n) (λ c. plain-if (is_utf8 c) _ _ (plain-pure c) (plain-refuse Other 1))))
+plain-name limit = plain->>= u32 _ (plain-unsigned 4 4)
+    (λ n. plain-if (nat_lt limit n) _ _ (plain-refuse Other 1)
+    (plain->>= (bytes n) if_utf8 (plain-bytes n) (λ c. plain-if (is_utf8 c) _ _ (plain-pure c) (plain-refuse Other 1))))
 
 plain-header : IsPlain header
 unfolding header
@@ -82,7 +111,8 @@ plain-header = plain->>= (bytes 4) magic_after (plain-bytes 4) (λ m. plain-if (
     (plain-refuse Other 4))
 
 plain-next_part : (k : ℕ) → IsPlain (next_part k)
-plain-next_part k n s = ap (λ (o : Outcome (List ℕ)). continue_with o (λ text. pure (part_at s text))) (plain-bytes k n s) ∙ then_plain (λ text. pure (part_at s text)) (λ text. plain-pure (part_at s text)) n (bytes k s)
+plain-next_part k n s = ap (λ (o : Outcome (List ℕ)). continue_with o (λ text. pure (part_at s text))) (plain-bytes k n s)
+    ∙ then_plain (λ text. pure (part_at s text)) (λ text. plain-pure (part_at s text)) n (bytes k s)
 
 abbrev short : ℕ → ℕ → Outcome ℕ
 short p h = Short p h
@@ -124,7 +154,9 @@ module _ (z : Settings) (p : Progress) where
 
   plain-code_start : (k : ℕ) → IsPlain (code_start p k)
   unfolding code_start
-  plain-code_start k n s = plain-if (nat_lt s.place (2 ^ 64 - k)) _ _ (plain->>= (number_before (s.place + k)) _ (plain-number_before (s.place + k)) (λ m. plain-pure (code_next p k (s.place + k) m))) (plain-refuse_at Other s.place) n s
+  plain-code_start k n s = plain-if (nat_lt s.place (2 ^ 64 - k)) _ _
+      (plain->>= (number_before (s.place + k)) _ (plain-number_before (s.place + k))
+      (λ m. plain-pure (code_next p k (s.place + k) m))) (plain-refuse_at Other s.place) n s
 
   plain-next_section : IsPlain (next_section z p)
   unfolding next_section

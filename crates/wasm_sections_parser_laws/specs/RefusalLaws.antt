@@ -49,7 +49,9 @@ not_done : (o : Outcome Next) (y : Next) (t : State) (k : Outcome Next) → o �
 not_done o y t k e f = sym f ∙ e
 
 -- an error of a piece is an error of all that is left
-failed : (k : ErrorKind) (place : ℕ) (o after : Outcome Next) (more : List ℕ) (eof : Bool) (y : Next) (t : State) → IsNotMemory k → FailsAt k place o → (eof ≡ false → hint_of k ≡ None) → (eof ≡ true → after ≡ o) → GoesOn o more after → after ≡ given y t → ⊥
+failed : (k : ErrorKind) (place : ℕ) (o after : Outcome Next) (more : List ℕ) (eof : Bool) (y : Next) (t : State) → IsNotMemory k
+    → FailsAt k place o → (eof ≡ false → hint_of k ≡ None) → (eof ≡ true → after ≡ o) → GoesOn o more after → after ≡ given y t
+    → ⊥
 failed (EndOfData h) place o after more true y t m f hint told g e = let v = sym f ∙ sym (told refl) ∙ e in cc
 failed (EndOfData h) place o after more false y t m f hint told g e = let v = hint refl in cc
 failed (MissingFeature x) place o after more eof y t m f hint told g e = let v = subst (λ (w : Outcome Next). GoesOn w more after) f g in let w = sym v ∙ e in cc
@@ -70,7 +72,8 @@ module _ (q r : Parser) (rest : List ℕ) (e : ErrorValue) (c : Called q rest (E
   refused_cases : is_over q.progress ≡ false → Refuses
   refused_cases going = over (is_over q.progress) going c.parses
     where
-      bytes : (k : Bool) → (length c.piece == 0) ≡ k → (b : Bool) → cond k (between q.progress.stage q.offset) false ≡ b → at_end q c.piece ≡ b → one_of b (Ends q c.eof (Err e) r) (Comes q c.piece c.eof (Err e) r) → Refuses
+      bytes : (k : Bool) → (length c.piece == 0) ≡ k → (b : Bool) → cond k (between q.progress.stage q.offset) false ≡ b
+          → at_end q c.piece ≡ b → one_of b (Ends q c.eof (Err e) r) (Comes q c.piece c.eof (Err e) r) → Refuses
       bytes k f false h a g = inr (a, g)
       bytes true f true h a g = inl (c.whole ∙ ap (λ (x : List ℕ). x ++ c.later) (no_bytes c.piece (eqb-true _ _ f)) ∙ c.told g.0, h, g.1)
       bytes false f true h a g = absurd cc
@@ -98,7 +101,8 @@ run_prefix z (x ∷ xs) [] p q r s t u h k stuck = absurd (stuck (x, h.0) h.1 ((
 run_prefix z (x ∷ xs) (y ∷ ys) p q r s t u h k stuck =
     let both : given (x, h.0) h.1 ≡ given (y, k.0) k.1 = sym h.2 ∙ k.2 in
     let v = value_is (x, h.0) (y, k.0) h.1 k.1 both in
-    let here : Run z k.0 k.1 xs q t = subst (λ (w : State). Run z k.0 w xs q t) (state_is (x, h.0) (y, k.0) h.1 k.1 both) (subst (λ (w : Progress). Run z w h.1 xs q t) (ap (λ (n : Next). n.1) v) h.3) in
+    let here : Run z k.0 k.1 xs q t = subst (λ (w : State). Run z k.0 w xs q t) (state_is (x, h.0) (y, k.0) h.1 k.1 both)
+    (subst (λ (w : Progress). Run z w h.1 xs q t) (ap (λ (n : Next). n.1) v) h.3) in
     let rest = run_prefix z xs ys k.0 q r k.1 t u here k.3 stuck in
     (rest.0, (λ i. (ap (λ (n : Next). n.0) (sym v)) i ∷ rest.1 i), rest.2)
 
@@ -112,7 +116,13 @@ pub module_run : (z : Settings) (m : Outer) (text : List ℕ) (xs : List Shape) 
     → (q : Progress) × Run z fresh s xs q t × AreNoted (begun fresh) m.parts q × (between q.stage t.place ≡ true)
 module_run z m text xs s t h order counted taken room =
     let u : State = record { rest = h.parts_text ++ t.rest; place = s.place + length h.header_text; settings = s.settings; start = s.start } in
-    let first : Takes s h.header_text u = record { parts = taken.parts ∙ ap (λ (x : List ℕ). x ++ t.rest) h.whole ∙ append_assoc h.header_text h.parts_text t.rest; place = refl; settings = refl; start = refl } in
+    let first : Takes s h.header_text u = record {
+      parts = taken.parts ∙ ap (λ (x : List ℕ). x ++ t.rest) h.whole
+          ∙ append_assoc h.header_text h.parts_text t.rest;
+      place = refl;
+      settings = refl;
+      start = refl;
+    } in
     let long : length text ≡ length h.header_text + length h.parts_text = ap length h.whole ∙ length-append h.header_text h.parts_text in
     let others : Takes u h.parts_text t = record { parts = refl; place = omega (arith, taken.place, long); settings = taken.settings; start = taken.start } in
     let now = header_next z s u m.header (decides-header.complete s u m.header h.header_text first h.headed) in
@@ -121,7 +131,8 @@ module_run z m text xs s t h order counted taken room =
 
 -- ---- calls
 
-module _ (fs : List Frame) (p q r : Parser) (text rest : List ℕ) (e : ErrorValue) (first : p.progress ≡ fresh) (calls : Calls p text fs q rest) (going : is_over q.progress ≡ false) (c : Called q rest (Err e) r) where
+module _ (fs : List Frame) (p q r : Parser) (text rest : List ℕ) (e : ErrorValue) (first : p.progress ≡ fresh)
+    (calls : Calls p text fs q rest) (going : is_over q.progress ≡ false) (c : Called q rest (Err e) r) where
   all_run : Run (settings_of p) fresh (reads p text) (shapes_of fs) q.progress (stands q rest p.offset)
   all_run = subst (λ (v : Progress). Run (settings_of p) v (reads p text) (shapes_of fs) q.progress (stands q rest p.offset)) first (calls_run fs p q text rest calls going).0
 
@@ -132,7 +143,9 @@ module _ (fs : List Frame) (p q r : Parser) (text rest : List ℕ) (e : ErrorVal
       refused_stuck q r rest e c going y d.0 (ap (λ (z : Settings). step z q.progress (reads q rest)) (sym same) ∙ d.1)
 
   -- what is spelled at the front comes first
-  pub front_first : (m : Outer) (front back : List ℕ) (xs : List Shape) → text ≡ front ++ back → Frames (settings_of p) m front xs → IsOrdered m.parts → AreCounted m.parts → p.offset + length front < 2 ^ 64 → (zs : List Shape) × (shapes_of fs ≡ xs ++ zs)
+  pub front_first : (m : Outer) (front back : List ℕ) (xs : List Shape) → text ≡ front ++ back → Frames (settings_of p) m front xs
+      → IsOrdered m.parts → AreCounted m.parts → p.offset + length front < 2 ^ 64
+      → (zs : List Shape) × (shapes_of fs ≡ xs ++ zs)
   front_first m front back xs whole h order counted room =
       let t : State = record { rest = back; place = p.offset + length front; settings = settings_of p; start = p.offset } in
       let taken : Takes (reads p text) front t = record { parts = whole; place = refl; settings = refl; start = refl } in
@@ -157,7 +170,8 @@ module _ (fs : List Frame) (p q r : Parser) (text rest : List ℕ) (e : ErrorVal
       no_piece [] b f = refl
       no_piece (x ∷ a) b f = absurd cc
 
-      ended : (v : Progress) (t : State) (zs : List Shape) → Run (settings_of p) v t zs q.progress (stands q rest p.offset) → between v.stage t.place ≡ true → counts_agree v ≡ true → t.rest ≡ [] → Refuses q r rest e c → ⊥
+      ended : (v : Progress) (t : State) (zs : List Shape) → Run (settings_of p) v t zs q.progress (stands q rest p.offset)
+          → between v.stage t.place ≡ true → counts_agree v ≡ true → t.rest ≡ [] → Refuses q r rest e c → ⊥
       ended v t (x ∷ zs) k b f none g = no_section (settings_of p) v t b none (x, k.0) k.1 k.2
       ended v t [] k b f none (inl g) = agreed_so v k.0 f g.2
       ended v t [] k b f none (inr g) =

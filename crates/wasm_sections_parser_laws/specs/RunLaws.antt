@@ -15,7 +15,26 @@ use Rattle.wasm_sections_frames.specs.Outer.{Part, SpelledPart, SpelledEntry, Co
 use Rattle.wasm_sections_parser.specs.declared.progress.Stage.{Stage}
 use Rattle.wasm_sections_parser.specs.declared.progress.Stage.TheVariants as stages
 use Rattle.wasm_sections_parser.specs.declared.progress.Progress.{Progress}
-use Rattle.wasm_sections_parser.specs.Steps.{Shape, version, custom, section, code, entry, the_end, in_code, one_less, begun, Next, number_before, body, behind_code, next_section, next_entry, at_stage, step}
+use Rattle.wasm_sections_parser.specs.Steps.{
+  Shape,
+  version,
+  custom,
+  section,
+  code,
+  entry,
+  the_end,
+  in_code,
+  one_less,
+  begun,
+  Next,
+  number_before,
+  body,
+  behind_code,
+  next_section,
+  next_entry,
+  at_stage,
+  step,
+}
 use Rattle.wasm_sections_parser.specs.Parsing.{between}
 use Rattle.wasm_sections_parser_laws.specs.Runs.{Run, entries, Framed, Noted, Seen}
 use Rattle.wasm_sections_parser_laws.specs.BodyLaws.{body_spelled}
@@ -87,7 +106,8 @@ module _ (p : Progress) (left end : ℕ) where
         noted = sym (ap (λ (y : Next). y.1) c.1);
       }
 
-  inside_at : (z : Settings) (s t : State) (x : Shape) (q : Progress) → between (stages.Code left end) s.place ≡ false → at_stage z p (stages.Code left end) s ≡ given (x, q) t → Behind p left end s x q t
+  inside_at : (z : Settings) (s t : State) (x : Shape) (q : Progress) → between (stages.Code left end) s.place ≡ false
+      → at_stage z p (stages.Code left end) s ≡ given (x, q) t → Behind p left end s x q t
   unfolding behind_code
   inside_at z s t x q b e = go (left == 0) refl b e
     where
@@ -167,7 +187,8 @@ module _ (z : Settings) (p : Progress) (left end : ℕ) (s : State) (x : Shape) 
   })
 
 -- where the last body was read: what comes next is what comes between sections
-closed : (z : Settings) (p : Progress) (left end : ℕ) (s : State) (xs : List Shape) (q : Progress) (t : State) → s.place ≤ end → between (stages.Code left end) s.place ≡ true → Seen z p s xs q t → Closes z p left end s xs q t
+closed : (z : Settings) (p : Progress) (left end : ℕ) (s : State) (xs : List Shape) (q : Progress) (t : State) → s.place ≤ end
+    → between (stages.Code left end) s.place ≡ true → Seen z p s xs q t → Closes z p left end s xs q t
 closed z p left end s xs q t le b rest = go (left == 0) refl b
   where
     go : (k : Bool) → (left == 0) ≡ k → cond k (nat_le end s.place) false ≡ true → Closes z p left end s xs q t
@@ -190,7 +211,9 @@ closed z p left end s xs q t le b rest = go (left == 0) refl b
 -- ---- a section more
 
 module _ (z : Settings) (p : Progress) (s : State) (r : Progress) (u : State) (q : Progress) (t : State) where
-  add_part : (x : Part) (text : List ℕ) (fs ys : List Shape) → Takes s text u → Framed z x text fs → Noted p x r → ((rs : List ℕ) → Ascends r.last rs → Ascends p.last (with_rank (rank (id_of x)) rs)) → Seen z r u ys q t → Seen z p s (fs ++ ys) q t
+  add_part : (x : Part) (text : List ℕ) (fs ys : List Shape) → Takes s text u → Framed z x text fs → Noted p x r
+      → ((rs : List ℕ) → Ascends r.last rs → Ascends p.last (with_rank (rank (id_of x)) rs)) → Seen z r u ys q t
+      → Seen z p s (fs ++ ys) q t
   add_part x text fs ys taken framed noted ordered h = record {
     parts = x ∷ h.parts;
     front = text ++ h.front;
@@ -264,9 +287,29 @@ module _ (z : Settings) (p : Progress) (s : State) (n k : ℕ) (r : Progress) (u
       let content : List ℕ = g.1.count ++ c.text in
       let long : length content ≡ k = omega (arith, c.place, c.taken.place, g.1.taken.place, g.1.ends, length-append g.1.size g.1.count, length-append g.1.count c.text) in
       let sized : IsUnsigned 32 (length content) g.1.size = subst (λ (v : ℕ). IsUnsigned 32 v g.1.size) (sym long) g.1.sized in
-      let listed : IsListed SpelledEntry c.bodies content = record { count = g.1.count; values = c.text; counted = subst (λ (v : ℕ). IsUnsigned 32 v g.1.count) (sym c.count) g.1.counted; each = c.each; whole = refl } in
-      let spelled : SpelledPart z (outer.code c.bodies) (outer.code_id ∷ (g.1.size ++ content)) = (g.1.size ++ content, refl, record { size = g.1.size; content = content; counted = sized; spelled = listed; whole = refl }) in
-      let taken = subst (λ (x : List ℕ). Takes s (outer.code_id ∷ x) c.there) (append_assoc g.1.size g.1.count c.text) (Takes-then s u c.there (outer.code_id ∷ (g.1.size ++ g.1.count)) c.text g.1.taken c.taken) in
+      let listed : IsListed SpelledEntry c.bodies content =
+      record {
+        count = g.1.count;
+        values = c.text;
+        counted =
+            subst (λ (v : ℕ). IsUnsigned 32 v g.1.count) (sym c.count) g.1.counted;
+        each = c.each;
+        whole = refl;
+      } in
+      let spelled : SpelledPart z (outer.code c.bodies) (outer.code_id ∷ (g.1.size ++ content)) = (
+        g.1.size ++ content,
+        refl,
+        record {
+          size = g.1.size;
+          content = content;
+          counted = sized;
+          spelled = listed;
+          whole =
+              refl;
+        },
+      ) in
+      let taken = subst (λ (x : List ℕ). Takes s (outer.code_id ∷ x) c.there) (append_assoc g.1.size g.1.count c.text)
+      (Takes-then s u c.there (outer.code_id ∷ (g.1.size ++ g.1.count)) c.text g.1.taken c.taken) in
       let noted : begun c.middle ≡ begun (in_code p n g.1.end) = c.noted ∙ ap begun g.1.noted in
       let frames : code n k ∷ entries c.bodies ≡ code (length c.bodies) (length content) ∷ entries c.bodies = λ i. code (sym c.count i) (sym long i) ∷ entries c.bodies in
       subst (λ (ys : List Shape). Seen z p s (code n k ∷ ys) q t) (sym c.frames)
@@ -279,7 +322,8 @@ module _ (z : Settings) (p : Progress) (s : State) (n k : ℕ) (r : Progress) (u
 abbrev Both : Settings → List Shape → Progress → State → Progress → State → Type 0
 Both z xs p s q t = (between p.stage s.place ≡ true → Seen z p s xs q t) × ((left end : ℕ) → p.stage ≡ stages.Code left end → s.place ≤ end → InCode z p left end s xs q t)
 
-add_frame : (z : Settings) (p : Progress) (s : State) (x : Shape) (r : Progress) (u : State) (xs : List Shape) (q : Progress) (t : State) → Given z p s x r u → Both z xs r u q t → Seen z p s (x ∷ xs) q t
+add_frame : (z : Settings) (p : Progress) (s : State) (x : Shape) (r : Progress) (u : State) (xs : List Shape) (q : Progress)
+    (t : State) → Given z p s x r u → Both z xs r u q t → Seen z p s (x ∷ xs) q t
 add_frame z p s (version h) r u xs q t g both = absurd g
 add_frame z p s (custom n c) r u xs q t g both = add_custom z p s r u q t n c xs g (both.0 (ap (λ (v : Progress). between v.stage u.place) g.0))
 add_frame z p s (section id c) r u xs q t g both = add_section z p s r u q t id c xs g (both.0 (ap (λ (v : Progress). between v.stage u.place) g.1.2))
@@ -304,10 +348,17 @@ nothing_seen z p s q t e b = record {
   ordered = tt;
   taken = subst (λ (v : State). Takes s [] v) e.1 (takes_none s);
   frames = refl;
-  tail = inl (record { none = refl; frames = refl; noted = ap begun (sym e.0); between = ap (λ (v : Progress). between v.stage t.place) (sym e.0) ∙ ap (λ (v : State). between p.stage v.place) (sym e.1) ∙ b });
+  tail = inl (record {
+    none = refl;
+    frames = refl;
+    noted = ap begun (sym e.0);
+    between =
+        ap (λ (v : Progress). between v.stage t.place) (sym e.0) ∙ ap (λ (v : State). between p.stage v.place) (sym e.1) ∙ b;
+  });
 }
 
-nothing_stays : (p : Progress) (left end : ℕ) (s : State) (q : Progress) (t : State) → (p ≡ q) × (s ≡ t) → p.stage ≡ stages.Code left end → s.place ≤ end → between (stages.Code left end) s.place ≡ false → Stays p left end s [] q t
+nothing_stays : (p : Progress) (left end : ℕ) (s : State) (q : Progress) (t : State) → (p ≡ q) × (s ≡ t)
+    → p.stage ≡ stages.Code left end → s.place ≤ end → between (stages.Code left end) s.place ≡ false → Stays p left end s [] q t
 nothing_stays p left end s q t e g le b = record {
   bodies = [];
   text = [];
@@ -322,13 +373,17 @@ nothing_stays p left end s q t e g le b = record {
 }
 
 -- one frame of a run that stands in a code section
-more_code : (z : Settings) (p : Progress) (left end : ℕ) (s : State) (x : Shape) (r : Progress) (u : State) (xs : List Shape) (q : Progress) (t : State) → p.stage ≡ stages.Code left end → step z p s ≡ given (x, r) u → between (stages.Code left end) s.place ≡ false → Both z xs r u q t → InCode z p left end s (x ∷ xs) q t
+more_code : (z : Settings) (p : Progress) (left end : ℕ) (s : State) (x : Shape) (r : Progress) (u : State) (xs : List Shape)
+    (q : Progress) (t : State) → p.stage ≡ stages.Code left end → step z p s ≡ given (x, r) u
+    → between (stages.Code left end) s.place ≡ false → Both z xs r u q t → InCode z p left end s (x ∷ xs) q t
 unfolding step
 more_code z p left end s x r u xs q t g e b both =
     let here = inside_at p left end z s u x r b (ap (λ (v : Stage). at_stage z p v s) (sym g) ∙ e) in
     more_in z p left end s x xs r u q t here (both.1 (left - 1) end (ap (λ (v : Progress). v.stage) here.noted) here.place)
 
-in_code_cases : (z : Settings) (p : Progress) (left end : ℕ) (s : State) (xs : List Shape) (q : Progress) (t : State) → p.stage ≡ stages.Code left end → s.place ≤ end → (between p.stage s.place ≡ true → Seen z p s xs q t) → (between (stages.Code left end) s.place ≡ false → InCode z p left end s xs q t) → InCode z p left end s xs q t
+in_code_cases : (z : Settings) (p : Progress) (left end : ℕ) (s : State) (xs : List Shape) (q : Progress) (t : State)
+    → p.stage ≡ stages.Code left end → s.place ≤ end → (between p.stage s.place ≡ true → Seen z p s xs q t)
+    → (between (stages.Code left end) s.place ≡ false → InCode z p left end s xs q t) → InCode z p left end s xs q t
 in_code_cases z p left end s xs q t g le here inside = go (between (stages.Code left end) s.place) refl
   where
     go : (k : Bool) → between (stages.Code left end) s.place ≡ k → InCode z p left end s xs q t

@@ -48,7 +48,11 @@ module _ (z : Settings) (p : Progress) (s t : State) (text : List ℕ) (b : betw
       let whole : text ≡ outer.code_id ∷ (size ++ (count ++ values)) = h.0.1 ∙ ap (λ (y : List ℕ). outer.code_id ∷ y) (sized.whole ∙ ap (λ (y : List ℕ). size ++ y) listed.whole) in
       let long : k ≡ length count + length values = ap length listed.whole ∙ length-append count values in
       let total : length text ≡ 1 + length size + k = omega (arith, ap length h.0.1, ap length sized.whole, length-append size sized.content) in
-      let parts : s.rest ≡ outer.code_id ∷ ((size ++ count) ++ (values ++ t.rest)) = taken.parts ∙ ap (λ (y : List ℕ). y ++ t.rest) whole ∙ ap (λ (y : List ℕ). outer.code_id ∷ y) (append_assoc size (count ++ values) t.rest ∙ ap (λ (y : List ℕ). size ++ y) (append_assoc count values t.rest) ∙ sym (append_assoc size count (values ++ t.rest))) in
+      let parts : s.rest ≡ outer.code_id ∷ ((size ++ count) ++ (values ++ t.rest)) = taken.parts
+      ∙ ap (λ (y : List ℕ). y ++ t.rest) whole
+      ∙ ap (λ (y : List ℕ). outer.code_id ∷ y)
+      (append_assoc size (count ++ values) t.rest ∙ ap (λ (y : List ℕ). size ++ y) (append_assoc count values t.rest)
+      ∙ sym (append_assoc size count (values ++ t.rest))) in
       let first : Takes s (outer.code_id ∷ (size ++ count)) u = record { parts = parts; place = omega (arith, length-append size count); settings = refl; start = refl } in
       let others : Takes u values t = record { parts = refl; place = omega (arith, taken.place, total, long); settings = taken.settings; start = taken.start } in
       let now = start_next_is z p s u (length es) k size count first sized.counted listed.counted (omega (arith, long)) (omega (arith, taken.place, total, room)) late in
@@ -79,7 +83,9 @@ module _ (z : Settings) (p : Progress) (s t : State) (text : List ℕ) (b : betw
       }
   part_run (outer.code es) xs h counts late room = code_run es xs h late room
 
-pub parts_run : (z : Settings) (ps : List Part) (xs : List Shape) (p : Progress) (s t : State) (text : List ℕ) → AreFramed z ps text xs → AreCounted ps → Ascends p.last (ranks ps) → between p.stage s.place ≡ true → Takes s text t → t.place < 2 ^ 64
+pub parts_run : (z : Settings) (ps : List Part) (xs : List Shape) (p : Progress) (s t : State) (text : List ℕ)
+    → AreFramed z ps text xs → AreCounted ps → Ascends p.last (ranks ps) → between p.stage s.place ≡ true → Takes s text t
+    → t.place < 2 ^ 64
     → (q : Progress) × Run z p s xs q t × AreNoted p ps q × (between q.stage t.place ≡ true)
 parts_run z [] xs p s t text h counts order b taken room =
     let same : s ≡ t = same_state s t (taken.parts ∙ ap (λ (x : List ℕ). x ++ t.rest) h.0) (omega (arith, taken.place, ap length h.0)) (sym taken.settings) (sym taken.start) in

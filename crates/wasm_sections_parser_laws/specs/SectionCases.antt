@@ -15,7 +15,32 @@ use Rattle.wasm_types.specs.reader.Parts.{next_part}
 use Rattle.wasm_sections_frames.specs.Outer as outer
 use Rattle.wasm_sections_frames.specs.Outer.{SpelledPart, Counts}
 use Rattle.wasm_sections_parser.specs.declared.progress.Progress.{Progress}
-use Rattle.wasm_sections_parser.specs.Steps.{Shape, version, custom, section, code, entry, the_end, counted, in_code, is_late, found, in_part, Next, has_count, custom_next, section_next, contents_next, contents, code_next, code_start, number_before, kept, ordered, next_section}
+use Rattle.wasm_sections_parser.specs.Steps.{
+  Shape,
+  version,
+  custom,
+  section,
+  code,
+  entry,
+  the_end,
+  counted,
+  in_code,
+  is_late,
+  found,
+  in_part,
+  Next,
+  has_count,
+  custom_next,
+  section_next,
+  contents_next,
+  contents,
+  code_next,
+  code_start,
+  number_before,
+  kept,
+  ordered,
+  next_section,
+}
 use Rattle.wasm_sections_parser_laws.specs.SpelledLaws.{section_spelled}
 use Rattle.wasm_sections_parser_laws.specs.CustomLaws.{byte_takes, custom_spelled}
 use Rattle.wasm_sections_parser_laws.specs.BodyLaws.{kept_done}
@@ -35,7 +60,8 @@ pub record Start (p : Progress) (s : State) (n k : ℕ) (q : Progress) (t : Stat
 abbrev pub Given : Settings → Progress → State → Shape → Progress → State → Type 0
 Given z p s (version h) q t = ⊥
 Given z p s (custom n c) q t = (q ≡ counted p 0 0) × ((text : List ℕ) × Takes s text t × SpelledPart z (outer.custom n c) text)
-Given z p s (section id c) q t = (is_late p id ≡ false) × ((k : ℕ) × (has_count id ≡ true → Counts k c) × (q ≡ counted p id k)) × ((text : List ℕ) × Takes s text t × SpelledPart z (outer.section id c) text)
+Given z p s (section id c) q t = (is_late p id ≡ false) × ((k : ℕ) × (has_count id ≡ true → Counts k c) × (q ≡ counted p id k))
+    × ((text : List ℕ) × Takes s text t × SpelledPart z (outer.section id c) text)
 Given z p s (code n k) q t = (is_late p outer.code_id ≡ false) × Start p s n k q t
 Given z p s (entry c) q t = ⊥
 Given z p s the_end q t = ⊥
@@ -48,7 +74,8 @@ module _ (z : Settings) (p : Progress) (s t : State) where
   Out y = Given z p s y.0 y.1 t
 
   -- a whole section
-  from_section : (i k : ℕ) (x rest : List ℕ) (u : State) (y : Next) → is_late p i ≡ false → (has_count i ≡ true → Counts k x) → given (section_next p i x k rest) u ≡ given y t → next_section z p s ≡ given y t → Out y
+  from_section : (i k : ℕ) (x rest : List ℕ) (u : State) (y : Next) → is_late p i ≡ false → (has_count i ≡ true → Counts k x)
+      → given (section_next p i x k rest) u ≡ given y t → next_section z p s ≡ given y t → Out y
   from_section i k x rest u y late h f e =
       let v = value_is (section_next p i x k rest) y u t f in
       subst Out v (late, (k, h, refl), section_spelled z p (counted p i k) s t i x (e ∙ ap (λ (n : Next). given n t) (sym v)))
@@ -79,7 +106,9 @@ module _ (z : Settings) (p : Progress) (s t : State) where
       counts true h g = plain true h g
       counts false h g = plain false h g
 
-      go : (b : Bool) → cond b (in_part (name z.limits.string_bytes) (custom_next p) r) (cond (has_count i) (in_part u32 (section_next p i r.rest) r) (pure (section_next p i r.rest 0 []))) u ≡ given y t → Out y
+      go : (b : Bool) → cond b (in_part (name z.limits.string_bytes) (custom_next p) r)
+          (cond (has_count i) (in_part u32 (section_next p i r.rest) r) (pure (section_next p i r.rest 0 []))) u ≡ given y t
+          → Out y
       go true g = from_name u y (name z.limits.string_bytes r) g e
       go false g = counts (has_count i) refl g
 

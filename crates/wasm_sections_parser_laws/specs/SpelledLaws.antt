@@ -14,7 +14,31 @@ use Rattle.wasm_sections_frames.specs.Outer.{Header, Part, SpelledHeader, Spelle
 use Rattle.wasm_sections_frames.specs.Decode.{header, counted_bytes, part_after, part}
 use Rattle.wasm_sections_frames.specs.PartLaws.{decides-header, decides-part}
 use Rattle.wasm_sections_parser.specs.declared.progress.Progress.{Progress}
-use Rattle.wasm_sections_parser.specs.Steps.{Shape, version, custom, section, code, entry, the_end, begun, is_late, found, in_part, Next, has_count, custom_next, section_next, contents_next, contents, code_next, code_start, number_before, ordered, next_section, next_header}
+use Rattle.wasm_sections_parser.specs.Steps.{
+  Shape,
+  version,
+  custom,
+  section,
+  code,
+  entry,
+  the_end,
+  begun,
+  is_late,
+  found,
+  in_part,
+  Next,
+  has_count,
+  custom_next,
+  section_next,
+  contents_next,
+  contents,
+  code_next,
+  code_start,
+  number_before,
+  ordered,
+  next_section,
+  next_header,
+}
 
 abbrev given : Shape → Progress → State → Outcome Next
 given x q t = Done (x, q) t
@@ -95,11 +119,14 @@ module _ (z : Settings) (p q : Progress) (s t : State) (id : ℕ) (c : List ℕ)
       counts true f = counted_value i r.rest u (u32 r) f
       counts false f = same_value i r.rest _ u f
 
-      go : (b : Bool) → (i == 0) ≡ b → cond b (in_part (name z.limits.string_bytes) (custom_next p) r) (cond (has_count i) (in_part u32 (section_next p i r.rest) r) (pure (section_next p i r.rest 0 []))) u ≡ given (section id c) q t → ((i == 0) ≡ false) × (i ≡ id) × (r.rest ≡ c) × (u ≡ t)
+      go : (b : Bool) → (i == 0) ≡ b → cond b (in_part (name z.limits.string_bytes) (custom_next p) r)
+          (cond (has_count i) (in_part u32 (section_next p i r.rest) r) (pure (section_next p i r.rest 0 []))) u ≡ given
+          (section id c) q t → ((i == 0) ≡ false) × (i ≡ id) × (r.rest ≡ c) × (u ≡ t)
       go true k f = absurd (no_custom u (name z.limits.string_bytes r) f)
       go false k f = inner (has_count i) f
         where
-          inner : (b : Bool) → cond b (in_part u32 (section_next p i r.rest) r) (pure (section_next p i r.rest 0 [])) u ≡ given (section id c) q t → ((i == 0) ≡ false) × (i ≡ id) × (r.rest ≡ c) × (u ≡ t)
+          inner : (b : Bool) → cond b (in_part u32 (section_next p i r.rest) r) (pure (section_next p i r.rest 0 [])) u ≡ given
+              (section id c) q t → ((i == 0) ≡ false) × (i ≡ id) × (r.rest ≡ c) × (u ≡ t)
           inner true f' = let v = counts true f' in (k, v.0, v.1, v.2)
           inner false f' = let v = counts false f' in (k, v.0, v.1, v.2)
 
@@ -154,5 +181,6 @@ module _ (z : Settings) (p q : Progress) (s t : State) (id : ℕ) (c : List ℕ)
       let n = done_then (u32 m.1) (ordered z p m.0) (section id c, q) t m.3 in
       rw m.2 (ordered_value m.0 n.0 m.1 n.1 n.2 n.3)
 
-pub section_spelled : (z : Settings) (p q : Progress) (s t : State) (id : ℕ) (c : List ℕ) → next_section z p s ≡ Done (section id c, q) t → (text : List ℕ) × Takes s text t × SpelledPart z (outer.section id c) text
+pub section_spelled : (z : Settings) (p q : Progress) (s t : State) (id : ℕ) (c : List ℕ)
+    → next_section z p s ≡ Done (section id c, q) t → (text : List ℕ) × Takes s text t × SpelledPart z (outer.section id c) text
 section_spelled z p q s t id c e = (decides-part z).sound s t (outer.section id c) (section_read z p q s t id c e)

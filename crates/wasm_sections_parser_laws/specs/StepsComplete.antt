@@ -18,7 +18,36 @@ use Rattle.wasm_sections_frames.specs.Outer.{SpelledPart, SpelledEntry, Counts}
 use Rattle.wasm_sections_parser.specs.declared.progress.Stage.{Stage}
 use Rattle.wasm_sections_parser.specs.declared.progress.Stage.TheVariants as stages
 use Rattle.wasm_sections_parser.specs.declared.progress.Progress.{Progress}
-use Rattle.wasm_sections_parser.specs.Steps.{custom, section, code, entry, counted, in_code, one_less, begun, is_late, found, in_part, Next, has_count, custom_next, section_next, contents_next, contents, code_next, code_start, number_before, kept, body, behind_code, next_entry, ordered, next_section, at_stage, step}
+use Rattle.wasm_sections_parser.specs.Steps.{
+  custom,
+  section,
+  code,
+  entry,
+  counted,
+  in_code,
+  one_less,
+  begun,
+  is_late,
+  found,
+  in_part,
+  Next,
+  has_count,
+  custom_next,
+  section_next,
+  contents_next,
+  contents,
+  code_next,
+  code_start,
+  number_before,
+  kept,
+  body,
+  behind_code,
+  next_entry,
+  ordered,
+  next_section,
+  at_stage,
+  step,
+}
 use Rattle.wasm_sections_parser_laws.specs.Runs.{Run, entries}
 
 abbrev given : Next → State → Outcome Next
@@ -65,10 +94,14 @@ module _ (z : Settings) (p : Progress) (s t : State) where
       let here : Takes s (0 ∷ (size ++ content)) t = subst (λ (x : List ℕ). Takes s x t) (h.1 ∙ ap (λ (x : List ℕ). 0 ∷ x) h.2.whole) taken in
       let part : State = part_at (behind_size z p s t 0 (length content) size content here h.2.counted) content in
       let rest : State = record { rest = c; place = part.place + length h.2.spelled.name_text; settings = part.settings; start = part.start } in
-      let read : name z.limits.string_bytes part ≡ Done n rest = (decides-name z.limits.string_bytes).complete part rest n h.2.spelled.name_text (record { parts = h.2.spelled.whole; place = refl; settings = refl; start = refl }) h.2.spelled.named in
+      let read : name z.limits.string_bytes part ≡ Done n rest =
+      (decides-name z.limits.string_bytes).complete part rest n h.2.spelled.name_text
+      (record { parts = h.2.spelled.whole; place = refl; settings = refl; start = refl }) h.2.spelled.named in
       to_contents z p s t 0 (length content) size content here h.2.counted refl refl refl ∙ ap (found (custom_next p) t) read
 
-  section_next_is : (id : ℕ) (c : List ℕ) (part : State) → part.rest ≡ c → (has_count id ≡ true → (k : ℕ) × Counts k c) → (id == 0) ≡ false → (k : ℕ) × (has_count id ≡ true → Counts k c) × (contents_next z p id part t ≡ given (section id c, counted p id k) t)
+  section_next_is : (id : ℕ) (c : List ℕ) (part : State) → part.rest ≡ c → (has_count id ≡ true → (k : ℕ) × Counts k c)
+      → (id == 0) ≡ false → (k : ℕ) × (has_count id ≡ true → Counts k c)
+      × (contents_next z p id part t ≡ given (section id c, counted p id k) t)
   unfolding in_part
   section_next_is id c part e h nought = go (has_count id) refl
     where
@@ -83,7 +116,9 @@ module _ (z : Settings) (p : Progress) (s t : State) where
           let read : u32 part ≡ Done n.0 rest = decides-u32.complete part rest n.0 n.1.count (record { parts = e ∙ n.1.whole; place = refl; settings = refl; start = refl }) n.1.counted in
           (n.0, (λ g. n.1), rw (nought, f) (ap (found (section_next p id part.rest) t) read ∙ text_is n.0))
 
-  pub section_next_at : (id : ℕ) (c text : List ℕ) → Takes s text t → SpelledPart z (outer.section id c) text → is_late p id ≡ false → (has_count id ≡ true → (k : ℕ) × Counts k c) → (k : ℕ) × (has_count id ≡ true → Counts k c) × (next_section z p s ≡ given (section id c, counted p id k) t)
+  pub section_next_at : (id : ℕ) (c text : List ℕ) → Takes s text t → SpelledPart z (outer.section id c) text
+      → is_late p id ≡ false → (has_count id ≡ true → (k : ℕ) × Counts k c)
+      → (k : ℕ) × (has_count id ≡ true → Counts k c) × (next_section z p s ≡ given (section id c, counted p id k) t)
   section_next_at id c text taken h late count =
       let sized = h.2.2 in
       let here : Takes s (id ∷ (sized.size ++ sized.content)) t = subst (λ (x : List ℕ). Takes s x t) (h.2.1 ∙ ap (λ (x : List ℕ). id ∷ x) sized.whole) taken in
@@ -94,7 +129,9 @@ module _ (z : Settings) (p : Progress) (s t : State) where
       (v.0, v.1, to_contents z p s t id (length sized.content) sized.size sized.content here sized.counted late ten refl ∙ v.2)
 
   -- the start of the code section
-  pub start_next_is : (n k : ℕ) (size count : List ℕ) → Takes s (outer.code_id ∷ (size ++ count)) t → IsUnsigned 32 k size → IsUnsigned 32 n count → length count ≤ k → s.place + 1 + length size + k < 2 ^ 64 → is_late p outer.code_id ≡ false → next_section z p s ≡ given (code n k, in_code p n (s.place + 1 + length size + k)) t
+  pub start_next_is : (n k : ℕ) (size count : List ℕ) → Takes s (outer.code_id ∷ (size ++ count)) t → IsUnsigned 32 k size
+      → IsUnsigned 32 n count → length count ≤ k → s.place + 1 + length size + k < 2 ^ 64 → is_late p outer.code_id ≡ false
+      → next_section z p s ≡ given (code n k, in_code p n (s.place + 1 + length size + k)) t
   unfolding code_start number_before
   start_next_is n k size count taken sized counts inside room late =
       let w : State = behind_size z p s t outer.code_id k size count taken sized in
@@ -111,7 +148,15 @@ module _ (z : Settings) (end : ℕ) where
   unfolding next_entry number_before
   entry_next_is p left s t c text taken h le =
       let w : State = record { rest = h.content ++ t.rest; place = s.place + length h.size; settings = s.settings; start = s.start } in
-      let read : u32 s ≡ Done (length h.content) w = decides-u32.complete s w (length h.content) h.size (record { parts = taken.parts ∙ ap (λ (x : List ℕ). x ++ t.rest) h.whole ∙ append_assoc h.size h.content t.rest; place = refl; settings = refl; start = refl }) h.counted in
+      let read : u32 s ≡ Done (length h.content) w =
+      decides-u32.complete s w (length h.content) h.size
+      (record {
+        parts = taken.parts ∙ ap (λ (x : List ℕ). x ++ t.rest) h.whole ∙ append_assoc h.size h.content t.rest;
+        place =
+            refl;
+        settings = refl;
+        start = refl;
+      }) h.counted in
       let long : length text ≡ length h.size + length h.content = ap length h.whole ∙ length-append h.size h.content in
       let there : Takes w h.content t = record { parts = refl; place = omega (arith, taken.place, long); settings = taken.settings; start = taken.start } in
       let all : bytes (length h.content) w ≡ Done c t = (decides-bytes (length h.content)).complete w t c h.content there (ap length h.spelled, sym h.spelled) in
@@ -122,14 +167,16 @@ module _ (z : Settings) (end : ℕ) where
       ∙ ap (λ (b : Bool). cond b (refuse_at {A = Next} Other w.place) (bytes (length h.content) >>= λ x. pure (entry x, one_less p left end)) w) inside
       ∙ ap (λ (o : Outcome (List ℕ)). continue_with o (λ x. pure (entry x, one_less p left end))) all
 
-  entry_step : (p : Progress) (left : ℕ) (s t : State) (c text : List ℕ) → p.stage ≡ stages.Code left end → 0 < left → Takes s text t → SpelledEntry c text → t.place ≤ end → step z p s ≡ given (entry c, one_less p left end) t
+  entry_step : (p : Progress) (left : ℕ) (s t : State) (c text : List ℕ) → p.stage ≡ stages.Code left end → 0 < left
+      → Takes s text t → SpelledEntry c text → t.place ≤ end → step z p s ≡ given (entry c, one_less p left end) t
   unfolding step
   entry_step p left s t c text g some taken h le =
       let more : (left == 0) ≡ false = false_from_ne_true (left == 0) (λ e. omega (arith, eqb-true _ _ e, some)) in
       ap (λ (v : Stage). at_stage z p v s) g ∙ ap (λ (b : Bool). cond b (behind_code z p end) (next_entry p left end) s) more ∙ entry_next_is p left s t c text taken h le
 
   -- bodies that are some of those left
-  pub entries_run : (es : List (List ℕ)) (p : Progress) (left : ℕ) (s t : State) (text : List ℕ) → p.stage ≡ stages.Code left end → length es ≤ left → Takes s text t → Many SpelledEntry (length es) es text → t.place ≤ end
+  pub entries_run : (es : List (List ℕ)) (p : Progress) (left : ℕ) (s t : State) (text : List ℕ) → p.stage ≡ stages.Code left end
+      → length es ≤ left → Takes s text t → Many SpelledEntry (length es) es text → t.place ≤ end
       → (q : Progress) × Run z p s (entries es) q t × (begun q ≡ begun p) × (q.stage ≡ stages.Code (left - length es) end)
   entries_run [] p left s t text g few taken h le =
       let same : s ≡ t = same_state s t (taken.parts ∙ ap (λ (x : List ℕ). x ++ t.rest) h) (omega (arith, taken.place, ap length h)) (sym taken.settings) (sym taken.start) in

@@ -51,10 +51,12 @@ functions = behind stages.Sections 3 1 0
 pub record RunRows : Type 0 where
   pub bare_header : Run no_features fresh (start_of first_eight) (version (record { version = 1; layer = 0 }) ∷ []) sections (at 8 [])
   pub bare_counts : counts_agree sections ≡ true
-  pub padded_size : Run no_features fresh (start_of (first_eight ++ (0x01 ∷ 0x84 ∷ 0x00 ∷ 0x01 ∷ 0x60 ∷ 0x00 ∷ 0x00 ∷ []))) (version (record { version = 1; layer = 0 }) ∷ section 1 (0x01 ∷ 0x60 ∷ 0x00 ∷ 0x00 ∷ []) ∷ []) types (at 15 [])
+  pub padded_size : Run no_features fresh (start_of (first_eight ++ (0x01 ∷ 0x84 ∷ 0x00 ∷ 0x01 ∷ 0x60 ∷ 0x00 ∷ 0x00 ∷ [])))
+      (version (record { version = 1; layer = 0 }) ∷ section 1 (0x01 ∷ 0x60 ∷ 0x00 ∷ 0x00 ∷ []) ∷ []) types (at 15 [])
   pub missing_code : Run no_features fresh (start_of declared) (declared_frames []) functions (at 18 [])
   pub missing_counts : counts_agree functions ≡ false
-  pub body : Run no_features functions (at 18 (0x0a ∷ 0x06 ∷ 0x01 ∷ 0x04 ∷ 0x00 ∷ 0x41 ∷ 0x2a ∷ 0x0b ∷ [])) (code 1 6 ∷ entry (0x00 ∷ 0x41 ∷ 0x2a ∷ 0x0b ∷ []) ∷ []) (behind (stages.Code 0 26) 12 1 1) (at 26 [])
+  pub body : Run no_features functions (at 18 (0x0a ∷ 0x06 ∷ 0x01 ∷ 0x04 ∷ 0x00 ∷ 0x41 ∷ 0x2a ∷ 0x0b ∷ []))
+      (code 1 6 ∷ entry (0x00 ∷ 0x41 ∷ 0x2a ∷ 0x0b ∷ []) ∷ []) (behind (stages.Code 0 26) 12 1 1) (at 26 [])
   pub body_counts : counts_agree (behind (stages.Code 0 26) 12 1 1) ≡ true
   pub long_body : Run no_features functions (at 18 (0x0a ∷ 0x03 ∷ 0x01 ∷ 0x04 ∷ 0x00 ∷ [])) (code 1 3 ∷ []) (behind (stages.Code 1 23) 12 1 1) (at 21 (0x04 ∷ 0x00 ∷ []))
   pub long_body_refused : step no_features (behind (stages.Code 1 23) 12 1 1) (at 21 (0x04 ∷ 0x00 ∷ [])) ≡ Fault Other 22

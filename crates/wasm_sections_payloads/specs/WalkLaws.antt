@@ -43,7 +43,9 @@ pub walk_ends : (ps : List Payload) (p : Payload) (s u t : Standing) → s.parse
     → (fs : List Frame) × ArePayloads fs ps × IsModule (settings_of s.parser) s.rest (shapes_of fs) × (p ≡ payloads.End (s.parser.offset + length s.rest))
 walk_ends ps p s u t first walk next over = go next.1.0 next.1.1 next.1.2 (sym next.1.3 ∙ over)
   where
-    go : (f : Frame) → IsFrameOf u.parser u.rest f t.parser t.rest → IsPayloadOf f p → is_end f ≡ true → (fs : List Frame) × ArePayloads fs ps × IsModule (settings_of s.parser) s.rest (shapes_of fs) × (p ≡ payloads.End (s.parser.offset + length s.rest))
+    go : (f : Frame) → IsFrameOf u.parser u.rest f t.parser t.rest → IsPayloadOf f p → is_end f ≡ true
+        → (fs : List Frame) × ArePayloads fs ps × IsModule (settings_of s.parser) s.rest (shapes_of fs)
+        × (p ≡ payloads.End (s.parser.offset + length s.rest))
     go (frames.End place) h e k =
         let calls = walk_calls ps s u walk in
         let m = end_given calls.0 s.parser u.parser t.parser s.rest u.rest h.0 place first calls.2 (frame_called u.parser u.rest (frames.End place) t.parser t.rest h) in

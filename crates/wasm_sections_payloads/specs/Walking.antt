@@ -29,7 +29,8 @@ IsFaultOf p text e q = Parses p text true (Err e) q
 abbrev pub NextPayload : Standing → Option (Result Payload ErrorValue) → Standing → Type 0
 NextPayload s None t = (s.over ≡ true) × (t ≡ s)
 NextPayload s (Some (Ok p)) t = (s.over ≡ false) × ((f : Frame) × IsFrameOf s.parser s.rest f t.parser t.rest × IsPayloadOf f p × (t.over ≡ is_end f))
-NextPayload s (Some (Err e)) t = (s.over ≡ false) × (t.over ≡ true) × IsNotMemory e.kind × (IsFaultOf s.parser s.rest e t.parser ⊎ ((f : Frame) × IsFrameOf s.parser s.rest f t.parser t.rest × IsRefusedAs f e))
+NextPayload s (Some (Err e)) t = (s.over ≡ false) × (t.over ≡ true) × IsNotMemory e.kind
+    × (IsFaultOf s.parser s.rest e t.parser ⊎ ((f : Frame) × IsFrameOf s.parser s.rest f t.parser t.rest × IsRefusedAs f e))
 
 -- no more come than this: a byte at least for each, and the end
 abbrev pub payloads_left : Bool → List ℕ → ℕ

@@ -48,7 +48,9 @@ bodies_are_accepted m w b saved os = (ahead, back)
     ahead : Accepts m (fresh w b saved) os → (c : Code) × IsBody (body_context m w b) w.params c × (os ≡ walk c)
     ahead (s, covers, (c, rest, i, e, t, r)) =
         let n = covers_nothing m s covers in
-        let t' = subst (λ (x : List Operand). Typed (inside (signature_of m b).results (body_context m w b)) (block_frame (signature_of m b).params (signature_of m b).results (initialised m w [])) (initialised m w []) c x) n t in (
+        let t' = subst (λ (x : List Operand). Typed (inside (signature_of m b).results (body_context m w b))
+        (block_frame (signature_of m b).params (signature_of m b).results (initialised m w []))
+        (initialised m w []) c x) n t in (
           c,
           record {
             expression = i;
@@ -66,7 +68,8 @@ bodies_are_accepted m w b saved os = (ahead, back)
         [],
         y.expression,
         e ∙ sym (append-nil (walk c)),
-        params_aside (inside (signature_of m b).results (body_context m w b)) [] (signature_of m b).params (signature_of m b).results (initialised m w []) (initialised m w []) c [] y.expression y.typed,
+        params_aside (inside (signature_of m b).results (body_context m w b)) [] (signature_of m b).params
+            (signature_of m b).results (initialised m w []) (initialised m w []) c [] y.expression y.typed,
         refl,
       ),
     )

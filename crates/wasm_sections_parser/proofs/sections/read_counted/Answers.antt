@@ -10,7 +10,8 @@ use Rattle.wasm_sections_parser.proofs.sections.read_counted.Goals as goal
 pub returns-in-Err-clause-answer : goal.returns-in-Err-clause-answer
 returns-in-Err-clause-answer c =
     let here : Fails c.in-Err.error (u32 c.args.part) = subst (λ (v : State). Fails c.in-Err.error (u32 v)) c.clone-ahead.ensures c.in-Err.ensures.answer.0 in
-    rw (c.settled.ensures.kind, c.settled.ensures.offset) (part_refused u32 (section_next c.args.progress c.args.id c.args.part.rest) c.args.part c.args._reader.now c.in-Err.error.kind c.in-Err.error.offset here)
+    rw (c.settled.ensures.kind, c.settled.ensures.offset)
+    (part_refused u32 (section_next c.args.progress c.args.id c.args.part.rest) c.args.part c.args._reader.now c.in-Err.error.kind c.in-Err.error.offset here)
 
 pub returns-clause-answer : goal.returns-clause-answer
 returns-clause-answer c =

@@ -1,8 +1,8 @@
-use Rattle.std.proofs.Common.{List, sym, subst, rules}
+use Rattle.std.proofs.Common.{List, sym, subst, rules, arith}
 use Rattle.wasm_types_limits.specs.Limits.{default_limits}
 use Rattle.wasm_types.specs.values.declared.value.ValType.{ValType}
 use Rattle.wasm_operator_validator_locals.specs.Locals.{IsFront}
-use Rattle.wasm_operator_validator_locals.proofs.Runs.{run_fits, none_more, length-more}
+use Rattle.wasm_operator_validator_locals.proofs.Runs.{run_fits, none_more, length-more, memory_only}
 use Rattle.wasm_operator_validator_locals.proofs.locals.Locals.define.Goals as goal
 
 pub invariant_of-self-2 : goal.invariant_of-self-2
@@ -37,3 +37,17 @@ returns-then-count-defined-clause-does c = search rules
 pub overflow_sub-defined : goal.overflow_sub-defined
 unfolding default_limits
 overflow_sub-defined c = c.len_locals-defined.ensures.within
+
+pub returns-in_err-push-clause-memory : goal.returns-in_err-push-clause-memory
+unfolding default_limits
+returns-in_err-push-clause-memory c =
+    memory_only c.from_residual.result _ (omega (arith, c.if-count-eq0.false), omega (arith, c.if-count-defined.false, c.len_locals-defined.ensures.value, c.len_locals-defined.ensures.within))
+
+pub returns-in_err-grow_first-clause-memory : goal.returns-in_err-grow_first-clause-memory
+unfolding default_limits
+returns-in_err-grow_first-clause-memory c =
+    memory_only c.from_residual-in_err-grow_first.result _ (
+      omega (arith, c.if-count-eq0.false),
+      omega
+          (arith, c.if-count-defined.false, c.len_locals-defined.ensures.value, c.len_locals-defined.ensures.within),
+    )

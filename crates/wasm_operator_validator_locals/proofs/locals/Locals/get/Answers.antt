@@ -5,11 +5,13 @@ use Rattle.wasm_operator_validator_locals.proofs.locals.Locals.get.Goals as goal
 
 pub returns-then-at-len : goal.returns-then-at-len
 returns-then-at-len c =
-    let point = IsPartitionPoint-from_clause (λ r. leb r.end c.args.index) _ _ c.partition_point-at.ensures.partitioned (ends_partitioned 0 _ c.args.index (rw c.deref.ensures.value c.self.invariant.0)) (λ a r q k. search rules) in
+    let point = IsPartitionPoint-from_clause (λ r. leb r.end c.args.index) _ _ c.partition_point-at.ensures.partitioned
+    (ends_partitioned 0 _ c.args.index (rw c.deref.ensures.value c.self.invariant.0)) (λ a r q k. search rules) in
     local_past _ _ _ c.args.index _ c.deref.ensures.value c.self.invariant.0 c.self.view_is (c.if-at-len.true ∙ c.len.ensures ∙ sym c.deref.ensures.len) point
 
 pub returns : goal.returns
 returns c =
     let lt : c.partition_point-at.result < length c.self.inside.runs.items = search rules in
-    let point = IsPartitionPoint-from_clause (λ r. leb r.end c.args.index) _ _ c.partition_point-at.ensures.partitioned (ends_partitioned 0 _ c.args.index (rw c.deref.ensures.value c.self.invariant.0)) (λ a r q k. search rules) in
+    let point = IsPartitionPoint-from_clause (λ r. leb r.end c.args.index) _ _ c.partition_point-at.ensures.partitioned
+    (ends_partitioned 0 _ c.args.index (rw c.deref.ensures.value c.self.invariant.0)) (λ a r q k. search rules) in
     local_here _ _ _ c.args.index _ c.index.result.now c.deref.ensures.value c.self.invariant.0 c.self.view_is lt c.index.ensures point

@@ -12,4 +12,5 @@ pub returns-clause-does : goal.returns-clause-does
 returns-clause-does c = λ m.
     let w = fixed c.self.inside.features.0 c.self.inside.locals c.self.inside.params c.self.inside.shared c.self.inside.operands.1 c.self.inside.control.1 c.self.inside.inits.1 in
     let o : IsOpen (held w c.self.inside.control.0 c.self.inside.operands.0 c.self.inside.inits.0).opens = rw (← c.self.view_is) at c.requires in
-    rw (← c.self.view_is) (rw (c.in-Ok.ensures.pushed, c.in-Ok.ensures.saved) (held_push m w c.self.inside.control.0 c.self.inside.operands.0 c.self.inside.inits.0 c.args.operand o c.self.invariant.0).0)
+    rw (← c.self.view_is) (rw (c.in-Ok.ensures.pushed, c.in-Ok.ensures.saved)
+    (held_push m w c.self.inside.control.0 c.self.inside.operands.0 c.self.inside.inits.0 c.args.operand o c.self.invariant.0).0)

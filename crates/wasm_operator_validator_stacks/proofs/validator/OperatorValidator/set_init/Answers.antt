@@ -11,4 +11,10 @@ invariant_of-self-2 c = (
 pub returns-clause-set : goal.returns-clause-set
 returns-clause-set c =
     rw (← c.self.view_is)
-    (rw (c.in-Ok.ensures.pushed, c.in-Ok.ensures.saved, opens_set (reverse c.self.inside.control.0) (reverse c.self.inside.operands.0) c.self.inside.inits.0 c.args.local_index (length c.self.inside.operands.0) c.self.invariant.0) refl)
+    (rw (
+      c.in-Ok.ensures.pushed,
+      c.in-Ok.ensures.saved,
+      opens_set (reverse c.self.inside.control.0)
+          (reverse c.self.inside.operands.0) c.self.inside.inits.0 c.args.local_index
+          (length c.self.inside.operands.0) c.self.invariant.0,
+    ) refl)
