@@ -1,5 +1,33 @@
 -- An operator that was visited straight from its bytes is read by a reader that stands there.
-use Rattle.std.proofs.Common.{subst, nat_eq, IsTrue, ◌≡◌, ℕ, ◌+◌, ◌-◌, ◌≤◌, List, [], ◌∷◌, length, length-append, le-ltb, take, drop, get_or, true, false, Option, Some, None, refl, sym, ap, ◌∙◌, arith}
+use Rattle.std.proofs.Common.{
+  subst,
+  nat_eq,
+  IsTrue,
+  ◌≡◌,
+  ℕ,
+  ◌+◌,
+  ◌-◌,
+  ◌≤◌,
+  List,
+  [],
+  ◌∷◌,
+  length,
+  length-append,
+  le-ltb,
+  take,
+  drop,
+  get_or,
+  true,
+  false,
+  Option,
+  Some,
+  None,
+  refl,
+  sym,
+  ap,
+  ◌∙◌,
+  arith,
+}
 use Rattle.std.specs.Prelude.{◌==◌}
 use Rattle.std.proofs.Math.Seq.{drop-append_seam}
 use Rattle.std.proofs.lemmas.Bool.{ne_eqb}
@@ -59,7 +87,8 @@ stands_at s t p n le r e =
     let left : length (drop p s.rest) ≡ length r.text + length t.rest = ap length r.taken.parts ∙ length-append r.text t.rest in
     let whole : p + length r.text ≡ n = omega (arith, left, le, e, length-drop p s.rest) in
     let rest : drop (length r.text) (drop p s.rest) ≡ t.rest = ap (drop (length r.text)) r.taken.parts ∙ drop-append_seam r.text t.rest in
-    sym (ap (λ (k : ℕ). behind k s) whole) ∙ sym (behind_twice s p (length r.text)) ∙ same_state (behind (length r.text) (behind p s)) t rest (sym r.taken.place) (sym r.taken.settings) (sym r.taken.start)
+    sym (ap (λ (k : ℕ). behind k s) whole) ∙ sym (behind_twice s p (length r.text))
+    ∙ same_state (behind (length r.text) (behind p s)) t rest (sym r.taken.place) (sym r.taken.settings) (sym r.taken.start)
   where
     same_state : (u v : State) → u.rest ≡ v.rest → u.place ≡ v.place → u.settings ≡ v.settings → u.start ≡ v.start → u ≡ v
     same_state u v a b c d = λ i. record { rest = a i; place = b i; settings = c i; start = d i }

@@ -1,5 +1,37 @@
 -- Immediates in their frequent forms, at an offset in a slice.
-use Rattle.std.proofs.Common.{◌≡◌, ℕ, ◌+◌, ◌-◌, ◌/◌, ◌%◌, ◌<◌, ◌≤◌, List, [], ◌∷◌, length, drop, get_or, Bool, true, false, None, ℤ, pos, negsuc, nat_abs, lt-ltb, le-ltb, w32, w64, refl, sym, ap, ◌∙◌, arith}
+use Rattle.std.proofs.Common.{
+  ◌≡◌,
+  ℕ,
+  ◌+◌,
+  ◌-◌,
+  ◌/◌,
+  ◌%◌,
+  ◌<◌,
+  ◌≤◌,
+  List,
+  [],
+  ◌∷◌,
+  length,
+  drop,
+  get_or,
+  Bool,
+  true,
+  false,
+  None,
+  ℤ,
+  pos,
+  negsuc,
+  nat_abs,
+  lt-ltb,
+  le-ltb,
+  w32,
+  w64,
+  refl,
+  sym,
+  ap,
+  ◌∙◌,
+  arith,
+}
 use Rattle.std.specs.Int.{from_le_bytes}
 use Rattle.std.specs.Int.Signed.{lt_z, le_z}
 use Rattle.std.proofs.lemmas.Bool.{leb-false}
@@ -176,16 +208,21 @@ module _ (features natural : ℕ) (text : List ℕ) (i b : ℕ) (lt : i < length
 -- ---- words
 
 module _ (text : List ℕ) (i : ℕ) where
-  pub word_4_there : (n m : ℕ) → n ≡ from_le_bytes w32 (get_or text i 0 ∷ get_or text (i + 1) 0 ∷ get_or text (i + 2) 0 ∷ get_or text (i + 3) 0 ∷ []) → m ≡ n → i + 4 ≤ length text → GivesAt (word 4) text i m (i + 4)
+  pub word_4_there : (n m : ℕ) → n ≡ from_le_bytes w32
+      (get_or text i 0 ∷ get_or text (i + 1) 0 ∷ get_or text (i + 2) 0 ∷ get_or text (i + 3) 0 ∷ []) → m ≡ n
+      → i + 4 ≤ length text → GivesAt (word 4) text i m (i + 4)
   unfolding word
   word_4_there n m e same_number le =
       let at_1 : i + 1 + 1 ≡ i + 2 = omega arith in
       let at_2 : i + 2 + 1 ≡ i + 3 = omega arith in
       let at_3 : i + 3 + 1 ≡ i + 4 = omega arith in
       let from_3 : drop (i + 3) text ≡ get_or text (i + 3) 0 ∷ drop (i + 4) text = rw at_3 at (drop_more text (i + 3) 0 (omega (arith, le))) in
-      let from_2 : drop (i + 2) text ≡ get_or text (i + 2) 0 ∷ get_or text (i + 3) 0 ∷ drop (i + 4) text = (rw at_2 at (drop_more text (i + 2) 0 (omega (arith, le)))) ∙ ap (λ (r : List ℕ). get_or text (i + 2) 0 ∷ r) from_3 in
-      let from_1 : drop (i + 1) text ≡ get_or text (i + 1) 0 ∷ get_or text (i + 2) 0 ∷ get_or text (i + 3) 0 ∷ drop (i + 4) text = (rw at_1 at (drop_more text (i + 1) 0 (omega (arith, le)))) ∙ ap (λ (r : List ℕ). get_or text (i + 1) 0 ∷ r) from_2 in
-      let from_0 : drop i text ≡ get_or text i 0 ∷ get_or text (i + 1) 0 ∷ get_or text (i + 2) 0 ∷ get_or text (i + 3) 0 ∷ drop (i + 4) text = (drop_more text i 0 (omega (arith, le))) ∙ ap (λ (r : List ℕ). get_or text i 0 ∷ r) from_1 in
+      let from_2 : drop (i + 2) text ≡ get_or text (i + 2) 0 ∷ get_or text (i + 3) 0 ∷ drop (i + 4) text =
+      (rw at_2 at (drop_more text (i + 2) 0 (omega (arith, le)))) ∙ ap (λ (r : List ℕ). get_or text (i + 2) 0 ∷ r) from_3 in
+      let from_1 : drop (i + 1) text ≡ get_or text (i + 1) 0 ∷ get_or text (i + 2) 0 ∷ get_or text (i + 3) 0 ∷ drop (i + 4) text =
+      (rw at_1 at (drop_more text (i + 1) 0 (omega (arith, le)))) ∙ ap (λ (r : List ℕ). get_or text (i + 1) 0 ∷ r) from_2 in
+      let from_0 : drop i text ≡ get_or text i 0 ∷ get_or text (i + 1) 0 ∷ get_or text (i + 2) 0 ∷ get_or text (i + 3) 0 ∷ drop
+      (i + 4) text = (drop_more text i 0 (omega (arith, le))) ∙ ap (λ (r : List ℕ). get_or text i 0 ∷ r) from_1 in
       let value : m ≡ little_endian (get_or text i 0 ∷ get_or text (i + 1) 0 ∷ get_or text (i + 2) 0 ∷ get_or text (i + 3) 0 ∷ []) = omega (arith, e, same_number) in
       record {
         forward = omega arith;
@@ -197,7 +234,10 @@ module _ (text : List ℕ) (i : ℕ) where
             rw (one, le-ltb (length s.rest) 4 enough, parts, value) refl;
       }
 
-  pub word_8_there : (n m : ℕ) → n ≡ from_le_bytes w64 (get_or text i 0 ∷ get_or text (i + 1) 0 ∷ get_or text (i + 2) 0 ∷ get_or text (i + 3) 0 ∷ get_or text (i + 4) 0 ∷ get_or text (i + 5) 0 ∷ get_or text (i + 6) 0 ∷ get_or text (i + 7) 0 ∷ []) → m ≡ n → i + 8 ≤ length text → GivesAt (word 8) text i m (i + 8)
+  pub word_8_there : (n m : ℕ) → n ≡ from_le_bytes w64
+      (get_or text i 0 ∷ get_or text (i + 1) 0 ∷ get_or text (i + 2) 0 ∷ get_or text (i + 3) 0 ∷ get_or text
+      (i + 4) 0 ∷ get_or text (i + 5) 0 ∷ get_or text (i + 6) 0 ∷ get_or text (i + 7) 0 ∷ []) → m ≡ n → i + 8 ≤ length text
+      → GivesAt (word 8) text i m (i + 8)
   unfolding word
   word_8_there n m e same_number le =
       let at_1 : i + 1 + 1 ≡ i + 2 = omega arith in
@@ -208,14 +248,28 @@ module _ (text : List ℕ) (i : ℕ) where
       let at_6 : i + 6 + 1 ≡ i + 7 = omega arith in
       let at_7 : i + 7 + 1 ≡ i + 8 = omega arith in
       let from_7 : drop (i + 7) text ≡ get_or text (i + 7) 0 ∷ drop (i + 8) text = rw at_7 at (drop_more text (i + 7) 0 (omega (arith, le))) in
-      let from_6 : drop (i + 6) text ≡ get_or text (i + 6) 0 ∷ get_or text (i + 7) 0 ∷ drop (i + 8) text = (rw at_6 at (drop_more text (i + 6) 0 (omega (arith, le)))) ∙ ap (λ (r : List ℕ). get_or text (i + 6) 0 ∷ r) from_7 in
-      let from_5 : drop (i + 5) text ≡ get_or text (i + 5) 0 ∷ get_or text (i + 6) 0 ∷ get_or text (i + 7) 0 ∷ drop (i + 8) text = (rw at_5 at (drop_more text (i + 5) 0 (omega (arith, le)))) ∙ ap (λ (r : List ℕ). get_or text (i + 5) 0 ∷ r) from_6 in
-      let from_4 : drop (i + 4) text ≡ get_or text (i + 4) 0 ∷ get_or text (i + 5) 0 ∷ get_or text (i + 6) 0 ∷ get_or text (i + 7) 0 ∷ drop (i + 8) text = (rw at_4 at (drop_more text (i + 4) 0 (omega (arith, le)))) ∙ ap (λ (r : List ℕ). get_or text (i + 4) 0 ∷ r) from_5 in
-      let from_3 : drop (i + 3) text ≡ get_or text (i + 3) 0 ∷ get_or text (i + 4) 0 ∷ get_or text (i + 5) 0 ∷ get_or text (i + 6) 0 ∷ get_or text (i + 7) 0 ∷ drop (i + 8) text = (rw at_3 at (drop_more text (i + 3) 0 (omega (arith, le)))) ∙ ap (λ (r : List ℕ). get_or text (i + 3) 0 ∷ r) from_4 in
-      let from_2 : drop (i + 2) text ≡ get_or text (i + 2) 0 ∷ get_or text (i + 3) 0 ∷ get_or text (i + 4) 0 ∷ get_or text (i + 5) 0 ∷ get_or text (i + 6) 0 ∷ get_or text (i + 7) 0 ∷ drop (i + 8) text = (rw at_2 at (drop_more text (i + 2) 0 (omega (arith, le)))) ∙ ap (λ (r : List ℕ). get_or text (i + 2) 0 ∷ r) from_3 in
-      let from_1 : drop (i + 1) text ≡ get_or text (i + 1) 0 ∷ get_or text (i + 2) 0 ∷ get_or text (i + 3) 0 ∷ get_or text (i + 4) 0 ∷ get_or text (i + 5) 0 ∷ get_or text (i + 6) 0 ∷ get_or text (i + 7) 0 ∷ drop (i + 8) text = (rw at_1 at (drop_more text (i + 1) 0 (omega (arith, le)))) ∙ ap (λ (r : List ℕ). get_or text (i + 1) 0 ∷ r) from_2 in
-      let from_0 : drop i text ≡ get_or text i 0 ∷ get_or text (i + 1) 0 ∷ get_or text (i + 2) 0 ∷ get_or text (i + 3) 0 ∷ get_or text (i + 4) 0 ∷ get_or text (i + 5) 0 ∷ get_or text (i + 6) 0 ∷ get_or text (i + 7) 0 ∷ drop (i + 8) text = (drop_more text i 0 (omega (arith, le))) ∙ ap (λ (r : List ℕ). get_or text i 0 ∷ r) from_1 in
-      let value : m ≡ little_endian (get_or text i 0 ∷ get_or text (i + 1) 0 ∷ get_or text (i + 2) 0 ∷ get_or text (i + 3) 0 ∷ get_or text (i + 4) 0 ∷ get_or text (i + 5) 0 ∷ get_or text (i + 6) 0 ∷ get_or text (i + 7) 0 ∷ []) = omega (arith, e, same_number) in
+      let from_6 : drop (i + 6) text ≡ get_or text (i + 6) 0 ∷ get_or text (i + 7) 0 ∷ drop (i + 8) text =
+      (rw at_6 at (drop_more text (i + 6) 0 (omega (arith, le)))) ∙ ap (λ (r : List ℕ). get_or text (i + 6) 0 ∷ r) from_7 in
+      let from_5 : drop (i + 5) text ≡ get_or text (i + 5) 0 ∷ get_or text (i + 6) 0 ∷ get_or text (i + 7) 0 ∷ drop (i + 8) text =
+      (rw at_5 at (drop_more text (i + 5) 0 (omega (arith, le)))) ∙ ap (λ (r : List ℕ). get_or text (i + 5) 0 ∷ r) from_6 in
+      let from_4 : drop (i + 4) text ≡ get_or text (i + 4) 0 ∷ get_or text (i + 5) 0 ∷ get_or text (i + 6) 0 ∷ get_or text
+      (i + 7) 0 ∷ drop (i + 8) text = (rw at_4 at (drop_more text (i + 4) 0 (omega (arith, le))))
+      ∙ ap (λ (r : List ℕ). get_or text (i + 4) 0 ∷ r) from_5 in
+      let from_3 : drop (i + 3) text ≡ get_or text (i + 3) 0 ∷ get_or text (i + 4) 0 ∷ get_or text (i + 5) 0 ∷ get_or text
+      (i + 6) 0 ∷ get_or text (i + 7) 0 ∷ drop (i + 8) text = (rw at_3 at (drop_more text (i + 3) 0 (omega (arith, le))))
+      ∙ ap (λ (r : List ℕ). get_or text (i + 3) 0 ∷ r) from_4 in
+      let from_2 : drop (i + 2) text ≡ get_or text (i + 2) 0 ∷ get_or text (i + 3) 0 ∷ get_or text (i + 4) 0 ∷ get_or text
+      (i + 5) 0 ∷ get_or text (i + 6) 0 ∷ get_or text (i + 7) 0 ∷ drop (i + 8) text =
+      (rw at_2 at (drop_more text (i + 2) 0 (omega (arith, le)))) ∙ ap (λ (r : List ℕ). get_or text (i + 2) 0 ∷ r) from_3 in
+      let from_1 : drop (i + 1) text ≡ get_or text (i + 1) 0 ∷ get_or text (i + 2) 0 ∷ get_or text (i + 3) 0 ∷ get_or text
+      (i + 4) 0 ∷ get_or text (i + 5) 0 ∷ get_or text (i + 6) 0 ∷ get_or text (i + 7) 0 ∷ drop (i + 8) text =
+      (rw at_1 at (drop_more text (i + 1) 0 (omega (arith, le)))) ∙ ap (λ (r : List ℕ). get_or text (i + 1) 0 ∷ r) from_2 in
+      let from_0 : drop i text ≡ get_or text i 0 ∷ get_or text (i + 1) 0 ∷ get_or text (i + 2) 0 ∷ get_or text
+      (i + 3) 0 ∷ get_or text (i + 4) 0 ∷ get_or text (i + 5) 0 ∷ get_or text (i + 6) 0 ∷ get_or text (i + 7) 0 ∷ drop
+      (i + 8) text = (drop_more text i 0 (omega (arith, le))) ∙ ap (λ (r : List ℕ). get_or text i 0 ∷ r) from_1 in
+      let value : m ≡ little_endian (get_or text i 0 ∷ get_or text (i + 1) 0 ∷ get_or text (i + 2) 0 ∷ get_or text
+      (i + 3) 0 ∷ get_or text (i + 4) 0 ∷ get_or text (i + 5) 0 ∷ get_or text (i + 6) 0 ∷ get_or text (i + 7) 0 ∷ []) =
+      omega (arith, e, same_number) in
       record {
         forward = omega arith;
         inside = le;

@@ -47,7 +47,8 @@ module _ {V A : Type 0} (visits : V → Op → A → V → Type 0) (answer : A) 
       let found = run_expression s os t run f in
       (found.0, found.2, subst HasNoVectors (sym found.1) none, subst (λ (ps : List Op). VisitsAll visits answer v ps w) (sym found.1) told)
 
-  module _ (s : State) (t : Standing) (v w : V) (told : WalksTo visits answer (at_start s) v t w) (e : ErrorValue) (n : IsNotMemory e.kind) (c : Code) (h : SpelledExpression s.settings c s.rest) (none : HasNoVectors (walk c)) where
+  module _ (s : State) (t : Standing) (v w : V) (told : WalksTo visits answer (at_start s) v t w) (e : ErrorValue)
+      (n : IsNotMemory e.kind) (c : Code) (h : SpelledExpression s.settings c s.rest) (none : HasNoVectors (walk c)) where
     vector_denies : RefusesVector t e → ⊥
     vector_denies r =
         let whole = expression_run s c h in

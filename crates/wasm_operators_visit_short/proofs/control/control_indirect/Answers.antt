@@ -9,7 +9,8 @@ use Rattle.wasm_operators_visit_short.proofs.control.control_indirect.Goals as g
 
 pub returns-in-17-clause-told : goal.returns-in-17-clause-told
 returns-in-17-clause-told g c =
-    told_with_two c.args.features.0 c.args.bytes.now c.args.at c.args.code 17 c.requires c.in-17.is (op.Control (control.CallIndirect c.in-Some.type_index c.in-Some-zero_at.table_index)) refl refl _ c.visit_call_indirect.ensures refl refl
+    told_with_two c.args.features.0 c.args.bytes.now c.args.at c.args.code 17 c.requires c.in-17.is
+    (op.Control (control.CallIndirect c.in-Some.type_index c.in-Some-zero_at.table_index)) refl refl _ c.visit_call_indirect.ensures refl refl
     (Index kind.Types c.in-Some.type_index) (IndexOrZero kind.Tables c.in-Some-zero_at.table_index) c.in-Some.middle c.in-Some-zero_at.end refl
     (λ limits. index_of _ _ _ _ kind.Types c.in-Some.type_index c.in-Some.ensures.found)
     (λ limits. zero_of _ _ _ _ kind.Tables c.in-Some-zero_at.table_index (c.in-Some-zero_at.ensures.1 _))

@@ -8,4 +8,6 @@ use Rattle.wasm_operators_visit_short.proofs.memory.f32_const.Goals as goal
 
 pub returns-in-67-clause-told : goal.returns-in-67-clause-told
 returns-in-67-clause-told g c =
-    told_with c.args.features.0 c.args.bytes.now c.args.at c.args.code 67 c.requires c.in-67.is (op.Const (constant.F32Const c.in-Some.value)) refl refl _ c.visit_f32_const.ensures refl refl (F32Constant c.in-Some.value) c.in-Some.end refl (λ limits. f32_of _ _ _ _ c.in-Some.value c.in-Some.ensures)
+    told_with c.args.features.0 c.args.bytes.now c.args.at c.args.code 67 c.requires c.in-67.is
+    (op.Const (constant.F32Const c.in-Some.value)) refl refl _ c.visit_f32_const.ensures refl refl
+    (F32Constant c.in-Some.value) c.in-Some.end refl (λ limits. f32_of _ _ _ _ c.in-Some.value c.in-Some.ensures)

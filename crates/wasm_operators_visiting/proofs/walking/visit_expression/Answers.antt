@@ -10,7 +10,8 @@ visit_all-requires g c κs = (refl, tt)
 pub returns-in-Err-clause-refused : goal.returns-in-Err-clause-refused
 returns-in-Err-clause-refused g c =
     let told = subst (λ (s : Standing). WalksTo g.V.Visitor.visits (Ok tt) s c.args.visitor.now c.visit_all.new.operators c.visit_all.new.visitor) c.new-operators.ensures c.in-Err.ensures.refused.0 in
-    λ n code spelled none. stop_denies g.V.Visitor.visits (Ok tt) c.args.reader c.visit_all.new.operators c.args.visitor.now c.visit_all.new.visitor told c.in-Err.error n code spelled none c.in-Err.ensures.refused.1
+    λ n code spelled none. stop_denies g.V.Visitor.visits
+    (Ok tt) c.args.reader c.visit_all.new.operators c.args.visitor.now c.visit_all.new.visitor told c.in-Err.error n code spelled none c.in-Err.ensures.refused.1
 
 pub returns-in-Err-clause-stops : goal.returns-in-Err-clause-stops
 returns-in-Err-clause-stops g c =
@@ -34,7 +35,8 @@ returns-clause-refused g c =
     let told = subst (λ (s : Standing). WalksTo g.V.Visitor.visits (Ok tt) s c.args.visitor.now c.visit_all.new.operators c.visit_all.new.visitor) c.new-operators.ensures whole.0 in
     let cut = c.in-Err-finish.ensures.refused in
     let stops = cut_short c.visit_all.new.operators c.in-Err-finish.error whole.1 cut.0 cut.1 cut.2 in
-    λ n code spelled none. stop_denies g.V.Visitor.visits (Ok tt) c.args.reader c.visit_all.new.operators c.args.visitor.now c.visit_all.new.visitor told c.in-Err-finish.error n code spelled none stops
+    λ n code spelled none. stop_denies g.V.Visitor.visits
+    (Ok tt) c.args.reader c.visit_all.new.operators c.args.visitor.now c.visit_all.new.visitor told c.in-Err-finish.error n code spelled none stops
 
 pub returns-clause-stops : goal.returns-clause-stops
 returns-clause-stops g c =
