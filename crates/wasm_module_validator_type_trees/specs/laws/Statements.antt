@@ -1,0 +1,44 @@
+-- Laws of lists of groups: what the functions of src/laws.rt promise.
+use Rattle.std.specs.Prelude.{◌≡◌, ◌↔◌, ℕ, ◌<◌, IsTrue, List, ◌∷◌, Some, get_or}
+use Rattle.std.specs.Option.{option_map}
+use Rattle.wasm_types.specs.indices.declared.index.CoreTypeId.{CoreTypeId}
+use Rattle.wasm_types.specs.trees.Types.{entry_map}
+use Rattle.wasm_types.specs.trees.Trees.{opened}
+use Rattle.wasm_types.specs.trees.Below.{supertype, DeclaredBelow}
+use Rattle.wasm_types.specs.groups.Entries.{Declared}
+use Rattle.wasm_module_validator_type_trees.specs.Groups.{Group, count, tree_of, tree_behind, declared_by_id}
+use Rattle.wasm_module_validator_type_trees.specs.Formed.{IsGroupFormed, IsMissing, IsFormed, AreCanonical, IsNewTree, KeepsTypes}
+use Rattle.wasm_module_validator_type_trees.specs.ByIds.{supertype_of, IdBelow, tree_named}
+
+-- each id keeps its type as a group is added
+abbrev pub TypesStay : Type 0
+TypesStay = (g : Group) (earlier : List Group) → KeepsTypes earlier (g ∷ earlier)
+
+-- where all groups are in canonical form, equal types have equal ids
+abbrev pub EqualTypesHaveEqualIds : Type 0
+EqualTypesHaveEqualIds = (groups : List Group) → IsFormed groups → AreCanonical groups
+    → (i j : ℕ) → i < count groups → j < count groups → (tree_of groups i ≡ tree_of groups j) ↔ (i ≡ j)
+
+-- and a group is missing exactly where its tree is
+abbrev pub GroupsAreKnownByTrees : Type 0
+GroupsAreKnownByTrees = (groups : List Group) → IsFormed groups → AreCanonical groups → (g : Group) → IsTrue g.is_canonical → IsGroupFormed (count groups) g
+    → IsMissing groups g ↔ IsNewTree groups (tree_behind groups g)
+
+-- a type, opened, is what it declares over ids, each replaced by its type
+abbrev pub TypesOpen : Type 0
+TypesOpen = (groups : List Group) → IsFormed groups → AreCanonical groups → (id : ℕ) (d : Declared) → id < count groups
+    → opened (tree_of groups id) ≡ entry_map (tree_named groups) (get_or (declared_by_id groups) id d).entry
+
+-- the supertype of a type is the type of its supertype's id
+abbrev pub SupertypesAreIds : Type 0
+SupertypesAreIds = (groups : List Group) → IsFormed groups → AreCanonical groups → (a : CoreTypeId) → a.0 < count groups
+    → supertype (tree_of groups a.0) ≡ option_map (λ (b : CoreTypeId). tree_of groups b.0) (supertype_of groups a)
+
+-- that id is lower, whatever form the groups have
+abbrev pub SupertypesAreEarlier : Type 0
+SupertypesAreEarlier = (groups : List Group) → IsFormed groups → (a b : CoreTypeId) → a.0 < count groups → supertype_of groups a ≡ Some b → b.0 < a.0
+
+-- an id is below another exactly where its type is below the other's by declaration
+abbrev pub IdsAreBelowAsTypes : Type 0
+IdsAreBelowAsTypes = (groups : List Group) → IsFormed groups → AreCanonical groups → (a b : CoreTypeId) → a.0 < count groups → b.0 < count groups
+    → IdBelow groups a b ↔ DeclaredBelow (tree_of groups a.0) (tree_of groups b.0)

@@ -1,0 +1,34 @@
+//! The laws of lists of groups, each on the contract of a function that does nothing.
+
+ghost use Rattle.wasm_module_validator_type_trees.specs.laws.Statements.{TypesStay, EqualTypesHaveEqualIds, GroupsAreKnownByTrees};
+ghost use Rattle.wasm_module_validator_type_trees.specs.laws.Statements.{TypesOpen, SupertypesAreIds, SupertypesAreEarlier, IdsAreBelowAsTypes};
+ghost use Rattle.wasm_module_validator_type_trees.specs.Worked.{NumbersWorked, TreesWorked, FormsWorked, BelowWorked};
+
+/// What an id stands for never changes as groups are added.
+pub fn types_stay()
+    ensures { TypesStay }
+{}
+
+/// In a list of groups in canonical form, none of which stands twice, two ids have one type exactly where they are one
+/// id; and a group is missing exactly where its tree is.
+pub fn ids_are_types()
+    ensures ids { EqualTypesHaveEqualIds }
+    ensures groups { GroupsAreKnownByTrees }
+{}
+
+/// What is said of ids is what is said of their types: what a type declares, its supertype, and what it is below by
+/// declaration. A supertype has a lower id.
+pub fn ids_speak_of_types()
+    ensures open { TypesOpen }
+    ensures supertypes { SupertypesAreIds }
+    ensures earlier { SupertypesAreEarlier }
+    ensures below { IdsAreBelowAsTypes }
+{}
+
+/// Worked lists: their numbers, their trees, which are formed, and which ids are below which.
+pub fn groups_worked()
+    ensures numbers { NumbersWorked }
+    ensures trees { TreesWorked }
+    ensures forms { FormsWorked }
+    ensures below { BelowWorked }
+{}
