@@ -104,7 +104,7 @@ fn snapshot_of<T>(snapshots: &[Rc<Snapshot<T>>], index: usize) -> usize
 }
 
 // Appends an item, in room that is there.
-fn append<X: Drop>(items: &mut Vec<X>, item: X)
+fn push_in_room<X: Drop>(items: &mut Vec<X>, item: X)
     requires { vec_len items.old < vec_capacity items.old }
     ensures { items.new.items ≡ items.old.items ++ item ∷ [] }
 {
@@ -139,7 +139,7 @@ fn seal<T: Drop>(
     };
     match Rc::new(alloc, snapshot) {
         Ok(shared) => {
-            append(snapshots, shared);
+            push_in_room(snapshots, shared);
             Ok(total + count)
         }
         Err(failed) => {
@@ -172,6 +172,19 @@ impl<T: Drop> SnapshotList<T> {
             return Err(AllocFailed { value: item });
         }
         self.current.push(item)
+    }
+
+    /// Appends all of these items, in order. Where there is no memory for them, or they would be 2^64 items or more, nothing
+    /// changes.
+    pub fn append(&mut self, items: &mut Vec<T>) -> Result<(), AllocError>
+        ensures items { self.new.items ≡ (if is_ok result then self.old.items ++ items.old.items else self.old.items) }
+        ensures taken { items.new.items ≡ (if is_ok result then [] else items.old.items) }
+        ensures succeeds { length items.old.items ≤ self.old.room → length self.old.items + length items.old.items < 2 ^ 64 → IsOk result }
+    {
+        if self.len().checked_add(items.len()).is_none() {
+            return Err(AllocError);
+        }
+        self.current.append(items)
     }
 
     /// A list of the same items, which are shared from now on. This list keeps them too, whether there is memory for the

@@ -1,0 +1,2 @@
+-- What a list of types stores.
+pub mod Stored

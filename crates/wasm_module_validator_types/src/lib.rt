@@ -1,0 +1,7 @@
+//! The list of interned types: each group in canonical form once, each type under an id of its own.
+//!
+//! Contracts see a list as its groups (`wasm_module_validator_type_trees`): the tree of an id, what is stored of it, its
+//! group and its supertype are functions of these.
+#![tactic(auto)]
+
+mod stored;
