@@ -1,1 +1,2 @@
 pub mod OverIds
+pub mod Knowing

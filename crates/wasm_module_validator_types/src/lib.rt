@@ -4,4 +4,9 @@
 //! group and its supertype are functions of these.
 #![tactic(auto)]
 
+mod ids;
+mod known;
+mod lists;
 mod stored;
+
+pub use ids::RecGroupId;

@@ -1,0 +1,102 @@
+//! The lists that a list of types keeps side by side.
+
+ghost use Rattle.std.specs.Prelude.{◌≡◌, ◌∷◌, ◌++◌, ◌+◌, ◌≤◌, ◌<◌, [], length, OnOk, IfOk};
+ghost use Rattle.wasm_module_validator_types.specs.Lists.{SameItems, HasRoomFor, AreShort};
+
+use crate::RecGroupId;
+use std::alloc::{AllocError, Global};
+use std::ops::Range;
+use wasm_module_validator_snapshots::SnapshotList;
+use wasm_types::{CoreTypeId, RecGroup, SubType};
+
+/// A group as it was interned.
+#[derive(Drop)]
+pub(crate) struct Interned {
+    pub is_canonical: bool,
+    pub group: RecGroup,
+}
+
+/// The groups, and for each id its type, its group and its supertype; for each group its ids.
+#[derive(Drop)]
+pub(crate) struct Lists {
+    pub groups: SnapshotList<Interned>,
+    pub types: SnapshotList<SubType>,
+    pub homes: SnapshotList<RecGroupId>,
+    pub supertypes: SnapshotList<Option<CoreTypeId>>,
+    pub elements: SnapshotList<Range<CoreTypeId>>,
+}
+
+impl Lists {
+    pub(crate) fn new(alloc: Global) -> Lists
+        ensures groups { result.groups.items ≡ [] }
+        ensures types { result.types.items ≡ [] }
+        ensures homes { result.homes.items ≡ [] }
+        ensures supertypes { result.supertypes.items ≡ [] }
+        ensures elements { result.elements.items ≡ [] }
+    {
+        Lists {
+            groups: SnapshotList::new(alloc),
+            types: SnapshotList::new(alloc),
+            homes: SnapshotList::new(alloc),
+            supertypes: SnapshotList::new(alloc),
+            elements: SnapshotList::new(alloc),
+        }
+    }
+
+    /// Makes room for a group of this many types.
+    pub(crate) fn reserve(&mut self, additional: usize) -> Result<(), AllocError>
+        ensures same { SameItems self.old self.new }
+        ensures room { OnOk result (HasRoomFor self.new additional) }
+    {
+        self.groups.reserve(1)?;
+        self.types.reserve(additional)?;
+        self.homes.reserve(additional)?;
+        self.supertypes.reserve(additional)?;
+        self.elements.reserve(1)
+    }
+
+    /// Appends a group, in room that is there.
+    pub(crate) fn append(
+        &mut self,
+        interned: Interned,
+        mut types: Vec<SubType>,
+        mut homes: Vec<RecGroupId>,
+        mut supertypes: Vec<Option<CoreTypeId>>,
+        elements: Range<CoreTypeId>,
+    )
+        requires room { HasRoomFor self.old (length types.items) }
+        requires short { AreShort self.old (length types.items) }
+        requires homes { length homes.items ≡ length types.items }
+        requires supertypes { length supertypes.items ≡ length types.items }
+        ensures groups { self.new.groups.items ≡ self.old.groups.items ++ interned ∷ [] }
+        ensures types { self.new.types.items ≡ self.old.types.items ++ types.items }
+        ensures homes { self.new.homes.items ≡ self.old.homes.items ++ homes.items }
+        ensures supertypes { self.new.supertypes.items ≡ self.old.supertypes.items ++ supertypes.items }
+        ensures elements { self.new.elements.items ≡ self.old.elements.items ++ elements ∷ [] }
+    {
+        let _ = self.groups.push(interned);
+        let _ = self.types.append(&mut types);
+        let _ = self.homes.append(&mut homes);
+        let _ = self.supertypes.append(&mut supertypes);
+        let _ = self.elements.push(elements);
+    }
+
+    /// The same lists, shared from now on.
+    pub(crate) fn commit(&mut self) -> Result<Lists, AllocError>
+        ensures stays { SameItems self.old self.new }
+        ensures same { IfOk result (SameItems self.old) }
+    {
+        let groups = self.groups.commit()?;
+        let types = self.types.commit()?;
+        let homes = self.homes.commit()?;
+        let supertypes = self.supertypes.commit()?;
+        let elements = self.elements.commit()?;
+        Ok(Lists {
+            groups,
+            types,
+            homes,
+            supertypes,
+            elements,
+        })
+    }
+}
