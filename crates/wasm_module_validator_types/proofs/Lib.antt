@@ -1,2 +1,3 @@
 pub mod OverIds
 pub mod Knowing
+pub mod Parts

@@ -2,3 +2,5 @@
 pub mod Stored
 pub mod Lists
 pub mod Known
+-- What a contract sees of it.
+pub mod List

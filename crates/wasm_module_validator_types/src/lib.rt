@@ -6,7 +6,9 @@
 
 mod ids;
 mod known;
+mod list;
 mod lists;
 mod stored;
 
 pub use ids::RecGroupId;
+pub use list::{MAX_TYPES, TypeList};

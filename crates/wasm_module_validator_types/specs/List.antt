@@ -1,0 +1,52 @@
+-- A list of types: what a contract sees of it, and what each of its parts says of its groups.
+use Rattle.std.specs.Prelude.{◌≡◌, ◌↔◌, ℕ, ◌+◌, ◌≤◌, ◌<◌, ◌^◌, Bool, IsTrue, List, ◌∷◌, length, map, reverse, Option, Some, if◌then◌else◌}
+use Rattle.wasm_types.specs.groups.Entries.{declared_of}
+use Rattle.wasm_module_validator_type_trees.specs.Groups.{Group, count, group_at, group_numbers, group_ranges, declared_by_id, supertype_ids}
+use Rattle.wasm_module_validator_type_trees.specs.Formed.{IsMissing, IsFormed}
+use Rattle.wasm_module_validator_types.specs.declared.lists.Interned.{Interned}
+use Rattle.wasm_module_validator_types.specs.declared.lists.Lists.{Lists}
+use Rattle.wasm_module_validator_types.specs.Known.{group_in, Known, Knows}
+
+-- the groups, the newest first, and whether further ones may be added
+pub record Types : Type 0 where
+  pub groups : List Group
+  pub can_intern : Bool
+
+-- the most types that a list has: each id fits the 20 bits of an index
+abbrev pub max_types : ℕ
+max_types = 0x10_0000
+
+abbrev pub interned_group : Interned → Group
+interned_group i = group_in i.is_canonical i.group
+
+abbrev pub groups_in : List Interned → List Group
+groups_in is = reverse (map interned_group is)
+
+-- the groups are formed, and each part says of them what it is there for
+pub record IsTypeList (groups : List Group) (lists : Lists) (known : Option Known) : Type 0 where
+  pub formed : IsFormed groups
+  pub small : count groups ≤ max_types
+  pub few : length groups ≤ 2 ^ 32
+  pub types : map declared_of lists.types.items ≡ declared_by_id groups
+  pub homes : map (λ n. n.0) lists.homes.items ≡ group_numbers groups
+  pub supertypes : lists.supertypes.items ≡ supertype_ids groups
+  pub elements : map (λ r. (r.start.0, r.end.0)) lists.elements.items ≡ group_ranges groups
+  pub knows : Knows groups known
+
+-- ---- interning
+
+-- there is room for a group of n types: all ids stay within the 20 bits of an index, and the group has a number of 32 bits
+pub record HasRoom (groups : List Group) (n : ℕ) : Type 0 where
+  pub types : count groups + n ≤ max_types
+  pub numbers : length groups < 2 ^ 32
+
+-- a group is added: it is not in canonical form, or the list does not have it
+abbrev pub IsAdded : List Group → Group → Type 0
+IsAdded groups g = IsTrue g.is_canonical → IsMissing groups g
+
+-- the group has the number k, under which the list had it, or it is added as the next
+pub record Interns (old new : List Group) (g : Group) (is_new : Bool) (k : ℕ) : Type 0 where
+  pub at : group_at new k ≡ Some g
+  pub groups : new ≡ (if is_new then g ∷ old else old)
+  pub new_exactly : IsTrue is_new ↔ IsAdded old g
+  pub next : IsTrue is_new → k ≡ length old
