@@ -1,3 +1,4 @@
 pub mod OverIds
 pub mod Knowing
 pub mod Parts
+pub mod Adding

@@ -18,6 +18,7 @@ use std::alloc::{AllocError, Global};
 use std::collections::BTreeMap;
 use std::marker::Model;
 use std::ops::Range;
+use wasm_types_groups::laws::order_is_of_types;
 use wasm_types::{CoreTypeId, Error, RecGroup, Result as Reading, SubType};
 
 /// The most types that a list has: each id fits the 20 bits of an index.
@@ -108,5 +109,69 @@ impl TypeList {
             Some(known) => number_of(known, group),
             None => unreachable!(),
         }
+    }
+
+    // Adds a group. Where there is no memory, nothing changes.
+    fn add(
+        &mut self,
+        is_canonical: bool,
+        group: RecGroup,
+        id: RecGroupId,
+    ) -> Result<(), AllocError>
+        requires formed { IsGroupFormed (count self.old.groups) (group_in is_canonical group) }
+        requires added { IsAdded self.old.groups (group_in is_canonical group) }
+        requires room { HasRoom self.old.groups (length (declared_types group)) }
+        requires id { id.0 ≡ length self.old.groups }
+        ensures ok { OnOk result (self.new.groups ≡ group_in is_canonical group ∷ self.old.groups) }
+        ensures err { OnErr result (self.new.groups ≡ self.old.groups) }
+        ensures can_intern { self.new.can_intern ≡ self.old.can_intern }
+    {
+        order_is_of_types();
+        let start = self.type_count() as u32;
+        let further = group.types().len();
+        let types = stored_types(self.alloc, start, group.types())?;
+        let supertypes = stored_supertypes(self.alloc, types.as_slice())?;
+        let homes = copies(self.alloc, id, further)?;
+        self.lists.reserve(further)?;
+        learn(&mut self.known, is_canonical, &group, id)?;
+        let elements = Range {
+            start: CoreTypeId::new(start),
+            end: CoreTypeId::new(start + further as u32),
+        };
+        let interned = Interned {
+            is_canonical,
+            group,
+        };
+        self.lists
+            .append(interned, types, homes, supertypes, elements);
+        Ok(())
+    }
+
+    /// The number of a group, and whether the group is new. A group in canonical form that the list has keeps its number and
+    /// changes nothing; any other is added, with the next ids for its types. Refused are, before all else, a group whose
+    /// types would pass 2^20 and one that would be the 2^32nd behind the first; and where there is no memory. A refusal
+    /// changes no type and no id.
+    pub fn intern_canonical_rec_group(
+        &mut self,
+        needs_type_canonicalization: bool,
+        rec_group: RecGroup,
+        offset: u64,
+    ) -> Reading<(bool, RecGroupId)>
+        requires can_intern { IsTrue self.old.can_intern }
+        requires formed { IsGroupFormed (count self.old.groups) (group_in needs_type_canonicalization rec_group) }
+        ensures answer { Tells result (HasRoom self.old.groups (length (declared_types rec_group))) }
+        ensures interned { IfOk result (λ r. Interns self.old.groups self.new.groups (group_in needs_type_canonicalization rec_group) r.0 r.1.0) }
+        ensures refused { OnErr result (self.new.groups ≡ self.old.groups) }
+        ensures at { RefusedAt offset result }
+        ensures can_intern { self.new.can_intern ≡ true }
+    {
+        let id = self.next_id(rec_group.types().len(), offset)?;
+        if needs_type_canonicalization {
+            if let Some(known) = self.find(&rec_group) {
+                return Ok((false, known));
+            }
+        }
+        self.add(needs_type_canonicalization, rec_group, id)?;
+        Ok((true, id))
     }
 }

@@ -1,0 +1,118 @@
+-- A list of types with one more group.
+use Rattle.std.proofs.Common.{◌≡◌, ◌∙◌, ℕ, zero, suc, ◌+◌, ◌<◌, ◌≤◌, Bool, List, [], ◌∷◌, ◌++◌, length, map, replicate, refl, ap, sym, subst, Option, arith}
+use Rattle.std.proofs.lemmas.List.{map-append, length-map}
+use Rattle.wasm_types.specs.indices.declared.index.CoreTypeId.{CoreTypeId}
+use Rattle.wasm_types.specs.groups.declared.rec_group.RecGroup.{RecGroup}
+use Rattle.wasm_types.specs.groups.declared.sub_type.SubType.{SubType}
+use Rattle.wasm_types.specs.groups.Entries.{Declared, declared_of, declared_types}
+use Rattle.wasm_types.specs.groups.Remap.{declared_map}
+use Rattle.wasm_types.specs.groups.Laws.{TiesDeclareTheSame}
+use Rattle.wasm_module_validator_type_trees.specs.Groups.{Group, count, group_numbers, group_ranges, by_id, declared_by_id, supertype_id, supertype_ids}
+use Rattle.wasm_module_validator_type_trees.specs.Formed.{IsGroupFormed}
+use Rattle.wasm_module_validator_type_trees.specs.laws.Unrolled.{count_push}
+use Rattle.wasm_module_validator_type_trees.specs.laws.Ids.{stored_push}
+use Rattle.wasm_module_validator_types.specs.declared.ids.RecGroupId.{RecGroupId}
+use Rattle.wasm_module_validator_types.specs.declared.lists.Lists.{Lists}
+use Rattle.wasm_module_validator_types.specs.Stored.{packed_by_id}
+use Rattle.wasm_module_validator_types.specs.Known.{group_in, Known, KnowsMore}
+use Rattle.wasm_module_validator_types.specs.List.{max_types, groups_in, IsTypeList, HasRoom, IsAdded}
+use Rattle.wasm_module_validator_types.proofs.OverIds.{types_fit}
+use Rattle.wasm_module_validator_types.proofs.Knowing.{knows_push}
+use Rattle.wasm_module_validator_types.specs.Lists.{SameItems, AreShort}
+use Rattle.wasm_module_validator_types.proofs.Parts.{groups_push, length_groups, homes_push, ranges_push, supers_push, type_total, home_total, super_total, element_total}
+
+map_replicate : {A B : Type 0} (f : A → B) (n : ℕ) (a : A) → map f (replicate n a) ≡ replicate n (f a)
+map_replicate f zero a = refl
+map_replicate f (suc n) a = ap (λ l. f a ∷ l) (map_replicate f n a)
+
+-- a further part, as its view is seen
+viewed_push : {A B : Type 0} (f : A → B) (old now more : List A) (news ends : List B) → now ≡ old ++ more → map f old ≡ news → map f more ≡ ends → map f now ≡ news ++ ends
+viewed_push f old now more news ends e a b = ap (map f) e ∙ map-append f old more ∙ ap (λ l. l ++ map f more) a ∙ ap (λ l. news ++ l) b
+
+-- what each list of a list of types gains by a group
+pub record Gains (old new : Lists) (types : List SubType) (homes : List RecGroupId) (supertypes : List (Option CoreTypeId)) (first end : CoreTypeId) : Type 0 where
+  pub types_now : new.types.items ≡ old.types.items ++ types
+  pub homes_now : new.homes.items ≡ old.homes.items ++ homes
+  pub supertypes_now : new.supertypes.items ≡ old.supertypes.items ++ supertypes
+  pub elements_now : new.elements.items ≡ old.elements.items ++ record { start = first; end = end } ∷ []
+
+module _ (gs : List Group) (old new : Lists) (known more : Option Known) (is : IsTypeList gs old known) (canonical : Bool) (group : RecGroup) (id : RecGroupId)
+    (formed : IsGroupFormed (count gs) (group_in canonical group)) (added : IsAdded gs (group_in canonical group)) (room : HasRoom gs (length (declared_types group))) (at : id.0 ≡ length gs)
+    (types : List SubType) (homes : List RecGroupId) (supertypes : List (Option CoreTypeId)) (first end : CoreTypeId) (gains : Gains old new types homes supertypes first end)
+    (begins : first.0 ≡ count gs) (ends : end.0 ≡ count gs + length (declared_types group)) where
+  -- the types over ids
+  by_ids : map declared_of types ≡ map (declared_map (packed_by_id first.0)) (declared_types group) → map declared_of types ≡ map (declared_map (by_id (count gs))) (declared_types group)
+  by_ids stored =
+      stored ∙ ap (λ (n : ℕ). map (declared_map (packed_by_id n)) (declared_types group)) begins
+      ∙ types_fit canonical (count gs) (length (declared_types group)) room.types 0 (declared_types group) formed
+
+  pub list_push : TiesDeclareTheSame → map declared_of types ≡ map (declared_map (packed_by_id first.0)) (declared_types group)
+      → homes ≡ replicate (length (declared_types group)) id → supertypes ≡ map supertype_id (map declared_of types) → KnowsMore canonical group id known more
+      → IsTypeList (group_in canonical group ∷ gs) new more
+  list_push ties stored copied supers learned = record {
+    formed = (formed, added, is.formed);
+    small = let l = room.types in omega (arith, count_push (group_in canonical group) gs);
+    few = let l = room.numbers in omega arith;
+    types = viewed_push declared_of old.types.items new.types.items types (declared_by_id gs) (map (declared_map (by_id (count gs))) (declared_types group)) gains.types_now is.types (by_ids stored)
+        ∙ sym (stored_push (group_in canonical group) gs);
+    homes = viewed_push (λ n. n.0) old.homes.items new.homes.items homes (group_numbers gs) (replicate (length (declared_types group)) (length gs)) gains.homes_now is.homes
+        (ap (map (λ n. n.0)) copied ∙ map_replicate (λ n. n.0) (length (declared_types group)) id ∙ ap (replicate (length (declared_types group))) at)
+        ∙ sym (homes_push (group_in canonical group) gs);
+    supertypes = gains.supertypes_now ∙ ap (λ l. l ++ supertypes) is.supertypes
+        ∙ ap (λ l. supertype_ids gs ++ l) (supers ∙ ap (map supertype_id) (by_ids stored)) ∙ sym (supers_push (group_in canonical group) gs);
+    elements = viewed_push (λ r. (r.start.0, r.end.0)) old.elements.items new.elements.items (record { start = first; end = end } ∷ []) (group_ranges gs)
+        ((count gs, count gs + length (declared_types group)) ∷ []) gains.elements_now is.elements (let a = begins in let b = ends in cc)
+        ∙ sym (ranges_push (group_in canonical group) gs);
+    knows = knows_push ties gs canonical group id known more at is.knows learned;
+  }
+
+-- as many types are stored as there are
+pub stored_length : (types source : List SubType) (ds : List Declared) (start : ℕ) → map declared_of types ≡ map (declared_map (packed_by_id start)) (map declared_of source) → map declared_of source ≡ ds
+    → length types ≡ length ds
+stored_length types source ds start e f =
+    sym (length-map types declared_of) ∙ ap length (e ∙ ap (map (declared_map (packed_by_id start))) f) ∙ length-map ds (declared_map (packed_by_id start))
+
+-- the code's own names for it: the lists before, with room, and after
+module _ (before mid after : Lists) (known more : Option Known) (gs : List Group) (view : groups_in before.groups.items ≡ gs) (is : IsTypeList (groups_in before.groups.items) before known)
+    (same : SameItems before mid) (group : RecGroup) (room : HasRoom gs (length (declared_types group))) where
+  pub short_lists : (n : ℕ) → n ≡ length (declared_types group) → AreShort mid n
+  short_lists n e =
+      let g = ap length view in
+      let c = ap count view in
+      let small = room.types in
+      let few = room.numbers in
+      record {
+        groups = omega (arith, ap length same.groups, length_groups before.groups.items);
+        types = omega (arith, ap length same.types, type_total (groups_in before.groups.items) before known is);
+        homes = omega (arith, ap length same.homes, home_total (groups_in before.groups.items) before known is);
+        supertypes = omega (arith, ap length same.supertypes, super_total (groups_in before.groups.items) before known is);
+        elements = omega (arith, ap length same.elements, element_total (groups_in before.groups.items) before known is);
+      }
+
+  pub added_list : TiesDeclareTheSame → (canonical : Bool) (id : RecGroupId) → IsGroupFormed (count gs) (group_in canonical group) → IsAdded gs (group_in canonical group) → id.0 ≡ length gs
+      → (types source : List SubType) (homes : List RecGroupId) (supertypes : List (Option CoreTypeId)) (first end : CoreTypeId) (start further : ℕ)
+      → start ≡ count gs → further ≡ length (declared_types group) → first.0 ≡ start → end.0 ≡ start + further
+      → map declared_of source ≡ declared_types group
+      → map declared_of types ≡ map (declared_map (packed_by_id start)) (map declared_of source)
+      → homes ≡ replicate further id → supertypes ≡ map supertype_id (map declared_of types) → KnowsMore canonical group id known more
+      → after.groups.items ≡ mid.groups.items ++ record { is_canonical = canonical; group = group } ∷ []
+      → after.types.items ≡ mid.types.items ++ types → after.homes.items ≡ mid.homes.items ++ homes → after.supertypes.items ≡ mid.supertypes.items ++ supertypes
+      → after.elements.items ≡ mid.elements.items ++ record { start = first; end = end } ∷ []
+      → IsTypeList (groups_in after.groups.items) after more
+  added_list ties canonical id formed added at types source homes supertypes first end start further s f b e from stored copied supers learned a1 a2 a3 a4 a5 =
+      let G : Group = group_in canonical group in
+      let old : IsTypeList gs before known = subst (λ (l : List Group). IsTypeList l before known) view is in
+      let gains : Gains before after types homes supertypes first end = record {
+        types_now = a2 ∙ ap (λ l. l ++ types) same.types;
+        homes_now = a3 ∙ ap (λ l. l ++ homes) same.homes;
+        supertypes_now = a4 ∙ ap (λ l. l ++ supertypes) same.supertypes;
+        elements_now = a5 ∙ ap (λ l. l ++ record { start = first; end = end } ∷ []) same.elements;
+      } in
+      let groups : groups_in after.groups.items ≡ G ∷ gs =
+      groups_push before.groups.items after.groups.items (record { is_canonical = canonical; group = group })
+      (a1 ∙ ap (λ l. l ++ record { is_canonical = canonical; group = group } ∷ []) same.groups)
+      ∙ ap (λ (l : List Group). G ∷ l) view in
+      subst (λ (l : List Group). IsTypeList l after more) (sym groups)
+      (list_push gs before after known more old canonical group id formed added room at types homes supertypes first end gains (b ∙ s) (e ∙ (let x = s in let y = f in cc)) ties
+      (stored ∙ ap (map (declared_map (packed_by_id start))) from ∙ ap (λ (n : ℕ). map (declared_map (packed_by_id n)) (declared_types group)) (sym b))
+      (copied ∙ ap (λ (n : ℕ). replicate n id) f) supers learned)

@@ -1,0 +1,23 @@
+use Rattle.std.proofs.Common.{◌∙◌, ap, sym, map, length}
+use Rattle.std.proofs.lemmas.List.{length-map}
+use Rattle.wasm_types.specs.groups.Entries.{declared_of, declared_types, subtypes}
+use Rattle.wasm_module_validator_type_trees.specs.Groups.{supertype_id}
+use Rattle.wasm_module_validator_types.proofs.Adding.{stored_length, short_lists, added_list}
+use Rattle.wasm_module_validator_types.proofs.list.TypeList.add.Goals as goal
+
+pub append-requires-clause-short : goal.append-requires-clause-short
+append-requires-clause-short c =
+    short_lists c.self.inside.lists c.reserve.new.self c.reserve.new.self c.self.inside.known c.self.inside.known c.args.self.now.groups (ap (λ l. l.groups) c.self.view_is) c.self.invariant
+    c.reserve.ensures.same c.args.group c.requires.room (length c.in_ok-types.types.items)
+    (stored_length c.in_ok-types.types.items c.types.result.now (declared_types c.args.group) _ c.in_ok-types.ensures (ap (map declared_of) c.types.ensures))
+
+pub invariant_of-self-2 : goal.invariant_of-self-2
+invariant_of-self-2 c =
+    added_list c.self.inside.lists c.reserve.new.self c.append.new.self c.self.inside.known c.learn.new.known c.args.self.now.groups (ap (λ l. l.groups) c.self.view_is) c.self.invariant
+    c.reserve.ensures.same c.args.group c.requires.room
+    c.order_is_of_types.ensures.ties c.args.is_canonical c.args.id c.requires.formed c.requires.added c.requires.id
+    c.in_ok-types.types.items c.types.result.now c.in_ok-homes.homes.items c.in_ok-supertypes.supertypes.items c.new.result c.new-2.result c.type_count-start.result (length c.types-further.result.now)
+    c.type_count-start.ensures.counted (ap length c.types-further.ensures ∙ sym (length-map (subtypes c.args.group) declared_of))
+    c.new.ensures c.new-2.ensures (ap (map declared_of) c.types.ensures)
+    c.in_ok-types.ensures c.in_ok-homes.ensures (c.in_ok-supertypes.ensures ∙ ap (λ l. map supertype_id (map declared_of l)) c.as_slice.ensures.value) c.in_ok-learn.ensures.ok
+    c.append.ensures.groups c.append.ensures.types c.append.ensures.homes c.append.ensures.supertypes c.append.ensures.elements
