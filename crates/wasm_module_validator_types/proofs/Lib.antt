@@ -2,3 +2,4 @@ pub mod OverIds
 pub mod Knowing
 pub mod Parts
 pub mod Adding
+pub mod Finding

@@ -4,3 +4,4 @@ pub mod Lists
 pub mod Known
 -- What a contract sees of it.
 pub mod List
+pub mod Lookups

@@ -8,6 +8,7 @@ ghost use Rattle.wasm_module_validator_type_trees.specs.Groups.{count, group_at,
 ghost use Rattle.wasm_module_validator_type_trees.specs.Formed.{IsGroupFormed, IsMissing, IsFormed};
 ghost use Rattle.wasm_module_validator_type_trees.specs.ByIds.{supertype_of, IdBelow};
 ghost use Rattle.wasm_module_validator_types.specs.Known.{group_in};
+ghost use Rattle.wasm_module_validator_types.specs.Lookups.{HasIds, HasPlace, IsAtPlace};
 ghost use Rattle.wasm_module_validator_types.specs.List.{max_types, HasRoom, IsAdded, Interns};
 
 use crate::RecGroupId;
@@ -41,6 +42,18 @@ impl Model for TypeList {
     ghost view = { λ l. record { groups = groups_in l.lists.groups.items; can_intern = is_some l.known } };
 
     ghost invariant = { λ l. IsTypeList (groups_in l.lists.groups.items) l.lists l.known };
+}
+
+// The refusal of a place that a group does not have.
+#[cold]
+fn unknown_place(index: u32, offset: u64) -> Error
+    ensures kind { result.kind ≡ Other }
+    ensures offset { result.offset ≡ offset }
+{
+    Error::fmt(
+        format_args!("unknown type {index}: type index out of rec group bounds"),
+        offset,
+    )
 }
 
 impl TypeList {
@@ -173,5 +186,75 @@ impl TypeList {
         }
         self.add(needs_type_canonicalization, rec_group, id)?;
         Ok((true, id))
+    }
+
+    /// The type of an id, over ids, if the id has one.
+    pub fn get(&self, id: CoreTypeId) -> Option<&SubType>
+        ensures { option_map (λ t. declared_of t.now) result ≡ slice_get (declared_by_id self.now.groups) id.0 }
+    {
+        self.lists.types.get(id.number() as usize)
+    }
+
+    /// The group that the type of an id stands in.
+    pub fn rec_group_id_of(&self, id: CoreTypeId) -> RecGroupId
+        requires { id.0 < count self.now.groups }
+        ensures { slice_get (group_numbers self.now.groups) id.0 ≡ Some result.0 }
+    {
+        self.lists.homes[id.number() as usize]
+    }
+
+    /// The ids of the types of a group, from the first to that behind the last.
+    pub fn rec_group_elements(&self, rec_group: RecGroupId) -> &Range<CoreTypeId>
+        requires { rec_group.0 < length self.now.groups }
+        ensures { HasIds self.now.groups rec_group.0 result.now.start.0 result.now.end.0 }
+    {
+        &self.lists.elements[rec_group.number() as usize]
+    }
+
+    /// The id of the type at a place of a group. A place behind its last is refused.
+    pub fn rec_group_local_id(
+        &self,
+        rec_group: RecGroupId,
+        index: u32,
+        offset: u64,
+    ) -> Reading<CoreTypeId>
+        requires { rec_group.0 < length self.now.groups }
+        ensures answer { Tells result (HasPlace self.now.groups rec_group.0 index) }
+        ensures value { IfOk result (IsAtPlace self.now.groups rec_group.0 index) }
+        ensures at { IfErr result (λ e. (e.kind ≡ Other) × (e.offset ≡ offset)) }
+    {
+        let elements = self.rec_group_elements(rec_group);
+        let end = elements.end.number();
+        let Some(id) = elements.start.number().checked_add(index) else {
+            return Err(unknown_place(index, offset));
+        };
+        if id >= end {
+            return Err(unknown_place(index, offset));
+        }
+        Ok(CoreTypeId::new(id))
+    }
+
+    /// The supertype that the type of an id declares.
+    pub fn supertype_of(&self, id: CoreTypeId) -> Option<CoreTypeId>
+        requires { id.0 < count self.now.groups }
+        ensures { result ≡ supertype_of self.now.groups id }
+    {
+        self.lists.supertypes[id.number() as usize]
+    }
+
+    /// A list of the same types, which are shared from now on, and which takes no more. This list keeps its types, whether
+    /// there is memory for the other or not.
+    pub fn commit(&mut self) -> Result<TypeList, AllocError>
+        ensures stays { self.new.groups ≡ self.old.groups }
+        ensures still { self.new.can_intern ≡ self.old.can_intern }
+        ensures same { IfOk result (λ list. list.groups ≡ self.old.groups) }
+        ensures closed { IfOk result (λ list. list.can_intern ≡ false) }
+    {
+        let lists = self.lists.commit()?;
+        Ok(TypeList {
+            alloc: self.alloc,
+            lists,
+            known: None,
+        })
     }
 }
