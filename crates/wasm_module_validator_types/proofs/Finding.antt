@@ -1,6 +1,11 @@
 -- What is found in the parts of a list of types.
-use Rattle.std.proofs.Common.{◌≡◌, ◌∙◌, ℕ, zero, suc, ◌+◌, ◌<◌, ◌≤◌, List, [], ◌∷◌, length, map, get_or, refl, ap, sym, Option, Some, None, arith}
-use Rattle.std.specs.Prelude.{slice_get, option_map}
+use Rattle.std.proofs.Common.{◌≡◌, ◌∙◌, ℕ, zero, suc, ◌+◌, ◌<◌, ◌≤◌, List, [], ◌∷◌, length, map, get_or, refl, ap, sym, subst, Option, Some, None, arith}
+use Rattle.std.specs.Prelude.{slice_get, option_map, IfSome}
+use Rattle.wasm_types.specs.indices.declared.index.CoreTypeId.{CoreTypeId}
+use Rattle.wasm_module_validator_type_trees.specs.Groups.{Group, count}
+use Rattle.wasm_module_validator_type_trees.specs.Formed.{IsFormed}
+use Rattle.wasm_module_validator_type_trees.specs.ByIds.{supertype_of, IdBelow, itself, declared}
+use Rattle.wasm_module_validator_type_trees.specs.laws.Ids.{supertype_below}
 
 -- an item, as its view is seen
 pub get_viewed : {A B : Type 0} (f : A → B) (xs : List A) (i : ℕ) → option_map f (slice_get xs i) ≡ slice_get (map f xs) i
@@ -16,3 +21,18 @@ pub get_default : {A : Type 0} (xs : List A) (i : ℕ) (d x : A) → slice_get x
 get_default [] i d x e = absurd cc
 get_default (y ∷ ys) zero d x e = cc
 get_default (y ∷ ys) (suc i) d x e = get_default ys i d x e
+
+-- the supertype that is read has a lower id
+pub earlier_read : (groups : List Group) → IsFormed groups → (a : CoreTypeId) (o : Option CoreTypeId) → a.0 < count groups → o ≡ supertype_of groups a → IfSome o (λ b. b.0 < a.0)
+earlier_read groups formed a None lt e = tt
+earlier_read groups formed a (Some b) lt e = supertype_below groups formed a b lt (sym e)
+
+-- below another id only through the supertype that it declares
+pub below_none : {groups : List Group} {a b : CoreTypeId} → IdBelow groups a b → supertype_of groups a ≡ None → (a ≡ b → ⊥) → ⊥
+below_none itself e apart = apart refl
+below_none (declared h r) e apart = absurd cc
+
+pub below_next : {groups : List Group} {a c : CoreTypeId} → IdBelow groups a c → (b : CoreTypeId) → supertype_of groups a ≡ Some b → (a ≡ c → ⊥) → IdBelow groups b c
+below_next itself b e apart = absurd (apart refl)
+below_next {groups} {a} {c} (declared {b = d} h r) b e apart =
+    let f : d ≡ b = cc in subst (λ (x : CoreTypeId). IdBelow groups x c) f r

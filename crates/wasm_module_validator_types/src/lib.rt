@@ -9,6 +9,7 @@ mod known;
 mod list;
 mod lists;
 mod stored;
+mod subtypes;
 
 pub use ids::RecGroupId;
 pub use list::{MAX_TYPES, TypeList};

@@ -1,6 +1,6 @@
 //! The list of interned types.
 
-ghost use Rattle.std.specs.Prelude.{◌≡◌, ◌↔◌, ◌∷◌, ◌+◌, ◌≤◌, ◌<◌, [], length, true, false, IsTrue, OnOk, OnErr, IfOk, IfErr, Some, MatchOption, slice_get, option_map};
+ghost use Rattle.std.specs.Prelude.{◌≡◌, ◌↔◌, ◌∷◌, ◌+◌, ◌≤◌, ◌<◌, [], length, true, false, IsTrue, OnOk, OnErr, IfOk, IfErr, IfSome, Some, MatchOption, slice_get, option_map};
 ghost use Rattle.wasm_types.specs.error.Denials.{Tells, RefusedAt};
 ghost use Rattle.wasm_types.specs.error.declared.error.ErrorKind.TheVariants.{Other};
 ghost use Rattle.wasm_types.specs.groups.Entries.{declared_of, declared_types};
@@ -237,7 +237,8 @@ impl TypeList {
     /// The supertype that the type of an id declares.
     pub fn supertype_of(&self, id: CoreTypeId) -> Option<CoreTypeId>
         requires { id.0 < count self.now.groups }
-        ensures { result ≡ supertype_of self.now.groups id }
+        ensures declared { result ≡ supertype_of self.now.groups id }
+        ensures earlier { IfSome result (λ above. above.0 < id.0) }
     {
         self.lists.supertypes[id.number() as usize]
     }
