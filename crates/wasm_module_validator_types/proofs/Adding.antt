@@ -1,5 +1,5 @@
 -- A list of types with one more group.
-use Rattle.std.proofs.Common.{◌≡◌, ◌∙◌, ℕ, zero, suc, ◌+◌, ◌<◌, ◌≤◌, Bool, List, [], ◌∷◌, ◌++◌, length, map, replicate, refl, ap, sym, subst, Option, arith}
+use Rattle.std.proofs.Common.{◌≡◌, ◌∙◌, ℕ, zero, suc, ◌+◌, Bool, List, [], ◌∷◌, ◌++◌, length, map, replicate, refl, ap, sym, subst, Option, arith}
 use Rattle.std.proofs.lemmas.List.{map-append, length-map}
 use Rattle.wasm_types.specs.indices.declared.index.CoreTypeId.{CoreTypeId}
 use Rattle.wasm_types.specs.groups.declared.rec_group.RecGroup.{RecGroup}
@@ -15,7 +15,7 @@ use Rattle.wasm_module_validator_types.specs.declared.ids.RecGroupId.{RecGroupId
 use Rattle.wasm_module_validator_types.specs.declared.lists.Lists.{Lists}
 use Rattle.wasm_module_validator_types.specs.Stored.{packed_by_id}
 use Rattle.wasm_module_validator_types.specs.Known.{group_in, Known, KnowsMore}
-use Rattle.wasm_module_validator_types.specs.List.{max_types, groups_in, IsTypeList, HasRoom, IsAdded}
+use Rattle.wasm_module_validator_types.specs.List.{groups_in, IsTypeList, HasRoom, IsAdded}
 use Rattle.wasm_module_validator_types.proofs.OverIds.{types_fit}
 use Rattle.wasm_module_validator_types.proofs.Knowing.{knows_push}
 use Rattle.wasm_module_validator_types.specs.Lists.{SameItems, AreShort}

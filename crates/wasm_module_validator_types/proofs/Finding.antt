@@ -1,5 +1,5 @@
 -- What is found in the parts of a list of types.
-use Rattle.std.proofs.Common.{◌≡◌, ◌∙◌, ℕ, zero, suc, ◌+◌, ◌<◌, ◌≤◌, List, [], ◌∷◌, length, map, get_or, refl, ap, sym, subst, Option, Some, None, arith}
+use Rattle.std.proofs.Common.{◌≡◌, ◌∙◌, ℕ, zero, suc, ◌<◌, List, [], ◌∷◌, map, get_or, refl, ap, sym, subst, Option, Some, None}
 use Rattle.std.specs.Prelude.{slice_get, option_map, IfSome}
 use Rattle.wasm_types.specs.indices.declared.index.CoreTypeId.{CoreTypeId}
 use Rattle.wasm_module_validator_type_trees.specs.Groups.{Group, count}

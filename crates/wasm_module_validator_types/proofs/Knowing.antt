@@ -1,5 +1,5 @@
 -- What the map finds once a group has been added.
-use Rattle.std.proofs.Common.{◌≡◌, ◌∙◌, ℕ, ◌<◌, Bool, true, false, cond, IsTrue, List, [], ◌∷◌, length, refl, ap, sym, subst, Option, Some, None, arith, eqb}
+use Rattle.std.proofs.Common.{◌≡◌, ◌∙◌, ℕ, ◌<◌, Bool, true, false, cond, List, [], ◌∷◌, length, refl, ap, sym, subst, Option, Some, None, arith, eqb}
 use Rattle.std.proofs.lemmas.Bool.{eqb-true}
 use Rattle.std.specs.Prelude.{MatchOption}
 use Rattle.std.specs.Ordering.{is_eq}
@@ -13,7 +13,7 @@ use Rattle.wasm_module_validator_type_trees.specs.Groups.{Group, group_at}
 use Rattle.wasm_module_validator_type_trees.specs.Formed.{IsMissing}
 use Rattle.wasm_module_validator_type_trees.specs.laws.Apart.{at_old, at_new}
 use Rattle.wasm_module_validator_types.specs.declared.ids.RecGroupId.{RecGroupId}
-use Rattle.wasm_module_validator_types.specs.Known.{group_in, Known, find, Learns, FindsTheSame, Knows, KnowsMore}
+use Rattle.wasm_module_validator_types.specs.Known.{group_in, Known, find, Learns, Knows, KnowsMore}
 
 -- ---- the order of groups
 

@@ -3,3 +3,4 @@ pub mod Knowing
 pub mod Parts
 pub mod Adding
 pub mod Finding
+pub mod WorkedProofs

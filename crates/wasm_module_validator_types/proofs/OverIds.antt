@@ -1,15 +1,13 @@
 -- Types over ids.
-use Rattle.std.proofs.Common.{◌≡◌, ◌∙◌, ℕ, zero, suc, ◌+◌, ◌<◌, ◌≤◌, Bool, true, false, List, [], ◌∷◌, ◌++◌, length, map, take, get_or, refl, ap, sym, subst, Option, Some, None, Result, Ok, Err, arith}
-use Rattle.std.specs.Prelude.{MatchResult}
-use Rattle.std.specs.List.{AllZip}
+use Rattle.std.proofs.Common.{◌≡◌, ◌∙◌, ℕ, zero, suc, ◌+◌, ◌<◌, ◌≤◌, Bool, List, [], ◌∷◌, ◌++◌, length, map, take, get_or, refl, ap, sym, subst, Option, Result, Ok, Err, arith}
 use Rattle.std.proofs.lemmas.Bool.{lt-ltb}
 use Rattle.std.proofs.lemmas.List.{map-append}
 use Rattle.wasm_types.specs.indices.declared.index.UnpackedIndex.{UnpackedIndex}
 use Rattle.wasm_types.specs.indices.declared.index.UnpackedIndex.TheVariants.{Module, RecGroup, Id}
-use Rattle.wasm_types.specs.trees.Types.{EntryOf, entry_map}
-use Rattle.wasm_types.specs.trees.Each.{EachOption, EachEntry}
+use Rattle.wasm_types.specs.trees.Types.{entry_map}
+use Rattle.wasm_types.specs.trees.Each.{EachOption}
 use Rattle.wasm_types.specs.trees.laws.Types.{each_entry, entry_agrees}
-use Rattle.wasm_types.specs.values.Remap.{AreAnswered, IsCutShort, IsWalked, Remapped}
+use Rattle.wasm_types.specs.values.Remap.{AreAnswered, IsWalked, Remapped}
 use Rattle.wasm_types.specs.groups.declared.sub_type.SubType.{SubType}
 use Rattle.wasm_types.specs.groups.Entries.{Declared, first_of, declared_of, composite_of}
 use Rattle.wasm_types.specs.groups.Remap.{declared_shape, declared_indices, declared_map}

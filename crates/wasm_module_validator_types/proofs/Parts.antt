@@ -1,5 +1,5 @@
 -- What one more group adds to each part of a list.
-use Rattle.std.proofs.Common.{◌≡◌, ◌∙◌, ℕ, ◌+◌, ◌<◌, ◌≤◌, Bool, true, false, cond, IsTrue, List, [], ◌∷◌, ◌++◌, length, map, replicate, refl, ap, sym, subst, Option, Some, None, arith}
+use Rattle.std.proofs.Common.{◌≡◌, ◌∙◌, ℕ, ◌+◌, true, List, [], ◌∷◌, ◌++◌, length, map, replicate, refl, ap, sym, subst, Option, Some, arith}
 use Rattle.std.proofs.lemmas.List.{reverse-append, length-reverse, map-append, length-map, length-append, length-replicate}
 use Rattle.std.specs.Prelude.{MatchOption}
 use Rattle.std.specs.Map.{lookup}
@@ -8,17 +8,16 @@ use Rattle.wasm_types.specs.groups.contracts.rec_group.RecGroupOrd.TheImpl as or
 use Rattle.wasm_module_validator_types.specs.declared.ids.RecGroupId.{RecGroupId}
 use Rattle.wasm_module_validator_types.specs.Lists.{SameItems}
 use Rattle.wasm_types.specs.trees.Unfold.{type_count}
-use Rattle.wasm_types.specs.groups.declared.rec_group.RecGroup.{RecGroup}
-use Rattle.wasm_types.specs.groups.Entries.{Declared, declared_of, declared_types}
+use Rattle.wasm_types.specs.groups.Entries.{declared_of}
 use Rattle.wasm_types.specs.groups.Remap.{declared_map}
 use Rattle.wasm_module_validator_type_trees.specs.Groups.{Group, count, group_at, group_numbers, group_ranges, by_id, declared_by_id, supertype_id, supertype_ids}
-use Rattle.wasm_module_validator_type_trees.specs.Formed.{IsGroupFormed, IsMissing, IsFormed}
+use Rattle.wasm_module_validator_type_trees.specs.Formed.{IsMissing}
 use Rattle.wasm_module_validator_type_trees.specs.laws.Unrolled.{count_push}
 use Rattle.wasm_module_validator_type_trees.specs.laws.Ids.{stored_push, length_stored}
 use Rattle.wasm_module_validator_types.specs.declared.lists.Interned.{Interned}
 use Rattle.wasm_module_validator_types.specs.declared.lists.Lists.{Lists}
 use Rattle.wasm_module_validator_types.specs.Known.{group_in, Known, Knows}
-use Rattle.wasm_module_validator_types.specs.List.{max_types, interned_group, groups_in, IsTypeList, IsAdded}
+use Rattle.wasm_module_validator_types.specs.List.{interned_group, groups_in, IsTypeList}
 
 pub groups_push : (is now : List Interned) (i : Interned) → now ≡ is ++ i ∷ [] → groups_in now ≡ interned_group i ∷ groups_in is
 groups_push is now i e = ap groups_in e ∙ rw (map-append, reverse-append) refl

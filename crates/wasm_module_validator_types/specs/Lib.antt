@@ -5,3 +5,5 @@ pub mod Known
 -- What a contract sees of it.
 pub mod List
 pub mod Lookups
+-- Worked rows.
+pub mod Worked

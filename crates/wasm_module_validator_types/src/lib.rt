@@ -6,6 +6,7 @@
 
 mod ids;
 mod known;
+pub mod laws;
 mod list;
 mod lists;
 mod stored;

@@ -19,8 +19,8 @@ use std::alloc::{AllocError, Global};
 use std::collections::BTreeMap;
 use std::marker::Model;
 use std::ops::Range;
-use wasm_types_groups::laws::order_is_of_types;
 use wasm_types::{CoreTypeId, Error, RecGroup, Result as Reading, SubType};
+use wasm_types_groups::laws::order_is_of_types;
 
 /// The most types that a list has: each id fits the 20 bits of an index.
 pub const MAX_TYPES: usize = 1 << 20;
@@ -99,16 +99,10 @@ impl TypeList {
         ensures at { IfErr result (λ e. (e.kind ≡ Other) × (e.offset ≡ offset)) }
     {
         if further > MAX_TYPES - self.type_count() {
-            return Err(Error::new(
-                "implementation limit: too many core types",
-                offset,
-            ));
+            return Err(Error::new("implementation limit: too many core types", offset));
         }
         let Ok(number) = u32::try_from(self.group_count()) else {
-            return Err(Error::new(
-                "implementation limit: too many recursion groups",
-                offset,
-            ));
+            return Err(Error::new("implementation limit: too many recursion groups", offset));
         };
         Ok(RecGroupId::new(number))
     }
@@ -125,12 +119,7 @@ impl TypeList {
     }
 
     // Adds a group. Where there is no memory, nothing changes.
-    fn add(
-        &mut self,
-        is_canonical: bool,
-        group: RecGroup,
-        id: RecGroupId,
-    ) -> Result<(), AllocError>
+    fn add(&mut self, is_canonical: bool, group: RecGroup, id: RecGroupId) -> Result<(), AllocError>
         requires formed { IsGroupFormed (count self.old.groups) (group_in is_canonical group) }
         requires added { IsAdded self.old.groups (group_in is_canonical group) }
         requires room { HasRoom self.old.groups (length (declared_types group)) }

@@ -7,8 +7,8 @@ ghost use Rattle.wasm_module_validator_type_trees.specs.Groups.{supertype_id};
 ghost use Rattle.wasm_module_validator_types.specs.Stored.{packed_by_id};
 
 use std::alloc::{AllocError, Global};
-use wasm_types_groups::laws::clones_declare_the_same;
 use wasm_types::{CoreTypeId, PackedIndex, Result as Reading, SubType};
+use wasm_types_groups::laws::clones_declare_the_same;
 
 // An index as an id, in a group whose first type has the id `start`.
 fn index_by_id(start: u32, index: PackedIndex) -> PackedIndex
@@ -76,11 +76,7 @@ pub(crate) fn stored_supertypes(
 }
 
 /// As many copies of a value as are asked for.
-pub(crate) fn copies<X: Copy>(
-    alloc: Global,
-    value: X,
-    count: usize,
-) -> Result<Vec<X>, AllocError>
+pub(crate) fn copies<X: Copy>(alloc: Global, value: X, count: usize) -> Result<Vec<X>, AllocError>
     ensures { IfOk result (λ v. v.items ≡ replicate count value) }
 {
     let mut values = Vec::new(alloc);

@@ -1,4 +1,4 @@
-use Rattle.std.proofs.Common.{rules, of_calls}
+use Rattle.std.proofs.Common.{rules}
 use Rattle.wasm_module_validator_types.specs.Stored.{packed_by_id}
 use Rattle.wasm_module_validator_types.proofs.OverIds.{remapped_type}
 use Rattle.wasm_module_validator_types.proofs.stored.type_by_ids.Goals as goal

@@ -1,0 +1,40 @@
+-- The worked rows of lists of types.
+use Rattle.std.proofs.Common.{◌≡◌, ◌∙◌, ℕ, refl, rules, arith, ap, sym, Some, None}
+use Rattle.std.specs.Prelude.{Option}
+use Rattle.wasm_types.specs.trees.Unfold.{type_count}
+use Rattle.wasm_module_validator_type_trees.specs.Groups.{group_ranges}
+use Rattle.wasm_module_validator_types.specs.Worked.{ListsWorked}
+
+pair_of : Option (ℕ × ℕ) → ℕ × ℕ
+pair_of None = (0, 0)
+pair_of (Some p) = p
+
+some_same : (a b c d : ℕ) (o : Option (ℕ × ℕ)) → o ≡ Some (a, b) → o ≡ Some (c, d) → (a ≡ c) × (b ≡ d)
+unfolding pair_of
+some_same a b c d o e f = let g = ap pair_of (sym e ∙ f) in (ap (λ (p : ℕ × ℕ). p.0) g, ap (λ (p : ℕ × ℕ). p.1) g)
+
+pub lists_worked : ListsWorked
+unfolding type_count group_ranges
+lists_worked = record {
+  place = refl;
+  last_id = refl;
+  no_id = refl;
+  own_id = refl;
+  of_module = refl;
+  room = record { types = omega arith; numbers = omega arith };
+  no_room = λ r. let h = r.types in omega arith;
+  added = search rules;
+  known = λ a. a refl 1 refl;
+  as_written = search rules;
+  interned = record { at = refl; groups = refl; new_exactly = (λ t. search rules, λ a. refl); next = λ t. refl };
+  found = record { at = refl; groups = refl; new_exactly = (λ t. search rules, λ a. absurd (a refl 1 refl)); next = λ t. search rules };
+  found_elsewhere = λ i. let e = i.at in search rules;
+  added_twice = λ i. i.new_exactly.0 refl refl 1 refl;
+  added_again = record { at = refl; groups = refl; new_exactly = (λ t. search rules, λ a. refl); next = λ t. refl };
+  not_the_next = λ i. let e = i.next refl in omega arith;
+  ids = refl;
+  first_place = record { first = 0; end = 2; ids = refl; within = omega arith };
+  no_place = λ p. let e = some_same 2 3 p.first p.end _ refl p.ids in let w = p.within in omega arith;
+  at_place = record { first = 0; end = 2; ids = refl; at = refl };
+  not_at_place = λ p. let e = some_same 2 3 p.first p.end _ refl p.ids in let w = p.at in omega arith;
+}

@@ -1,0 +1,31 @@
+-- Worked rows: room for groups, which groups are added, and the places of groups.
+use Rattle.std.specs.Prelude.{◌≡◌, true, false, [], ◌∷◌}
+use Rattle.wasm_types.specs.indices.declared.index.UnpackedIndex.TheVariants.{Module, RecGroup}
+use Rattle.wasm_module_validator_type_trees.specs.Worked.{id, id_of, pair, lower, both, routine, routines}
+use Rattle.wasm_module_validator_types.specs.Stored.{packed_by_id}
+use Rattle.wasm_module_validator_types.specs.Lookups.{HasIds, HasPlace, IsAtPlace}
+use Rattle.wasm_module_validator_types.specs.List.{HasRoom, IsAdded, Interns}
+
+-- two structs with ids 0 and 1, and one below the second with id 2
+pub record ListsWorked : Type 0 where
+  pub place : packed_by_id 7 (RecGroup 2) ≡ id 9
+  pub last_id : packed_by_id 0xf_ffff (RecGroup 0) ≡ id 0xf_ffff
+  pub no_id : packed_by_id 0xf_ffff (RecGroup 1) ≡ RecGroup 1
+  pub own_id : packed_by_id 7 (id 2) ≡ id 2
+  pub of_module : packed_by_id 7 (Module 2) ≡ Module 2
+  pub room : HasRoom both 0xf_fffd
+  pub no_room : HasRoom both 0xf_fffe → ⊥
+  pub added : IsAdded (pair ∷ []) lower
+  pub known : IsAdded both lower → ⊥
+  pub as_written : IsAdded routines routine
+  pub interned : Interns (pair ∷ []) both lower true 1
+  pub found : Interns both both lower false 1
+  pub found_elsewhere : Interns both both lower false 0 → ⊥
+  pub added_twice : Interns both (lower ∷ both) lower true 2 → ⊥
+  pub added_again : Interns routines (routine ∷ routines) routine true 2
+  pub not_the_next : Interns routines (routine ∷ routines) routine true 0 → ⊥
+  pub ids : HasIds both 1 2 3
+  pub first_place : HasPlace both 0 1
+  pub no_place : HasPlace both 1 1 → ⊥
+  pub at_place : IsAtPlace both 0 1 (id_of 1)
+  pub not_at_place : IsAtPlace both 1 0 (id_of 1) → ⊥
