@@ -2,7 +2,7 @@
 
 ghost use Rattle.std.specs.Prelude.{◌≡◌, ◌↔◌, ◌∷◌, ◌+◌, ◌≤◌, ◌<◌, [], length, true, false, IsTrue, OnOk, OnErr, IfOk, IfErr, IfSome, Some, MatchOption, slice_get, option_map};
 ghost use Rattle.wasm_types.specs.error.Denials.{Tells, RefusedAt};
-ghost use Rattle.wasm_types.specs.error.declared.error.ErrorKind.TheVariants.{Other};
+ghost use Rattle.wasm_types.specs.error.declared.error.ErrorKind.TheVariants.{OutOfMemory, Other};
 ghost use Rattle.wasm_types.specs.groups.Entries.{declared_of, declared_types};
 ghost use Rattle.wasm_module_validator_type_trees.specs.Groups.{count, group_at, group_numbers, group_ranges, declared_by_id};
 ghost use Rattle.wasm_module_validator_type_trees.specs.Formed.{IsGroupFormed, IsMissing, IsFormed};
@@ -151,8 +151,8 @@ impl TypeList {
 
     /// The number of a group, and whether the group is new. A group in canonical form that the list has keeps its number and
     /// changes nothing; any other is added, with the next ids for its types. Refused are, before all else, a group whose
-    /// types would pass 2^20 and one that would be the 2^32nd behind the first; and where there is no memory. A refusal
-    /// changes no type and no id.
+    /// types would pass 2^20 and one that would be the 2^32nd behind the first; and where there is no memory, a group that
+    /// would be added. A refusal changes no type and no id.
     pub fn intern_canonical_rec_group(
         &mut self,
         needs_type_canonicalization: bool,
@@ -165,6 +165,7 @@ impl TypeList {
         ensures interned { IfOk result (λ r. Interns self.old.groups self.new.groups (group_in needs_type_canonicalization rec_group) r.0 r.1.0) }
         ensures refused { OnErr result (self.new.groups ≡ self.old.groups) }
         ensures at { RefusedAt offset result }
+        ensures memory { IfErr result (λ e. e.kind ≡ OutOfMemory → IsAdded self.old.groups (group_in needs_type_canonicalization rec_group)) }
         ensures can_intern { self.new.can_intern ≡ true }
     {
         let id = self.next_id(rec_group.types().len(), offset)?;
