@@ -75,7 +75,7 @@ staged p s = record {
 pub record IsNext (p : Parser) (text : List ℕ) (n : ℕ) (f : Frame) (q : Parser) : Type 0 where
   pub after : State
   pub read : comes p text ≡ Done (shape_of f, q.progress) after
-  pub placed : IsPlaced f q.progress after.place
+  pub placed : IsPlaced f q.progress (reads p text) after.place
   pub consumed : after.place ≡ p.offset + n
   pub offset : q.offset ≡ after.place
   pub features : q.features ≡ p.features

@@ -1,0 +1,15 @@
+-- Rules: what a call that asks for more bytes says.
+pub mod Needing
+-- Laws: what a step gives is spelled by what it took, and what is spelled is given.
+pub mod SpelledLaws
+pub mod CustomLaws
+pub mod BodyLaws
+pub mod SectionCases
+pub mod StepCases
+pub mod StepsComplete
+pub mod OrderLaws
+pub mod PlainLaws
+pub mod Advance
+pub mod NeedLaws
+-- Worked rows.
+pub mod WorkedNeeds
