@@ -154,7 +154,7 @@ bytes_mended k s p h e = go (nat_lt (length s.rest) k) refl e
     go true lt g = (
       take k (s.rest ++ replicate h 0),
       record { rest = drop k (s.rest ++ replicate h 0); place = s.place + k; settings = s.settings; start = s.start },
-      bytes-enough k (extended s (replicate h 0)) (omega (arith, ltb-true _ _ lt, need_is {A = List ℕ} s.place p (k - length s.rest) h g, length-append s.rest (replicate h 0), length-replicate h 0)),
+      bytes-enough k (extended s (replicate h 0)) (omega (arith, ltb-true _ _ lt, need_is {A = List ℕ} s.place p (k - length s.rest) h g, length-append s.rest (replicate h 0), length-replicate {A = ℕ} h 0)),
     )
     go false lt g = absurd cc
 
@@ -197,12 +197,12 @@ number_cut (suc k) (c ∷ text) a y b p h e = go (number_cut k text (a + 1) y b 
 kept_short : (end start p h : ℕ) (o : Outcome ℕ) → kept end start o ≡ short p h → o ≡ short p h
 kept_short end start p h (Done x t) e = absurd (go (nat_lt end t.place) e)
   where
-    go : (v : Bool) → cond v (Fault Other start) (done x t) ≡ short p h → ⊥
+    go : (v : Bool) → cond v (Fault Other start) (done x t) ≡ short {A = ℕ} p h → ⊥
     go true g = cc
     go false g = cc
 kept_short end start p h (Short q g) e = go (nat_lt q end) e
   where
-    go : (v : Bool) → cond v (short q g) (Fault Other start) ≡ short p h → short q g ≡ short p h
+    go : (v : Bool) → cond v (short {A = ℕ} q g) (Fault Other start) ≡ short p h → short {A = ℕ} q g ≡ short p h
     go true f = f
     go false f = absurd cc
 kept_short end start p h (Fault k q) e = absurd cc
@@ -254,7 +254,7 @@ module _ (z : Settings) (p : Progress) (id : ℕ) where
           let m = bytes_mended n w q h g in
           let u : State = extended w (replicate h 0) in (
             replicate h 0,
-            length-replicate h 0,
+            length-replicate {A = ℕ} h 0,
             subst (λ (o : Outcome (List ℕ)). IsSettled (continue_with (continue_with o (λ text. pure (part_at u text))) (contents_next z p id))) (sym m.2) (contents_settled (part_at u m.0) m.1),
           )
         | inr d ↦ let no : done (part_at w d.0) d.1 ≡ short q h = d.3 in absurd cc
@@ -322,7 +322,7 @@ module _ (p : Progress) (left end : ℕ) where
       go false f = elim (short_then (bytes n w) (λ text. pure (entry text, one_less p left end)) q h f) [
         | inl g ↦
           let m = bytes_mended n w q h g in
-          (replicate h 0, length-replicate h 0, subst (λ (o : Outcome (List ℕ)). IsSettled (continue_with o (λ text. pure (entry text, one_less p left end)))) (sym m.2) tt)
+          (replicate h 0, length-replicate {A = ℕ} h 0, subst (λ (o : Outcome (List ℕ)). IsSettled {A = Next} (continue_with o (λ text. pure (entry text, one_less p left end)))) (sym m.2) tt)
         | inr d ↦ let no : done {A = Next} (entry d.0, one_less p left end) d.1 ≡ short q h = d.3 in absurd cc
       ]
 
@@ -373,12 +373,9 @@ header_mends [] a y b q h e = (0 ∷ 0 ∷ 0 ∷ 0 ∷ [], need_is {A = Header} 
 header_mends (c ∷ []) a y b q h e = (0 ∷ 0 ∷ 0 ∷ [], need_is {A = Header} a q 3 h e, refused_there c 0 0 (a + 4) y b)
 header_mends (c ∷ d ∷ []) a y b q h e = (0 ∷ 0 ∷ [], need_is {A = Header} a q 2 h e, refused_there c d 0 (a + 4) y b)
 header_mends (c ∷ d ∷ x ∷ []) a y b q h e = (0 ∷ [], need_is {A = Header} a q 1 h e, refused_there c d x (a + 4) y b)
-header_mends (c ∷ d ∷ x ∷ f ∷ rest) a y b q h e = go (is_magic four) (sym (ap (λ (o : Outcome (List ℕ)). continue_with o magic_after) (four_read c d x f rest a y b)) ∙ e)
+header_mends (c ∷ d ∷ x ∷ f ∷ rest) a y b q h e = go (is_magic (c ∷ d ∷ x ∷ f ∷ [])) (sym (ap (λ (o : Outcome (List ℕ)). continue_with o magic_after) (four_read c d x f rest a y b)) ∙ e)
   where
-    abbrev four : List ℕ
-    four = c ∷ d ∷ x ∷ f ∷ []
-
-    whole : (more : List ℕ) → IsSettled (magic_after four (at (rest ++ more) (a + 4) y b)) → IsSettled (header (at (c ∷ d ∷ x ∷ f ∷ (rest ++ more)) a y b))
+    whole : (more : List ℕ) → IsSettled (magic_after (c ∷ d ∷ x ∷ f ∷ []) (at (rest ++ more) (a + 4) y b)) → IsSettled (header (at (c ∷ d ∷ x ∷ f ∷ (rest ++ more)) a y b))
     whole more s = subst (λ (o : Outcome (List ℕ)). IsSettled (continue_with o magic_after)) (sym (four_read c d x f (rest ++ more) a y b)) s
 
     go : (v : Bool) → cond v (bytes 4 >>= header_after) (refuse Other 4) (at rest (a + 4) y b) ≡ short q h
@@ -388,8 +385,8 @@ header_mends (c ∷ d ∷ x ∷ f ∷ rest) a y b q h e = go (is_magic four) (sy
         let m = bytes_mended 4 (at rest (a + 4) y b) q h k in
         let more : List ℕ = replicate h 0 in (
           more,
-          length-replicate h 0,
-          whole more (settled_if (is_magic four) (bytes 4 >>= header_after) (refuse Other 4) (at (rest ++ more) (a + 4) y b)
+          length-replicate {A = ℕ} h 0,
+          whole more (settled_if (is_magic (c ∷ d ∷ x ∷ f ∷ [])) (bytes 4 >>= header_after) (refuse Other 4) (at (rest ++ more) (a + 4) y b)
           (subst (λ (o : Outcome (List ℕ)). IsSettled (continue_with o header_after)) (sym m.2) (after_settled m.0 m.1)) tt),
         )
       | inr k ↦ absurd (not_settled (header_after k.0 k.1) q h (after_settled k.0 k.1) k.3)
