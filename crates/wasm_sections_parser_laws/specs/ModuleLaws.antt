@@ -7,7 +7,6 @@ use Rattle.wasm_types.specs.decoding.Decoder.{State, Outcome, Done, Many, Takes}
 use Rattle.wasm_types.specs.decoding.Laws.{Takes-then}
 use Rattle.wasm_sections_frames.specs.Outer as outer
 use Rattle.wasm_sections_frames.specs.Outer.{Header, Part, SpelledPart, Outer, SpelledOuter}
-use Rattle.wasm_sections_frames.specs.Decode.{header}
 use Rattle.wasm_sections_frames.specs.PartLaws.{decides-header}
 use Rattle.wasm_sections_parser.specs.declared.frame.Frame.{Frame}
 use Rattle.wasm_sections_parser.specs.declared.frame.Frame.TheVariants as frames

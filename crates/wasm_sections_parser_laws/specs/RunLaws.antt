@@ -4,7 +4,7 @@ use Rattle.std.specs.Prelude.{nat_le, ◌==◌}
 use Rattle.std.proofs.lemmas.Bool.{eqb-true, leb-true}
 use Rattle.std.proofs.lemmas.List.{length-append}
 use Rattle.wasm_types.specs.limits.Settings.{Settings}
-use Rattle.wasm_types.specs.decoding.Decoder.{State, Outcome, Done, bytes, Many, Takes}
+use Rattle.wasm_types.specs.decoding.Decoder.{State, Outcome, Done, Many, Takes}
 use Rattle.wasm_types.specs.decoding.Laws.{takes_none, Takes-then}
 use Rattle.wasm_types.specs.decoding.Leb.{IsUnsigned, IsListed}
 use Rattle.wasm_sections_frames.specs.Outer as outer

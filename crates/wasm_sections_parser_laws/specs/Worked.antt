@@ -41,7 +41,7 @@ at place rest = record { rest = rest; place = place; settings = no_features; sta
 
 -- behind sections up to this place, with so many functions and bodies
 abbrev behind : Stage → ℕ → ℕ → ℕ → Progress
-behind g last f b = record { stage = g; last = last; functions = f; bodies = b; data_count = None; segments = 0 }
+behind g place f b = record { stage = g; last = place; functions = f; bodies = b; data_count = None; segments = 0 }
 
 -- one type of a function
 abbrev a_type : List ℕ
@@ -140,7 +140,7 @@ no_room : (n : ℕ) (es : List (List ℕ)) (text : List ℕ) → Opened n 0 es t
 no_room n es text h = omega (arith, some_bytes 32 n h.count h.counted, h.inside, length-append h.count h.each)
 
 pub cut_rows : CutRows
-unfolding step next_section in_part contents code_start next_entry behind_code number_before unsigned
+unfolding step next_section in_part contents code_start next_entry behind_code number_before unsigned cut_opened
 cut_rows = record {
   given = (behind (stages.Code 2 31) 12 1 2, at 21 (0x04 ∷ 0x00 ∷ 0x41 ∷ 0x2a ∷ 0x0b ∷ 0x04 ∷ 0x00 ∷ []), refl, (behind (stages.Code 1 31) 12 1 2, at 26 (0x04 ∷ 0x00 ∷ []), refl, (refl, refl)));
   missing = refl;
