@@ -4,7 +4,6 @@ pub mod Calls
 pub mod Modules
 -- Laws.
 pub mod RunLaws
-pub mod NoteLaws
 pub mod RunsComplete
 pub mod CallLaws
 pub mod ModuleLaws

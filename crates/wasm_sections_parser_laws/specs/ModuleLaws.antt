@@ -22,7 +22,7 @@ use Rattle.wasm_sections_parser_laws.specs.Calls.{settings_of, shapes_of, stands
 use Rattle.wasm_sections_parser_laws.specs.Modules.{IsModule, Begun, IsFront}
 use Rattle.wasm_sections_parser_steps.specs.StepCases.{header_given, no_end}
 use Rattle.wasm_sections_parser_laws.specs.RunLaws.{run_seen}
-use Rattle.wasm_sections_parser_laws.specs.NoteLaws.{agreed}
+use Rattle.wasm_sections_parser_steps.specs.NoteLaws.{agreed}
 use Rattle.wasm_sections_parser_laws.specs.CallLaws.{AtEnd, Stepped, call_cases, calls_run}
 
 abbrev given : Next → State → Outcome Next

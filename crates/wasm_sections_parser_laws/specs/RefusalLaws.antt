@@ -24,7 +24,7 @@ use Rattle.wasm_sections_parser_laws.specs.Calls.{settings_of, shapes_of, stands
 use Rattle.wasm_sections_parser_steps.specs.StepCases.{step_between}
 use Rattle.wasm_sections_parser_laws.specs.Modules.{IsStart}
 use Rattle.wasm_sections_parser_laws.specs.RunsComplete.{module_run}
-use Rattle.wasm_sections_parser_laws.specs.NoteLaws.{agree}
+use Rattle.wasm_sections_parser_steps.specs.NoteLaws.{agree}
 use Rattle.wasm_sections_parser_laws.specs.FrontLaws.{front_run}
 use Rattle.wasm_sections_parser_steps.specs.PlainLaws.{restart_done}
 use Rattle.wasm_sections_parser_laws.specs.CallLaws.{calls_run}

@@ -1,5 +1,5 @@
--- Rules: what a call that asks for more bytes says.
-pub mod Needing
+-- Rules: what is remembered of sections.
+pub mod Remembered
 -- Laws: what a step gives is spelled by what it took, and what is spelled is given.
 pub mod SpelledLaws
 pub mod CustomLaws
@@ -8,8 +8,6 @@ pub mod SectionCases
 pub mod StepCases
 pub mod StepsComplete
 pub mod OrderLaws
+pub mod NoteLaws
 pub mod PlainLaws
 pub mod Advance
-pub mod NeedLaws
--- Worked rows.
-pub mod WorkedNeeds

@@ -90,7 +90,7 @@ use Rattle.wasm_sections_parser.specs.Steps.{
 }
 use Rattle.wasm_sections_parser.specs.StepLaws.{lawful-step, lawful-number_before}
 use Rattle.wasm_sections_parser.specs.Parsing.{reads, comes, between, at_end, Ends, Comes, IsOver, one_of, Parses}
-use Rattle.wasm_sections_parser_steps.specs.Needing.{Asks, IsEnough, AreNotLast, IsBegun, EndsWithinSize, IsLeast}
+use Rattle.wasm_sections_parser_hints.specs.Hints.{Asks, IsEnough, AreNotLast, IsBegun, EndsWithinSize, IsLeast}
 use Rattle.wasm_sections_parser_steps.specs.StepCases.{step_between}
 
 -- ---- outcomes
@@ -538,11 +538,19 @@ module _ (p : Parser) (going : is_over p.progress ≡ false) where
   abbrev settings : Settings
   settings = record { features = p.features.0; limits = default_limits }
 
+  -- what comes next once more bytes stand behind
+  goes_on : (text more : List ℕ) (place h : ℕ) → comes p text ≡ short place h
+      → (length more < h → comes p (text ++ more) ≡ short place (h - length more)) × (h ≤ length more → IsBeyond place (comes p (text ++ more)))
+  goes_on text more place h e = subst (λ (o : Outcome Next). GoesOn o more (comes p (text ++ more))) e ((lawful-step settings p.progress).steady (reads p text) more)
+
   -- where the end may come
   end_least : between p.progress.stage p.offset ≡ true → IsLeast p [] 2
   unfolding next_section unsigned
   end_least b = record {
     fewer = few;
+    there = λ place h more e le.
+        let on = goes_on [] more place h e in
+        on.1 (omega (arith, le, need_is {A = Next} p.offset place 1 h (sym (step_between settings p.progress (reads p []) b) ∙ e)));
     enough = inl (
       0 ∷ 0 ∷ [],
       refl,
@@ -560,9 +568,8 @@ module _ (p : Parser) (going : is_over p.progress ≡ false) where
   there_least : (text : List ℕ) (place n : ℕ) → at_end p text ≡ false → comes p text ≡ short place n → IsLeast p text n
   there_least text place n b e = record {
     fewer = λ more lt.
-        let on : (length more < n → comes p (text ++ more) ≡ short place (n - length more)) × (n ≤ length more → IsBeyond place (comes p (text ++ more))) =
-        subst (λ (o : Outcome Next). GoesOn o more (comes p (text ++ more))) e ((lawful-step settings p.progress).steady (reads p text) more) in
-        asks_there p (text ++ more) place (n - length more) going (at_end_more p text more b) (on.0 lt);
+        asks_there p (text ++ more) place (n - length more) going (at_end_more p text more b) ((goes_on text more place n e).0 lt);
+    there = λ at h more f le. (goes_on text more at h f).1 (omega (arith, le, need_is {A = Next} place at n h (sym e ∙ f)));
     enough = elim (step_cut settings p.progress text p.offset settings p.offset place n (at_end_so p text b) e) [
       | inl m ↦ inl (m.0, m.1, enough_there p (text ++ m.0) (at_end_more p text m.0 b) m.2)
       | inr m ↦ inr m

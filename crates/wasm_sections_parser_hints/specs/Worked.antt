@@ -10,7 +10,7 @@ use Rattle.wasm_sections_parser.specs.declared.progress.Stage.{Stage}
 use Rattle.wasm_sections_parser.specs.declared.progress.Stage.TheVariants as stages
 use Rattle.wasm_sections_parser.specs.declared.progress.Progress.{Progress}
 use Rattle.wasm_sections_parser.specs.Steps.{number_before, in_part, contents, code_start, next_section, next_entry, behind_code, next_header, step}
-use Rattle.wasm_sections_parser_steps.specs.Needing.{IsBegun, EndsWithinSize}
+use Rattle.wasm_sections_parser_hints.specs.Hints.{IsBegun, EndsWithinSize}
 
 -- a parser in this stage, behind sections up to this place
 abbrev at : Stage → ℕ → Progress
