@@ -97,7 +97,7 @@ Comes p text eof (Err e) q = IsNotMemory e.kind × Fails e (comes p text) × ((e
 -- what a parser answers behind the end and behind a refusal
 abbrev pub IsOver : Parser → Result Chunk ErrorValue → Parser → Type 0
 IsOver p (Ok c) q = ⊥
-IsOver p (Err e) q = (e.kind ≡ Failed) × (q ≡ p)
+IsOver p (Err e) q = (e.kind ≡ Failed) × (q ≡ p) × (e.offset ≡ p.offset)
 
 -- one of two
 abbrev pub one_of : Bool → Type 0 → Type 0 → Type 0

@@ -154,7 +154,8 @@ bytes_mended k s p h e = go (nat_lt (length s.rest) k) refl e
     go true lt g = (
       take k (s.rest ++ replicate h 0),
       record { rest = drop k (s.rest ++ replicate h 0); place = s.place + k; settings = s.settings; start = s.start },
-      bytes-enough k (extended s (replicate h 0)) (omega (arith, ltb-true _ _ lt, need_is {A = List ℕ} s.place p (k - length s.rest) h g, length-append s.rest (replicate h 0), length-replicate {A = ℕ} h 0)),
+      bytes-enough k (extended s (replicate h 0)) (omega (arith, ltb-true _ _ lt, need_is {A = List ℕ} s.place p (k - length s.rest) h g,
+       length-append s.rest (replicate h 0), length-replicate {A = ℕ} h 0)),
     )
     go false lt g = absurd cc
 
@@ -277,7 +278,8 @@ module _ (z : Settings) (p : Progress) (id : ℕ) where
           let c = number_cut 4 w.rest w.place w.settings w.start q h (kept_short (w.place + n) w.place q h (u32 w) g) in (
             0 ∷ [],
             sym c.one,
-            subst (λ (o : Outcome ℕ). IsSettled (continue_with (kept (w.place + n) w.place o) (λ k. pure (code_next p n (w.place + n) k)))) (sym c.mended) (last c.value c.there (nat_lt (w.place + n) c.there.place)),
+            subst (λ (o : Outcome ℕ). IsSettled (continue_with (kept (w.place + n) w.place o) (λ k. pure (code_next p n (w.place + n) k)))) (sym c.mended)
+                (last c.value c.there (nat_lt (w.place + n) c.there.place)),
           )
         | inr d ↦ let no : done (code_next p n (w.place + n) d.0) d.1 ≡ short q h = d.3 in absurd cc
       ]

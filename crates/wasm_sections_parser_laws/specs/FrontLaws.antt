@@ -76,18 +76,21 @@ none_run z p s t text xs e f taken =
     (p, subst (λ (y : List Shape). Run z p s y p t) (sym f) (refl, same))
 
 -- a front, however much of a code section is there
-pub front_run : (z : Settings) (text : List ℕ) (xs : List Shape) (long : ℕ) (s t : State) → IsSpelledFront z text xs long → Takes s text t → s.place + long < 2 ^ 64 → (q : Progress) × Run z fresh s xs q t
+pub front_run : (z : Settings) (text : List ℕ) (xs : List Shape) (long : ℕ) (s t : State) → IsSpelledFront z text xs long → Takes s text t
+    → s.place + long < 2 ^ 64 → (q : Progress) × Run z fresh s xs q t
 front_run z text xs long s t h taken room = go h.tail
   where
     -- what is behind the whole sections
-    behind : (u : State) → Takes s h.front u → Takes u h.back t → (Ascends 0 (ranks h.outer.parts)) → ((p : Progress) → AreNoted (begun fresh) h.outer.parts p → between p.stage u.place ≡ true → (q : Progress) × Run z p u h.last_frames q t)
+    behind : (u : State) → Takes s h.front u → Takes u h.back t → Ascends 0 (ranks h.outer.parts)
+        → ((p : Progress) → AreNoted (begun fresh) h.outer.parts p → between p.stage u.place ≡ true → (q : Progress) × Run z p u h.last_frames q t)
         → (q : Progress) × Run z fresh s xs q t
     behind u first others order next =
         let run = module_run z h.outer h.front h.whole_frames s u h.framed order h.counted first (omega (arith, first.place, room, h.ends)) in
         let last = next run.0 run.2 run.3 in
         (last.0, subst (λ (y : List Shape). Run z fresh s y last.0 t) (sym h.frames) (run_then z h.whole_frames h.last_frames fresh run.0 last.0 s u t run.1 last.1))
 
-    split : (Ascends 0 (ranks h.outer.parts)) → ((u : State) → u.place ≡ s.place + length h.front → Takes u h.back t → (p : Progress) → AreNoted (begun fresh) h.outer.parts p → between p.stage u.place ≡ true → (q : Progress) × Run z p u h.last_frames q t)
+    split : Ascends 0 (ranks h.outer.parts)
+        → ((u : State) → u.place ≡ s.place + length h.front → Takes u h.back t → (p : Progress) → AreNoted (begun fresh) h.outer.parts p → between p.stage u.place ≡ true → (q : Progress) × Run z p u h.last_frames q t)
         → (q : Progress) × Run z fresh s xs q t
     split order next =
         let u : State = record { rest = h.back ++ t.rest; place = s.place + length h.front; settings = s.settings; start = s.start } in

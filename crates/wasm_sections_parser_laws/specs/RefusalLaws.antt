@@ -1,5 +1,5 @@
 -- What is spelled at the front of a text comes before a refusal, and a module is not refused.
-use Rattle.std.proofs.Common.{◌≡◌, ◌⊎◌, inl, inr, ℕ, ◌+◌, ◌<◌, ◌^◌, List, [], ◌∷◌, ◌++◌, length, refl, sym, ap, ◌∙◌, subst, arith, cond, Bool, true, false, None, Err}
+use Rattle.std.proofs.Common.{◌≡◌, ◌⊎◌, inl, inr, ℕ, ◌+◌, ◌<◌, ◌^◌, List, [], ◌∷◌, ◌++◌, length, refl, sym, ap, ◌∙◌, subst, arith, cond, Bool, true, false, None, Ok, Err}
 use Rattle.std.specs.Prelude.{◌==◌}
 use Rattle.std.proofs.lemmas.Bool.{eqb-true}
 use Rattle.std.proofs.lemmas.List.{append-nil}
@@ -15,10 +15,11 @@ use Rattle.wasm_types.specs.reader.Reading.{FailsAt, IsNotMemory}
 use Rattle.wasm_sections_frames.specs.Outer.{Outer, IsOrdered, CountsAgree}
 use Rattle.wasm_sections_parser.specs.declared.frame.Frame.{Frame}
 use Rattle.wasm_sections_parser.specs.declared.parser.Parser.{Parser}
+use Rattle.wasm_sections_parser.specs.declared.parser.Chunk.TheVariants.{NeedMoreData}
 use Rattle.wasm_sections_parser.specs.declared.progress.Progress.{Progress}
 use Rattle.wasm_sections_parser.specs.Steps.{Shape, begun, counts_agree, is_over, Next, ordered, next_section, step}
 use Rattle.wasm_sections_parser.specs.StepLaws.{lawful-step}
-use Rattle.wasm_sections_parser.specs.Parsing.{between, reads, at_end, comes, Ends, Comes, IsOver, one_of}
+use Rattle.wasm_sections_parser.specs.Parsing.{between, reads, at_end, comes, Ends, Comes, IsOver, one_of, Parses}
 use Rattle.wasm_sections_parser_laws.specs.Runs.{fresh, Run, Frames, AreCounted}
 use Rattle.wasm_sections_parser_laws.specs.Calls.{settings_of, shapes_of, stands, Called, Calls}
 use Rattle.wasm_sections_parser_steps.specs.StepCases.{step_between}
@@ -35,7 +36,7 @@ given y t = Done y t
 -- ---- where nothing comes next
 
 -- no step succeeds here
-abbrev IsStuck : Settings → Progress → State → Type 0
+abbrev pub IsStuck : Settings → Progress → State → Type 0
 IsStuck z p s = (y : Next) (t : State) → step z p s ≡ given y t → ⊥
 
 -- no section begins without a byte
@@ -106,10 +107,25 @@ run_prefix z (x ∷ xs) (y ∷ ys) p q r s t u h k stuck =
     let rest = run_prefix z xs ys k.0 q r k.1 t u here k.3 stuck in
     (rest.0, (λ i. (ap (λ (n : Next). n.0) (sym v)) i ∷ rest.1 i), rest.2)
 
+-- a call that is handed all the bytes that are left and asks for more
+pub asked_stuck : (q r : Parser) (rest : List ℕ) (n : ℕ) → is_over q.progress ≡ false → Parses q rest false (Ok (NeedMoreData n)) r → IsStuck (settings_of q) q.progress (reads q rest)
+asked_stuck q r rest n going h y t f = over (is_over q.progress) going h
+  where
+    missing : (k : Bool) → (length rest == 0) ≡ k → (b : Bool) → cond k (between q.progress.stage q.offset) false ≡ b
+        → one_of b (Ends q false (Ok (NeedMoreData n)) r) (Comes q rest false (Ok (NeedMoreData n)) r) → ⊥
+    missing k e false g a = let no : Short a.1.0 n ≡ given y t = sym a.1.1 ∙ f in cc
+    missing true e true g a = no_section (settings_of q) q.progress (reads q rest) g (no_bytes rest (eqb-true _ _ e)) y t f
+    missing false e true g a = absurd cc
+
+    over : (k : Bool) → k ≡ false → one_of k (IsOver q (Ok (NeedMoreData n)) r) (one_of (at_end q rest) (Ends q false (Ok (NeedMoreData n)) r) (Comes q rest false (Ok (NeedMoreData n)) r)) → ⊥
+    over true e g = g
+    over false e g = missing (length rest == 0) refl (at_end q rest) refl g
+
 -- ---- calls
 
-module _ (fs : List Frame) (p q r : Parser) (text rest : List ℕ) (e : ErrorValue) (first : p.progress ≡ fresh)
-    (calls : Calls p text fs q rest) (going : is_over q.progress ≡ false) (c : Called q rest (Err e) r) where
+-- behind calls, where nothing comes next
+module _ (fs : List Frame) (p q : Parser) (text rest : List ℕ) (first : p.progress ≡ fresh) (calls : Calls p text fs q rest)
+    (going : is_over q.progress ≡ false) (none : IsStuck (settings_of q) q.progress (reads q rest)) where
   all_run : Run (settings_of p) fresh (reads p text) (shapes_of fs) q.progress (stands q rest p.offset)
   all_run = subst (λ (v : Progress). Run (settings_of p) v (reads p text) (shapes_of fs) q.progress (stands q rest p.offset)) first (calls_run fs p q text rest calls going).0
 
@@ -117,26 +133,30 @@ module _ (fs : List Frame) (p q r : Parser) (text rest : List ℕ) (e : ErrorVal
   stuck y t f =
       let same : settings_of p ≡ settings_of q = sym (calls_run fs p q text rest calls going).1 in
       let d = restart_done (settings_of p) q.progress p.offset (reads q rest) t y f in
-      refused_stuck q r rest e c going y d.0 (ap (λ (z : Settings). step z q.progress (reads q rest)) (sym same) ∙ d.1)
+      none y d.0 (ap (λ (z : Settings). step z q.progress (reads q rest)) (sym same) ∙ d.1)
 
   -- what is spelled at the front comes first
   pub front_first : (front back : List ℕ) (xs : List Shape) (long : ℕ) → text ≡ front ++ back → IsStart (settings_of p) front xs long
       → p.offset + long < 2 ^ 64 → (zs : List Shape) × (shapes_of fs ≡ xs ++ zs)
-  front_first front back xs long whole (inl none) room = (shapes_of fs, sym (ap (λ (k : List Shape). k ++ shapes_of fs) none.1))
+  front_first front back xs long whole (inl begin) room = (shapes_of fs, sym (ap (λ (k : List Shape). k ++ shapes_of fs) begin.1))
   front_first front back xs long whole (inr h) room =
       let t : State = record { rest = back; place = p.offset + length front; settings = settings_of p; start = p.offset } in
       let taken : Takes (reads p text) front t = record { parts = whole; place = refl; settings = refl; start = refl } in
       let run = front_run (settings_of p) front xs long (reads p text) t h taken room in
-      let rest = run_prefix (settings_of p) xs (shapes_of fs) fresh run.0 q.progress (reads p text) t (stands q rest p.offset) run.1 all_run stuck in
-      (rest.0, rest.1)
+      let left = run_prefix (settings_of p) xs (shapes_of fs) fresh run.0 q.progress (reads p text) t (stands q rest p.offset) run.1 all_run stuck in
+      (left.0, left.1)
 
+module _ (fs : List Frame) (p q r : Parser) (text rest : List ℕ) (e : ErrorValue) (first : p.progress ≡ fresh)
+    (calls : Calls p text fs q rest) (going : is_over q.progress ≡ false) (c : Called q rest (Err e) r) where
   -- a module is not refused
   pub not_refused : (m : Outer) (xs : List Shape) → Frames (settings_of p) m text xs → IsOrdered m.parts → AreCounted m.parts → CountsAgree m.parts → p.offset + length text < 2 ^ 64 → ⊥
   not_refused m xs h order counted counts room =
       let t : State = record { rest = []; place = p.offset + length text; settings = settings_of p; start = p.offset } in
+      let none : IsStuck (settings_of q) q.progress (reads q rest) = refused_stuck q r rest e c going in
       let taken : Takes (reads p text) text t = record { parts = sym (append-nil text); place = refl; settings = refl; start = refl } in
       let run = module_run (settings_of p) m text xs (reads p text) t h order counted taken room in
-      let left = run_prefix (settings_of p) xs (shapes_of fs) fresh run.0 q.progress (reads p text) t (stands q rest p.offset) run.1 all_run stuck in
+      let left = run_prefix (settings_of p) xs (shapes_of fs) fresh run.0 q.progress (reads p text) t (stands q rest p.offset) run.1
+          (all_run fs p q text rest first calls going none) (stuck fs p q text rest first calls going none) in
       let there : counts_agree run.0 ≡ true = agree m.parts (begun fresh) run.0 refl run.2 order counts in
       ended run.0 t left.0 left.2 run.3 there refl (refused_cases q r rest e c going)
     where
