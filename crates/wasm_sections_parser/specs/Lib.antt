@@ -5,5 +5,6 @@ pub mod Parsing
 pub mod Settled
 -- Laws.
 pub mod StepLaws
+pub mod PlaceLaws
 -- Worked rows.
 pub mod Worked

@@ -75,7 +75,7 @@ staged p s = record {
 pub record IsNext (p : Parser) (text : List ℕ) (n : ℕ) (f : Frame) (q : Parser) : Type 0 where
   pub after : State
   pub read : comes p text ≡ Done (shape_of f, q.progress) after
-  pub placed : IsPlaced f q.progress after.place
+  pub placed : IsPlaced f q.progress (reads p text) after.place
   pub consumed : after.place ≡ p.offset + n
   pub offset : q.offset ≡ after.place
   pub features : q.features ≡ p.features
@@ -97,7 +97,7 @@ Comes p text eof (Err e) q = IsNotMemory e.kind × Fails e (comes p text) × ((e
 -- what a parser answers behind the end and behind a refusal
 abbrev pub IsOver : Parser → Result Chunk ErrorValue → Parser → Type 0
 IsOver p (Ok c) q = ⊥
-IsOver p (Err e) q = (e.kind ≡ Failed) × (q ≡ p)
+IsOver p (Err e) q = (e.kind ≡ Failed) × (q ≡ p) × (e.offset ≡ p.offset)
 
 -- one of two
 abbrev pub one_of : Bool → Type 0 → Type 0 → Type 0

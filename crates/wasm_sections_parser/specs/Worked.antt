@@ -1,16 +1,19 @@
 -- Worked steps of a parser.
-use Rattle.std.proofs.Common.{◌≡◌, ℕ, List, [], ◌∷◌, refl, true, false, Some, None}
+use Rattle.std.proofs.Common.{◌≡◌, ℕ, List, [], ◌∷◌, drop, refl, sym, ap, arith, true, false, Some, None}
 use Rattle.wasm_types.specs.limits.Limits.{default_limits}
 use Rattle.wasm_types.specs.limits.Settings.{no_features}
 use Rattle.wasm_types.specs.decoding.declared.Refusal.TheVariants.{Other}
 use Rattle.wasm_types.specs.decoding.Decoder.{State, Done, Short, Fault}
-use Rattle.wasm_types.specs.decoding.Leb.{unsigned}
+use Rattle.wasm_types.specs.decoding.Exact.{state_is}
+use Rattle.wasm_types.specs.decoding.Leb.{unsigned, u32, last, more}
+use Rattle.wasm_types.specs.decoding.LebLaws.{decides-u32}
 use Rattle.wasm_types.specs.values.WorkedTypeLaws.{start_of, behind}
 use Rattle.wasm_sections_frames.specs.Outer.{Header}
 use Rattle.wasm_sections_frames.specs.Decode.{header}
 use Rattle.wasm_sections_parser.specs.declared.progress.Stage.{Stage}
 use Rattle.wasm_sections_parser.specs.declared.progress.Stage.TheVariants as stages
 use Rattle.wasm_sections_parser.specs.declared.progress.Progress.{Progress}
+use Rattle.wasm_sections_parser.specs.Places.{HasContentsAt}
 use Rattle.wasm_sections_parser.specs.Steps.{
   version,
   section,
@@ -34,7 +37,7 @@ use Rattle.wasm_sections_parser.specs.Steps.{
 
 -- a parser in this stage, behind sections up to this place
 abbrev at : Stage → ℕ → Progress
-at s last = record { stage = s; last = last; functions = 0; bodies = 0; data_count = None; segments = 0 }
+at s place = record { stage = s; last = place; functions = 0; bodies = 0; data_count = None; segments = 0 }
 
 abbrev sections : Progress
 sections = at stages.Sections 0
@@ -102,3 +105,42 @@ pub record CountRows : Type 0 where
 
 pub count_rows : CountRows
 count_rows = record { none = refl; same = refl; fewer = refl }
+
+-- Contents begin behind an id and a size of one byte, or of two where it is padded, and nowhere else.
+pub record PlaceRows : Type 0 where
+  pub behind_size : HasContentsAt (start_of (0x00 ∷ 0x02 ∷ 0x01 ∷ 0x61 ∷ [])) 2
+  pub padded : HasContentsAt (start_of (0x00 ∷ 0x82 ∷ 0x00 ∷ 0x01 ∷ 0x61 ∷ [])) 3
+  pub not_later : HasContentsAt (start_of (0x00 ∷ 0x02 ∷ 0x01 ∷ 0x61 ∷ [])) 3 → ⊥
+  pub not_earlier : HasContentsAt (start_of (0x00 ∷ 0x82 ∷ 0x00 ∷ 0x01 ∷ 0x61 ∷ [])) 2 → ⊥
+
+-- the number that begins at the second byte is the size
+size_is : (text : List ℕ) (place : ℕ) (h : HasContentsAt (start_of (0x00 ∷ text)) place)
+    → u32 (record { rest = text; place = 1; settings = no_features; start = 0 }) ≡ Done h.size (record { rest = h.rest; place = place; settings = no_features; start = 0 })
+size_is text place h =
+    let there : State = record { rest = text; place = 1; settings = no_features; start = 0 } in
+    let after : State = record { rest = h.rest; place = place; settings = no_features; start = 0 } in
+    decides-u32.complete there after h.size h.number (record { parts = ap (drop 1) h.parts; place = omega (arith, h.behind); settings = refl; start = refl }) h.sized
+
+late_is : (place : ℕ) → HasContentsAt (start_of (0x00 ∷ 0x02 ∷ 0x01 ∷ 0x61 ∷ [])) place → place ≡ 2
+unfolding unsigned
+late_is place h = sym (ap (λ (u : State). u.place) (state_is 2 h.size (record { rest = 0x01 ∷ 0x61 ∷ []; place = 2; settings = no_features; start = 0 }) _ (size_is (0x02 ∷ 0x01 ∷ 0x61 ∷ []) place h)))
+
+early_is : (place : ℕ) → HasContentsAt (start_of (0x00 ∷ 0x82 ∷ 0x00 ∷ 0x01 ∷ 0x61 ∷ [])) place → place ≡ 3
+unfolding unsigned
+early_is place h = sym (ap (λ (u : State). u.place) (state_is 2 h.size (record { rest = 0x01 ∷ 0x61 ∷ []; place = 3; settings = no_features; start = 0 }) _ (size_is (0x82 ∷ 0x00 ∷ 0x01 ∷ 0x61 ∷ []) place h)))
+
+pub place_rows : PlaceRows
+place_rows = record {
+  behind_size = record { id = 0; size = 2; number = 0x02 ∷ []; rest = 0x01 ∷ 0x61 ∷ []; sized = last 32 2 2 (omega arith) (omega arith) refl; parts = refl; behind = refl };
+  padded = record {
+    id = 0;
+    size = 2;
+    number = 0x82 ∷ 0x00 ∷ [];
+    rest = 0x01 ∷ 0x61 ∷ [];
+    sized = more 32 2 0x82 0 (0x00 ∷ []) (omega arith) (omega arith) (last 25 0 0 (omega arith) (omega arith) refl) refl;
+    parts = refl;
+    behind = refl;
+  };
+  not_later = λ h. let e = late_is 3 h in omega (arith, e);
+  not_earlier = λ h. let e = early_is 2 h in omega (arith, e);
+}

@@ -10,7 +10,7 @@ ghost use Rattle.wasm_sections_frames.specs.Decode.{is_magic, header_of};
 ghost use Rattle.wasm_types.specs.decoding.Text.{little_endian};
 ghost use Rattle.wasm_sections_parser.specs.Steps.{in_part, custom_next, section_next, contents, code_start, next_section, body, next_entry, behind_code, next_header, step};
 ghost use Rattle.wasm_sections_parser.specs.Parsing.{shape_of, layer_of};
-ghost use Rattle.wasm_sections_parser.specs.Places.{IsPlaced};
+ghost use Rattle.wasm_sections_parser.specs.Places.{IsPlacedBy, IsPlaced};
 
 use crate::numbers::{read_number_before, settled};
 use crate::progress::{begun, counted, in_code, is_late, one_less};
@@ -43,7 +43,9 @@ fn part_between<'a>(
 fn read_part<'a>(size: u32, reader: &mut BinaryReader<'a>) -> Result<BinaryReader<'a>>
     ensures answer { Gives (λ r. r) result reader.new (next_part size reader.old) }
     ensures ends { IfOk result (λ r. r.place + length r.rest ≡ reader.new.place) }
-    ensures begins { IfOk result (λ r. r.start ≡ r.place) }
+    ensures begins { IfOk result (λ r. r.start ≡ reader.old.place) }
+    ensures place { IfOk result (λ r. r.place ≡ reader.old.place) }
+    ensures settings { IfOk result (λ r. r.settings ≡ reader.old.settings) }
     ensures no_memory { NeedsNoMemory result }
     ensures forward { Reaches reader.old reader.new }
 {
@@ -60,7 +62,7 @@ fn read_custom<'a>(
     _reader: &BinaryReader<'a>,
 ) -> Result<Read<'a>>
     ensures answer { Gives (λ x. (shape_of x.frame, x.progress)) result _reader.now (in_part (name part.entry.settings.limits.string_bytes) (custom_next progress) part.entry _reader.now) }
-    ensures placed { IfOk result (λ x. IsPlaced x.frame x.progress (part.entry.place + length part.entry.rest)) }
+    ensures placed { IfOk result (λ x. IsPlacedBy (λ n. n ≡ part.entry.start) part.entry.settings x.frame x.progress (part.entry.place + length part.entry.rest)) }
     ensures no_memory { NeedsNoMemory result }
 {
     let mut part = part;
@@ -90,7 +92,7 @@ fn read_counted<'a>(
     _reader: &BinaryReader<'a>,
 ) -> Result<Read<'a>>
     ensures answer { Gives (λ x. (shape_of x.frame, x.progress)) result _reader.now (in_part u32_decoder (section_next progress id part.entry.rest) part.entry _reader.now) }
-    ensures placed { IfOk result (λ x. part.entry.start ≡ part.entry.place → IsPlaced x.frame x.progress (part.entry.place + length part.entry.rest)) }
+    ensures placed { IfOk result (λ x. part.entry.start ≡ part.entry.place → IsPlacedBy (λ n. n ≡ part.entry.start) part.entry.settings x.frame x.progress (part.entry.place + length part.entry.rest)) }
     ensures no_memory { NeedsNoMemory result }
 {
     let mut ahead = part.clone();
@@ -113,7 +115,7 @@ fn read_contents<'a>(
     reader: &mut BinaryReader<'a>,
 ) -> Result<Read<'a>>
     ensures answer { Gives (λ x. (shape_of x.frame, x.progress)) result reader.new (contents reader.old.settings progress id size reader.old) }
-    ensures placed { IfOk result (λ x. IsPlaced x.frame x.progress reader.new.place) }
+    ensures placed { IfOk result (λ x. IsPlacedBy (λ n. n ≡ reader.old.place) reader.old.settings x.frame x.progress reader.new.place) }
     ensures no_memory { NeedsNoMemory result }
     ensures forward { Reaches reader.old reader.new }
 {
@@ -138,7 +140,7 @@ fn read_code_start<'a>(
     reader: &mut BinaryReader<'a>,
 ) -> Result<Read<'a>>
     ensures answer { Gives (λ x. (shape_of x.frame, x.progress)) result reader.new (code_start progress size reader.old) }
-    ensures placed { IfOk result (λ x. IsPlaced x.frame x.progress reader.new.place) }
+    ensures placed { IfOk result (λ x. IsPlacedBy (λ n. n ≡ reader.old.place) reader.old.settings x.frame x.progress reader.new.place) }
     ensures no_memory { NeedsNoMemory result }
     ensures forward { Reaches reader.old reader.new }
 {
@@ -162,7 +164,7 @@ fn read_code_start<'a>(
 #[tactic(auto, using(wasm_types::specs::Laws::reaches_self, wasm_types::specs::Laws::reaches_then), unfolding(crate::specs::Steps::next_section))]
 fn read_section<'a>(progress: Progress, reader: &mut BinaryReader<'a>) -> Result<Read<'a>>
     ensures answer { Gives (λ x. (shape_of x.frame, x.progress)) result reader.new (next_section reader.old.settings progress reader.old) }
-    ensures placed { IfOk result (λ x. IsPlaced x.frame x.progress reader.new.place) }
+    ensures placed { IfOk result (λ x. IsPlaced x.frame x.progress reader.old reader.new.place) }
     ensures no_memory { NeedsNoMemory result }
     ensures forward { Reaches reader.old reader.new }
 {
@@ -187,7 +189,7 @@ fn read_body<'a>(
     reader: &mut BinaryReader<'a>,
 ) -> Result<Read<'a>>
     ensures answer { Gives (λ x. (shape_of x.frame, x.progress)) result reader.new (body progress left end size reader.old) }
-    ensures placed { IfOk result (λ x. IsPlaced x.frame x.progress reader.new.place) }
+    ensures placed { IfOk result (λ x. IsPlacedBy (λ n. ⊥) reader.old.settings x.frame x.progress reader.new.place) }
     ensures no_memory { NeedsNoMemory result }
     ensures forward { Reaches reader.old reader.new }
 {
@@ -212,7 +214,7 @@ fn read_entry<'a>(
     reader: &mut BinaryReader<'a>,
 ) -> Result<Read<'a>>
     ensures answer { Gives (λ x. (shape_of x.frame, x.progress)) result reader.new (next_entry progress left end reader.old) }
-    ensures placed { IfOk result (λ x. IsPlaced x.frame x.progress reader.new.place) }
+    ensures placed { IfOk result (λ x. IsPlaced x.frame x.progress reader.old reader.new.place) }
     ensures no_memory { NeedsNoMemory result }
     ensures forward { Reaches reader.old reader.new }
 {
@@ -228,7 +230,7 @@ fn read_behind_code<'a>(
     reader: &mut BinaryReader<'a>,
 ) -> Result<Read<'a>>
     ensures answer { Gives (λ x. (shape_of x.frame, x.progress)) result reader.new (behind_code reader.old.settings progress end reader.old) }
-    ensures placed { IfOk result (λ x. IsPlaced x.frame x.progress reader.new.place) }
+    ensures placed { IfOk result (λ x. IsPlaced x.frame x.progress reader.old reader.new.place) }
     ensures no_memory { NeedsNoMemory result }
     ensures forward { Reaches reader.old reader.new }
 {
@@ -276,7 +278,7 @@ fn layer_in(text: &[u8]) -> u16
 #[tactic(auto, using(wasm_types::specs::Laws::reaches_self, wasm_types::specs::Laws::reaches_then), unfolding(crate::specs::Steps::next_header, wasm_sections_frames::specs::Decode::header))]
 fn read_header<'a>(progress: Progress, reader: &mut BinaryReader<'a>) -> Result<Read<'a>>
     ensures answer { Gives (λ x. (shape_of x.frame, x.progress)) result reader.new (next_header progress reader.old) }
-    ensures placed { IfOk result (λ x. IsPlaced x.frame x.progress reader.new.place) }
+    ensures placed { IfOk result (λ x. IsPlaced x.frame x.progress reader.old reader.new.place) }
     ensures no_memory { NeedsNoMemory result }
     ensures forward { Reaches reader.old reader.new }
 {
@@ -319,7 +321,7 @@ fn encoding_of(layer: u16) -> Encoding
 #[tactic(auto, using(wasm_types::specs::Laws::reaches_self, wasm_types::specs::Laws::reaches_then), unfolding(crate::specs::Steps::step))]
 pub(crate) fn read_frame<'a>(progress: Progress, reader: &mut BinaryReader<'a>) -> Result<Read<'a>>
     ensures answer { Gives (λ x. (shape_of x.frame, x.progress)) result reader.new (step reader.old.settings progress reader.old) }
-    ensures placed { IfOk result (λ x. IsPlaced x.frame x.progress reader.new.place) }
+    ensures placed { IfOk result (λ x. IsPlaced x.frame x.progress reader.old reader.new.place) }
     ensures no_memory { NeedsNoMemory result }
     ensures forward { Reaches reader.old reader.new }
 {

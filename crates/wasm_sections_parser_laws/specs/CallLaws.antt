@@ -12,12 +12,13 @@ use Rattle.wasm_sections_parser.specs.declared.frame.Frame.TheVariants as frames
 use Rattle.wasm_sections_parser.specs.declared.parser.Parser.{Parser}
 use Rattle.wasm_sections_parser.specs.declared.parser.Chunk.TheVariants.{Parsed}
 use Rattle.wasm_sections_parser.specs.declared.progress.Stage.TheVariants as stages
-use Rattle.wasm_sections_parser.specs.Steps.{counts_agree, is_over, Next, step}
+use Rattle.wasm_sections_parser.specs.declared.progress.Progress.{Progress}
+use Rattle.wasm_sections_parser.specs.Steps.{Shape, counts_agree, is_over, Next, step}
 use Rattle.wasm_sections_parser.specs.StepLaws.{lawful-step}
 use Rattle.wasm_sections_parser.specs.Parsing.{shape_of, reads, between, at_end, staged, IsNext, Ends, Comes, one_of}
 use Rattle.wasm_sections_parser_laws.specs.Runs.{Run}
 use Rattle.wasm_sections_parser_laws.specs.Calls.{settings_of, shapes_of, stands, Called, Calls}
-use Rattle.wasm_sections_parser_laws.specs.PlainLaws.{run_restarts}
+use Rattle.wasm_sections_parser_steps.specs.PlainLaws.{restart, restarted, plain-step}
 
 abbrev given : Next → State → Outcome Next
 given y t = Done y t
@@ -92,6 +93,11 @@ module _ (p : Parser) (text : List ℕ) (n : ℕ) (f : Frame) (q : Parser) (c : 
       over false e g = (e, bytes (length c.piece == 0) refl (at_end p c.piece) refl g)
 
 -- ---- calls are a run
+
+-- a run does not depend on where the reader's data began
+run_restarts : (z : Settings) (xs : List Shape) (p q : Progress) (s t : State) (n : ℕ) → Run z p s xs q t → Run z p (restart n s) xs q (restart n t)
+run_restarts z [] p q s t n h = (h.0, ap (restart n) h.1)
+run_restarts z (x ∷ xs) p q s t n h = (h.0, restart n h.1, plain-step z p n s ∙ ap (restarted n) h.2, run_restarts z xs h.0 q h.1 t n h.3)
 
 -- behind calls the end was given, or the frames are those of a run
 pub calls_run : (fs : List Frame) (p q : Parser) (text rest : List ℕ) → Calls p text fs q rest → is_over q.progress ≡ false

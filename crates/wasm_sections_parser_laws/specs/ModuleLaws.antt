@@ -1,16 +1,12 @@
 -- The frames of a run from the start of a module are those that its bytes spell.
-use Rattle.std.proofs.Common.{◌≡◌, ◌⊎◌, inl, inr, ℕ, ◌+◌, List, [], ◌∷◌, ◌++◌, length, refl, sym, ap, ◌∙◌, subst, arith, cond, Bool, true, false, Ok}
-use Rattle.std.specs.Prelude.{◌==◌, drop, nat_lt}
+use Rattle.std.proofs.Common.{◌≡◌, ◌⊎◌, inl, inr, ℕ, ◌+◌, List, [], ◌∷◌, ◌++◌, length, refl, sym, ap, ◌∙◌, subst, arith, true, false, Ok}
+use Rattle.std.specs.Prelude.{drop}
 use Rattle.std.proofs.lemmas.List.{append-nil}
 use Rattle.wasm_types.specs.limits.Settings.{Settings}
-use Rattle.wasm_types.specs.decoding.Decoder.{State, Outcome, Done, pure, Many, Takes}
-use Rattle.wasm_types.specs.decoding.declared.Refusal.TheVariants.{Other}
+use Rattle.wasm_types.specs.decoding.Decoder.{State, Outcome, Done, Many, Takes}
 use Rattle.wasm_types.specs.decoding.Laws.{Takes-then}
-use Rattle.wasm_types.specs.decoding.Lists.{refuse_at}
-use Rattle.wasm_types.specs.decoding.Exact.{value_is, state_is, done_then}
 use Rattle.wasm_sections_frames.specs.Outer as outer
-use Rattle.wasm_sections_frames.specs.Outer.{Header, Part, SpelledHeader, SpelledPart, Outer, SpelledOuter, ranks, Ascends, IsOrdered, CountsAgree}
-use Rattle.wasm_sections_frames.specs.Decode.{header}
+use Rattle.wasm_sections_frames.specs.Outer.{Header, Part, SpelledPart, Outer, SpelledOuter}
 use Rattle.wasm_sections_frames.specs.PartLaws.{decides-header}
 use Rattle.wasm_sections_parser.specs.declared.frame.Frame.{Frame}
 use Rattle.wasm_sections_parser.specs.declared.frame.Frame.TheVariants as frames
@@ -19,32 +15,14 @@ use Rattle.wasm_sections_parser.specs.declared.parser.Chunk.TheVariants.{Parsed}
 use Rattle.wasm_sections_parser.specs.declared.progress.Stage.{Stage}
 use Rattle.wasm_sections_parser.specs.declared.progress.Stage.TheVariants as stages
 use Rattle.wasm_sections_parser.specs.declared.progress.Progress.{Progress}
-use Rattle.wasm_sections_parser.specs.Steps.{
-  Shape,
-  version,
-  custom,
-  section,
-  code,
-  entry,
-  the_end,
-  begun,
-  counts_agree,
-  is_over,
-  Next,
-  behind_code,
-  next_section,
-  next_entry,
-  next_header,
-  at_stage,
-  step,
-}
+use Rattle.wasm_sections_parser.specs.Steps.{Shape, version, custom, section, code, begun, counts_agree, is_over, Next, next_header, step}
 use Rattle.wasm_sections_parser.specs.Parsing.{between, reads}
 use Rattle.wasm_sections_parser_laws.specs.Runs.{fresh, Run, entries, Framed, AreFramed, Frames, AreCounted, Noted, AreNoted, IsBetween, IsOpen, IsCounted}
 use Rattle.wasm_sections_parser_laws.specs.Calls.{settings_of, shapes_of, stands, Called, Calls}
 use Rattle.wasm_sections_parser_laws.specs.Modules.{IsModule, Begun, IsFront}
-use Rattle.wasm_sections_parser_laws.specs.SectionCases.{section_given}
-use Rattle.wasm_sections_parser_laws.specs.RunLaws.{entry_is, run_seen}
-use Rattle.wasm_sections_parser_laws.specs.NoteLaws.{agreed}
+use Rattle.wasm_sections_parser_steps.specs.StepCases.{header_given, no_end}
+use Rattle.wasm_sections_parser_laws.specs.RunLaws.{run_seen}
+use Rattle.wasm_sections_parser_steps.specs.NoteLaws.{agreed}
 use Rattle.wasm_sections_parser_laws.specs.CallLaws.{AtEnd, Stepped, call_cases, calls_run}
 
 abbrev given : Next → State → Outcome Next
@@ -83,12 +61,6 @@ spelled_frames z m text h =
 
 -- ---- the header
 
-pub header_given : (p : Progress) (s t : State) (y : Next) → next_header p s ≡ given y t → (h : Header) × ((version h, begun p) ≡ y) × (header s ≡ Done h t)
-unfolding next_header
-header_given p s t y e =
-    let m = done_then (header s) (λ k. pure (version k, begun p)) y t e in
-    (m.0, value_is (version m.0, begun p) y m.1 t m.3, m.2 ∙ ap (λ (u : State). Done m.0 u) (state_is (version m.0, begun p) y m.1 t m.3))
-
 header_step : (z : Settings) (s t : State) (y : Next) → step z fresh s ≡ given y t → next_header fresh s ≡ given y t
 unfolding step
 header_step z s t y e = e
@@ -112,7 +84,8 @@ run_front z (x ∷ xs) s q t h =
 
 -- ---- a run to the end
 
-noted_counted : (p r : Progress) (ps : List Part) → AreNoted p ps r → AreCounted ps
+-- counts that were noted can be read
+pub noted_counted : (p r : Progress) (ps : List Part) → AreNoted p ps r → AreCounted ps
 noted_counted p r [] h = tt
 noted_counted p r (x ∷ ps) h = (one p h.0 x h.1, noted_counted h.0 r ps h.2)
   where
@@ -161,34 +134,6 @@ pub calls_front : (fs : List Frame) (p q : Parser) (text rest : List ℕ) → p.
 calls_front fs p q text rest e h going =
     run_front (settings_of p) (shapes_of fs) (reads p text) q.progress (stands q rest p.offset)
     (subst (λ (v : Progress). Run (settings_of p) v (reads p text) (shapes_of fs) q.progress (stands q rest p.offset)) e (calls_run fs p q text rest h going).0)
-
--- no step gives the end
-module _ (z : Settings) (p r : Progress) (s t : State) where
-  no_version : (h : Header) → version h ≡ the_end → ⊥
-  no_version h e = cc
-
-  no_entry : (c : List ℕ) → entry c ≡ the_end → ⊥
-  no_entry c e = cc
-
-  no_end_at : (g : Stage) → at_stage z p g s ≡ given (the_end, r) t → ⊥
-  unfolding behind_code
-  no_end_at stages.Header e = let h = header_given p s t (the_end, r) e in no_version h.0 (ap (λ (y : Next). y.0) h.1)
-  no_end_at stages.Sections e = section_given z p s t (the_end, r) e
-  no_end_at (stages.Code left end) e = go (left == 0) e
-    where
-      behind : (b : Bool) → cond b (refuse_at {A = Next} Other s.place) (next_section z p) s ≡ given (the_end, r) t → ⊥
-      behind true f = cc
-      behind false f = section_given z p s t (the_end, r) f
-
-      go : (b : Bool) → cond b (behind_code z p end) (next_entry p left end) s ≡ given (the_end, r) t → ⊥
-      go true f = behind (nat_lt s.place end) f
-      go false f = let c = entry_is p left end s t (the_end, r) f in no_entry c.0 (ap (λ (y : Next). y.0) c.1)
-  no_end_at stages.Ended e = cc
-  no_end_at stages.Failed e = cc
-
-  no_end : step z p s ≡ given (the_end, r) t → ⊥
-  unfolding step
-  no_end e = no_end_at p.stage e
 
 begun_takes : (z : Settings) (s : State) (xs : List Shape) (q : Progress) (t : State) → Begun z s xs q t → (text : List ℕ) × Takes s text t
 begun_takes z s xs q t h = (h.text ++ (h.seen.front ++ h.seen.back), Takes-then s h.there t h.text (h.seen.front ++ h.seen.back) h.taken h.seen.taken)

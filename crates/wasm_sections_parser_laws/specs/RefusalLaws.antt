@@ -1,10 +1,10 @@
 -- What is spelled at the front of a text comes before a refusal, and a module is not refused.
-use Rattle.std.proofs.Common.{◌≡◌, ◌⊎◌, inl, inr, ℕ, ◌+◌, ◌<◌, ◌^◌, List, [], ◌∷◌, ◌++◌, length, refl, sym, ap, ◌∙◌, subst, append_assoc, arith, cond, Bool, true, false, None, Err}
+use Rattle.std.proofs.Common.{◌≡◌, ◌⊎◌, inl, inr, ℕ, ◌+◌, ◌<◌, ◌^◌, List, [], ◌∷◌, ◌++◌, length, refl, sym, ap, ◌∙◌, subst, arith, cond, Bool, true, false, None, Ok, Err}
 use Rattle.std.specs.Prelude.{◌==◌}
 use Rattle.std.proofs.lemmas.Bool.{eqb-true}
-use Rattle.std.proofs.lemmas.List.{append-nil, length-append}
+use Rattle.std.proofs.lemmas.List.{append-nil}
 use Rattle.wasm_types.specs.limits.Settings.{Settings}
-use Rattle.wasm_types.specs.decoding.Decoder.{State, Outcome, Done, Short, continue_with, ◌>>=◌, pure, first_of_rest, GoesOn, Takes}
+use Rattle.wasm_types.specs.decoding.Decoder.{State, Outcome, Done, Short, continue_with, ◌>>=◌, first_of_rest, GoesOn, Takes}
 use Rattle.wasm_types.specs.decoding.Leb.{u32}
 use Rattle.wasm_types.specs.decoding.Exact.{value_is, state_is}
 use Rattle.wasm_types.specs.error.declared.error.ErrorKind.{ErrorKind}
@@ -12,21 +12,22 @@ use Rattle.wasm_types.specs.error.declared.error.ErrorKind.TheVariants.{EndOfDat
 use Rattle.wasm_types.specs.error.ErrorValue.{ErrorValue}
 use Rattle.wasm_types.specs.error.ErrorText.{hint_of}
 use Rattle.wasm_types.specs.reader.Reading.{FailsAt, IsNotMemory}
-use Rattle.wasm_sections_frames.specs.Outer.{Header, Outer, IsOrdered, CountsAgree}
-use Rattle.wasm_sections_frames.specs.Decode.{header}
-use Rattle.wasm_sections_frames.specs.PartLaws.{decides-header}
+use Rattle.wasm_sections_frames.specs.Outer.{Outer, IsOrdered, CountsAgree}
 use Rattle.wasm_sections_parser.specs.declared.frame.Frame.{Frame}
 use Rattle.wasm_sections_parser.specs.declared.parser.Parser.{Parser}
+use Rattle.wasm_sections_parser.specs.declared.parser.Chunk.TheVariants.{NeedMoreData}
 use Rattle.wasm_sections_parser.specs.declared.progress.Progress.{Progress}
-use Rattle.wasm_sections_parser.specs.Steps.{Shape, version, begun, counts_agree, is_over, Next, ordered, next_header, next_section, step}
+use Rattle.wasm_sections_parser.specs.Steps.{Shape, begun, counts_agree, is_over, Next, ordered, next_section, step}
 use Rattle.wasm_sections_parser.specs.StepLaws.{lawful-step}
-use Rattle.wasm_sections_parser.specs.Parsing.{between, reads, at_end, comes, Ends, Comes, IsOver, one_of}
-use Rattle.wasm_sections_parser_laws.specs.Runs.{fresh, Run, Frames, AreCounted, AreNoted}
+use Rattle.wasm_sections_parser.specs.Parsing.{between, reads, at_end, comes, Ends, Comes, IsOver, one_of, Parses}
+use Rattle.wasm_sections_parser_laws.specs.Runs.{fresh, Run, Frames, AreCounted}
 use Rattle.wasm_sections_parser_laws.specs.Calls.{settings_of, shapes_of, stands, Called, Calls}
-use Rattle.wasm_sections_parser_laws.specs.RunLaws.{step_between}
-use Rattle.wasm_sections_parser_laws.specs.RunsComplete.{parts_run}
-use Rattle.wasm_sections_parser_laws.specs.NoteLaws.{agree}
-use Rattle.wasm_sections_parser_laws.specs.PlainLaws.{restart_done}
+use Rattle.wasm_sections_parser_steps.specs.StepCases.{step_between}
+use Rattle.wasm_sections_parser_laws.specs.Modules.{IsStart}
+use Rattle.wasm_sections_parser_laws.specs.RunsComplete.{module_run}
+use Rattle.wasm_sections_parser_steps.specs.NoteLaws.{agree}
+use Rattle.wasm_sections_parser_laws.specs.FrontLaws.{front_run}
+use Rattle.wasm_sections_parser_steps.specs.PlainLaws.{restart_done}
 use Rattle.wasm_sections_parser_laws.specs.CallLaws.{calls_run}
 
 abbrev given : Next → State → Outcome Next
@@ -35,7 +36,7 @@ given y t = Done y t
 -- ---- where nothing comes next
 
 -- no step succeeds here
-abbrev IsStuck : Settings → Progress → State → Type 0
+abbrev pub IsStuck : Settings → Progress → State → Type 0
 IsStuck z p s = (y : Next) (t : State) → step z p s ≡ given y t → ⊥
 
 -- no section begins without a byte
@@ -106,33 +107,25 @@ run_prefix z (x ∷ xs) (y ∷ ys) p q r s t u h k stuck =
     let rest = run_prefix z xs ys k.0 q r k.1 t u here k.3 stuck in
     (rest.0, (λ i. (ap (λ (n : Next). n.0) (sym v)) i ∷ rest.1 i), rest.2)
 
--- ---- the run of a module
+-- a call that is handed all the bytes that are left and asks for more
+pub asked_stuck : (q r : Parser) (rest : List ℕ) (n : ℕ) → is_over q.progress ≡ false → Parses q rest false (Ok (NeedMoreData n)) r → IsStuck (settings_of q) q.progress (reads q rest)
+asked_stuck q r rest n going h y t f = over (is_over q.progress) going h
+  where
+    missing : (k : Bool) → (length rest == 0) ≡ k → (b : Bool) → cond k (between q.progress.stage q.offset) false ≡ b
+        → one_of b (Ends q false (Ok (NeedMoreData n)) r) (Comes q rest false (Ok (NeedMoreData n)) r) → ⊥
+    missing k e false g a = let no : Short a.1.0 n ≡ given y t = sym a.1.1 ∙ f in cc
+    missing true e true g a = no_section (settings_of q) q.progress (reads q rest) g (no_bytes rest (eqb-true _ _ e)) y t f
+    missing false e true g a = absurd cc
 
-header_next : (z : Settings) (s t : State) (h : Header) → header s ≡ Done h t → step z fresh s ≡ given (version h, begun fresh) t
-unfolding step next_header
-header_next z s t h e = ap (λ (o : Outcome Header). continue_with o (λ k. pure (version k, begun fresh))) e
-
-pub module_run : (z : Settings) (m : Outer) (text : List ℕ) (xs : List Shape) (s t : State) → Frames z m text xs → IsOrdered m.parts → AreCounted m.parts → Takes s text t → t.place < 2 ^ 64
-    → (q : Progress) × Run z fresh s xs q t × AreNoted (begun fresh) m.parts q × (between q.stage t.place ≡ true)
-module_run z m text xs s t h order counted taken room =
-    let u : State = record { rest = h.parts_text ++ t.rest; place = s.place + length h.header_text; settings = s.settings; start = s.start } in
-    let first : Takes s h.header_text u = record {
-      parts = taken.parts ∙ ap (λ (x : List ℕ). x ++ t.rest) h.whole
-          ∙ append_assoc h.header_text h.parts_text t.rest;
-      place = refl;
-      settings = refl;
-      start = refl;
-    } in
-    let long : length text ≡ length h.header_text + length h.parts_text = ap length h.whole ∙ length-append h.header_text h.parts_text in
-    let others : Takes u h.parts_text t = record { parts = refl; place = omega (arith, taken.place, long); settings = taken.settings; start = taken.start } in
-    let now = header_next z s u m.header (decides-header.complete s u m.header h.header_text first h.headed) in
-    let rest = parts_run z m.parts h.shapes (begun fresh) u t h.parts_text h.framed counted order refl others room in
-    (rest.0, subst (λ (ys : List Shape). Run z fresh s ys rest.0 t) (sym h.frames) (begun fresh, u, now, rest.1), rest.2, rest.3)
+    over : (k : Bool) → k ≡ false → one_of k (IsOver q (Ok (NeedMoreData n)) r) (one_of (at_end q rest) (Ends q false (Ok (NeedMoreData n)) r) (Comes q rest false (Ok (NeedMoreData n)) r)) → ⊥
+    over true e g = g
+    over false e g = missing (length rest == 0) refl (at_end q rest) refl g
 
 -- ---- calls
 
-module _ (fs : List Frame) (p q r : Parser) (text rest : List ℕ) (e : ErrorValue) (first : p.progress ≡ fresh)
-    (calls : Calls p text fs q rest) (going : is_over q.progress ≡ false) (c : Called q rest (Err e) r) where
+-- behind calls, where nothing comes next
+module _ (fs : List Frame) (p q : Parser) (text rest : List ℕ) (first : p.progress ≡ fresh) (calls : Calls p text fs q rest)
+    (going : is_over q.progress ≡ false) (none : IsStuck (settings_of q) q.progress (reads q rest)) where
   all_run : Run (settings_of p) fresh (reads p text) (shapes_of fs) q.progress (stands q rest p.offset)
   all_run = subst (λ (v : Progress). Run (settings_of p) v (reads p text) (shapes_of fs) q.progress (stands q rest p.offset)) first (calls_run fs p q text rest calls going).0
 
@@ -140,26 +133,30 @@ module _ (fs : List Frame) (p q r : Parser) (text rest : List ℕ) (e : ErrorVal
   stuck y t f =
       let same : settings_of p ≡ settings_of q = sym (calls_run fs p q text rest calls going).1 in
       let d = restart_done (settings_of p) q.progress p.offset (reads q rest) t y f in
-      refused_stuck q r rest e c going y d.0 (ap (λ (z : Settings). step z q.progress (reads q rest)) (sym same) ∙ d.1)
+      none y d.0 (ap (λ (z : Settings). step z q.progress (reads q rest)) (sym same) ∙ d.1)
 
   -- what is spelled at the front comes first
-  pub front_first : (m : Outer) (front back : List ℕ) (xs : List Shape) → text ≡ front ++ back → Frames (settings_of p) m front xs
-      → IsOrdered m.parts → AreCounted m.parts → p.offset + length front < 2 ^ 64
-      → (zs : List Shape) × (shapes_of fs ≡ xs ++ zs)
-  front_first m front back xs whole h order counted room =
+  pub front_first : (front back : List ℕ) (xs : List Shape) (long : ℕ) → text ≡ front ++ back → IsStart (settings_of p) front xs long
+      → p.offset + long < 2 ^ 64 → (zs : List Shape) × (shapes_of fs ≡ xs ++ zs)
+  front_first front back xs long whole (inl begin) room = (shapes_of fs, sym (ap (λ (k : List Shape). k ++ shapes_of fs) begin.1))
+  front_first front back xs long whole (inr h) room =
       let t : State = record { rest = back; place = p.offset + length front; settings = settings_of p; start = p.offset } in
       let taken : Takes (reads p text) front t = record { parts = whole; place = refl; settings = refl; start = refl } in
-      let run = module_run (settings_of p) m front xs (reads p text) t h order counted taken room in
-      let rest = run_prefix (settings_of p) xs (shapes_of fs) fresh run.0 q.progress (reads p text) t (stands q rest p.offset) run.1 all_run stuck in
-      (rest.0, rest.1)
+      let run = front_run (settings_of p) front xs long (reads p text) t h taken room in
+      let left = run_prefix (settings_of p) xs (shapes_of fs) fresh run.0 q.progress (reads p text) t (stands q rest p.offset) run.1 all_run stuck in
+      (left.0, left.1)
 
+module _ (fs : List Frame) (p q r : Parser) (text rest : List ℕ) (e : ErrorValue) (first : p.progress ≡ fresh)
+    (calls : Calls p text fs q rest) (going : is_over q.progress ≡ false) (c : Called q rest (Err e) r) where
   -- a module is not refused
   pub not_refused : (m : Outer) (xs : List Shape) → Frames (settings_of p) m text xs → IsOrdered m.parts → AreCounted m.parts → CountsAgree m.parts → p.offset + length text < 2 ^ 64 → ⊥
   not_refused m xs h order counted counts room =
       let t : State = record { rest = []; place = p.offset + length text; settings = settings_of p; start = p.offset } in
+      let none : IsStuck (settings_of q) q.progress (reads q rest) = refused_stuck q r rest e c going in
       let taken : Takes (reads p text) text t = record { parts = sym (append-nil text); place = refl; settings = refl; start = refl } in
       let run = module_run (settings_of p) m text xs (reads p text) t h order counted taken room in
-      let left = run_prefix (settings_of p) xs (shapes_of fs) fresh run.0 q.progress (reads p text) t (stands q rest p.offset) run.1 all_run stuck in
+      let left = run_prefix (settings_of p) xs (shapes_of fs) fresh run.0 q.progress (reads p text) t (stands q rest p.offset) run.1
+          (all_run fs p q text rest first calls going none) (stuck fs p q text rest first calls going none) in
       let there : counts_agree run.0 ≡ true = agree m.parts (begun fresh) run.0 refl run.2 order counts in
       ended run.0 t left.0 left.2 run.3 there refl (refused_cases q r rest e c going)
     where

@@ -1,127 +1,26 @@
 -- What a run gives is spelled by what it took: whole sections in order, and behind them nothing or a part of a code section.
-use Rattle.std.proofs.Common.{◌≡◌, ◌⊎◌, inl, inr, ℕ, suc, zero, ◌-◌, ◌<◌, ◌≤◌, List, [], ◌∷◌, ◌++◌, length, refl, sym, ap, ◌∙◌, subst, append_assoc, arith, cond, Bool, true, false}
-use Rattle.std.specs.Prelude.{nat_lt, nat_le, ◌==◌}
-use Rattle.std.proofs.lemmas.Bool.{eqb-true, leb-true, leb-false, ltb-false, le-ltb}
+use Rattle.std.proofs.Common.{◌≡◌, ◌⊎◌, inl, inr, ℕ, ◌-◌, ◌≤◌, List, [], ◌∷◌, ◌++◌, length, refl, sym, ap, ◌∙◌, subst, append_assoc, arith, cond, Bool, true, false}
+use Rattle.std.specs.Prelude.{nat_le, ◌==◌}
+use Rattle.std.proofs.lemmas.Bool.{eqb-true, leb-true}
 use Rattle.std.proofs.lemmas.List.{length-append}
 use Rattle.wasm_types.specs.limits.Settings.{Settings}
-use Rattle.wasm_types.specs.decoding.declared.Refusal.TheVariants.{Other}
-use Rattle.wasm_types.specs.decoding.Decoder.{State, Outcome, Done, ◌>>=◌, pure, bytes, Many, Takes}
+use Rattle.wasm_types.specs.decoding.Decoder.{State, Outcome, Done, Many, Takes}
 use Rattle.wasm_types.specs.decoding.Laws.{takes_none, Takes-then}
-use Rattle.wasm_types.specs.decoding.Exact.{value_is, done_then}
 use Rattle.wasm_types.specs.decoding.Leb.{IsUnsigned, IsListed}
-use Rattle.wasm_types.specs.decoding.Lists.{refuse_at}
 use Rattle.wasm_sections_frames.specs.Outer as outer
-use Rattle.wasm_sections_frames.specs.Outer.{Part, SpelledPart, SpelledEntry, Counts, id_of, rank, ranks, with_rank, Ascends}
+use Rattle.wasm_sections_frames.specs.Outer.{Part, SpelledPart, SpelledEntry, id_of, rank, ranks, with_rank, Ascends}
 use Rattle.wasm_sections_parser.specs.declared.progress.Stage.{Stage}
 use Rattle.wasm_sections_parser.specs.declared.progress.Stage.TheVariants as stages
 use Rattle.wasm_sections_parser.specs.declared.progress.Progress.{Progress}
-use Rattle.wasm_sections_parser.specs.Steps.{
-  Shape,
-  version,
-  custom,
-  section,
-  code,
-  entry,
-  the_end,
-  in_code,
-  one_less,
-  begun,
-  Next,
-  number_before,
-  body,
-  behind_code,
-  next_section,
-  next_entry,
-  at_stage,
-  step,
-}
+use Rattle.wasm_sections_parser.specs.Steps.{Shape, version, custom, section, code, entry, the_end, in_code, begun, Next, at_stage, step}
 use Rattle.wasm_sections_parser.specs.Parsing.{between}
 use Rattle.wasm_sections_parser_laws.specs.Runs.{Run, entries, Framed, Noted, Seen}
-use Rattle.wasm_sections_parser_laws.specs.BodyLaws.{body_spelled}
-use Rattle.wasm_sections_parser_laws.specs.SectionCases.{Given, section_given}
-use Rattle.wasm_sections_parser_laws.specs.OrderLaws.{in_order}
-
--- ---- where a parser stands
-
-between_at : (z : Settings) (p : Progress) (s : State) (g : Stage) → between g s.place ≡ true → at_stage z p g s ≡ next_section z p s
-unfolding behind_code
-between_at z p s stages.Header b = absurd cc
-between_at z p s stages.Sections b = refl
-between_at z p s (stages.Code left end) b = go (left == 0) b
-  where
-    go : (k : Bool) → cond k (nat_le end s.place) false ≡ true → cond k (behind_code z p end) (next_entry p left end) s ≡ next_section z p s
-    go true e = rw (le-ltb s.place end (leb-true _ _ e)) refl
-    go false e = absurd cc
-between_at z p s stages.Ended b = absurd cc
-between_at z p s stages.Failed b = absurd cc
-
-pub step_between : (z : Settings) (p : Progress) (s : State) → between p.stage s.place ≡ true → step z p s ≡ next_section z p s
-unfolding step
-step_between z p s b = between_at z p s p.stage b
-
--- ---- a body
+use Rattle.wasm_sections_parser_steps.specs.SectionCases.{Given, section_given}
+use Rattle.wasm_sections_parser_steps.specs.StepCases.{Behind, step_between, inside_at}
+use Rattle.wasm_sections_parser_steps.specs.OrderLaws.{in_order}
 
 abbrev given : Next → State → Outcome Next
 given y t = Done y t
-
--- behind one body of those that are left
-record Behind (p : Progress) (left end : ℕ) (s : State) (x : Shape) (q : Progress) (t : State) : Type 0 where
-  bytes : List ℕ
-  text : List ℕ
-  some : 0 < left
-  shape : x ≡ entry bytes
-  taken : Takes s text t
-  spelled : SpelledEntry bytes text
-  place : t.place ≤ end
-  noted : q ≡ one_less p left end
-
-module _ (p : Progress) (left end : ℕ) where
-  body_is : (n : ℕ) (u t : State) (y : Next) → body p left end n u ≡ given y t → (c : List ℕ) × ((entry c, one_less p left end) ≡ y)
-  body_is n u t y e = go (nat_lt (end - u.place) n) e
-    where
-      go : (b : Bool) → cond b (refuse_at {A = Next} Other u.place) (bytes n >>= λ text. pure (entry text, one_less p left end)) u ≡ given y t → (c : List ℕ) × ((entry c, one_less p left end) ≡ y)
-      go true f = absurd cc
-      go false f =
-          let m = done_then (bytes n u) (λ text. pure (entry text, one_less p left end)) y t f in
-          (m.0, value_is (entry m.0, one_less p left end) y m.1 t m.3)
-
-  pub entry_is : (s t : State) (y : Next) → next_entry p left end s ≡ given y t → (c : List ℕ) × ((entry c, one_less p left end) ≡ y)
-  unfolding next_entry
-  entry_is s t y e =
-      let m = done_then (number_before end s) (body p left end) y t e in
-      body_is m.0 m.1 t y m.3
-
-  behind_entry : (s t : State) (x : Shape) (q : Progress) → 0 < left → next_entry p left end s ≡ given (x, q) t → Behind p left end s x q t
-  behind_entry s t x q some e =
-      let c = entry_is s t (x, q) e in
-      let b = body_spelled p (one_less p left end) left end s t c.0 (e ∙ ap (λ (y : Next). given y t) (sym c.1)) in
-      record {
-        bytes = c.0;
-        text = b.0;
-        some = some;
-        shape = sym (ap (λ (y : Next). y.0) c.1);
-        taken = b.1;
-        spelled = b.2;
-        place = b.3;
-        noted = sym (ap (λ (y : Next). y.1) c.1);
-      }
-
-  inside_at : (z : Settings) (s t : State) (x : Shape) (q : Progress) → between (stages.Code left end) s.place ≡ false
-      → at_stage z p (stages.Code left end) s ≡ given (x, q) t → Behind p left end s x q t
-  unfolding behind_code
-  inside_at z s t x q b e = go (left == 0) refl b e
-    where
-      none : (k : Bool) → nat_lt s.place end ≡ k → nat_le end s.place ≡ false → cond k (refuse_at {A = Next} Other s.place) (next_section z p) s ≡ given (x, q) t → Behind p left end s x q t
-      none true h f g = absurd cc
-      none false h f g = absurd (omega (arith, ltb-false _ _ h, leb-false _ _ f))
-
-      go : (k : Bool) → (left == 0) ≡ k → cond k (nat_le end s.place) false ≡ false → cond k (behind_code z p end) (next_entry p left end) s ≡ given (x, q) t → Behind p left end s x q t
-      go true h f g = none (nat_lt s.place end) refl f g
-      go false h f g = behind_entry s t x q (some left h) g
-        where
-          some : (n : ℕ) → (n == 0) ≡ false → 0 < n
-          some zero k = absurd cc
-          some (suc n) k = omega arith
 
 -- ---- in a code section
 

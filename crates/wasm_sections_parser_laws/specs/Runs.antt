@@ -1,5 +1,5 @@
 -- Runs of a parser over a whole text, and which frames a module has (WebAssembly 3.0, binary format, modules).
-use Rattle.std.specs.Prelude.{◌≡◌, ◌⊎◌, ℕ, ◌-◌, ◌≤◌, List, [], ◌∷◌, ◌++◌, length, true, false, None}
+use Rattle.std.specs.Prelude.{◌≡◌, ◌⊎◌, ℕ, ◌-◌, ◌≤◌, List, [], ◌∷◌, ◌++◌, length, true, false}
 use Rattle.wasm_types.specs.limits.Settings.{Settings}
 use Rattle.wasm_types.specs.decoding.Decoder.{State, Done, Many, Takes}
 use Rattle.wasm_types.specs.decoding.Leb.{IsUnsigned}
@@ -7,14 +7,11 @@ use Rattle.wasm_sections_frames.specs.Outer as outer
 use Rattle.wasm_sections_frames.specs.Outer.{Part, SpelledHeader, SpelledPart, SpelledEntry, Outer, Counts, ranks, Ascends}
 use Rattle.wasm_sections_parser.specs.declared.progress.Stage.TheVariants as stages
 use Rattle.wasm_sections_parser.specs.declared.progress.Progress.{Progress}
-use Rattle.wasm_sections_parser.specs.Steps.{Shape, version, custom, section, code, entry, counted, in_code, begun, is_late, has_count, step}
+use Rattle.wasm_sections_parser.specs.Steps.{Shape, version, custom, section, code, entry, in_code, begun, is_late, has_count, step}
 use Rattle.wasm_sections_parser.specs.Parsing.{between}
+pub use Rattle.wasm_sections_parser_steps.specs.Remembered.{fresh, Noted, AreNoted}
 
 -- ---- runs
-
--- before the first frame
-abbrev pub fresh : Progress
-fresh = record { stage = stages.Header; last = 0; functions = 0; bodies = 0; data_count = None; segments = 0 }
 
 -- one frame after the other, from where a parser stands
 abbrev pub Run : Settings → Progress → State → List Shape → Progress → State → Type 0
@@ -59,19 +56,6 @@ IsCounted (outer.section id c) = has_count id ≡ true → (k : ℕ) × Counts k
 abbrev pub AreCounted : List Part → Type 0
 AreCounted [] = Unit {0}
 AreCounted (x ∷ ps) = IsCounted x × AreCounted ps
-
--- ---- what is remembered
-
--- behind a section; the stage is left open
-abbrev pub Noted : Progress → Part → Progress → Type 0
-Noted p (outer.custom n c) q = begun q ≡ counted p 0 0
-Noted p (outer.section id c) q = (k : ℕ) × (has_count id ≡ true → Counts k c) × (begun q ≡ counted p id k)
-Noted p (outer.code es) q = (end : ℕ) × (begun q ≡ begun (in_code p (length es) end))
-
--- behind sections
-abbrev pub AreNoted : Progress → List Part → Progress → Type 0
-AreNoted p [] q = begun p ≡ begun q
-AreNoted p (x ∷ ps) q = (r : Progress) × Noted p x r × AreNoted r ps q
 
 -- ---- a run that ends anywhere
 

@@ -1,21 +1,47 @@
 -- Sections that are spelled, in order and with readable counts, are what a run gives.
-use Rattle.std.proofs.Common.{◌≡◌, ℕ, ◌+◌, ◌<◌, ◌^◌, List, [], ◌∷◌, ◌++◌, length, refl, sym, ap, ◌∙◌, subst, append_assoc, arith, true, false}
+use Rattle.std.proofs.Common.{◌≡◌, ℕ, ◌+◌, ◌-◌, ◌<◌, ◌≤◌, ◌^◌, List, [], ◌∷◌, ◌++◌, length, refl, sym, ap, ◌∙◌, subst, append_assoc, arith, true, false}
 use Rattle.std.proofs.lemmas.Bool.{le-leb}
 use Rattle.std.proofs.lemmas.List.{length-append}
 use Rattle.wasm_types.specs.limits.Settings.{Settings}
-use Rattle.wasm_types.specs.decoding.Decoder.{State, Takes}
+use Rattle.wasm_types.specs.decoding.Decoder.{State, Outcome, Done, continue_with, pure, Many, Takes}
 use Rattle.wasm_types.specs.decoding.Exact.{same_state}
 use Rattle.wasm_sections_frames.specs.Outer as outer
-use Rattle.wasm_sections_frames.specs.Outer.{Part, SpelledPart, id_of, rank, ranks, Ascends}
+use Rattle.wasm_sections_frames.specs.Outer.{Header, Part, Outer, IsOrdered, SpelledEntry, id_of, rank, ranks, Ascends}
+use Rattle.wasm_sections_frames.specs.Decode.{header}
+use Rattle.wasm_sections_frames.specs.PartLaws.{decides-header}
 use Rattle.wasm_sections_parser.specs.declared.progress.Stage.{Stage}
 use Rattle.wasm_sections_parser.specs.declared.progress.Stage.TheVariants as stages
 use Rattle.wasm_sections_parser.specs.declared.progress.Progress.{Progress}
-use Rattle.wasm_sections_parser.specs.Steps.{Shape, counted, in_code, is_late}
+use Rattle.wasm_sections_parser.specs.Steps.{Shape, version, counted, in_code, one_less, begun, is_late, Next, next_header, step}
 use Rattle.wasm_sections_parser.specs.Parsing.{between}
-use Rattle.wasm_sections_parser_laws.specs.Runs.{Run, Framed, AreFramed, IsCounted, AreCounted, Noted, AreNoted}
-use Rattle.wasm_sections_parser_laws.specs.RunLaws.{step_between}
-use Rattle.wasm_sections_parser_laws.specs.OrderLaws.{last_at, order_gives}
-use Rattle.wasm_sections_parser_laws.specs.StepsComplete.{custom_next_is, section_next_at, start_next_is, entries_run}
+use Rattle.wasm_sections_parser_laws.specs.Runs.{fresh, Run, entries, Frames, Framed, AreFramed, IsCounted, AreCounted, Noted, AreNoted}
+use Rattle.wasm_sections_parser_steps.specs.StepCases.{step_between}
+use Rattle.wasm_sections_parser_steps.specs.OrderLaws.{last_at, order_gives}
+use Rattle.wasm_sections_parser_steps.specs.StepsComplete.{custom_next_is, section_next_at, start_next_is, entry_step}
+
+abbrev given : Next → State → Outcome Next
+given y t = Done y t
+
+-- ---- bodies
+
+module _ (z : Settings) (end : ℕ) where
+  -- bodies that are some of those left
+  pub entries_run : (es : List (List ℕ)) (p : Progress) (left : ℕ) (s t : State) (text : List ℕ) → p.stage ≡ stages.Code left end
+      → length es ≤ left → Takes s text t → Many SpelledEntry (length es) es text → t.place ≤ end
+      → (q : Progress) × Run z p s (entries es) q t × (begun q ≡ begun p) × (q.stage ≡ stages.Code (left - length es) end)
+  entries_run [] p left s t text g few taken h le =
+      let same : s ≡ t = same_state s t (taken.parts ∙ ap (λ (x : List ℕ). x ++ t.rest) h) (omega (arith, taken.place, ap length h)) (sym taken.settings) (sym taken.start) in
+      (p, (refl, same), refl, g ∙ ap (λ (n : ℕ). stages.Code n end) (omega arith))
+  entries_run (e ∷ es) p left s t text g few taken h le =
+      let u : State = record { rest = h.1 ++ t.rest; place = s.place + length h.0; settings = s.settings; start = s.start } in
+      let long : length text ≡ length h.0 + length h.1 = ap length h.4 ∙ length-append h.0 h.1 in
+      let first : Takes s h.0 u = record { parts = taken.parts ∙ ap (λ (x : List ℕ). x ++ t.rest) h.4 ∙ append_assoc h.0 h.1 t.rest; place = refl; settings = refl; start = refl } in
+      let others : Takes u h.1 t = record { parts = refl; place = omega (arith, taken.place, long); settings = taken.settings; start = taken.start } in
+      let now = entry_step z end p left s u e h.0 g (omega (arith, few)) first h.2 (omega (arith, le, taken.place, long)) in
+      let rest = entries_run es (one_less p left end) (left - 1) u t h.1 refl (omega (arith, few)) others h.3 le in
+      (rest.0, (one_less p left end, u, now, rest.1), rest.2, rest.3 ∙ ap (λ (n : ℕ). stages.Code n end) (omega (arith, few)))
+
+-- ---- sections
 
 pub run_then : (z : Settings) (xs ys : List Shape) (p r q : Progress) (s u t : State) → Run z p s xs r u → Run z r u ys q t → Run z p s (xs ++ ys) q t
 run_then z [] ys p r q s u t h k = subst (λ (v : Progress). Run z v s ys q t) (sym h.0) (subst (λ (v : State). Run z r v ys q t) (sym h.1) k)
@@ -102,3 +128,26 @@ parts_run z (x ∷ ps) xs p s t text h counts order b taken room =
     let g = part_run z p s u front b first x h.2 h.4 counts.0 o.0 (omega (arith, taken.place, long, room)) in
     let rest = parts_run z ps h.3 g.next u t back h.5 counts.1 (subst (λ (l : ℕ). Ascends l (ranks ps)) (sym (noted_last p g.next x g.noted)) o.1) g.here others room in
     (rest.0, subst (λ (y : List Shape). Run z p s y rest.0 t) (sym h.7) (run_then z h.2 h.3 p g.next rest.0 s u t g.run rest.1), (g.next, g.noted, rest.2), rest.3)
+
+-- ---- the run of a module
+
+header_next : (z : Settings) (s t : State) (h : Header) → header s ≡ Done h t → step z fresh s ≡ given (version h, begun fresh) t
+unfolding step next_header
+header_next z s t h e = ap (λ (o : Outcome Header). continue_with o (λ k. pure (version k, begun fresh))) e
+
+pub module_run : (z : Settings) (m : Outer) (text : List ℕ) (xs : List Shape) (s t : State) → Frames z m text xs → IsOrdered m.parts → AreCounted m.parts → Takes s text t → t.place < 2 ^ 64
+    → (q : Progress) × Run z fresh s xs q t × AreNoted (begun fresh) m.parts q × (between q.stage t.place ≡ true)
+module_run z m text xs s t h order counted taken room =
+    let u : State = record { rest = h.parts_text ++ t.rest; place = s.place + length h.header_text; settings = s.settings; start = s.start } in
+    let first : Takes s h.header_text u = record {
+      parts = taken.parts ∙ ap (λ (x : List ℕ). x ++ t.rest) h.whole
+          ∙ append_assoc h.header_text h.parts_text t.rest;
+      place = refl;
+      settings = refl;
+      start = refl;
+    } in
+    let long : length text ≡ length h.header_text + length h.parts_text = ap length h.whole ∙ length-append h.header_text h.parts_text in
+    let others : Takes u h.parts_text t = record { parts = refl; place = omega (arith, taken.place, long); settings = taken.settings; start = taken.start } in
+    let now = header_next z s u m.header (decides-header.complete s u m.header h.header_text first h.headed) in
+    let rest = parts_run z m.parts h.shapes (begun fresh) u t h.parts_text h.framed counted order refl others room in
+    (rest.0, subst (λ (ys : List Shape). Run z fresh s ys rest.0 t) (sym h.frames) (begun fresh, u, now, rest.1), rest.2, rest.3)

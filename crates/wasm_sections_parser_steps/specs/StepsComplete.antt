@@ -1,12 +1,12 @@
 -- Where a section is spelled, in order and with a readable count, that is what a parser gives next.
-use Rattle.std.proofs.Common.{◌≡◌, ℕ, ◌+◌, ◌-◌, ◌<◌, ◌≤◌, ◌^◌, List, [], ◌∷◌, ◌++◌, length, refl, sym, ap, ◌∙◌, subst, append_assoc, arith, cond, Bool, true, false}
+use Rattle.std.proofs.Common.{◌≡◌, ℕ, ◌+◌, ◌-◌, ◌<◌, ◌≤◌, ◌^◌, List, ◌∷◌, ◌++◌, length, refl, sym, ap, ◌∙◌, subst, append_assoc, arith, cond, Bool, true, false}
 use Rattle.std.specs.Prelude.{nat_lt, ◌==◌}
 use Rattle.std.proofs.lemmas.Bool.{eqb-true, le-ltb, lt-ltb, false_from_ne_true}
 use Rattle.std.proofs.lemmas.List.{length-append}
 use Rattle.wasm_types.specs.limits.Settings.{Settings}
 use Rattle.wasm_types.specs.decoding.declared.Refusal.TheVariants.{Other}
-use Rattle.wasm_types.specs.decoding.Decoder.{State, Outcome, Done, Fault, ◌>>=◌, continue_with, pure, first_of_rest, bytes, Many, Takes}
-use Rattle.wasm_types.specs.decoding.Exact.{decides-bytes, same_state}
+use Rattle.wasm_types.specs.decoding.Decoder.{State, Outcome, Done, Fault, ◌>>=◌, continue_with, pure, first_of_rest, bytes, Takes}
+use Rattle.wasm_types.specs.decoding.Exact.{decides-bytes}
 use Rattle.wasm_types.specs.decoding.Leb.{u32, IsUnsigned}
 use Rattle.wasm_types.specs.decoding.LebLaws.{decides-u32}
 use Rattle.wasm_types.specs.decoding.Lists.{refuse_at}
@@ -26,7 +26,6 @@ use Rattle.wasm_sections_parser.specs.Steps.{
   counted,
   in_code,
   one_less,
-  begun,
   is_late,
   found,
   in_part,
@@ -48,7 +47,6 @@ use Rattle.wasm_sections_parser.specs.Steps.{
   at_stage,
   step,
 }
-use Rattle.wasm_sections_parser_laws.specs.Runs.{Run, entries}
 
 abbrev given : Next → State → Outcome Next
 given y t = Done y t
@@ -167,25 +165,10 @@ module _ (z : Settings) (end : ℕ) where
       ∙ ap (λ (b : Bool). cond b (refuse_at {A = Next} Other w.place) (bytes (length h.content) >>= λ x. pure (entry x, one_less p left end)) w) inside
       ∙ ap (λ (o : Outcome (List ℕ)). continue_with o (λ x. pure (entry x, one_less p left end))) all
 
-  entry_step : (p : Progress) (left : ℕ) (s t : State) (c text : List ℕ) → p.stage ≡ stages.Code left end → 0 < left
+  -- one body of those left
+  pub entry_step : (p : Progress) (left : ℕ) (s t : State) (c text : List ℕ) → p.stage ≡ stages.Code left end → 0 < left
       → Takes s text t → SpelledEntry c text → t.place ≤ end → step z p s ≡ given (entry c, one_less p left end) t
   unfolding step
   entry_step p left s t c text g some taken h le =
       let more : (left == 0) ≡ false = false_from_ne_true (left == 0) (λ e. omega (arith, eqb-true _ _ e, some)) in
       ap (λ (v : Stage). at_stage z p v s) g ∙ ap (λ (b : Bool). cond b (behind_code z p end) (next_entry p left end) s) more ∙ entry_next_is p left s t c text taken h le
-
-  -- bodies that are some of those left
-  pub entries_run : (es : List (List ℕ)) (p : Progress) (left : ℕ) (s t : State) (text : List ℕ) → p.stage ≡ stages.Code left end
-      → length es ≤ left → Takes s text t → Many SpelledEntry (length es) es text → t.place ≤ end
-      → (q : Progress) × Run z p s (entries es) q t × (begun q ≡ begun p) × (q.stage ≡ stages.Code (left - length es) end)
-  entries_run [] p left s t text g few taken h le =
-      let same : s ≡ t = same_state s t (taken.parts ∙ ap (λ (x : List ℕ). x ++ t.rest) h) (omega (arith, taken.place, ap length h)) (sym taken.settings) (sym taken.start) in
-      (p, (refl, same), refl, g ∙ ap (λ (n : ℕ). stages.Code n end) (omega arith))
-  entries_run (e ∷ es) p left s t text g few taken h le =
-      let u : State = record { rest = h.1 ++ t.rest; place = s.place + length h.0; settings = s.settings; start = s.start } in
-      let long : length text ≡ length h.0 + length h.1 = ap length h.4 ∙ length-append h.0 h.1 in
-      let first : Takes s h.0 u = record { parts = taken.parts ∙ ap (λ (x : List ℕ). x ++ t.rest) h.4 ∙ append_assoc h.0 h.1 t.rest; place = refl; settings = refl; start = refl } in
-      let others : Takes u h.1 t = record { parts = refl; place = omega (arith, taken.place, long); settings = taken.settings; start = taken.start } in
-      let now = entry_step p left s u e h.0 g (omega (arith, few)) first h.2 (omega (arith, le, taken.place, long)) in
-      let rest = entries_run es (one_less p left end) (left - 1) u t h.1 refl (omega (arith, few)) others h.3 le in
-      (rest.0, (one_less p left end, u, now, rest.1), rest.2, rest.3 ∙ ap (λ (n : ℕ). stages.Code n end) (omega (arith, few)))

@@ -41,9 +41,9 @@ use Rattle.wasm_sections_parser.specs.Steps.{
   ordered,
   next_section,
 }
-use Rattle.wasm_sections_parser_laws.specs.SpelledLaws.{section_spelled}
-use Rattle.wasm_sections_parser_laws.specs.CustomLaws.{byte_takes, custom_spelled}
-use Rattle.wasm_sections_parser_laws.specs.BodyLaws.{kept_done}
+use Rattle.wasm_sections_parser_steps.specs.SpelledLaws.{section_spelled}
+use Rattle.wasm_sections_parser_steps.specs.CustomLaws.{byte_takes, custom_spelled}
+use Rattle.wasm_sections_parser_steps.specs.BodyLaws.{kept_done}
 
 -- the start of a code section of n bodies and k bytes, which ends there
 pub record Start (p : Progress) (s : State) (n k : ℕ) (q : Progress) (t : State) : Type 0 where

@@ -8,7 +8,7 @@ use Rattle.wasm_sections_frames.specs.Outer.{Part, custom, code, section, rank, 
 use Rattle.wasm_sections_frames.specs.OuterLaws.{one}
 use Rattle.wasm_sections_parser.specs.declared.progress.Progress.{Progress}
 use Rattle.wasm_sections_parser.specs.Steps.{begun, has_count, said, counts_agree}
-use Rattle.wasm_sections_parser_laws.specs.Runs.{fresh, Noted, AreNoted}
+use Rattle.wasm_sections_parser_steps.specs.Remembered.{fresh, Noted, AreNoted}
 
 counts_one : (n m : ℕ) (c : List ℕ) → Counts n c → Counts m c → n ≡ m
 counts_one n m c h k = (one u32 (IsUnsigned 32) decides-u32 n m c h.count h.items k.count k.items h.whole h.counted k.whole k.counted).0

@@ -1,8 +1,8 @@
 -- By the laws of headers and sections.
-use Rattle.wasm_sections_parser_laws.specs.SpelledLaws.{header_spelled, section_spelled}
-use Rattle.wasm_sections_parser_laws.specs.CustomLaws.{custom_spelled}
-use Rattle.wasm_sections_parser_laws.specs.BodyLaws.{body_spelled}
-use Rattle.wasm_sections_parser_laws.proofs.laws.frames_are_spelled.Goals as goal
+use Rattle.wasm_sections_parser_steps.specs.SpelledLaws.{header_spelled, section_spelled}
+use Rattle.wasm_sections_parser_steps.specs.CustomLaws.{custom_spelled}
+use Rattle.wasm_sections_parser_steps.specs.BodyLaws.{body_spelled}
+use Rattle.wasm_sections_parser_steps.proofs.laws.frames_are_spelled.Goals as goal
 
 pub returns-clause-headers : goal.returns-clause-headers
 returns-clause-headers c = header_spelled

@@ -16,7 +16,6 @@ use Rattle.wasm_sections_parser.specs.declared.progress.Stage.{Stage}
 use Rattle.wasm_sections_parser.specs.declared.progress.Stage.TheVariants as stages
 use Rattle.wasm_sections_parser.specs.declared.progress.Progress.{Progress}
 use Rattle.wasm_sections_parser.specs.Steps.{
-  Shape,
   version,
   entry,
   Next,
@@ -43,18 +42,17 @@ use Rattle.wasm_sections_parser.specs.Steps.{
   at_stage,
   step,
 }
-use Rattle.wasm_sections_parser_laws.specs.Runs.{Run}
 
 -- the same bytes, with another beginning
 abbrev pub restart : ℕ → State → State
 restart n s = record { rest = s.rest; place = s.place; settings = s.settings; start = n }
 
-abbrev restarted : {A : Type 0} → ℕ → Outcome A → Outcome A
+abbrev pub restarted : {A : Type 0} → ℕ → Outcome A → Outcome A
 restarted n (Done x t) = Done x (restart n t)
 restarted n (Short p h) = Short p h
 restarted n (Fault k p) = Fault k p
 
-abbrev IsPlain : {A : Type 0} → Decoder A → Type 0
+abbrev pub IsPlain : {A : Type 0} → Decoder A → Type 0
 IsPlain d = (n : ℕ) (s : State) → d (restart n s) ≡ restarted n (d s)
 
 then_plain : {A B : Type 0} (f : A → Decoder B) → ((x : A) → IsPlain (f x)) → (n : ℕ) (o : Outcome A) → continue_with (restarted n o) f ≡ restarted n (continue_with o f)
@@ -180,7 +178,7 @@ module _ (z : Settings) (p : Progress) where
   plain-at_stage stages.Ended = plain-refuse Other 0
   plain-at_stage stages.Failed = plain-refuse Other 0
 
-  plain-step : IsPlain (step z p)
+  pub plain-step : IsPlain (step z p)
   unfolding step
   plain-step = plain-at_stage p.stage
 
@@ -192,7 +190,3 @@ restart_done z p n s t y e = go (step z p s) (sym (plain-step z p n s) ∙ e)
     go (Done x u) f = (u, ap (λ (v : Next). Done v u) (value_is x y (restart n u) t f))
     go (Short a h) f = absurd cc
     go (Fault k a) f = absurd cc
-
-pub run_restarts : (z : Settings) (xs : List Shape) (p q : Progress) (s t : State) (n : ℕ) → Run z p s xs q t → Run z p (restart n s) xs q (restart n t)
-run_restarts z [] p q s t n h = (h.0, ap (restart n) h.1)
-run_restarts z (x ∷ xs) p q s t n h = (h.0, restart n h.1, plain-step z p n s ∙ ap (restarted n) h.2, run_restarts z xs h.0 q h.1 t n h.3)

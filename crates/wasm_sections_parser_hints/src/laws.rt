@@ -1,0 +1,23 @@
+//! Laws of what is asked for, each the contract of a function that does nothing.
+
+ghost use Rattle.std.specs.Prelude.{◌≡◌, ℕ, List, true, false, Ok};
+ghost use Rattle.wasm_sections_parser.specs.declared.parser.Parser.{Parser};
+ghost use Rattle.wasm_sections_parser.specs.declared.parser.Chunk.TheVariants.{NeedMoreData};
+ghost use Rattle.wasm_sections_parser.specs.Parsing.{Parses};
+ghost use Rattle.wasm_sections_parser_hints.specs.Hints.{IsLeast};
+ghost use Rattle.wasm_sections_parser_hints.specs.Worked.{HeaderRows, CutRows};
+
+/// A call that asks for more bytes leaves the parser, and as many as it asks for are the least that can bring a frame or a refusal:
+/// with fewer it asks for those that are still missing. (Where the bytes end within the size of a section or of a body, one byte is
+/// asked for, the least that can end the size: what then comes depends on it.) Where no bytes follow, none are asked for.
+pub const fn hints_are_least()
+    ensures least { (p q : Parser) (text : List ℕ) (n : ℕ) → Parses p text false (Ok (NeedMoreData n)) q → (q ≡ p) × IsLeast p text n }
+    ensures ended { (p q : Parser) (text : List ℕ) (n : ℕ) → Parses p text true (Ok (NeedMoreData n)) q → ⊥ }
+{}
+
+/// Worked bytes that end too early.
+#[tactic(auto, using(crate::specs::Worked::header_rows, crate::specs::Worked::cut_rows))]
+pub const fn hints_are_worked()
+    ensures headers { HeaderRows }
+    ensures cuts { CutRows }
+{}
