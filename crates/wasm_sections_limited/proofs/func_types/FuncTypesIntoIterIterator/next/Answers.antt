@@ -10,12 +10,18 @@ returns-in-Some-Err-clause-steps c =
 
 pub returns-in-Some-clause-steps : goal.returns-in-Some-clause-steps
 returns-in-Some-clause-steps c =
-    let step = rw c.in-Some-Ok.field-0-is at c.in-Some-Ok.ensures.steps in
-    (step_reads c.args.self.now.groups.section.reader.settings (place_of_functions c.args.self.now)
-    (place_with_offsets c.next.new.self) c.in-Some-Ok.item c.in-Some.ty step.0 c.in-Some.ensures, tt, step.2)
+    let step = rw c.in-Some-Ok.field-0-is at c.in-Some-Ok.ensures.steps in (
+      step_reads c.args.self.now.groups.section.reader.settings (place_of_functions c.args.self.now)
+          (place_with_offsets c.next.new.self) c.in-Some-Ok.item c.in-Some.ty step.0 c.in-Some.ensures,
+      tt,
+      step.2,
+    )
 
 pub returns-in-None-only_function-clause-steps : goal.returns-in-None-only_function-clause-steps
 returns-in-None-only_function-clause-steps c =
-    let step = rw c.in-Some-Ok.field-0-is at c.in-Some-Ok.ensures.steps in
-    (step_refuses c.args.self.now.groups.section.reader.settings (place_of_functions c.args.self.now) (place_with_offsets c.next.new.self) c.in-Some-Ok.item
-    c.no_function.result step.0 c.in-None-only_function.ensures c.no_function.ensures.kind c.no_function.ensures.offset, tt, step.2)
+    let step = rw c.in-Some-Ok.field-0-is at c.in-Some-Ok.ensures.steps in (
+      step_refuses c.args.self.now.groups.section.reader.settings (place_of_functions c.args.self.now) (place_with_offsets c.next.new.self) c.in-Some-Ok.item
+          c.no_function.result step.0 c.in-None-only_function.ensures c.no_function.ensures.kind c.no_function.ensures.offset,
+      tt,
+      step.2,
+    )
