@@ -8,7 +8,8 @@
 //! - `wasm_sections_segments`: globals, tables and data segments, over any constant expressions;
 //! - `wasm_sections_elements`: element segments, over any constant expressions;
 //! - `wasm_sections_parser`: a module as its frames, one at a time, from pieces; `wasm_sections_parser_laws` says what runs of it give;
-//! - `wasm_sections_payloads`: frames as payloads, each section with a reader of its items, and all payloads of a module.
+//! - `wasm_sections_payloads`: the parser of payloads: frames as payloads, each section with a reader of its items, from pieces or
+//!   all of a module.
 //!
 //! Here the constant expressions are those of `wasm_operators_bodies`, [`ConstExpr`].
 #![tactic(auto)]
@@ -16,13 +17,13 @@
 pub use wasm_sections_elements::{ElementItemsOf, ElementKindOf, ElementOf};
 pub use wasm_sections_imports::{Export, ExternalKind, Import, TypeRef};
 pub use wasm_sections_limited::{
-    SectionLimited, SectionLimitedIntoIter, SectionLimitedIntoIterWithOffsets,
+    FuncTypesIntoIter, SectionLimited, SectionLimitedIntoIter, SectionLimitedIntoIterWithOffsets,
 };
-pub use wasm_sections_parser::{Chunk, CustomSectionReader, Encoding, Frame, Parser};
+pub use wasm_sections_parser::{CustomSectionReader, Encoding, Frame};
 pub use wasm_sections_payloads::{
-    ConstExpr, Data, DataKind, DataSectionReader, Element, ElementItems, ElementKind,
-    ElementSectionReader, ExportSectionReader, FunctionBody, FunctionSectionReader, Global,
-    GlobalSectionReader, ImportSectionReader, MemorySectionReader, ParseAll, Payload, Table,
-    TableInit, TableSectionReader, TagSectionReader, TypeSectionReader, parse_all,
+    Chunk, CodeSectionReader, ConstExpr, Data, DataKind, DataSectionReader, Element, ElementItems,
+    ElementKind, ElementSectionReader, ExportSectionReader, FunctionBody, FunctionSectionReader,
+    Global, GlobalSectionReader, ImportSectionReader, MemorySectionReader, ParseAll, Parser,
+    Payload, Table, TableInit, TableSectionReader, TagSectionReader, TypeSectionReader,
 };
 pub use wasm_sections_segments::{DataKindOf, DataOf, GlobalOf, TableInitOf, TableOf};

@@ -1,7 +1,9 @@
 -- Rules: what comes next of the items of a section.
 pub mod Walking
 pub mod Runs
+pub mod Functions
 -- Laws.
 pub mod WalkLaws
+pub mod FunctionLaws
 -- Worked rows.
 pub mod Worked

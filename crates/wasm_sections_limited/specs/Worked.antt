@@ -1,10 +1,25 @@
--- Worked walks over items of one byte each.
-use Rattle.std.proofs.Common.{ℕ, List, [], ◌∷◌, codes, refl, true, false, Some, None, Ok, Err, inl, inr, arith}
-use Rattle.wasm_types.specs.decoding.Decoder.{byte}
+-- Worked walks over items of one byte each, and worked groups of a type section that has function types alone.
+use Rattle.std.proofs.Common.{◌≡◌, ℕ, List, [], ◌∷◌, codes, refl, true, false, Option, Some, None, Ok, Err, inl, inr, arith}
+use Rattle.wasm_types.specs.decoding.declared.Refusal.TheVariants as refusals
+use Rattle.wasm_types.specs.decoding.Decoder.{State, Done, Short, Fault, byte, repeated}
+use Rattle.wasm_types.specs.decoding.Leb.{unsigned}
+use Rattle.wasm_types.specs.decoding.Lists.{size_within, listed_within}
+use Rattle.wasm_types.specs.limits.Limits.{default_limits}
 use Rattle.wasm_types.specs.limits.Settings.{no_features}
+use Rattle.wasm_types.specs.indices.declared.index.UnpackedIndex.{UnpackedIndex}
+use Rattle.wasm_types.specs.indices.declared.index.UnpackedIndex.TheVariants.{Module}
+use Rattle.wasm_types.specs.values.declared.value.ValType.TheVariants.{I32}
+use Rattle.wasm_types.specs.values.declared.value.StorageType.TheVariants.{Val}
+use Rattle.wasm_types.specs.values.DecodeValues.{value_type, value_type_after, storage_type_after, storage_type}
+use Rattle.wasm_types.specs.values.Decode.{reference_after}
+use Rattle.wasm_types.specs.fields.Spells.{Signature}
+use Rattle.wasm_types.specs.fields.Decode.{mutability, field_type, fields, signature, module_index}
+use Rattle.wasm_types.specs.groups.SpellsTypes.{InnerValue, function, array_of, struct_of, continuation, CompositeValue, sub_with}
+use Rattle.wasm_types.specs.groups.DecodeTypes.{inner_after, last_after, descriptor_after, describes_after, composite_after, composite, supertypes, declared_sub, sub_after, sub_type, explicit_group, group_after, rec_group}
 use Rattle.wasm_types.specs.error.declared.error.ErrorKind.TheVariants.{EndOfData, Other}
 use Rattle.wasm_types.specs.error.ErrorValue.{ErrorValue}
 use Rattle.wasm_sections_limited.specs.Walking.{Walk, plainly}
+use Rattle.wasm_sections_limited.specs.Functions.{alone, only_function, function_alone}
 
 -- a walk with n items left, at an offset, before these bytes
 abbrev at : ℕ → ℕ → List ℕ → Walk
@@ -63,3 +78,63 @@ walk_rows = record {
     no_trailing : plainly byte (at 0 1 []) (Some (Err error)) (over 0 1 []) → ⊥
     no_trailing (o, p, inl t) = omega (arith, t.1)
     no_trailing (o, p, inr t) = omega (arith, t.0)
+
+-- ---- function types
+
+-- from i32 to nothing
+abbrev signature_of_one : Signature
+signature_of_one = record { params = I32 ∷ []; results = [] }
+
+-- a composite type that is not the function type alone
+abbrev other : Option UnpackedIndex → Option UnpackedIndex → InnerValue → CompositeValue
+other descriptor describes x = record { inner = x; shared = false; descriptor = descriptor; describes = describes }
+
+-- bytes at offset 5, and what is left behind n of them
+abbrev at_five : List ℕ → State
+at_five text = record { rest = text; place = 5; settings = no_features; start = 0 }
+
+abbrev behind_five : ℕ → State
+behind_five place = record { rest = []; place = place; settings = no_features; start = 0 }
+
+-- One function type. No type and two types; one that is not final, and one below another; the other constructors; one that is shared,
+-- has a descriptor or describes a type. The same of bytes, written as a group too; another group is refused where it begins.
+pub record FunctionRows : Type 0 where
+  pub one : only_function (sub_with true [] (alone signature_of_one) ∷ []) ≡ Some signature_of_one
+  pub none : only_function [] ≡ None
+  pub two : only_function (sub_with true [] (alone signature_of_one) ∷ sub_with true [] (alone signature_of_one) ∷ []) ≡ None
+  pub not_final : only_function (sub_with false [] (alone signature_of_one) ∷ []) ≡ None
+  pub below : only_function (sub_with true (Module 0 ∷ []) (alone signature_of_one) ∷ []) ≡ None
+  pub a_struct : only_function (sub_with true [] (other None None (struct_of [])) ∷ []) ≡ None
+  pub an_array : only_function (sub_with true [] (other None None (array_of (record { element_type = Val I32; mutable = true }))) ∷ []) ≡ None
+  pub a_continuation : only_function (sub_with true [] (other None None (continuation (Module 0))) ∷ []) ≡ None
+  pub is_shared : only_function (sub_with true [] (record { inner = function signature_of_one; shared = true; descriptor = None; describes = None }) ∷ []) ≡ None
+  pub described : only_function (sub_with true [] (other (Some (Module 0)) None (function signature_of_one)) ∷ []) ≡ None
+  pub describing : only_function (sub_with true [] (other None (Some (Module 0)) (function signature_of_one)) ∷ []) ≡ None
+  pub bytes : function_alone no_features (at_five (0x60 ∷ 0x01 ∷ 0x7f ∷ 0x00 ∷ [])) ≡ Done signature_of_one (behind_five 9)
+  pub bytes_of_group : function_alone no_features (at_five (0x4e ∷ 0x01 ∷ 0x60 ∷ 0x01 ∷ 0x7f ∷ 0x00 ∷ [])) ≡ Done signature_of_one (behind_five 11)
+  pub bytes_of_struct : function_alone no_features (at_five (0x5f ∷ 0x00 ∷ [])) ≡ Fault refusals.Other 5
+  pub bytes_of_open : function_alone no_features (at_five (0x50 ∷ 0x00 ∷ 0x60 ∷ 0x00 ∷ 0x00 ∷ [])) ≡ Fault refusals.Other 5
+  pub bytes_cut : function_alone no_features (at_five (0x60 ∷ 0x01 ∷ [])) ≡ Short 7 1
+
+pub function_rows : FunctionRows
+unfolding function_alone default_limits rec_group group_after explicit_group sub_type sub_after declared_sub supertypes composite composite_after describes_after
+    descriptor_after last_after inner_after signature field_type fields mutability module_index listed_within size_within unsigned repeated storage_type
+    storage_type_after value_type_after reference_after value_type
+function_rows = record {
+  one = refl;
+  none = refl;
+  two = refl;
+  not_final = refl;
+  below = refl;
+  a_struct = refl;
+  an_array = refl;
+  a_continuation = refl;
+  is_shared = refl;
+  described = refl;
+  describing = refl;
+  bytes = refl;
+  bytes_of_group = refl;
+  bytes_of_struct = refl;
+  bytes_of_open = refl;
+  bytes_cut = refl;
+}

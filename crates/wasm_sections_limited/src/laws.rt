@@ -1,16 +1,20 @@
 //! Laws of sections, each the contract of a function that does nothing.
 
-ghost use Rattle.std.specs.Prelude.{◌≡◌, ℕ, List, length, map, Result, Ok};
+ghost use Rattle.std.specs.Prelude.{◌≡◌, ℕ, List, length, map, true, Result, Ok};
 ghost use Rattle.std.specs.Iterator.{Drains};
 ghost use Rattle.wasm_types.specs.limits.Settings.{Settings};
-ghost use Rattle.wasm_types.specs.decoding.Decoder.{State, Done};
+ghost use Rattle.wasm_types.specs.decoding.Decoder.{State, Done, IsLawful, Decides};
 ghost use Rattle.wasm_types.specs.decoding.Leb.{u32 as u32_decoder, IsListed};
 ghost use Rattle.wasm_types.specs.error.ErrorValue.{ErrorValue};
 ghost use Rattle.wasm_sections_limited.specs.Walking.{Walk, fresh, plainly, NeverLacksMemory, ok};
-ghost use Rattle.wasm_sections_limited.specs.Runs.{place_in, place_with_offsets, told, plain, with_offset, Steps, seen};
+ghost use Rattle.wasm_sections_limited.specs.Runs.{place_in, place_with_offsets, place_of_functions, told, plain, with_offset, Steps, seen};
+ghost use Rattle.wasm_sections_limited.specs.Functions.{SpelledAlone, function_alone, signature_of};
+ghost use Rattle.wasm_sections_limited.specs.declared.func_types.FuncTypesIntoIter.{FuncTypesIntoIter};
+ghost use Rattle.wasm_types.specs.fields.Spells.{Signature};
+ghost use Rattle.wasm_types.specs.fields.declared.func.FuncType.{FuncType};
 ghost use Rattle.wasm_sections_limited.specs.declared.walk.SectionLimitedIntoIter.{SectionLimitedIntoIter};
 ghost use Rattle.wasm_sections_limited.specs.declared.walk.SectionLimitedIntoIterWithOffsets.{SectionLimitedIntoIterWithOffsets};
-ghost use Rattle.wasm_sections_limited.specs.Worked.{WalkRows};
+ghost use Rattle.wasm_sections_limited.specs.Worked.{WalkRows, FunctionRows};
 
 use wasm_types::FromReader;
 
@@ -31,8 +35,20 @@ pub fn runs_are_exact<'a, T: FromReader<'a>>()
     ensures complete_with_offsets { (b t : State) (n : ℕ) (it : SectionLimitedIntoIterWithOffsets T) (xs : List T.Value) (items : List (Result (ℕ × T) ErrorValue)) → u32_decoder b ≡ Done n t → place_with_offsets it ≡ fresh n t → IsListed (T.grammar t.settings) xs b.rest → Drains (Steps T.decoder place_with_offsets (told T.takes_memory) (with_offset T.view T.decoder)) it items → NeverLacksMemory items → map (seen (λ x. T.view x.1)) items ≡ map ok xs }
 {}
 
-/// Walks that were worked by hand, over one-byte items: none, all of two, one too few, and a byte too many.
-#[tactic(auto, using(crate::specs::Worked::walk_rows))]
+/// A run over the function types of a type section, from its first call to `None`. Where it gave no error, the contents spell the
+/// count and as many groups, each one function type alone, and no byte after them. Where they do, it gives these function types
+/// and no error, out of memory aside. What is read so is lawful, and exact.
+pub const fn function_types_are_exact()
+    ensures lawful { (z : Settings) → IsLawful (function_alone z) }
+    ensures exact { (z : Settings) → Decides (function_alone z) (SpelledAlone z) }
+    ensures sound { (b t : State) (n : ℕ) (it : FuncTypesIntoIter) (xs : List FuncType) → u32_decoder b ≡ Done n t → place_of_functions it ≡ fresh n t → Drains (Steps function_alone place_of_functions (told true) (plain signature_of function_alone)) it (map ok xs) → IsListed (SpelledAlone t.settings) (map signature_of xs) b.rest }
+    ensures complete { (b t : State) (n : ℕ) (it : FuncTypesIntoIter) (xs : List Signature) (items : List (Result FuncType ErrorValue)) → u32_decoder b ≡ Done n t → place_of_functions it ≡ fresh n t → IsListed (SpelledAlone t.settings) xs b.rest → Drains (Steps function_alone place_of_functions (told true) (plain signature_of function_alone)) it items → NeverLacksMemory items → map (seen signature_of) items ≡ map ok xs }
+{}
+
+/// Walks that were worked by hand, over one-byte items: none, all of two, one too few, and a byte too many. And groups that are
+/// one function type, and those that are not.
+#[tactic(auto, using(crate::specs::Worked::walk_rows, crate::specs::Worked::function_rows))]
 pub const fn walks_are_worked()
-    ensures { WalkRows }
+    ensures walks { WalkRows }
+    ensures functions { FunctionRows }
 {}

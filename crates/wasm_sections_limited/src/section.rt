@@ -16,7 +16,8 @@ pub struct SectionLimited<'a, T: FromReader<'a>> {
     pub(crate) reader: BinaryReader<'a>,
     count: u32,
     pub(crate) alloc: Global,
-    of: PhantomData<T>,
+    // No item is held. The prover has no proof of a caller's `&` of a `PhantomData<T>` where the items borrow.
+    of: PhantomData<&'a T>,
 }
 
 impl<'a, T: FromReader<'a>> SectionLimited<'a, T> {

@@ -68,7 +68,7 @@ impl<'a, T: FromReader<'a>> Iterator for SectionLimitedIntoIter<'a, T> {
 pub struct SectionLimitedIntoIterWithOffsets<'a, T: FromReader<'a>> {
     section: SectionLimited<'a, T>,
     remaining: u32,
-    end: bool,
+    pub(crate) end: bool,
 }
 
 impl<'a, T: FromReader<'a>> Iterator for SectionLimitedIntoIterWithOffsets<'a, T> {
@@ -127,10 +127,10 @@ impl<'a, T: FromReader<'a>> SectionLimited<'a, T> {
         ensures remaining { result.remaining ≡ self.entry.count }
         ensures fresh { result.end ≡ false }
     {
-        let remaining = self.count();
+        let count = self.count();
         SectionLimitedIntoIterWithOffsets {
             section: self,
-            remaining,
+            remaining: count,
             end: false,
         }
     }

@@ -3,7 +3,7 @@
 ghost use Rattle.std.specs.Prelude.{◌≡◌, ◌+◌, ◌<◌, ◌^◌, length, None};
 ghost use Rattle.wasm_types.specs.features.Sets.{bits_of, default_features};
 ghost use Rattle.wasm_types.specs.reader.Reading.{NeedsNoMemory};
-ghost use Rattle.wasm_sections_parser.specs.declared.progress.Stage.TheVariants.{Header};
+ghost use Rattle.wasm_sections_parser.specs.declared.progress.Stage.TheVariants.{Header, Failed};
 ghost use Rattle.wasm_sections_parser.specs.Parsing.{between, staged, Ends, Comes, Parses};
 
 use crate::progress::{counts_agree, is_over};
@@ -26,7 +26,7 @@ pub enum Chunk<'a> {
 }
 
 /// Reads a module from its bytes, in pieces.
-#[derive(Drop)]
+#[derive(Clone, Copy)]
 pub struct Parser {
     pub(crate) offset: u64,
     pub(crate) features: WasmFeatures,
@@ -66,6 +66,13 @@ impl Parser {
         ensures { self.new ≡ record { offset = self.old.offset; features = features; progress = self.old.progress } }
     {
         self.features = features;
+    }
+
+    /// Refuses the module where it stands: from here on each call is refused with kind 4.
+    pub fn fail(&mut self)
+        ensures { self.new ≡ staged self.old Failed }
+    {
+        self.set_stage(Stage::Failed);
     }
 
     /// What comes next of the module, at the front of these bytes; `eof` says that none follow them. Where more bytes are needed

@@ -1,19 +1,22 @@
 -- Fewer payloads are left behind each.
-use Rattle.std.proofs.Common.{◌≡◌, ℕ, ◌+◌, ◌≤◌, List, [], ◌∷◌, length, drop, refl, sym, ap, ◌∙◌, subst, arith, Bool, true, false, Some, Ok}
+use Rattle.std.proofs.Common.{◌≡◌, ◌⊎◌, ℕ, ◌+◌, ◌<◌, ◌≤◌, ◌^◌, List, [], ◌∷◌, length, drop, refl, sym, ap, ◌∙◌, subst, arith, Bool, true, false, Some, Ok, Err, inl, inr}
 use Rattle.std.proofs.lemmas.List.{append-nil, length-drop}
+use Rattle.wasm_types.specs.error.ErrorValue.{ErrorValue}
 use Rattle.wasm_sections_parser.specs.declared.frame.Frame.{Frame}
 use Rattle.wasm_sections_parser.specs.declared.parser.Parser.{Parser}
 use Rattle.wasm_sections_parser_laws.specs.Advance.{parsed_within}
 use Rattle.wasm_sections_parser.specs.declared.frame.Frame.TheVariants as frames
 use Rattle.wasm_sections_parser.specs.declared.parser.Chunk.TheVariants.{Parsed}
+use Rattle.wasm_sections_parser.specs.Steps.{Shape, is_over}
 use Rattle.wasm_sections_parser_laws.specs.Runs.{fresh}
 use Rattle.wasm_sections_parser_laws.specs.Calls.{settings_of, shapes_of, Called, Calls}
 use Rattle.wasm_sections_parser_laws.specs.Modules.{IsModule}
 use Rattle.wasm_sections_parser_laws.specs.ModuleLaws.{end_given}
+use Rattle.wasm_sections_parser_laws.specs.RefusalLaws.{not_refused}
 use Rattle.wasm_sections_payloads.specs.declared.payload.Payload.{Payload}
 use Rattle.wasm_sections_payloads.specs.declared.payload.Payload.TheVariants as payloads
-use Rattle.wasm_sections_payloads.specs.Payloads.{IsPayloadOf}
-use Rattle.wasm_sections_payloads.specs.Walking.{is_end, Standing, IsFrameOf, NextPayload, payloads_left, Walks, ArePayloads}
+use Rattle.wasm_sections_payloads.specs.Payloads.{IsPayloadOf, IsRefusedAs}
+use Rattle.wasm_sections_payloads.specs.Walking.{is_end, Standing, IsFrameOf, IsFaultOf, NextPayload, payloads_left, Walks, ArePayloads}
 
 pub fewer_left : (p : Parser) (text : List ℕ) (f : Frame) (q : Parser) (rest : List ℕ) → IsFrameOf p text f q rest → payloads_left (is_end f) rest + 1 ≤ payloads_left false text
 fewer_left p text f q rest h = go (is_end f) refl
@@ -55,3 +58,15 @@ walk_ends ps p s u t first walk next over = go next.1.0 next.1.1 next.1.2 (sym n
     go (frames.Section id b) h i k = absurd cc
     go (frames.CodeStart n r k) h i l = absurd cc
     go (frames.CodeEntry b) h i k = absurd cc
+
+-- a whole module is refused only at a frame that is no payload
+pub walk_accepted : (ps : List Payload) (e : ErrorValue) (ys : List Shape) (s u t : Standing) → s.parser.progress ≡ fresh → s.parser.offset + length s.rest < 2 ^ 64 → IsModule (settings_of s.parser) s.rest ys
+    → Walks s ps u → is_over u.parser.progress ≡ false → NextPayload u (Some (Err e)) t → (f : Frame) × IsFrameOf u.parser u.rest f t.parser t.rest × IsRefusedAs f e
+walk_accepted ps e ys s u t first room m walk going next = go next.3
+  where
+    go : IsFaultOf u.parser u.rest e t.parser ⊎ ((f : Frame) × IsFrameOf u.parser u.rest f t.parser t.rest × IsRefusedAs f e) → (f : Frame) × IsFrameOf u.parser u.rest f t.parser t.rest × IsRefusedAs f e
+    go (inr h) = h
+    go (inl h) =
+        let calls = walk_calls ps s u walk in
+        let called : Called u.parser u.rest (Err e) t.parser = record { piece = u.rest; later = []; eof = true; whole = sym (append-nil u.rest); told = λ k. refl; parses = h } in
+        absurd (not_refused calls.0 s.parser u.parser t.parser s.rest u.rest e first calls.2 going called m.outer ys m.frames m.ordered m.counted m.counts room)

@@ -1,6 +1,6 @@
 //! What sections hold, over the constant expressions of this format.
 
-use wasm_operators_bodies::ConstExpr;
+use wasm_operators_bodies::{ConstExpr, FunctionBody};
 use wasm_sections_elements::{ElementItemsOf, ElementKindOf, ElementOf};
 use wasm_sections_imports::{Export, Import};
 use wasm_sections_limited::SectionLimited;
@@ -57,6 +57,9 @@ pub type ExportSectionReader<'a> = SectionLimited<'a, Export<'a>>;
 
 /// The segments of an element section.
 pub type ElementSectionReader<'a> = SectionLimited<'a, Element<'a>>;
+
+/// The bodies of a code section, in contents that are all there.
+pub type CodeSectionReader<'a> = SectionLimited<'a, FunctionBody<'a>>;
 
 /// The segments of a data section.
 pub type DataSectionReader<'a> = SectionLimited<'a, Data<'a>>;

@@ -66,8 +66,8 @@ pub enum Payload<'a> {
     CodeSectionStart {
         /// How many bodies follow.
         count: u32,
-        /// The offsets of the contents, the count too; they may end behind all that there is.
-        range: Range<u64>,
+        /// The offsets of the contents, the count too, by the size that was read: they may end behind all that there is.
+        unchecked_range: Range<u64>,
         /// The size of the contents in bytes, the count too.
         size: u32,
     },
@@ -173,9 +173,11 @@ impl<'a> Payload<'a> {
             }),
             Frame::Custom(section) => Ok(Payload::CustomSection(section)),
             Frame::Section { id, reader } => read_section(alloc, id, reader),
-            Frame::CodeStart { count, range, size } => {
-                Ok(Payload::CodeSectionStart { count, range, size })
-            }
+            Frame::CodeStart { count, range, size } => Ok(Payload::CodeSectionStart {
+                count,
+                unchecked_range: range,
+                size,
+            }),
             Frame::CodeEntry(reader) => {
                 Ok(Payload::CodeSectionEntry(FunctionBody::new(alloc, reader)))
             }

@@ -31,9 +31,8 @@ impl<'a> Model for ParseAll<'a> {
     ghost invariant = { λ s. s.parser.offset + length s.bytes.now < 2 ^ 64 };
 }
 
-/// The payloads of these bytes, as `parser` gives them, which is at the start of a module. What is read of them takes memory of
-/// `alloc`.
-pub fn parse_all<'a>(alloc: Global, parser: Parser, bytes: &'a [u8]) -> ParseAll<'a>
+/// The payloads of these bytes, as `parser` gives them. What is read of them takes memory of `alloc`.
+pub(crate) fn walk_from<'a>(alloc: Global, parser: Parser, bytes: &'a [u8]) -> ParseAll<'a>
     requires { parser.offset + length bytes.now < 2 ^ 64 }
     ensures { result ≡ record { parser = parser; rest = bytes.now; over = false } }
 {

@@ -31,7 +31,7 @@ pub struct DataOf<'a, E: Drop> {
     /// How it is used.
     pub kind: DataKindOf<E>,
     /// Its bytes.
-    pub data: &'a [u8],
+    pub bytes: &'a [u8],
     /// The offsets of all of it.
     pub range: Range<u64>,
 }
@@ -54,17 +54,17 @@ fn read_content<'a, E: FromReader<'a>>(
     start: u64,
     reader: &mut BinaryReader<'a>,
 ) -> Result<DataOf<'a, E>>
-    ensures answer { Gives (λ x. record { mode = mode_of E.view x.kind; content = x.«data».now }) result reader.new (content (mode_of E.view kind) reader.old) }
+    ensures answer { Gives (λ x. record { mode = mode_of E.view x.kind; content = x.bytes.now }) result reader.new (content (mode_of E.view kind) reader.old) }
     ensures range { IfOk result (λ x. x.range ≡ record { start = start; end = reader.new.place }) }
     ensures no_memory { NeedsNoMemory result }
     ensures forward { Reaches reader.old reader.new }
 {
-    let data = read_counted_bytes(reader)?;
+    let bytes = read_counted_bytes(reader)?;
     let range = Range {
         start,
         end: reader.original_position(),
     };
-    Ok(DataOf { kind, data, range })
+    Ok(DataOf { kind, bytes, range })
 }
 
 // The offset in a memory, and the bytes of a segment that begins at `start`.
@@ -75,7 +75,7 @@ fn read_placed<'a, E: FromReader<'a>>(
     alloc: Global,
     reader: &mut BinaryReader<'a>,
 ) -> Result<DataOf<'a, E>>
-    ensures answer { Gives (λ x. record { mode = mode_of E.view x.kind; content = x.«data».now }) result reader.new (placed_in (E.decoder reader.old.settings) memory_index reader.old) }
+    ensures answer { Gives (λ x. record { mode = mode_of E.view x.kind; content = x.bytes.now }) result reader.new (placed_in (E.decoder reader.old.settings) memory_index reader.old) }
     ensures range { IfOk result (λ x. x.range ≡ record { start = start; end = reader.new.place }) }
     ensures memory { MemoryOnlyIf E.takes_memory result }
     ensures forward { Reaches reader.old reader.new }
@@ -96,7 +96,7 @@ impl<'a, E: FromReader<'a>> FromReader<'a> for DataOf<'a, E> {
 
     ghost Value = { DataTree E.Value };
 
-    ghost view = { λ x. record { mode = mode_of E.view x.kind; content = x.«data».now } };
+    ghost view = { λ x. record { mode = mode_of E.view x.kind; content = x.bytes.now } };
 
     ghost decoder = { λ z. data_segment (E.decoder z) };
 
@@ -110,7 +110,7 @@ impl<'a, E: FromReader<'a>> FromReader<'a> for DataOf<'a, E> {
 
     #[tactic(auto, using(wasm_types::specs::Laws::reaches_self, wasm_types::specs::Laws::reaches_then), unfolding(crate::specs::Decode::data_segment))]
     fn from_reader(alloc: Global, reader: &mut BinaryReader<'a>) -> Result<DataOf<'a, E>>
-        ensures answer { Gives (λ x. record { mode = mode_of E.view x.kind; content = x.«data».now }) result reader.new (data_segment (E.decoder reader.old.settings) reader.old) }
+        ensures answer { Gives (λ x. record { mode = mode_of E.view x.kind; content = x.bytes.now }) result reader.new (data_segment (E.decoder reader.old.settings) reader.old) }
         ensures memory { MemoryOnlyIf E.takes_memory result }
         ensures forward { Reaches reader.old reader.new }
         ensures range { IfOk result (λ x. x.range ≡ record { start = reader.old.place; end = reader.new.place }) }

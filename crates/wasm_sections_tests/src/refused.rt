@@ -1,8 +1,7 @@
 //! What refusals of items and of external types tell.
 use std::process::Abort;
 use std::test::Fail;
-use wasm_sections_imports::Import;
-use wasm_sections_segments::{DataOf, GlobalOf};
+use wasm_sections::{DataOf, GlobalOf, Import};
 use wasm_types::{BinaryReader, FromReader, MemoryType, Result, TableType, TagType};
 
 // This type is refused at this offset with this message.

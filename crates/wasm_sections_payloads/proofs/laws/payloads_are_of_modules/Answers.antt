@@ -1,5 +1,5 @@
 -- By the laws of walks.
-use Rattle.wasm_sections_payloads.specs.WalkLaws.{walk_calls, walk_ends}
+use Rattle.wasm_sections_payloads.specs.WalkLaws.{walk_calls, walk_ends, walk_accepted}
 use Rattle.wasm_sections_payloads.proofs.laws.payloads_are_of_modules.Goals as goal
 
 pub returns-clause-calls : goal.returns-clause-calls
@@ -7,3 +7,6 @@ returns-clause-calls c = walk_calls
 
 pub returns-clause-ends : goal.returns-clause-ends
 returns-clause-ends c = walk_ends
+
+pub returns-clause-accepted : goal.returns-clause-accepted
+returns-clause-accepted c = walk_accepted

@@ -1,0 +1,116 @@
+-- Calls that give payloads are calls that give their frames, and the other way round.
+use Rattle.std.proofs.Common.{◌≡◌, ◌⊎◌, ℕ, ◌+◌, ◌<◌, ◌^◌, List, [], ◌∷◌, length, drop, refl, sym, ap, ◌∙◌, subst, Bool, true, false, Result, Ok, Err, inl, inr}
+use Rattle.wasm_types.specs.error.declared.error.ErrorKind.TheVariants.{Failed}
+use Rattle.wasm_types.specs.error.ErrorValue.{ErrorValue}
+use Rattle.wasm_sections_parser.specs.declared.frame.Frame.{Frame}
+use Rattle.wasm_sections_parser.specs.declared.frame.Frame.TheVariants as frames
+use Rattle.wasm_sections_parser.specs.declared.parser.Parser.{Parser}
+use Rattle.wasm_sections_parser.specs.declared.parser.Chunk.TheVariants as raw
+use Rattle.wasm_sections_parser.specs.declared.progress.Stage.TheVariants as stages
+use Rattle.wasm_sections_parser.specs.Steps.{Shape, is_over}
+use Rattle.wasm_sections_parser.specs.Parsing.{at_end, staged, Ends, Comes, IsOver, one_of, Parses}
+use Rattle.wasm_sections_parser_laws.specs.Runs.{fresh}
+use Rattle.wasm_sections_parser_laws.specs.Calls.{settings_of, shapes_of, Called, Calls}
+use Rattle.wasm_sections_parser_laws.specs.Modules.{IsModule}
+use Rattle.wasm_sections_parser_laws.specs.ModuleLaws.{end_given}
+use Rattle.wasm_sections_parser_laws.specs.RefusalLaws.{not_refused}
+use Rattle.wasm_sections_payloads.specs.declared.payload.Payload.{Payload}
+use Rattle.wasm_sections_payloads.specs.declared.payload.Payload.TheVariants as payloads
+use Rattle.wasm_sections_payloads.specs.declared.parser.Chunk.{Chunk}
+use Rattle.wasm_sections_payloads.specs.declared.parser.Chunk.TheVariants.{NeedMoreData, Parsed}
+use Rattle.wasm_sections_payloads.specs.Payloads.{IsPayloadOf, IsRefusedAs}
+use Rattle.wasm_sections_payloads.specs.Parsing.{IsUnreadable, ParsesPayload, FailedBefore, CalledPayload, PayloadCalls}
+use Rattle.wasm_sections_payloads.specs.Walking.{ArePayloads}
+
+-- ---- one call
+
+-- the call that gives the frame
+frame_called : (p : Parser) (text : List ℕ) (n : ℕ) (x : Payload) (q : Parser) (h : CalledPayload p text (Ok (Parsed n x)) q) → Called p text (Ok (raw.Parsed n h.parses.0)) q
+frame_called p text n x q h = record { piece = h.piece; later = h.later; eof = h.eof; whole = h.whole; told = h.told; parses = h.parses.1 }
+
+-- the call that gives the payload of a frame
+payload_called : (p : Parser) (text : List ℕ) (n : ℕ) (f : Frame) (x : Payload) (q : Parser) → Called p text (Ok (raw.Parsed n f)) q → IsPayloadOf f x → CalledPayload p text (Ok (Parsed n x)) q
+payload_called p text n f x q h is = record { piece = h.piece; later = h.later; eof = h.eof; whole = h.whole; told = h.told; parses = (f, h.parses, is) }
+
+-- where more bytes are needed the parser stays
+pub asked_stays : (p : Parser) (text : List ℕ) (eof : Bool) (n : ℕ) (q : Parser) → Parses p text eof (Ok (raw.NeedMoreData n)) q → q ≡ p
+asked_stays p text eof n q h = go (is_over p.progress) h
+  where
+    between : (b : Bool) → one_of b (Ends p eof (Ok (raw.NeedMoreData n)) q) (Comes p text eof (Ok (raw.NeedMoreData n)) q) → q ≡ p
+    between true g = g.2
+    between false g = g.2
+
+    go : (b : Bool) → one_of b (IsOver p (Ok (raw.NeedMoreData n)) q) (one_of (at_end p text) (Ends p eof (Ok (raw.NeedMoreData n)) q) (Comes p text eof (Ok (raw.NeedMoreData n)) q)) → q ≡ p
+    go true g = absurd g
+    go false g = between (at_end p text) g
+
+-- ---- many calls
+
+pub calls_of_frames : (xs : List Payload) (p q : Parser) (text rest : List ℕ) → PayloadCalls p text xs q rest → (fs : List Frame) × ArePayloads fs xs × Calls p text fs q rest
+calls_of_frames [] p q text rest h = ([], tt, h)
+calls_of_frames (x ∷ xs) p q text rest h =
+    let others = calls_of_frames xs h.1 q (drop h.0 text) rest h.3 in
+    (h.2.parses.0 ∷ others.0, (h.2.parses.2, others.1), (h.0, h.1, frame_called p text h.0 x h.1 h.2, others.2))
+
+pub calls_of_payloads : (fs : List Frame) (xs : List Payload) (p q : Parser) (text rest : List ℕ) → Calls p text fs q rest → ArePayloads fs xs → PayloadCalls p text xs q rest
+calls_of_payloads [] [] p q text rest h is = h
+calls_of_payloads [] (x ∷ xs) p q text rest h is = absurd is
+calls_of_payloads (f ∷ fs) [] p q text rest h is = absurd is
+calls_of_payloads (f ∷ fs) (x ∷ xs) p q text rest h is = (h.0, h.1, payload_called p text h.0 f x h.1 h.2 is.0, calls_of_payloads fs xs h.1 q (drop h.0 text) rest h.3 is.1)
+
+-- ---- the end
+
+place_is : (k m : ℕ) → payloads.End m ≡ payloads.End k → m ≡ k
+place_is k m e = cc
+
+-- the end comes only behind a whole module, and what came before it are the payloads of its frames
+pub end_of_payloads : (p q r : Parser) (text rest : List ℕ) (xs : List Payload) (n place : ℕ) → p.progress ≡ fresh → PayloadCalls p text xs q rest → CalledPayload q rest (Ok (Parsed n (payloads.End place))) r
+    → (fs : List Frame) × ArePayloads fs xs × IsModule (settings_of p) text (shapes_of fs) × (rest ≡ []) × (place ≡ p.offset + length text)
+end_of_payloads p q r text rest xs n place first calls last = go last.parses.0 (frame_called q rest n (payloads.End place) r last) last.parses.2
+  where
+    go : (f : Frame) → Called q rest (Ok (raw.Parsed n f)) r → IsPayloadOf f (payloads.End place) → (fs : List Frame) × ArePayloads fs xs × IsModule (settings_of p) text (shapes_of fs) × (rest ≡ []) × (place ≡ p.offset + length text)
+    go (frames.End k) h is =
+        let given = calls_of_frames xs p q text rest calls in
+        let m = end_given given.0 p q r text rest n k first given.2 h in
+        (given.0, given.1, m.0, m.1, place_is k place is ∙ m.2)
+    go (frames.Version v e s) h is = absurd cc
+    go (frames.Custom c) h is = absurd cc
+    go (frames.Section id b) h is = absurd is
+    go (frames.CodeStart v s k) h is = absurd cc
+    go (frames.CodeEntry b) h is = absurd cc
+
+-- a whole module is refused only at a frame that is no payload
+pub refused_at_payload : (p q r : Parser) (text rest : List ℕ) (xs : List Payload) (ys : List Shape) (e : ErrorValue) → p.progress ≡ fresh → p.offset + length text < 2 ^ 64 → IsModule (settings_of p) text ys
+    → PayloadCalls p text xs q rest → is_over q.progress ≡ false → CalledPayload q rest (Err e) r → (n : ℕ) × (f : Frame) × (v : Parser) × Called q rest (Ok (raw.Parsed n f)) v × IsRefusedAs f e
+refused_at_payload p q r text rest xs ys e first room m calls going last = go last.parses
+  where
+    go : Parses q last.piece last.eof (Err e) r ⊎ IsUnreadable q last.piece last.eof e r → (n : ℕ) × (f : Frame) × (v : Parser) × Called q rest (Ok (raw.Parsed n f)) v × IsRefusedAs f e
+    go (inl h) =
+        let given = calls_of_frames xs p q text rest calls in
+        let refused : Called q rest (Err e) r = record { piece = last.piece; later = last.later; eof = last.eof; whole = last.whole; told = last.told; parses = h } in
+        absurd (not_refused given.0 p q r text rest e first given.2 going refused m.outer ys m.frames m.ordered m.counted m.counts room)
+    go (inr h) = (h.size, h.frame, h.behind, record { piece = last.piece; later = last.later; eof = last.eof; whole = last.whole; told = last.told; parses = h.parses }, h.refused)
+
+-- ---- behind a refusal and behind the end
+
+-- a refused parser has failed
+pub refused_is_over : (p : Parser) (text : List ℕ) (eof : Bool) (e : ErrorValue) (q : Parser) → ParsesPayload p text eof (Err e) q → is_over q.progress ≡ true
+refused_is_over p text eof e q (inr h) = ap (λ (v : Parser). is_over v.progress) h.failed
+refused_is_over p text eof e q (inl h) = go (is_over p.progress) refl h
+  where
+    failed : (v : Parser) → v ≡ staged p stages.Failed → is_over v.progress ≡ true
+    failed v s = ap (λ (w : Parser). is_over w.progress) s
+
+    between : (b : Bool) → one_of b (Ends p eof (Err e) q) (Comes p text eof (Err e) q) → is_over q.progress ≡ true
+    between true g = failed q g.4
+    between false g = failed q g.3
+
+    go : (b : Bool) → is_over p.progress ≡ b → one_of b (IsOver p (Err e) q) (one_of (at_end p text) (Ends p eof (Err e) q) (Comes p text eof (Err e) q)) → is_over q.progress ≡ true
+    go true s g = ap (λ (v : Parser). is_over v.progress) g.1 ∙ s
+    go false s g = between (at_end p text) g
+
+pub nothing_after : (p : Parser) (text : List ℕ) (eof : Bool) (r : Result Chunk ErrorValue) (q : Parser) → is_over p.progress ≡ true → ParsesPayload p text eof r q → FailedBefore p r q
+nothing_after p text eof (Ok (NeedMoreData n)) q over h = rw over at h
+nothing_after p text eof (Ok (Parsed n x)) q over h = let k = h.1 in rw over at k
+nothing_after p text eof (Err e) q over (inl h) = rw over at h
+nothing_after p text eof (Err e) q over (inr h) = let k = h.parses in absurd (rw over at k)
