@@ -94,4 +94,11 @@ impl OperatorValidator {
     {
         self.locals.get(local_index)
     }
+    /// Whether the function is shared: then it may use what is shared alone (the proposal on shared everything).
+    #[inline]
+    pub fn is_shared(&self) -> bool
+        ensures { result ≡ self.now.given.shared }
+    {
+        self.shared
+    }
 }

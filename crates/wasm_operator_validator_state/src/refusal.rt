@@ -35,6 +35,8 @@ pub enum Refusal {
     UninitializedLocal { local_index: u32 },
     /// The index names nothing of this kind.
     Unknown { space: Space, index: u32 },
+    /// The operand on top is no reference.
+    ExpectedReference { found: MaybeType },
     /// For another reason.
     Because(Reason),
 }
@@ -79,6 +81,28 @@ pub enum Reason {
     NotShared,
     /// A value type names a type that the module does not have.
     UnknownType,
+    /// The alignment is larger than the natural one.
+    Alignment,
+    /// The alignment of an atomic access is not the natural one.
+    AtomicAlignment,
+    /// The offset is no address of the memory.
+    OffsetOutOfRange,
+    /// The argument reaches into an array.
+    ArrayTarget,
+    /// The global is constant.
+    ImmutableGlobal,
+    /// The data count section is missing.
+    NoDataCount,
+    /// No element segment, export or initial value names the function.
+    UndeclaredFunction,
+    /// The elements don't fit the table.
+    ElementTypes,
+    /// A choice without a type is between references.
+    SelectOfReferences,
+    /// A choice is between operands of two types.
+    SelectOfTypes,
+    /// A choice is of no type or of several.
+    SelectArity,
 }
 
 impl Refusal {
@@ -107,6 +131,7 @@ impl Refusal {
             Refusal::UnknownLocal { local_index } => unknown_local(offset, local_index),
             Refusal::UninitializedLocal { local_index } => uninitialized_local(offset, local_index),
             Refusal::Unknown { space, index } => unknown(offset, space, index),
+            Refusal::ExpectedReference { found } => expected_reference(offset, found),
             Refusal::Because(reason) => Error::new(reason_text(reason), offset),
         }
     }
@@ -198,5 +223,33 @@ fn reason_text(reason: Reason) -> &'static str {
         Reason::NotFunctions => "indirect calls must go through a table with type <= funcref",
         Reason::NotShared => "shared functions cannot access unshared items",
         Reason::UnknownType => "unknown type: type index out of bounds",
+        Reason::Alignment => "malformed memop alignment: alignment must not be larger than natural",
+        Reason::AtomicAlignment => "atomic instructions must always specify maximum alignment",
+        Reason::OffsetOutOfRange => "offset out of range: must be <= 2**32",
+        Reason::ArrayTarget => "an access to a memory reaches into an array",
+        Reason::ImmutableGlobal => "global is immutable: cannot modify it with `global.set`",
+        Reason::NoDataCount => "data count section required",
+        Reason::UndeclaredFunction => "undeclared function reference",
+        Reason::ElementTypes => "type mismatch: the elements don't fit the table",
+        Reason::SelectOfReferences => "type mismatch: select only takes integral types",
+        Reason::SelectOfTypes => "type mismatch: select operands have different types",
+        Reason::SelectArity => "invalid result arity",
+    }
+}
+
+#[cold]
+fn expected_reference(offset: u64, found: MaybeType) -> Error
+    ensures kind { result.kind ≡ Other }
+    ensures offset { result.offset ≡ offset }
+{
+    match found {
+        MaybeType::Bottom | MaybeType::UnknownRef(_) => Error::new(
+            "type mismatch: expected a reference",
+            offset,
+        ),
+        MaybeType::Known(found) => Error::fmt(
+            format_args!("type mismatch: expected ref but found {found}"),
+            offset,
+        ),
     }
 }

@@ -30,7 +30,7 @@ Least m σ o τ = (popped pushed rest : List Operand) → RowAt m σ o popped pu
 abbrev pub Unfit : Meaning → State → Op → Type 0
 Unfit m σ o = (popped pushed rest : List Operand) → RowAt m σ o popped pushed → Stacks m σ (reverse popped ++ rest) → ⊥
 
-row_image : (m : Meaning) (σ τ : State) (o : Op) → SameFrames σ.opens τ.opens → Reached m σ o τ → Least m σ o τ → (n : List Operand) → Stacks m τ n ↔ Image m σ o n
+pub row_image : (m : Meaning) (σ τ : State) (o : Op) → SameFrames σ.opens τ.opens → Reached m σ o τ → Least m σ o τ → (n : List Operand) → Stacks m τ n ↔ Image m σ o n
 row_image m σ τ o b reached least n = (
   λ c. let (popped, pushed, rest, row, d, l) = reached n c in
       (reverse popped ++ rest, reverse pushed ++ rest, d, (popped, pushed, rest, row, all_below_refl (reverse popped ++ rest), refl), l),

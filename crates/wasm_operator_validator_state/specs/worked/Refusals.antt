@@ -23,3 +23,4 @@ pub record RefusalsWorked : Type 0 where
   pub unset : (x : ℕ) → kind_of (refusals.UninitializedLocal x) ≡ kinds.Other
   pub unknown : (x : ℕ) → kind_of (refusals.Unknown spaces.Memory x) ≡ kinds.Other
   pub because : kind_of (refusals.Because reasons.ElseOutsideIf) ≡ kinds.Other
+  pub no_reference : kind_of (refusals.ExpectedReference maybe.Bottom) ≡ kinds.Other

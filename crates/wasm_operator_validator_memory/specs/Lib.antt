@@ -1,0 +1,2 @@
+-- Which accesses a memory allows.
+pub mod Reaching
