@@ -1,15 +1,13 @@
-//! What the check of every operator begins with, and how a check is proved where the module determines the operator's type.
+//! How a check is proved where the module determines the operator's type, and what checks share.
 //!
-//! `specs/Beginning.antt` says whether operators of a proposal may come at all; `specs/laws/Determined.antt` how the promise of a check
-//! (`Decides` of `wasm_operator_validator_state`) follows from its steps and an equation of the table of instruction types.
+//! `specs/laws/Determined.antt` says how the promise of a check (`Checks` of `wasm_operator_validator_state`) follows from its steps and
+//! an equation of the table of instruction types. An operator owes that equation alone.
 #![tactic(auto)]
 
-mod beginning;
 mod copying;
 mod refusals;
 mod shared;
 
-pub use beginning::begin;
 pub use copying::copied;
 pub use refusals::refusal_of;
 pub use shared::{may_use, may_use_type};

@@ -2,7 +2,7 @@
 
 ghost use Rattle.std.specs.Prelude.{◌≡◌};
 ghost use Rattle.wasm_operator_validator_state.specs.Refusals.{kind_of};
-ghost use Rattle.wasm_operator_validator_determined.specs.Beginning.{refusal_kind};
+ghost use Rattle.wasm_operator_validator_determined.specs.Operators.{refusal_kind};
 
 use wasm_operator_validator_state::{Refusal, Space};
 use wasm_types::{Error, ErrorKind, HeapType, UnpackedIndex, ValType};
@@ -26,7 +26,7 @@ fn unknown_type(written: &ValType) -> Refusal
     ensures { kind_of result ≡ refusal_kind ErrorKind.Other }
 {
     Refusal::Unknown {
-        space: Space::Types,
+        space: Space::Type,
         index: index_in(written),
     }
 }

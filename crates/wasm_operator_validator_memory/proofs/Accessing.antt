@@ -17,7 +17,7 @@ use Rattle.wasm_operator_validator_rules.specs.InstructionTypes.{InstructionType
 use Rattle.wasm_operator_validator_rules.specs.Row.{float_access}
 use Rattle.wasm_operator_validator_resources.specs.Meaning.{Meaning, type_in}
 use Rattle.wasm_operator_validator_state.specs.State.{State, context, types_in}
-use Rattle.wasm_operator_validator_determined.specs.Beginning.{IsInTable}
+use Rattle.wasm_operator_validator_determined.specs.Operators.{IsInTable}
 use Rattle.wasm_operator_validator_determined.specs.laws.Types.{number_in, address_is}
 use Rattle.wasm_operator_validator_memory.specs.Reaching.{reached, number_of, IsAccess}
 

@@ -2,7 +2,6 @@
 use Rattle.std.proofs.Common.{◌≡◌, ◌↔◌, ◌∙◌, ◌&&◌, ℕ, List, [], ◌∷◌, Bool, true, false, Option, Some, None, Result, Ok, Err, MatchResult, refl, sym, ap, slice_get}
 use Rattle.wasm_types.specs.externs.Addresses as addresses
 use Rattle.wasm_types.specs.externs.declared.memory.MemoryType.{MemoryType}
-use Rattle.wasm_types.specs.error.DenialLaws.{denies}
 use Rattle.wasm_types.specs.values.declared.value.ValType.{ValType}
 use Rattle.wasm_types.specs.values.declared.value.ValType.TheVariants as vals
 use Rattle.wasm_operators_expression.specs.info.declared.proposal.Proposal.{Proposal}
@@ -18,11 +17,13 @@ use Rattle.wasm_operator_validator_rules.specs.InstructionTypes.{InstructionType
 use Rattle.wasm_operator_validator_rules.specs.Row.{BulkRow, TableRow}
 use Rattle.wasm_operator_validator_resources.specs.Meaning.{Meaning, type_in}
 use Rattle.wasm_operator_validator_state.specs.Refusals.{kind_of, refused}
-use Rattle.wasm_operator_validator_state.specs.State.{State, context, types_in, Decides}
+use Rattle.wasm_operator_validator_state.specs.State.{State, context, types_in, Checks}
 use Rattle.wasm_operator_validator_state.specs.declared.refusal.Refusal.{Refusal}
-use Rattle.wasm_operator_validator_determined.specs.Beginning.{Begins, IsInTable}
+use Rattle.wasm_operator_validator_state.specs.Entering.{MayBegin}
+use Rattle.wasm_operator_validator_determined.specs.Operators.{IsInTable}
 use Rattle.wasm_operator_validator_determined.specs.laws.Types.{i32_in, address_is}
-use Rattle.wasm_operator_validator_determined.specs.laws.Determined.{undetermined, unchanged, determined}
+use Rattle.wasm_operator_validator_determined.specs.laws.Same.{stays_refl}
+use Rattle.wasm_operator_validator_determined.specs.laws.Determined.{refused_here, undetermined, unchanged, determined}
 
 -- ---- which are in the table
 
@@ -138,10 +139,11 @@ init_no_data m σ d x t e f =
     at (memory_of m x) t (initialised_by m d) e ∙ ap (λ (b : Bool). provided b (address_type t.memory64 ∷ i32_type ∷ i32_type ∷ [] ⟶ [])) f
 
 -- `data.drop` changes nothing
-pub data_dropped : {X : Type 0} (r : Result X Refusal) (m : Meaning) (σ : State) (d : ℕ) → Begins σ BulkMemory false
+pub data_dropped : {X : Type 0} (r : Result X Refusal) (m : Meaning) (σ : State) (d : ℕ) → MayBegin σ BulkMemory false
     → MatchResult r (λ x. names_data m.«module».data_count d ≡ true) (λ x. names_data m.«module».data_count d ≡ false)
-    → Decides m σ (op.Bulk (bulk.DataDrop d)) (refused r) σ
+    → Checks m σ (op.Bulk (bulk.DataDrop d)) (refused r) σ
 data_dropped (Ok x) m σ d b e =
-    determined None m σ σ (op.Bulk (bulk.DataDrop d)) BulkMemory false [] [] (drop_in_table d) b (ap (λ (v : Bool). provided v ([] ⟶ [])) e) (unchanged m σ b.opened)
+    determined None m σ σ (op.Bulk (bulk.DataDrop d)) BulkMemory false [] [] (drop_in_table d) b (ap (λ (v : Bool). provided v ([] ⟶ [])) e) (unchanged m σ b.framed) (stays_refl σ)
 data_dropped (Err x) m σ d b e =
-    denies (kind_of x) _ (undetermined m σ (op.Bulk (bulk.DataDrop d)) BulkMemory false (drop_in_table d) b (ap (λ (v : Bool). provided v ([] ⟶ [])) e))
+    refused_here (kind_of x) m σ (op.Bulk (bulk.DataDrop d)) BulkMemory false b
+    (undetermined m σ (op.Bulk (bulk.DataDrop d)) BulkMemory false (drop_in_table d) b (ap (λ (v : Bool). provided v ([] ⟶ [])) e))

@@ -2,12 +2,11 @@
 
 ghost use Rattle.wasm_operators_expression.specs.operator.Op.{Op};
 ghost use Rattle.wasm_operator_validator_rules.specs.Accesses.{load, store};
-ghost use Rattle.wasm_operator_validator_state.specs.State.{Decides};
+ghost use Rattle.wasm_operator_validator_state.specs.State.{Checks};
 ghost use Rattle.wasm_operator_validator_state.specs.Refusals.{refused};
 ghost use Rattle.wasm_operator_validator_memory.specs.Reaching.{IsAccess};
 
 use crate::reaching::reach;
-use wasm_operator_validator_determined::begin;
 use wasm_operator_validator_resources::WasmModuleResources;
 use wasm_operator_validator_stacks::OperatorValidator;
 use wasm_operator_validator_state::Refusal;
@@ -25,10 +24,10 @@ pub fn check_load<R: WasmModuleResources>(
     ty: &ValType,
 ) -> Result<(), Refusal>
     requires { IsAccess load op memarg.now floats ty.now }
-    ensures { Decides (R.meaning resources.now) validator.old (Op.Memory op) (refused result) validator.new }
+    ensures { Checks (R.meaning resources.now) validator.old (Op.Memory op) (refused result) validator.new }
 {
     let _op = op;
-    match begin(validator, Proposal::Mvp, floats) {
+    match validator.begin(Proposal::Mvp, floats) {
         Ok(()) => (),
         Err(refusal) => return Err(refusal),
     }
@@ -50,10 +49,10 @@ pub fn check_store<R: WasmModuleResources>(
     ty: &ValType,
 ) -> Result<(), Refusal>
     requires { IsAccess store op memarg.now floats ty.now }
-    ensures { Decides (R.meaning resources.now) validator.old (Op.Memory op) (refused result) validator.new }
+    ensures { Checks (R.meaning resources.now) validator.old (Op.Memory op) (refused result) validator.new }
 {
     let _op = op;
-    match begin(validator, Proposal::Mvp, floats) {
+    match validator.begin(Proposal::Mvp, floats) {
         Ok(()) => (),
         Err(refusal) => return Err(refusal),
     }

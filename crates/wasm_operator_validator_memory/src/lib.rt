@@ -1,7 +1,7 @@
 //! Loads and stores, memories and data segments.
 //!
 //! Each check decides its operator: it is not refused exactly where the operator may come, out of memory aside, and leaves what may
-//! follow (`Decides` of `wasm_operator_validator_state`). `specs/Reaching.antt` says which accesses a memory allows.
+//! follow (`Checks` of `wasm_operator_validator_state`). `specs/Reaching.antt` says which accesses a memory allows.
 #![tactic(auto)]
 
 mod accesses;

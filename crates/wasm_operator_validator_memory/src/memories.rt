@@ -4,10 +4,9 @@ ghost use Rattle.std.specs.Prelude.{◌≡◌, ◌&&◌, true, false, slice_get,
 ghost use Rattle.wasm_types.specs.externs.Addresses.{address_type};
 ghost use Rattle.wasm_operators_expression.specs.operator.Op.{Op};
 ghost use Rattle.wasm_operator_validator_rules.specs.InstructionTypes.{names_data};
-ghost use Rattle.wasm_operator_validator_state.specs.State.{Decides};
+ghost use Rattle.wasm_operator_validator_state.specs.State.{Checks};
 ghost use Rattle.wasm_operator_validator_state.specs.Refusals.{refused};
 
-use wasm_operator_validator_determined::begin;
 use wasm_operator_validator_resources::WasmModuleResources;
 use wasm_operator_validator_stacks::OperatorValidator;
 use wasm_operator_validator_state::{Reason, Refusal, Space};
@@ -20,9 +19,9 @@ pub fn check_memory_size<R: WasmModuleResources>(
     resources: &R,
     mem: u32,
 ) -> Result<(), Refusal>
-    ensures { Decides (R.meaning resources.now) validator.old (Op.Memory (MemoryOperator.MemorySize mem)) (refused result) validator.new }
+    ensures { Checks (R.meaning resources.now) validator.old (Op.Memory (MemoryOperator.MemorySize mem)) (refused result) validator.new }
 {
-    match begin(validator, Proposal::Mvp, false) {
+    match validator.begin(Proposal::Mvp, false) {
         Ok(()) => (),
         Err(refusal) => return Err(refusal),
     }
@@ -39,9 +38,9 @@ pub fn check_memory_grow<R: WasmModuleResources>(
     resources: &R,
     mem: u32,
 ) -> Result<(), Refusal>
-    ensures { Decides (R.meaning resources.now) validator.old (Op.Memory (MemoryOperator.MemoryGrow mem)) (refused result) validator.new }
+    ensures { Checks (R.meaning resources.now) validator.old (Op.Memory (MemoryOperator.MemoryGrow mem)) (refused result) validator.new }
 {
-    match begin(validator, Proposal::Mvp, false) {
+    match validator.begin(Proposal::Mvp, false) {
         Ok(()) => (),
         Err(refusal) => return Err(refusal),
     }
@@ -58,9 +57,9 @@ pub fn check_memory_fill<R: WasmModuleResources>(
     resources: &R,
     mem: u32,
 ) -> Result<(), Refusal>
-    ensures { Decides (R.meaning resources.now) validator.old (Op.Bulk (BulkOperator.MemoryFill mem)) (refused result) validator.new }
+    ensures { Checks (R.meaning resources.now) validator.old (Op.Bulk (BulkOperator.MemoryFill mem)) (refused result) validator.new }
 {
-    match begin(validator, Proposal::BulkMemoryOpt, false) {
+    match validator.begin(Proposal::BulkMemoryOpt, false) {
         Ok(()) => (),
         Err(refusal) => return Err(refusal),
     }
@@ -81,9 +80,9 @@ pub fn check_memory_copy<R: WasmModuleResources>(
     dst_mem: u32,
     src_mem: u32,
 ) -> Result<(), Refusal>
-    ensures { Decides (R.meaning resources.now) validator.old (Op.Bulk (BulkOperator.MemoryCopy dst_mem src_mem)) (refused result) validator.new }
+    ensures { Checks (R.meaning resources.now) validator.old (Op.Bulk (BulkOperator.MemoryCopy dst_mem src_mem)) (refused result) validator.new }
 {
-    match begin(validator, Proposal::BulkMemoryOpt, false) {
+    match validator.begin(Proposal::BulkMemoryOpt, false) {
         Ok(()) => (),
         Err(refusal) => return Err(refusal),
     }
@@ -112,9 +111,9 @@ pub fn check_memory_init<R: WasmModuleResources>(
     data_index: u32,
     mem: u32,
 ) -> Result<(), Refusal>
-    ensures { Decides (R.meaning resources.now) validator.old (Op.Bulk (BulkOperator.MemoryInit data_index mem)) (refused result) validator.new }
+    ensures { Checks (R.meaning resources.now) validator.old (Op.Bulk (BulkOperator.MemoryInit data_index mem)) (refused result) validator.new }
 {
-    match begin(validator, Proposal::BulkMemory, false) {
+    match validator.begin(Proposal::BulkMemory, false) {
         Ok(()) => (),
         Err(refusal) => return Err(refusal),
     }
@@ -138,9 +137,9 @@ pub fn check_data_drop<R: WasmModuleResources>(
     resources: &R,
     data_index: u32,
 ) -> Result<(), Refusal>
-    ensures { Decides (R.meaning resources.now) validator.old (Op.Bulk (BulkOperator.DataDrop data_index)) (refused result) validator.new }
+    ensures { Checks (R.meaning resources.now) validator.old (Op.Bulk (BulkOperator.DataDrop data_index)) (refused result) validator.new }
 {
-    match begin(validator, Proposal::BulkMemory, false) {
+    match validator.begin(Proposal::BulkMemory, false) {
         Ok(()) => (),
         Err(refusal) => return Err(refusal),
     }
@@ -153,9 +152,9 @@ pub fn check_memory_discard<R: WasmModuleResources>(
     resources: &R,
     mem: u32,
 ) -> Result<(), Refusal>
-    ensures { Decides (R.meaning resources.now) validator.old (Op.Bulk (BulkOperator.MemoryDiscard mem)) (refused result) validator.new }
+    ensures { Checks (R.meaning resources.now) validator.old (Op.Bulk (BulkOperator.MemoryDiscard mem)) (refused result) validator.new }
 {
-    match begin(validator, Proposal::MemoryControl, false) {
+    match validator.begin(Proposal::MemoryControl, false) {
         Ok(()) => (),
         Err(refusal) => return Err(refusal),
     }
@@ -173,7 +172,7 @@ fn find_memory<R: WasmModuleResources>(resources: &R, at: u32) -> Result<MemoryT
     match resources.memory_at(at) {
         Some(memory) => Ok(memory),
         None => Err(Refusal::Unknown {
-            space: Space::Memories,
+            space: Space::Memory,
             index: at,
         }),
     }
@@ -186,9 +185,7 @@ fn find_data<R: WasmModuleResources>(resources: &R, at: u32) -> Result<(), Refus
     let count = match resources.data_count() {
         Some(count) => count,
         None => {
-            return Err(Refusal::Invalid {
-                reason: Reason::NoDataCount,
-            });
+            return Err(Refusal::Because(Reason::NoDataCount));
         }
     };
     if at < count {

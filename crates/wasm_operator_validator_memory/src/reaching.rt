@@ -23,25 +23,19 @@ pub fn reach<R: WasmModuleResources>(
         Some(memory) => memory,
         None => {
             return Err(Refusal::Unknown {
-                space: Space::Memories,
+                space: Space::Memory,
                 index: memarg.memory,
             });
         }
     };
     if !has_alignment(is_atomic, memarg) {
-        return Err(Refusal::Invalid {
-            reason: alignment_reason(is_atomic),
-        });
+        return Err(Refusal::Because(alignment_reason(is_atomic)));
     }
     if !has_offset(memory.memory64, memarg.offset) {
-        return Err(Refusal::Invalid {
-            reason: Reason::OffsetOutOfRange,
-        });
+        return Err(Refusal::Because(Reason::OffsetOutOfRange));
     }
     if !reaches_memory(memarg.target) {
-        return Err(Refusal::Invalid {
-            reason: Reason::ArrayTarget,
-        });
+        return Err(Refusal::Because(Reason::ArrayTarget));
     }
     Ok(memory.index_type())
 }

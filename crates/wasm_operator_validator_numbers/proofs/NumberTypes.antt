@@ -13,7 +13,7 @@ use Rattle.wasm_operator_validator_rules.specs.Numbers.{class_of, taken_by, give
 use Rattle.wasm_operator_validator_rules.specs.InstructionTypes.{◌⟶◌, instruction_type}
 use Rattle.wasm_operator_validator_resources.specs.Meaning.{Meaning, type_in}
 use Rattle.wasm_operator_validator_state.specs.State.{State, context, types_in}
-use Rattle.wasm_operator_validator_determined.specs.Beginning.{IsInTable}
+use Rattle.wasm_operator_validator_determined.specs.Operators.{IsInTable}
 use Rattle.wasm_operator_validator_determined.specs.laws.Types.{number_in, numbers_in}
 use Rattle.wasm_operator_validator_numbers.specs.Numbers.{IsNumeric, IsConstant}
 

@@ -1,11 +1,10 @@
 //! Operators on numbers by their types.
 
 ghost use Rattle.wasm_operators_visit.specs.operator.Op.{Op};
-ghost use Rattle.wasm_operator_validator_state.specs.State.{Decides};
+ghost use Rattle.wasm_operator_validator_state.specs.State.{Checks};
 ghost use Rattle.wasm_operator_validator_state.specs.Refusals.{refused};
 ghost use Rattle.wasm_operator_validator_numbers.specs.Numbers.{IsNumeric, IsConstant};
 
-use wasm_operator_validator_determined::begin;
 use wasm_operator_validator_resources::WasmModuleResources;
 use wasm_operator_validator_stacks::OperatorValidator;
 use wasm_operator_validator_state::Refusal;
@@ -26,10 +25,10 @@ pub fn check_numbers<R: WasmModuleResources>(
     gives: &[ValType],
 ) -> Result<(), Refusal>
     requires { IsNumeric op proposal floats takes.now gives.now }
-    ensures { Decides (R.meaning resources.now) validator.old (Op.Numeric op) (refused result) validator.new }
+    ensures { Checks (R.meaning resources.now) validator.old (Op.Numeric op) (refused result) validator.new }
 {
     let _op = op;
-    match begin(validator, proposal, floats) {
+    match validator.begin(proposal, floats) {
         Ok(()) => (),
         Err(refusal) => return Err(refusal),
     }
@@ -46,10 +45,10 @@ pub fn check_constant<R: WasmModuleResources>(
     ty: &ValType,
 ) -> Result<(), Refusal>
     requires { IsConstant op floats ty.now }
-    ensures { Decides (R.meaning resources.now) validator.old (Op.Const op) (refused result) validator.new }
+    ensures { Checks (R.meaning resources.now) validator.old (Op.Const op) (refused result) validator.new }
 {
     let _op = op;
-    match begin(validator, Proposal::Mvp, floats) {
+    match validator.begin(Proposal::Mvp, floats) {
         Ok(()) => (),
         Err(refusal) => return Err(refusal),
     }

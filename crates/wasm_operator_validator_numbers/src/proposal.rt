@@ -1,12 +1,12 @@
 //! The visitor that validates operators.
 
-ghost use Rattle.std.specs.Prelude.{◌≡◌};
+ghost use Rattle.std.specs.Prelude.{◌≡◌, false};
 ghost use Rattle.wasm_operators_visit.specs.operator.Op.{Op};
 ghost use Rattle.wasm_operator_validator_state.specs.State.{Visits};
 ghost use Rattle.wasm_operator_validator_state.specs.Refusals.{refused_by};
-ghost use Rattle.wasm_operator_validator_numbers.specs.Numbers.{IsInteger};
+ghost use Rattle.wasm_operator_validator_numbers.specs.Numbers.{IsNumeric};
 
-use crate::check::check_integers;
+use crate::check::check_numbers;
 use wasm_operator_validator_resources::WasmModuleResources;
 use wasm_operator_validator_stacks::OperatorValidator;
 use wasm_operators_expression::Proposal;
@@ -38,12 +38,20 @@ impl<'v, 'r, R: WasmModuleResources> WasmProposalValidator<'v, 'r, R> {
         takes: &[ValType],
         gives: &[ValType],
     ) -> Result<()>
-        requires { IsInteger proposal op takes.now gives.now }
+        requires { IsNumeric op proposal false takes.now gives.now }
         ensures visits { Visits (R.meaning self.old.resources.now) self.old.inner.now (Op.Numeric op) (refused_by result) self.new.inner.now }
         ensures lent { self.new.inner.ghost_name ≡ self.old.inner.ghost_name }
         ensures resources { self.new.resources.now ≡ self.old.resources.now }
     {
-        match check_integers(self.inner, self.resources, proposal, op, takes, gives) {
+        match check_numbers(
+            self.inner,
+            self.resources,
+            op,
+            proposal,
+            false,
+            takes,
+            gives,
+        ) {
             Ok(()) => Ok(()),
             Err(refusal) => {
                 self.inner.fail();

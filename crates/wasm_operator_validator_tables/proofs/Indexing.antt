@@ -14,7 +14,7 @@ use Rattle.wasm_operator_validator_rules.specs.InstructionTypes.{InstructionType
 use Rattle.wasm_operator_validator_rules.specs.Row.{BulkRow, TableRow}
 use Rattle.wasm_operator_validator_resources.specs.Meaning.{Meaning, type_in, table_in}
 use Rattle.wasm_operator_validator_state.specs.State.{State, context, types_in}
-use Rattle.wasm_operator_validator_determined.specs.Beginning.{IsPlain, IsInTable, IsUsable}
+use Rattle.wasm_operator_validator_determined.specs.Operators.{IsPlain, IsInTable, IsUsable}
 use Rattle.wasm_operator_validator_determined.specs.laws.Types.{address_is, reference_is}
 use Rattle.wasm_operator_validator_determined.specs.laws.Usable.{named_usable, named_unusable}
 use Rattle.wasm_operator_validator_tables.specs.Tables.{table_is_shared}

@@ -1,11 +1,10 @@
 //! Copies into tables, and element segments.
 
 ghost use Rattle.wasm_operators_expression.specs.operator.Op.{Op};
-ghost use Rattle.wasm_operator_validator_state.specs.State.{Decides};
+ghost use Rattle.wasm_operator_validator_state.specs.State.{Checks};
 ghost use Rattle.wasm_operator_validator_state.specs.Refusals.{refused};
 
 use crate::finding::{find_elements, length_type, usable_table};
-use wasm_operator_validator_determined::begin;
 use wasm_operator_validator_resources::WasmModuleResources;
 use wasm_operator_validator_stacks::OperatorValidator;
 use wasm_operator_validator_state::{Reason, Refusal};
@@ -19,9 +18,9 @@ pub fn check_table_copy<R: WasmModuleResources>(
     dst_table: u32,
     src_table: u32,
 ) -> Result<(), Refusal>
-    ensures { Decides (R.meaning resources.now) validator.old (Op.Bulk (BulkOperator.TableCopy dst_table src_table)) (refused result) validator.new }
+    ensures { Checks (R.meaning resources.now) validator.old (Op.Bulk (BulkOperator.TableCopy dst_table src_table)) (refused result) validator.new }
 {
-    match begin(validator, Proposal::BulkMemory, false) {
+    match validator.begin(Proposal::BulkMemory, false) {
         Ok(()) => (),
         Err(refusal) => return Err(refusal),
     }
@@ -38,9 +37,7 @@ pub fn check_table_copy<R: WasmModuleResources>(
         ValType::Ref(to.element_type),
     );
     if !fits {
-        return Err(Refusal::Invalid {
-            reason: Reason::ElementTypes,
-        });
+        return Err(Refusal::Because(Reason::ElementTypes));
     }
     validator.pop_operands(
         resources,
@@ -59,9 +56,9 @@ pub fn check_table_init<R: WasmModuleResources>(
     elem_index: u32,
     table: u32,
 ) -> Result<(), Refusal>
-    ensures { Decides (R.meaning resources.now) validator.old (Op.Bulk (BulkOperator.TableInit elem_index table)) (refused result) validator.new }
+    ensures { Checks (R.meaning resources.now) validator.old (Op.Bulk (BulkOperator.TableInit elem_index table)) (refused result) validator.new }
 {
-    match begin(validator, Proposal::BulkMemory, false) {
+    match validator.begin(Proposal::BulkMemory, false) {
         Ok(()) => (),
         Err(refusal) => return Err(refusal),
     }
@@ -75,9 +72,7 @@ pub fn check_table_init<R: WasmModuleResources>(
     };
     let fits = resources.is_subtype(ValType::Ref(segment), ValType::Ref(to.element_type));
     if !fits {
-        return Err(Refusal::Invalid {
-            reason: Reason::ElementTypes,
-        });
+        return Err(Refusal::Because(Reason::ElementTypes));
     }
     validator.pop_operands(resources, &[to.index_type(), ValType::I32, ValType::I32])
 }
@@ -88,9 +83,9 @@ pub fn check_elem_drop<R: WasmModuleResources>(
     resources: &R,
     elem_index: u32,
 ) -> Result<(), Refusal>
-    ensures { Decides (R.meaning resources.now) validator.old (Op.Bulk (BulkOperator.ElemDrop elem_index)) (refused result) validator.new }
+    ensures { Checks (R.meaning resources.now) validator.old (Op.Bulk (BulkOperator.ElemDrop elem_index)) (refused result) validator.new }
 {
-    match begin(validator, Proposal::BulkMemory, false) {
+    match validator.begin(Proposal::BulkMemory, false) {
         Ok(()) => (),
         Err(refusal) => return Err(refusal),
     }

@@ -4,7 +4,7 @@ ghost use Rattle.std.specs.Prelude.{◌≡◌, ◌&&◌, None, Some, slice_get, 
 ghost use Rattle.wasm_types.specs.externs.Addresses.{address_type};
 ghost use Rattle.wasm_operator_validator_rules.specs.Context.{Table};
 ghost use Rattle.wasm_operator_validator_resources.specs.Meaning.{table_in, reference_in};
-ghost use Rattle.wasm_operator_validator_determined.specs.Beginning.{IsUsable};
+ghost use Rattle.wasm_operator_validator_determined.specs.Operators.{IsUsable};
 ghost use Rattle.wasm_operator_validator_tables.specs.Tables.{table_is_shared};
 
 use wasm_operator_validator_determined::may_use;
@@ -25,15 +25,13 @@ pub(crate) fn usable_table<R: WasmModuleResources>(
         Some(table) => table,
         None => {
             return Err(Refusal::Unknown {
-                space: Space::Tables,
+                space: Space::Table,
                 index: at,
             });
         }
     };
     if !may_use(validator, table.shared) {
-        return Err(Refusal::Invalid {
-            reason: Reason::Unshared,
-        });
+        return Err(Refusal::Because(Reason::NotShared));
     }
     Ok(table)
 }
@@ -48,7 +46,7 @@ pub(crate) fn find_elements<R: WasmModuleResources>(
     match resources.element_type_at(at) {
         Some(ty) => Ok(ty),
         None => Err(Refusal::Unknown {
-            space: Space::Elements,
+            space: Space::Element,
             index: at,
         }),
     }

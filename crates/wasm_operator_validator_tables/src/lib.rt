@@ -1,7 +1,7 @@
 //! Tables, element segments and references.
 //!
 //! Each check decides its operator: it is not refused exactly where the operator may come, out of memory aside, and leaves what may
-//! follow (`Decides` of `wasm_operator_validator_state`).
+//! follow (`Checks` of `wasm_operator_validator_state`).
 #![tactic(auto)]
 
 mod copies;

@@ -2,11 +2,10 @@
 
 ghost use Rattle.std.specs.Prelude.{◌≡◌};
 ghost use Rattle.wasm_operators_expression.specs.operator.Op.{Op};
-ghost use Rattle.wasm_operator_validator_state.specs.State.{Decides};
+ghost use Rattle.wasm_operator_validator_state.specs.State.{Checks};
 ghost use Rattle.wasm_operator_validator_state.specs.Refusals.{refused};
 ghost use Rattle.wasm_operator_validator_tables.specs.Tables.{may_refer};
 
-use wasm_operator_validator_determined::begin;
 use wasm_operator_validator_resources::WasmModuleResources;
 use wasm_operator_validator_stacks::OperatorValidator;
 use wasm_operator_validator_state::{MaybeType, Refusal};
@@ -18,9 +17,9 @@ pub fn check_ref_is_null<R: WasmModuleResources>(
     validator: &mut OperatorValidator,
     resources: &R,
 ) -> Result<(), Refusal>
-    ensures { Decides (R.meaning resources.now) validator.old (Op.Bulk BulkOperator.RefIsNull) (refused result) validator.new }
+    ensures { Checks (R.meaning resources.now) validator.old (Op.Bulk BulkOperator.RefIsNull) (refused result) validator.new }
 {
-    match begin(validator, Proposal::ReferenceTypes, false) {
+    match validator.begin(Proposal::ReferenceTypes, false) {
         Ok(()) => (),
         Err(refusal) => return Err(refusal),
     }

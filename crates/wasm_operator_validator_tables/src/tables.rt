@@ -1,11 +1,10 @@
 //! Tables.
 
 ghost use Rattle.wasm_operators_expression.specs.operator.Op.{Op};
-ghost use Rattle.wasm_operator_validator_state.specs.State.{Decides};
+ghost use Rattle.wasm_operator_validator_state.specs.State.{Checks};
 ghost use Rattle.wasm_operator_validator_state.specs.Refusals.{refused};
 
 use crate::finding::usable_table;
-use wasm_operator_validator_determined::begin;
 use wasm_operator_validator_resources::WasmModuleResources;
 use wasm_operator_validator_stacks::OperatorValidator;
 use wasm_operator_validator_state::Refusal;
@@ -18,9 +17,9 @@ pub fn check_table_get<R: WasmModuleResources>(
     resources: &R,
     table: u32,
 ) -> Result<(), Refusal>
-    ensures { Decides (R.meaning resources.now) validator.old (Op.Bulk (BulkOperator.TableGet table)) (refused result) validator.new }
+    ensures { Checks (R.meaning resources.now) validator.old (Op.Bulk (BulkOperator.TableGet table)) (refused result) validator.new }
 {
-    match begin(validator, Proposal::ReferenceTypes, false) {
+    match validator.begin(Proposal::ReferenceTypes, false) {
         Ok(()) => (),
         Err(refusal) => return Err(refusal),
     }
@@ -41,9 +40,9 @@ pub fn check_table_set<R: WasmModuleResources>(
     resources: &R,
     table: u32,
 ) -> Result<(), Refusal>
-    ensures { Decides (R.meaning resources.now) validator.old (Op.Bulk (BulkOperator.TableSet table)) (refused result) validator.new }
+    ensures { Checks (R.meaning resources.now) validator.old (Op.Bulk (BulkOperator.TableSet table)) (refused result) validator.new }
 {
-    match begin(validator, Proposal::ReferenceTypes, false) {
+    match validator.begin(Proposal::ReferenceTypes, false) {
         Ok(()) => (),
         Err(refusal) => return Err(refusal),
     }
@@ -63,9 +62,9 @@ pub fn check_table_grow<R: WasmModuleResources>(
     resources: &R,
     table: u32,
 ) -> Result<(), Refusal>
-    ensures { Decides (R.meaning resources.now) validator.old (Op.Bulk (BulkOperator.TableGrow table)) (refused result) validator.new }
+    ensures { Checks (R.meaning resources.now) validator.old (Op.Bulk (BulkOperator.TableGrow table)) (refused result) validator.new }
 {
-    match begin(validator, Proposal::ReferenceTypes, false) {
+    match validator.begin(Proposal::ReferenceTypes, false) {
         Ok(()) => (),
         Err(refusal) => return Err(refusal),
     }
@@ -86,9 +85,9 @@ pub fn check_table_size<R: WasmModuleResources>(
     resources: &R,
     table: u32,
 ) -> Result<(), Refusal>
-    ensures { Decides (R.meaning resources.now) validator.old (Op.Bulk (BulkOperator.TableSize table)) (refused result) validator.new }
+    ensures { Checks (R.meaning resources.now) validator.old (Op.Bulk (BulkOperator.TableSize table)) (refused result) validator.new }
 {
-    match begin(validator, Proposal::ReferenceTypes, false) {
+    match validator.begin(Proposal::ReferenceTypes, false) {
         Ok(()) => (),
         Err(refusal) => return Err(refusal),
     }
@@ -105,9 +104,9 @@ pub fn check_table_fill<R: WasmModuleResources>(
     resources: &R,
     table: u32,
 ) -> Result<(), Refusal>
-    ensures { Decides (R.meaning resources.now) validator.old (Op.Bulk (BulkOperator.TableFill table)) (refused result) validator.new }
+    ensures { Checks (R.meaning resources.now) validator.old (Op.Bulk (BulkOperator.TableFill table)) (refused result) validator.new }
 {
-    match begin(validator, Proposal::ReferenceTypes, false) {
+    match validator.begin(Proposal::ReferenceTypes, false) {
         Ok(()) => (),
         Err(refusal) => return Err(refusal),
     }

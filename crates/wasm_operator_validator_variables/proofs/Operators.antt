@@ -14,7 +14,7 @@ use Rattle.wasm_operator_validator_rules.specs.InstructionTypes.{InstructionType
 use Rattle.wasm_operator_validator_rules.specs.Row.{Takes, IsLocal, GroupRow}
 use Rattle.wasm_operator_validator_resources.specs.Meaning.{Meaning, type_in, global_in}
 use Rattle.wasm_operator_validator_state.specs.State.{Given, Open, State, initialised, context, types_in}
-use Rattle.wasm_operator_validator_determined.specs.Beginning.{IsPlain, IsInTable, IsUsable}
+use Rattle.wasm_operator_validator_determined.specs.Operators.{IsPlain, IsInTable, IsUsable}
 use Rattle.wasm_operator_validator_determined.specs.laws.Usable.{same_usable, named_usable, named_unusable}
 use Rattle.wasm_operator_validator_variables.specs.Variables.{global_is_shared}
 

@@ -2,7 +2,7 @@
 use Rattle.std.proofs.Common.{◌≡◌, ◌↔◌, ◌∙◌, List, [], ◌∷◌, ◌++◌, Bool, true, false, Option, Some, None, not, refl, sym, ap, subst, reverse}
 use Rattle.wasm_types.specs.error.declared.error.ErrorKind.{ErrorKind}
 use Rattle.wasm_types.specs.error.Denials.{Denies}
-use Rattle.wasm_types.specs.error.DenialLaws.{denies_from}
+use Rattle.wasm_types.specs.error.DenialLaws.{denies, denies_from}
 use Rattle.wasm_types.specs.trees.Types.{Number, i32, i64, f32, f64, v128, number, ref, abstract}
 use Rattle.wasm_types.specs.trees.Below.{Below}
 use Rattle.wasm_types.specs.values.declared.value.ValType.{ValType}
@@ -19,14 +19,17 @@ use Rattle.wasm_operator_validator_resources.specs.Meaning.{Meaning, type_in}
 use Rattle.wasm_operator_validator_state.specs.declared.operand.MaybeType.{MaybeType}
 use Rattle.wasm_operator_validator_state.specs.declared.operand.MaybeType.TheVariants as maybe
 use Rattle.wasm_operator_validator_state.specs.Refusals.{Does}
-use Rattle.wasm_operator_validator_state.specs.State.{State, Stands, Accepts, Decides}
+use Rattle.wasm_operator_validator_state.specs.State.{State, Stands, Accepts, Decides, Checks}
 use Rattle.wasm_operator_validator_state.specs.Steps.{Stacks, Topped, MayPop, MayPopAny, Popped, PoppedAny, PushedAny}
 use Rattle.wasm_operator_validator_state.specs.laws.Operands.{operand_refl, all_below_refl}
 use Rattle.wasm_operator_validator_state.specs.laws.Rows.{Reached, Least, by_row, some_row}
-use Rattle.wasm_operator_validator_determined.specs.Beginning.{Begins, IsPlain}
+use Rattle.wasm_operator_validator_state.specs.Entering.{MayBegin}
+use Rattle.wasm_operator_validator_state.specs.laws.Entering.{enabled}
+use Rattle.wasm_operator_validator_state.specs.laws.Checks.{checks_going}
+use Rattle.wasm_operator_validator_determined.specs.Operators.{IsPlain, Stays}
 use Rattle.wasm_operator_validator_determined.specs.laws.Types.{i32_in}
-use Rattle.wasm_operator_validator_determined.specs.laws.Same.{same_trans}
-use Rattle.wasm_operator_validator_determined.specs.laws.Determined.{enabled}
+use Rattle.wasm_operator_validator_determined.specs.laws.Same.{same_trans, stays_trans, stays_same}
+use Rattle.wasm_operator_validator_determined.specs.laws.Determined.{refused_then}
 use Rattle.wasm_operator_validator_variables.specs.Choices.{may_choose, Agrees, Chooses}
 
 -- ---- drop
@@ -45,18 +48,22 @@ some_operand m (maybe.UnknownRef (Some a)) =
     (known (ref false (abstract false (abstract_of a))), (false, operand_refl (known (ref false (abstract false (abstract_of a))))))
 some_operand m (maybe.Known v) = (known (type_in m v), operand_refl (known (type_in m v)))
 
-pub dropped : (m : Meaning) (σ τ : State) (a : MaybeType) → Begins σ Mvp false → PoppedAny m σ a τ → (os : List Op) → Accepts m σ (drop_op ∷ os) ↔ Accepts m τ os
-dropped m σ τ a b p =
+drops : (m : Meaning) (σ τ : State) (a : MaybeType) → MayBegin σ Mvp false → PoppedAny m σ a τ → (os : List Op) → Accepts m σ (drop_op ∷ os) ↔ Accepts m τ os
+drops m σ τ a b p =
     let (t, w) = some_operand m a in
     by_row m σ τ drop_op refl (λ set. refl) p.same
-    (λ s c. (t ∷ [], [], s, (enabled σ drop_op Mvp false drop_is b, (t, refl, refl)), (p.stacks t s).1 (w, c), all_below_refl s))
+    (λ s c. (t ∷ [], [], s, (enabled σ drop_op Mvp false (refl, refl) b, (t, refl, refl)), (p.stacks t s).1 (w, c), all_below_refl s))
     (λ popped pushed rest (e, (u, f, h)) d.
     let d' : Stacks m σ (u ∷ rest) = rw f at d in rw h (((p.stacks u rest).0 d').1))
 
-pub not_dropped : (k : ErrorKind) (m : Meaning) (σ : State) → Begins σ Mvp false → Denies k (MayPopAny m σ) → Denies k ((os : List Op) × Accepts m σ (drop_op ∷ os))
-not_dropped k m σ b d =
-    denies_from k _ _ (λ (os, y). let (popped, pushed, rest, (e, (u, f, h)), c) = some_row m σ drop_op os refl b.opened y in
-    let c' : Stacks m σ (u ∷ rest) = rw f at c in (u, rest, c')) d
+pub dropped : (m : Meaning) (σ τ : State) (a : MaybeType) → MayBegin σ Mvp false → PoppedAny m σ a τ → Checks m σ drop_op None τ
+dropped m σ τ a b p = checks_going None m σ τ drop_op Mvp false b (drops m σ τ a b p) p.same.given p.same.failed p.same.saved
+
+pub not_dropped : (k : ErrorKind) (m : Meaning) (σ τ : State) → MayBegin σ Mvp false → Denies k (MayPopAny m σ) → Stays σ τ → Checks m σ drop_op (Some k) τ
+not_dropped k m σ τ b d s =
+    refused_then k m σ τ drop_op Mvp false b s
+    (denies_from k _ _ (λ (os, y). let (popped, pushed, rest, (e, (u, f, h)), c) = some_row m σ drop_op os refl b.framed y in
+    let c' : Stacks m σ (u ∷ rest) = rw f at c in (u, rest, c')) d)
 
 -- ---- select
 
@@ -162,7 +169,7 @@ Popped32 m σ π = Popped m σ (known (type_in m vals.I32) ∷ []) π
 popped_32 : (m : Meaning) (σ π : State) → Popped32 m σ π → Popped m σ (known i32_type ∷ []) π
 popped_32 m σ π p = subst (λ (t : ValueType). Popped m σ (known t ∷ []) π) (i32_in m) p
 
-select_reached : (m : Meaning) (σ π ρ ω τ : State) (a k n : MaybeType) → Begins σ Mvp false → Popped m σ (known i32_type ∷ []) π → PoppedAny m π k ρ → PoppedAny m ρ a ω
+select_reached : (m : Meaning) (σ π ρ ω τ : State) (a k n : MaybeType) → MayBegin σ Mvp false → Popped m σ (known i32_type ∷ []) π → PoppedAny m π k ρ → PoppedAny m ρ a ω
     → Chooses a k n → PushedAny m ω n τ → Reached m σ select_op τ
 select_reached m σ π ρ ω τ a k n b p q r h y [] c = absurd ((y.stacks []).0 c)
 select_reached m σ π ρ ω τ a k n b p q r h y (u ∷ s) c =
@@ -171,7 +178,7 @@ select_reached m σ π ρ ω τ a k n b p q r h y (u ∷ s) c =
       t ∷ t ∷ known i32_type ∷ [],
       t ∷ [],
       s,
-      (enabled σ select_op Mvp false select_is b, (t, i, refl, refl)),
+      (enabled σ select_op Mvp false (refl, refl) b, (t, i, refl, refl)),
       (p.stacks (t ∷ t ∷ s)).1 ((q.stacks t (t ∷ s)).1 (w, (r.stacks t s).1 (v, d))),
       (l, all_below_refl s),
     )
@@ -180,7 +187,7 @@ select_reached m σ π ρ ω τ a k n b p q r h y (u ∷ s) c =
 abbrev Choice : Meaning → State → Operand → List Operand → Type 0
 Choice m σ t rest = Stacks m σ (known i32_type ∷ t ∷ t ∷ rest)
 
-pub selected : (m : Meaning) (σ π ρ ω τ : State) (a k n : MaybeType) → Begins σ Mvp false → Popped32 m σ π → PoppedAny m π k ρ → PoppedAny m ρ a ω
+pub selected : (m : Meaning) (σ π ρ ω τ : State) (a k n : MaybeType) → MayBegin σ Mvp false → Popped32 m σ π → PoppedAny m π k ρ → PoppedAny m ρ a ω
     → Chooses a k n → PushedAny m ω n τ → (os : List Op) → Accepts m σ (select_op ∷ os) ↔ Accepts m τ os
 selected m σ π ρ ω τ a k n b x q r h y =
     let p = popped_32 m σ π x in
@@ -193,39 +200,51 @@ selected m σ π ρ ω τ a k n b x q r h y =
     rw g ((y.stacks (t ∷ rest)).1 (choice_least m a k n h t w v, c)))
 
 -- where a select comes there is such a choice
-choice_at : (m : Meaning) (σ : State) → Begins σ Mvp false → (os : List Op) × Accepts m σ (select_op ∷ os) → (t : Operand) × (rest : List Operand) × IsNumber t × Choice m σ t rest
+choice_at : (m : Meaning) (σ : State) → MayBegin σ Mvp false → (os : List Op) × Accepts m σ (select_op ∷ os) → (t : Operand) × (rest : List Operand) × IsNumber t × Choice m σ t rest
 choice_at m σ b (os, y) =
-    let (popped, pushed, rest, (e, (t, j, f, g)), c) = some_row m σ select_op os refl b.opened y in
+    let (popped, pushed, rest, (e, (t, j, f, g)), c) = some_row m σ select_op os refl b.framed y in
     let c' : Choice m σ t rest = rw f at c in (t, rest, j, c')
 
-pub no_choice : (k : ErrorKind) (m : Meaning) (σ : State) → Begins σ Mvp false → Denies k (MayPop m σ (known (type_in m vals.I32) ∷ []))
-    → Denies k ((os : List Op) × Accepts m σ (select_op ∷ os))
-no_choice k m σ b d =
-    denies_from k _ _ (λ y. let (t, rest, j, c) = choice_at m σ b y in
-    (t ∷ t ∷ rest, subst (λ (v : ValueType). Stacks m σ (known v ∷ t ∷ t ∷ rest)) (sym (i32_in m)) c)) d
+pub no_choice : (k : ErrorKind) (m : Meaning) (σ τ : State) → MayBegin σ Mvp false → Denies k (MayPop m σ (known (type_in m vals.I32) ∷ [])) → Stays σ τ → Checks m σ select_op (Some k) τ
+no_choice k m σ τ b d s =
+    refused_then k m σ τ select_op Mvp false b s
+    (denies_from k _ _ (λ y. let (t, rest, j, c) = choice_at m σ b y in
+    (t ∷ t ∷ rest, subst (λ (v : ValueType). Stacks m σ (known v ∷ t ∷ t ∷ rest)) (sym (i32_in m)) c)) d)
 
-pub no_second : (k : ErrorKind) (m : Meaning) (σ π : State) → Begins σ Mvp false → Popped32 m σ π → Denies k (MayPopAny m π)
-    → Denies k ((os : List Op) × Accepts m σ (select_op ∷ os))
-no_second k m σ π b x d =
-    denies_from k _ _ (λ y. let (t, rest, j, c) = choice_at m σ b y in
-    (t, t ∷ rest, ((popped_32 m σ π x).stacks (t ∷ t ∷ rest)).0 c)) d
+pub no_second : (k : ErrorKind) (m : Meaning) (σ π τ : State) → MayBegin σ Mvp false → Popped32 m σ π → Denies k (MayPopAny m π) → Stays π τ → Checks m σ select_op (Some k) τ
+no_second k m σ π τ b x d s =
+    refused_then k m σ τ select_op Mvp false b (stays_trans σ π τ (stays_same σ π x.same) s)
+    (denies_from k _ _ (λ y. let (t, rest, j, c) = choice_at m σ b y in
+    (t, t ∷ rest, ((popped_32 m σ π x).stacks (t ∷ t ∷ rest)).0 c)) d)
 
-pub no_first : (k : ErrorKind) (m : Meaning) (σ π ρ : State) (s : MaybeType) → Begins σ Mvp false → Popped32 m σ π → PoppedAny m π s ρ → Denies k (MayPopAny m ρ)
-    → Denies k ((os : List Op) × Accepts m σ (select_op ∷ os))
-no_first k m σ π ρ s b x q d =
-    denies_from k _ _ (λ y. let (t, rest, j, c) = choice_at m σ b y in
-    (t, rest, ((q.stacks t (t ∷ rest)).0 (((popped_32 m σ π x).stacks (t ∷ t ∷ rest)).0 c)).1)) d
+pub no_first : (k : ErrorKind) (m : Meaning) (σ π ρ τ : State) (a : MaybeType) → MayBegin σ Mvp false → Popped32 m σ π → PoppedAny m π a ρ → Denies k (MayPopAny m ρ) → Stays ρ τ
+    → Checks m σ select_op (Some k) τ
+no_first k m σ π ρ τ a b x q d s =
+    refused_then k m σ τ select_op Mvp false b (stays_trans σ ρ τ (stays_trans σ π ρ (stays_same σ π x.same) (stays_same π ρ q.same)) s)
+    (denies_from k _ _ (λ y. let (t, rest, j, c) = choice_at m σ b y in
+    (t, rest, ((q.stacks t (t ∷ rest)).0 (((popped_32 m σ π x).stacks (t ∷ t ∷ rest)).0 c)).1)) d)
 
-pub not_chosen : (m : Meaning) (σ π ρ ω : State) (a s : MaybeType) → Begins σ Mvp false → Popped32 m σ π → PoppedAny m π s ρ → PoppedAny m ρ a ω
-    → ((n : MaybeType) → Chooses a s n → ⊥) → (os : List Op) × Accepts m σ (select_op ∷ os) → ⊥
-not_chosen m σ π ρ ω a s b x q r never y =
+stays_popped : (m : Meaning) (σ π ρ ω : State) (a k : MaybeType) → Popped32 m σ π → PoppedAny m π k ρ → PoppedAny m ρ a ω → Stays σ ω
+stays_popped m σ π ρ ω a k x q r = stays_same σ ω (same_trans σ π ω x.same (same_trans π ρ ω q.same r.same))
+
+pub not_chosen : (e : ErrorKind) (m : Meaning) (σ π ρ ω : State) (a k : MaybeType) → MayBegin σ Mvp false → Popped32 m σ π → PoppedAny m π k ρ → PoppedAny m ρ a ω
+    → ((n : MaybeType) → Chooses a k n → ⊥) → Checks m σ select_op (Some e) ω
+not_chosen e m σ π ρ ω a k b x q r never =
+    refused_then e m σ ω select_op Mvp false b (stays_popped m σ π ρ ω a k x q r)
+    (denies e _ (λ y.
     let (t, rest, j, c) = choice_at m σ b y in
     let (v, z) = (q.stacks t (t ∷ rest)).0 (((popped_32 m σ π x).stacks (t ∷ t ∷ rest)).0 c) in
     let (w, d) = (r.stacks t rest).0 z in
-    let (n, h) = agree m a s t j w v in never n h
+    let (n, h) = agree m a k t j w v in never n h))
 
 -- what was chosen is put on, or there is no memory for it
-pub put_on : (e : Option ErrorKind) (m : Meaning) (σ π ρ ω τ : State) (a k n : MaybeType) → Begins σ Mvp false → Popped32 m σ π → PoppedAny m π k ρ → PoppedAny m ρ a ω
+puts : (e : Option ErrorKind) (m : Meaning) (σ π ρ ω τ : State) (a k n : MaybeType) → MayBegin σ Mvp false → Popped32 m σ π → PoppedAny m π k ρ → PoppedAny m ρ a ω
     → Chooses a k n → Does e (PushedAny m ω n τ) (Unit {0}) → Decides m σ select_op e τ
-put_on None m σ π ρ ω τ a k n b x q r h y = selected m σ π ρ ω τ a k n b x q r h y
-put_on (Some e) m σ π ρ ω τ a k n b x q r h y = denies_from e _ _ (λ z. tt) y
+puts None m σ π ρ ω τ a k n b x q r h y = selected m σ π ρ ω τ a k n b x q r h y
+puts (Some e) m σ π ρ ω τ a k n b x q r h y = denies_from e _ _ (λ z. tt) y
+
+pub put_on : (e : Option ErrorKind) (m : Meaning) (σ π ρ ω τ : State) (a k n : MaybeType) → MayBegin σ Mvp false → Popped32 m σ π → PoppedAny m π k ρ → PoppedAny m ρ a ω
+    → Chooses a k n → Does e (PushedAny m ω n τ) (Unit {0}) → Stays ω τ → Checks m σ select_op e τ
+put_on e m σ π ρ ω τ a k n b x q r h y s =
+    let z = stays_trans σ ω τ (stays_popped m σ π ρ ω a k x q r) s in
+    checks_going e m σ τ select_op Mvp false b (puts e m σ π ρ ω τ a k n b x q r h y) z.given z.failed z.saved

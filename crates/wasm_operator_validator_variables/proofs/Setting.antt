@@ -13,13 +13,15 @@ use Rattle.wasm_operator_validator_rules.specs.Context.{Initialised, initialised
 use Rattle.wasm_operator_validator_rules.specs.Row.{Takes, GroupRow, after}
 use Rattle.wasm_operator_validator_resources.specs.Meaning.{Meaning}
 use Rattle.wasm_operator_validator_state.specs.Refusals.{Does, kind_of, refused}
-use Rattle.wasm_operator_validator_state.specs.State.{Given, State, initialised, context, types_in, Accepts, Decides}
+use Rattle.wasm_operator_validator_state.specs.State.{Given, State, initialised, context, types_in, Accepts, Decides, Checks}
 use Rattle.wasm_operator_validator_state.specs.Steps.{Stacks, MayPop, Exchanged}
 use Rattle.wasm_operator_validator_state.specs.declared.refusal.Refusal.{Refusal}
 use Rattle.wasm_operator_validator_state.specs.declared.refusal.Refusal.TheVariants as refusals
 use Rattle.wasm_operator_validator_state.specs.laws.Rows.{some_row}
-use Rattle.wasm_operator_validator_determined.specs.Beginning.{Begins, IsPlain}
-use Rattle.wasm_operator_validator_determined.specs.laws.Determined.{written}
+use Rattle.wasm_operator_validator_state.specs.Entering.{MayBegin}
+use Rattle.wasm_operator_validator_state.specs.laws.Checks.{checks_going}
+use Rattle.wasm_operator_validator_determined.specs.Operators.{IsPlain, Stays}
+use Rattle.wasm_operator_validator_determined.specs.laws.Determined.{written, refused_then}
 
 or_more : (l t d : Bool) → ((l || (t || false)) || d) ≡ (if t then true else (l || d))
 or_more true true d = refl
@@ -44,21 +46,35 @@ set_here : (m : Meaning) (σ π : State) (x : ℕ) → π.given ≡ σ.given →
 set_here m σ π x e f = rw (e, f) (set_more m σ.given σ.inits x)
 
 -- the operands were exchanged, and the local was noted, or there was no memory for that
-pub set_in_the_end : {X : Type 0} (r : Result X Refusal) (m : Meaning) (σ π τ : State) (o : Op) (p : Proposal) (f : Bool) (ts us : List ValueType) (x : ℕ)
-    → IsPlain o p f → Begins σ p f → ((set : Initialised) → after o set ≡ with_local x set)
+done : {X : Type 0} (r : Result X Refusal) (m : Meaning) (σ π τ : State) (o : Op) (p : Proposal) (f : Bool) (ts us : List ValueType) (x : ℕ)
+    → IsPlain o p f → MayBegin σ p f → ((set : Initialised) → after o set ≡ with_local x set)
     → ((popped pushed : List Operand) → GroupRow (context m σ.given σ.opens) (initialised m σ.given σ.inits) o popped pushed ↔ Takes ts us popped pushed)
     → Exchanged m σ ts us π → OnOk r (τ ≡ noted π x) → IfErr r (λ e. (e ≡ refusals.OutOfMemory) × (τ ≡ π)) → Decides m σ o (refused r) τ
-set_in_the_end (Ok y) m σ π τ o p f ts us x i b sets row e h n =
+done (Ok y) m σ π τ o p f ts us x i b sets row e h n =
     subst (λ (v : State). (os : List Op) → Accepts m σ (o ∷ os) ↔ Accepts m v os) (sym h)
-    (written m σ (noted π x) o p f ts us i b e.same.given e.same.frames (set_here m σ π x e.same.given e.same.inits ∙ sym (sets (initialised m σ.given σ.inits))) e.stacks row)
-set_in_the_end (Err y) m σ π τ o p f ts us x i b sets row e h (k, l) =
+    (written m σ (noted π x) o p f ts us i b e.same.given e.same.failed e.same.frames (set_here m σ π x e.same.given e.same.inits ∙ sym (sets (initialised m σ.given σ.inits))) e.stacks row)
+done (Err y) m σ π τ o p f ts us x i b sets row e h (k, l) =
     subst (λ (v : Refusal). Denies (kind_of v) ((os : List Op) × Accepts m σ (o ∷ os))) (sym k) tt
 
--- the operands do not fit
-pub not_exchanged : (k : ErrorKind) (m : Meaning) (σ : State) (o : Op) (p : Proposal) (f : Bool) (ts us : List ValueType) → IsPlain o p f → Begins σ p f
+stays_noted : {X : Type 0} (r : Result X Refusal) (m : Meaning) (σ π τ : State) (ts us : List ValueType) (x : ℕ)
+    → Exchanged m σ ts us π → OnOk r (τ ≡ noted π x) → IfErr r (λ e. (e ≡ refusals.OutOfMemory) × (τ ≡ π)) → Stays σ τ
+stays_noted (Ok y) m σ π τ ts us x e h n = rw h (record { given = e.same.given; failed = e.same.failed; saved = e.same.saved })
+stays_noted (Err y) m σ π τ ts us x e h (k, l) = rw l (record { given = e.same.given; failed = e.same.failed; saved = e.same.saved })
+
+pub set_in_the_end : {X : Type 0} (r : Result X Refusal) (m : Meaning) (σ π τ : State) (o : Op) (p : Proposal) (f : Bool) (ts us : List ValueType) (x : ℕ)
+    → IsPlain o p f → MayBegin σ p f → ((set : Initialised) → after o set ≡ with_local x set)
     → ((popped pushed : List Operand) → GroupRow (context m σ.given σ.opens) (initialised m σ.given σ.inits) o popped pushed ↔ Takes ts us popped pushed)
-    → Denies k (MayPop m σ (stack ts)) → Denies k ((os : List Op) × Accepts m σ (o ∷ os))
-not_exchanged k m σ o p f ts us i b row d =
-    denies_from k _ _ (λ (os, y). let (popped, pushed, rest, r, c) = some_row m σ o os i.plain b.opened y in
+    → Exchanged m σ ts us π → OnOk r (τ ≡ noted π x) → IfErr r (λ e. (e ≡ refusals.OutOfMemory) × (τ ≡ π)) → Checks m σ o (refused r) τ
+set_in_the_end r m σ π τ o p f ts us x i b sets row e h n =
+    let s = stays_noted r m σ π τ ts us x e h n in
+    checks_going (refused r) m σ τ o p f b (done r m σ π τ o p f ts us x i b sets row e h n) s.given s.failed s.saved
+
+-- the operands do not fit
+pub not_exchanged : (k : ErrorKind) (m : Meaning) (σ τ : State) (o : Op) (p : Proposal) (f : Bool) (ts us : List ValueType) → IsPlain o p f → MayBegin σ p f
+    → ((popped pushed : List Operand) → GroupRow (context m σ.given σ.opens) (initialised m σ.given σ.inits) o popped pushed ↔ Takes ts us popped pushed)
+    → Denies k (MayPop m σ (stack ts)) → Stays σ τ → Checks m σ o (Some k) τ
+not_exchanged k m σ τ o p f ts us i b row d s =
+    refused_then k m σ τ o p f b s
+    (denies_from k _ _ (λ (os, y). let (popped, pushed, rest, r, c) = some_row m σ o os i.plain b.framed y in
     let (g, h) = (row popped pushed).0 r.1 in
-    let c' : Stacks m σ (stack ts ++ rest) = rw g at c in (rest, c')) d
+    let c' : Stacks m σ (stack ts ++ rest) = rw g at c in (rest, c')) d)

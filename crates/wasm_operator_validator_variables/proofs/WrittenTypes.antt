@@ -23,7 +23,8 @@ use Rattle.wasm_operator_validator_rules.specs.Row.{Takes, GroupRow}
 use Rattle.wasm_operator_validator_resources.specs.Meaning.{Meaning, type_in, named_type}
 use Rattle.wasm_operator_validator_state.specs.State.{State, initialised, context, types_in, Accepts}
 use Rattle.wasm_operator_validator_state.specs.laws.Rows.{some_row}
-use Rattle.wasm_operator_validator_determined.specs.Beginning.{Begins, IsPlain, MayUseIn}
+use Rattle.wasm_operator_validator_state.specs.Entering.{MayBegin}
+use Rattle.wasm_operator_validator_determined.specs.Operators.{IsPlain, MayUseIn}
 use Rattle.wasm_operator_validator_determined.specs.laws.Types.{i32_in}
 use Rattle.wasm_operator_validator_determined.specs.laws.Determined.{no_row}
 
@@ -73,15 +74,15 @@ typed_row m σ t n i u popped pushed = rw (i32_in m) (
 )
 
 -- the type may not be written
-pub not_typed : (k : ErrorKind) (m : Meaning) (σ : State) (t n : ValType) → Begins σ ReferenceTypes false → n ≡ t
+pub not_typed : (k : ErrorKind) (m : Meaning) (σ : State) (t n : ValType) → MayBegin σ ReferenceTypes false → n ≡ t
     → Denies k (IsType σ.given.bits m.«module» t (type_in m n)) → Denies k ((os : List Op) × Accepts m σ (typed_op t ∷ os))
 not_typed k m σ t n b e d =
     let d' : Denies k (IsType σ.given.bits m.«module» t (type_in m t)) = subst (λ (x : ValType). Denies k (IsType σ.given.bits m.«module» t (type_in m x))) e d in
-    denies_from k _ _ (λ (os, y). let (popped, pushed, rest, (en, (v, j, w, c)), s) = some_row m σ (typed_op t) os refl b.opened y in
+    denies_from k _ _ (λ (os, y). let (popped, pushed, rest, (en, (v, j, w, c)), s) = some_row m σ (typed_op t) os refl b.framed y in
     is_written m σ.given.bits t v j) d'
 
 -- the function may not use it
-pub not_used : (m : Meaning) (σ : State) (t n : ValType) (x : Bool) → Begins σ ReferenceTypes false → IsType σ.given.bits m.«module» t (type_in m n)
+pub not_used : (m : Meaning) (σ : State) (t n : ValType) (x : Bool) → MayBegin σ ReferenceTypes false → IsType σ.given.bits m.«module» t (type_in m n)
     → IsTrue x ↔ MayUseIn σ (value_is_shared (type_in m n)) → x ≡ false → (os : List Op) × Accepts m σ (typed_op t ∷ os) → ⊥
 not_used m σ t n x b i j h =
     no_row m σ (typed_op t) ReferenceTypes false (typed_is t) b
@@ -90,5 +91,5 @@ not_used m σ t n x b i j h =
     let y : x ≡ true = j.1 (subst (λ (z : ValueType). MayUseIn σ (value_is_shared z)) e w) in
     let z : false ≡ true = sym h ∙ y in cc)
 
-pub not_multi : (m : Meaning) (σ : State) (ts : List ValType) → Begins σ ReferenceTypes false → (os : List Op) × Accepts m σ (op.Parametric (op.TypedSelectMulti ts) ∷ os) → ⊥
+pub not_multi : (m : Meaning) (σ : State) (ts : List ValType) → MayBegin σ ReferenceTypes false → (os : List Op) × Accepts m σ (op.Parametric (op.TypedSelectMulti ts) ∷ os) → ⊥
 not_multi m σ ts b = no_row m σ (op.Parametric (op.TypedSelectMulti ts)) ReferenceTypes false (multi_is ts) b (λ popped pushed r. r)

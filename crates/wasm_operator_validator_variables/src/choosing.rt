@@ -12,14 +12,10 @@ pub(crate) fn chosen(first: &MaybeType, second: &MaybeType) -> Result<MaybeType,
     ensures { MatchResult result (λ t. Chooses first.now second.now t) (λ r. (t : MaybeType) → Chooses first.now second.now t → ⊥) }
 {
     if !is_choosable(first) {
-        return Err(Refusal::Invalid {
-            reason: Reason::SelectOfReferences,
-        });
+        return Err(Refusal::Because(Reason::SelectOfReferences));
     }
     if !is_choosable(second) {
-        return Err(Refusal::Invalid {
-            reason: Reason::SelectOfReferences,
-        });
+        return Err(Refusal::Because(Reason::SelectOfReferences));
     }
     agreed(first, second)
 }
@@ -52,9 +48,7 @@ fn agreed(first: &MaybeType, second: &MaybeType) -> Result<MaybeType, Refusal>
                 if one == other {
                     return Ok(*first);
                 }
-                Err(Refusal::Invalid {
-                    reason: Reason::SelectOfTypes,
-                })
+                Err(Refusal::Because(Reason::SelectOfTypes))
             }
         },
     }

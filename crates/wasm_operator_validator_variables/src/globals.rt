@@ -4,12 +4,12 @@ ghost use Rattle.std.specs.Prelude.{slice_get, MatchResult};
 ghost use Rattle.wasm_operators_expression.specs.operator.Op.{Op};
 ghost use Rattle.wasm_operator_validator_resources.specs.Meaning.{global_in};
 ghost use Rattle.wasm_operator_validator_rules.specs.Context.{Global};
-ghost use Rattle.wasm_operator_validator_state.specs.State.{Decides};
+ghost use Rattle.wasm_operator_validator_state.specs.State.{Checks};
 ghost use Rattle.wasm_operator_validator_state.specs.Refusals.{refused};
-ghost use Rattle.wasm_operator_validator_determined.specs.Beginning.{IsUsable};
+ghost use Rattle.wasm_operator_validator_determined.specs.Operators.{IsUsable};
 ghost use Rattle.wasm_operator_validator_variables.specs.Variables.{global_is_shared};
 
-use wasm_operator_validator_determined::{begin, may_use};
+use wasm_operator_validator_determined::may_use;
 use wasm_operator_validator_resources::WasmModuleResources;
 use wasm_operator_validator_stacks::OperatorValidator;
 use wasm_operator_validator_state::{Reason, Refusal, Space};
@@ -22,9 +22,9 @@ pub fn check_global_get<R: WasmModuleResources>(
     resources: &R,
     global_index: u32,
 ) -> Result<(), Refusal>
-    ensures { Decides (R.meaning resources.now) validator.old (Op.Memory (MemoryOperator.GlobalGet global_index)) (refused result) validator.new }
+    ensures { Checks (R.meaning resources.now) validator.old (Op.Memory (MemoryOperator.GlobalGet global_index)) (refused result) validator.new }
 {
-    match begin(validator, Proposal::Mvp, false) {
+    match validator.begin(Proposal::Mvp, false) {
         Ok(()) => (),
         Err(refusal) => return Err(refusal),
     }
@@ -41,9 +41,9 @@ pub fn check_global_set<R: WasmModuleResources>(
     resources: &R,
     global_index: u32,
 ) -> Result<(), Refusal>
-    ensures { Decides (R.meaning resources.now) validator.old (Op.Memory (MemoryOperator.GlobalSet global_index)) (refused result) validator.new }
+    ensures { Checks (R.meaning resources.now) validator.old (Op.Memory (MemoryOperator.GlobalSet global_index)) (refused result) validator.new }
 {
-    match begin(validator, Proposal::Mvp, false) {
+    match validator.begin(Proposal::Mvp, false) {
         Ok(()) => (),
         Err(refusal) => return Err(refusal),
     }
@@ -52,9 +52,7 @@ pub fn check_global_set<R: WasmModuleResources>(
         Err(refusal) => return Err(refusal),
     };
     if !global.mutable {
-        return Err(Refusal::Invalid {
-            reason: Reason::ImmutableGlobal,
-        });
+        return Err(Refusal::Because(Reason::ImmutableGlobal));
     }
     validator.pop_operand(resources, &global.content_type)
 }
@@ -71,15 +69,13 @@ fn usable_global<R: WasmModuleResources>(
         Some(global) => global,
         None => {
             return Err(Refusal::Unknown {
-                space: Space::Globals,
+                space: Space::Global,
                 index: at,
             });
         }
     };
     if !may_use(validator, global.shared) {
-        return Err(Refusal::Invalid {
-            reason: Reason::Unshared,
-        });
+        return Err(Refusal::Because(Reason::NotShared));
     }
     Ok(global)
 }

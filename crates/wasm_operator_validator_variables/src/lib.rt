@@ -1,7 +1,7 @@
 //! Variables, and operands of any type: locals, globals, `drop` and the three forms of `select`.
 //!
 //! Each check decides its operator: it is not refused exactly where the operator may come, out of memory aside, and leaves what may
-//! follow (`Decides` of `wasm_operator_validator_state`). `specs/Choices.antt` says what a choice between two operands gives.
+//! follow (`Checks` of `wasm_operator_validator_state`). `specs/Choices.antt` says what a choice between two operands gives.
 #![tactic(auto)]
 
 mod choosing;

@@ -5,11 +5,11 @@ ghost use Rattle.wasm_types.specs.trees.Below.{value_is_shared};
 ghost use Rattle.wasm_operators_expression.specs.operator.Op.{Op};
 ghost use Rattle.wasm_operator_validator_resources.specs.Meaning.{type_in};
 ghost use Rattle.wasm_operator_validator_rules.specs.Operands.{ValueType};
-ghost use Rattle.wasm_operator_validator_state.specs.State.{Decides, types_in};
+ghost use Rattle.wasm_operator_validator_state.specs.State.{Checks, types_in};
 ghost use Rattle.wasm_operator_validator_state.specs.Refusals.{refused};
-ghost use Rattle.wasm_operator_validator_determined.specs.Beginning.{IsUsable};
+ghost use Rattle.wasm_operator_validator_determined.specs.Operators.{IsUsable};
 
-use wasm_operator_validator_determined::{begin, copied, may_use_type};
+use wasm_operator_validator_determined::{copied, may_use_type};
 use wasm_operator_validator_resources::WasmModuleResources;
 use wasm_operator_validator_stacks::OperatorValidator;
 use wasm_operator_validator_state::{Reason, Refusal};
@@ -22,9 +22,9 @@ pub fn check_local_set<R: WasmModuleResources>(
     resources: &R,
     local_index: u32,
 ) -> Result<(), Refusal>
-    ensures { Decides (R.meaning resources.now) validator.old (Op.Memory (MemoryOperator.LocalSet local_index)) (refused result) validator.new }
+    ensures { Checks (R.meaning resources.now) validator.old (Op.Memory (MemoryOperator.LocalSet local_index)) (refused result) validator.new }
 {
-    match begin(validator, Proposal::Mvp, false) {
+    match validator.begin(Proposal::Mvp, false) {
         Ok(()) => (),
         Err(refusal) => return Err(refusal),
     }
@@ -45,9 +45,9 @@ pub fn check_local_tee<R: WasmModuleResources>(
     resources: &R,
     local_index: u32,
 ) -> Result<(), Refusal>
-    ensures { Decides (R.meaning resources.now) validator.old (Op.Memory (MemoryOperator.LocalTee local_index)) (refused result) validator.new }
+    ensures { Checks (R.meaning resources.now) validator.old (Op.Memory (MemoryOperator.LocalTee local_index)) (refused result) validator.new }
 {
-    match begin(validator, Proposal::Mvp, false) {
+    match validator.begin(Proposal::Mvp, false) {
         Ok(()) => (),
         Err(refusal) => return Err(refusal),
     }
@@ -76,9 +76,7 @@ fn usable_local<R: WasmModuleResources>(
         None => return Err(Refusal::UnknownLocal { local_index }),
     };
     if !may_use_type(validator, resources, &ty) {
-        return Err(Refusal::Invalid {
-            reason: Reason::Unshared,
-        });
+        return Err(Refusal::Because(Reason::NotShared));
     }
     Ok(ty)
 }

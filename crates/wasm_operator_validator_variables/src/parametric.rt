@@ -1,11 +1,10 @@
 //! Operands of any type.
 
 ghost use Rattle.wasm_operators_expression.specs.operator.Op.{Op, ParametricTree};
-ghost use Rattle.wasm_operator_validator_state.specs.State.{Decides};
+ghost use Rattle.wasm_operator_validator_state.specs.State.{Checks};
 ghost use Rattle.wasm_operator_validator_state.specs.Refusals.{refused};
 
 use crate::choosing::chosen;
-use wasm_operator_validator_determined::begin;
 use wasm_operator_validator_resources::WasmModuleResources;
 use wasm_operator_validator_stacks::OperatorValidator;
 use wasm_operator_validator_state::Refusal;
@@ -17,10 +16,10 @@ pub fn check_drop<R: WasmModuleResources>(
     validator: &mut OperatorValidator,
     resources: &R,
 ) -> Result<(), Refusal>
-    ensures { Decides (R.meaning resources.now) validator.old (Op.Parametric ParametricTree.Drop) (refused result) validator.new }
+    ensures { Checks (R.meaning resources.now) validator.old (Op.Parametric ParametricTree.Drop) (refused result) validator.new }
 {
     let _resources = resources;
-    match begin(validator, Proposal::Mvp, false) {
+    match validator.begin(Proposal::Mvp, false) {
         Ok(()) => (),
         Err(refusal) => return Err(refusal),
     }
@@ -36,9 +35,9 @@ pub fn check_select<R: WasmModuleResources>(
     validator: &mut OperatorValidator,
     resources: &R,
 ) -> Result<(), Refusal>
-    ensures { Decides (R.meaning resources.now) validator.old (Op.Parametric ParametricTree.Select) (refused result) validator.new }
+    ensures { Checks (R.meaning resources.now) validator.old (Op.Parametric ParametricTree.Select) (refused result) validator.new }
 {
-    match begin(validator, Proposal::Mvp, false) {
+    match validator.begin(Proposal::Mvp, false) {
         Ok(()) => (),
         Err(refusal) => return Err(refusal),
     }

@@ -1,10 +1,10 @@
 //! Choices of a written type.
 
 ghost use Rattle.wasm_operators_expression.specs.operator.Op.{Op, ParametricTree};
-ghost use Rattle.wasm_operator_validator_state.specs.State.{Decides};
+ghost use Rattle.wasm_operator_validator_state.specs.State.{Checks};
 ghost use Rattle.wasm_operator_validator_state.specs.Refusals.{refused};
 
-use wasm_operator_validator_determined::{begin, copied, may_use_type, refusal_of};
+use wasm_operator_validator_determined::{copied, may_use_type, refusal_of};
 use wasm_operator_validator_resources::WasmModuleResources;
 use wasm_operator_validator_stacks::OperatorValidator;
 use wasm_operator_validator_state::{Reason, Refusal};
@@ -17,9 +17,9 @@ pub fn check_typed_select<R: WasmModuleResources>(
     resources: &R,
     ty: ValType,
 ) -> Result<(), Refusal>
-    ensures { Decides (R.meaning resources.now) validator.old (Op.Parametric (ParametricTree.TypedSelect ty)) (refused result) validator.new }
+    ensures { Checks (R.meaning resources.now) validator.old (Op.Parametric (ParametricTree.TypedSelect ty)) (refused result) validator.new }
 {
-    match begin(validator, Proposal::ReferenceTypes, false) {
+    match validator.begin(Proposal::ReferenceTypes, false) {
         Ok(()) => (),
         Err(refusal) => return Err(refusal),
     }
@@ -30,9 +30,7 @@ pub fn check_typed_select<R: WasmModuleResources>(
         Err(error) => return Err(refusal_of(&error, &ty)),
     }
     if !may_use_type(validator, resources, &named) {
-        return Err(Refusal::Invalid {
-            reason: Reason::Unshared,
-        });
+        return Err(Refusal::Because(Reason::NotShared));
     }
     validator.exchange(
         resources,
@@ -47,15 +45,13 @@ pub fn check_typed_select_multi<R: WasmModuleResources>(
     resources: &R,
     tys: &[ValType],
 ) -> Result<(), Refusal>
-    ensures { Decides (R.meaning resources.now) validator.old (Op.Parametric (ParametricTree.TypedSelectMulti tys.now)) (refused result) validator.new }
+    ensures { Checks (R.meaning resources.now) validator.old (Op.Parametric (ParametricTree.TypedSelectMulti tys.now)) (refused result) validator.new }
 {
     let _resources = resources;
     let _tys = tys;
-    match begin(validator, Proposal::ReferenceTypes, false) {
+    match validator.begin(Proposal::ReferenceTypes, false) {
         Ok(()) => (),
         Err(refusal) => return Err(refusal),
     }
-    Err(Refusal::Invalid {
-        reason: Reason::SelectArity,
-    })
+    Err(Refusal::Because(Reason::SelectArity))
 }

@@ -7,7 +7,7 @@ use Rattle.wasm_types.specs.error.Denials.{Denies}
 use Rattle.wasm_operator_validator_rules.specs.Context.{Context, MayUse}
 use Rattle.wasm_operator_validator_rules.specs.InstructionTypes.{InstructionType, named, may_use}
 use Rattle.wasm_operator_validator_state.specs.State.{State}
-use Rattle.wasm_operator_validator_determined.specs.Beginning.{MayUseIn, IsUsable, refusal_kind}
+use Rattle.wasm_operator_validator_determined.specs.Operators.{MayUseIn, IsUsable, refusal_kind}
 
 -- a test that fails
 pub fails : {P : Type 0} (b : Bool) → IsTrue b ↔ P → b ≡ false → P → ⊥

@@ -1,11 +1,10 @@
 use Rattle.std.proofs.Common.{[], None, false}
-use Rattle.wasm_types.specs.error.DenialLaws.{denies}
 use Rattle.wasm_operators_expression.specs.info.declared.proposal.Proposal.TheVariants.{BulkMemory}
 use Rattle.wasm_operators_expression.specs.memory.declared.bulk.BulkOperator.TheVariants as bulk
 use Rattle.wasm_operators_expression.specs.operator.Op as op
 use Rattle.wasm_operator_validator_resources.specs.Meaning.{reference_in}
-use Rattle.wasm_operator_validator_state.specs.Refusals.{kind_of}
-use Rattle.wasm_operator_validator_determined.specs.laws.Determined.{not_begun, undetermined, unchanged, determined}
+use Rattle.wasm_operator_validator_determined.specs.laws.Same.{stays_refl}
+use Rattle.wasm_operator_validator_determined.specs.laws.Determined.{not_begun, refused_here, undetermined, unchanged, determined}
 use Rattle.wasm_operator_validator_tables.proofs.Indexing.{drop_in_table}
 use Rattle.wasm_operator_validator_tables.proofs.Copying.{drop_type, drop_none}
 use Rattle.wasm_operator_validator_tables.proofs.copies.check_elem_drop.Goals as goal
@@ -13,16 +12,16 @@ use Rattle.wasm_operator_validator_tables.proofs.copies.check_elem_drop.Goals as
 pub returns-in-Err : goal.returns-in-Err
 returns-in-Err g c =
     let m = g.R.WasmModuleResources.meaning c.args.resources.now in
-    not_begun (kind_of c.in-Err.refusal) m c.args.validator.now (op.Bulk (bulk.ElemDrop c.args.elem_index)) BulkMemory false (drop_in_table c.args.elem_index).is c.in-Err.ensures
+    not_begun c.in-Err.refusal m c.args.validator.now (op.Bulk (bulk.ElemDrop c.args.elem_index)) BulkMemory false (drop_in_table c.args.elem_index).is c.in-Err.ensures.begins c.in-Err.ensures.stops
 
 pub returns-in-Err-find_elements : goal.returns-in-Err-find_elements
 returns-in-Err-find_elements g c =
     let m = g.R.WasmModuleResources.meaning c.args.resources.now in
-    denies (kind_of c.in-Err-find_elements.refusal) _
-    (undetermined m c.args.validator.now (op.Bulk (bulk.ElemDrop c.args.elem_index)) BulkMemory false (drop_in_table c.args.elem_index) c.in-Ok.ensures (drop_none m c.args.validator.now c.args.elem_index c.in-Err-find_elements.ensures))
+    refused_here _ m c.args.validator.now (op.Bulk (bulk.ElemDrop c.args.elem_index)) BulkMemory false c.in-Ok.ensures.begins
+    (undetermined m c.args.validator.now (op.Bulk (bulk.ElemDrop c.args.elem_index)) BulkMemory false (drop_in_table c.args.elem_index) c.in-Ok.ensures.begins (drop_none m c.args.validator.now c.args.elem_index c.in-Err-find_elements.ensures))
 
 pub returns : goal.returns
 returns g c =
     let m = g.R.WasmModuleResources.meaning c.args.resources.now in
-    determined None m c.args.validator.now c.args.validator.now (op.Bulk (bulk.ElemDrop c.args.elem_index)) BulkMemory false [] [] (drop_in_table c.args.elem_index) c.in-Ok.ensures
-    (drop_type m c.args.validator.now c.args.elem_index (reference_in m c.in-Ok-find_elements.segment) c.in-Ok-find_elements.ensures) (unchanged m c.args.validator.now c.in-Ok.ensures.opened)
+    determined None m c.args.validator.now c.args.validator.now (op.Bulk (bulk.ElemDrop c.args.elem_index)) BulkMemory false [] [] (drop_in_table c.args.elem_index) c.in-Ok.ensures.begins
+    (drop_type m c.args.validator.now c.args.elem_index (reference_in m c.in-Ok-find_elements.segment) c.in-Ok-find_elements.ensures) (unchanged m c.args.validator.now c.in-Ok.ensures.begins.framed) (stays_refl c.args.validator.now)

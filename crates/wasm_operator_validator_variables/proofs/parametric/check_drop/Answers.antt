@@ -7,14 +7,15 @@ use Rattle.wasm_operator_validator_variables.proofs.parametric.check_drop.Goals 
 
 pub returns-in-Err : goal.returns-in-Err
 returns-in-Err g c =
-    not_begun (kind_of c.in-Err.refusal) (g.R.WasmModuleResources.meaning c.args.resources.now) c.args.validator.now drop_op Mvp false drop_is c.in-Err.ensures
+    not_begun c.in-Err.refusal (g.R.WasmModuleResources.meaning c.args.resources.now) c.args.validator.now drop_op Mvp false drop_is c.in-Err.ensures.begins c.in-Err.ensures.stops
 
 pub returns-in-Err-pop_any : goal.returns-in-Err-pop_any
 returns-in-Err-pop_any g c =
     let m = g.R.WasmModuleResources.meaning c.args.resources.now in
-    not_dropped (kind_of c.in-Err-pop_any.refusal) m c.args.validator.now c.in-Ok.ensures (c.in-Err-pop_any.ensures.does m)
+    not_dropped (kind_of c.in-Err-pop_any.refusal) m c.args.validator.now c.pop_any.new.self c.in-Ok.ensures.begins (c.in-Err-pop_any.ensures.does m)
+    (record { given = c.pop_any.ensures.given; failed = c.pop_any.ensures.failed; saved = c.pop_any.ensures.saved })
 
 pub returns : goal.returns
 returns g c =
     let m = g.R.WasmModuleResources.meaning c.args.resources.now in
-    dropped m c.args.validator.now c.pop_any.new.self c.in-Ok-pop_any.dropped c.in-Ok.ensures (c.in-Ok-pop_any.ensures.does m)
+    dropped m c.args.validator.now c.pop_any.new.self c.in-Ok-pop_any.dropped c.in-Ok.ensures.begins (c.in-Ok-pop_any.ensures.does m)

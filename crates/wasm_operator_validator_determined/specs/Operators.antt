@@ -1,10 +1,7 @@
--- Whether an operator may come at all, before its operands are looked at (WebAssembly 3.0, validation, instructions).
-use Rattle.std.specs.Prelude.{◌≡◌, ◌↔◌, ℕ, Bool, IsTrue, List, Option, Some, bit_and}
+-- Operators by what their checks begin with, and what a function may use (WebAssembly 3.0, validation, instructions).
+use Rattle.std.specs.Prelude.{◌≡◌, ◌↔◌, Bool, IsTrue, List, Option, Some}
 use Rattle.wasm_types.specs.error.declared.error.ErrorKind.{ErrorKind}
 use Rattle.wasm_types.specs.error.declared.error.ErrorKind.TheVariants as kinds
-use Rattle.wasm_types.specs.features.Features.{Floats}
-use Rattle.wasm_types.specs.trees.Gates.{Has}
-use Rattle.wasm_operators_expression.specs.info.Info.{features_of}
 use Rattle.wasm_operators_expression.specs.info.declared.proposal.Proposal.{Proposal}
 use Rattle.wasm_operators_expression.specs.operator.Op.{Op}
 use Rattle.wasm_operators_expression.specs.operator.Table.{info_of}
@@ -14,17 +11,6 @@ use Rattle.wasm_operator_validator_rules.specs.Operands.{Operand}
 use Rattle.wasm_operator_validator_rules.specs.Context.{Context, Initialised}
 use Rattle.wasm_operator_validator_rules.specs.Row.{GroupRow, TableRow, names_float, after}
 use Rattle.wasm_operator_validator_state.specs.State.{State}
-use Rattle.wasm_operator_validator_state.specs.Steps.{IsOpen}
-
--- these features allow a proposal
-abbrev pub Allows : ℕ → Proposal → Type 0
-Allows bits p = bit_and bits (features_of p) ≡ features_of p
-
--- a frame is open, and the features allow the proposal, and floats where there is one
-pub record Begins (σ : State) (p : Proposal) (float : Bool) : Type 0 where
-  pub opened : IsOpen σ.opens
-  pub allowed : Allows σ.given.bits p
-  pub floats : IsTrue float → Has σ.given.bits Floats
 
 -- the operator is of this proposal, with a float in its name or not, and neither opens nor ends a frame
 pub record IsPlain (o : Op) (p : Proposal) (float : Bool) : Type 0 where
@@ -53,3 +39,9 @@ refusal_kind (kinds.MissingFeature f) = kinds.MissingFeature f
 refusal_kind kinds.OutOfMemory = kinds.OutOfMemory
 refusal_kind kinds.Failed = kinds.Failed
 refusal_kind kinds.Other = kinds.Other
+
+-- what never changes, whether an operator was refused, and what was saved stay
+pub record Stays (σ τ : State) : Type 0 where
+  pub given : τ.given ≡ σ.given
+  pub failed : τ.failed ≡ σ.failed
+  pub saved : τ.saved ≡ σ.saved
