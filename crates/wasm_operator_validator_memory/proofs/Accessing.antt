@@ -20,6 +20,7 @@ use Rattle.wasm_operator_validator_state.specs.State.{State, context, types_in}
 use Rattle.wasm_operator_validator_determined.specs.Operators.{IsInTable}
 use Rattle.wasm_operator_validator_determined.specs.laws.Types.{number_in, address_is}
 use Rattle.wasm_operator_validator_memory.specs.Reaching.{reached, number_of, IsAccess}
+use Rattle.wasm_operator_validator_memory.specs.laws.Reaching.{accesses_at, accesses_nowhere}
 
 -- ---- which accesses a memory allows
 
@@ -61,36 +62,6 @@ found n k a o m x y z t e f g h i j l p =
     ∙ ap Some (sym (address_is n m.memory64 t p))
 
 -- ---- the table of instruction types
-
-by_test : (b : Bool) (t u : ValueType) (f : ValueType → InstructionType) → ◌≡◌ {A = Option ValueType} (if b then Some t else None) (Some u) → provided b (f t) ≡ Some (f u)
-by_test true t u f e = let g : t ≡ u = cc in ap (λ (x : ValueType). Some (f x)) g
-by_test false t u f e = cc
-
-by_no_test : (b : Bool) (t : ValueType) (f : ValueType → InstructionType) → ◌≡◌ {A = Option ValueType} (if b then Some t else None) None → provided b (f t) ≡ None
-by_no_test true t f e = cc
-by_no_test false t f e = refl
-
--- what an access takes and gives at an address of this type
-abbrev pub access_type : AccessOf → ValueType → InstructionType
-access_type a t = (t ∷ numbers (operands_of a.access)) ⟶ numbers (results_of a.access)
-
-access_at : (k : Bool) (a : AccessOf) (o : Option MemoryType) (u : ValueType) → reached k a.argument o ≡ Some u
-    → named o (λ m. provided (may_access k m a.argument) (access_type a (address_type m.memory64))) ≡ Some (access_type a u)
-access_at k a None u e = cc
-access_at k a (Some m) u e = by_test (may_access k m a.argument) (address_type m.memory64) u (access_type a) e
-
-no_access_at : (k : Bool) (a : AccessOf) (o : Option MemoryType) → reached k a.argument o ≡ None
-    → named o (λ m. provided (may_access k m a.argument) (access_type a (address_type m.memory64))) ≡ None
-no_access_at k a None e = refl
-no_access_at k a (Some m) e = by_no_test (may_access k m a.argument) (address_type m.memory64) (access_type a) e
-
-pub accesses_at : (m : Meaning) (σ : State) (k : Bool) (a : AccessOf) (u : ValueType) → reached k a.argument (slice_get m.«module».memories a.argument.memory) ≡ Some u
-    → accesses (context m σ.given σ.opens) k (Some a) ≡ Some (access_type a u)
-accesses_at m σ k a u e = access_at k a (slice_get m.«module».memories a.argument.memory) u e
-
-pub accesses_nowhere : (m : Meaning) (σ : State) (k : Bool) (a : AccessOf) → reached k a.argument (slice_get m.«module».memories a.argument.memory) ≡ None
-    → accesses (context m σ.given σ.opens) k (Some a) ≡ None
-accesses_nowhere m σ k a e = no_access_at k a (slice_get m.«module».memories a.argument.memory) e
 
 memory_accesses : (g : Context) (o : MemoryOperator) (a : AccessOf) → access_of o ≡ Some a → memory_type_of g o ≡ accesses g false (Some a)
 memory_accesses g (memory.GlobalGet x) a e = cc

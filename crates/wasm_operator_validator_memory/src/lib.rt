@@ -13,4 +13,4 @@ pub use memories::{
     check_data_drop, check_memory_copy, check_memory_discard, check_memory_fill, check_memory_grow,
     check_memory_init, check_memory_size,
 };
-pub use reaching::reach;
+pub use reaching::{has_alignment, reach};

@@ -40,9 +40,9 @@ pub fn reach<R: WasmModuleResources>(
     Ok(memory.index_type())
 }
 
-// Whether the alignment is at most the natural one; of an atomic access it is that.
+/// Whether the alignment is at most the natural one; of an atomic access it is that.
 #[inline]
-fn has_alignment(is_atomic: bool, memarg: &MemArg) -> bool
+pub fn has_alignment(is_atomic: bool, memarg: &MemArg) -> bool
     ensures { result ≡ is_aligned is_atomic memarg.now }
 {
     if is_atomic {
