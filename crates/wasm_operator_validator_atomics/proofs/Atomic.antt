@@ -19,10 +19,10 @@ use Rattle.wasm_operator_validator_state.specs.Refusals.{Does, kind_of, refused}
 use Rattle.wasm_operator_validator_state.specs.declared.refusal.Refusal.{Refusal}
 use Rattle.wasm_operator_validator_state.specs.Entering.{MayBegin, StopsWith}
 use Rattle.wasm_operator_validator_state.specs.State.{State, context, types_in, Checks}
-use Rattle.wasm_operator_validator_determined.specs.Operators.{IsInTable}
+use Rattle.wasm_operator_validator_determined.specs.Operators.{IsInTable, IsOfContent}
 use Rattle.wasm_operator_validator_determined.specs.laws.Types.{number_in}
 use Rattle.wasm_operator_validator_determined.specs.laws.Same.{stays_refl}
-use Rattle.wasm_operator_validator_determined.specs.laws.Determined.{not_begun, unchanged, determined}
+use Rattle.wasm_operator_validator_determined.specs.laws.Determined.{not_begun, stopped_by_content, unchanged, determined}
 use Rattle.wasm_operator_validator_memory.specs.Reaching.{reached, number_of}
 use Rattle.wasm_operator_validator_memory.specs.laws.Reaching.{accesses_at, accesses_nowhere}
 use Rattle.wasm_operator_validator_atomics.specs.Atomics.{IsAtomic}
@@ -106,3 +106,7 @@ pub fenced : {X : Type 0} (r : Result X Refusal) (m : Meaning) (σ : State) → 
 fenced (Ok x) m σ b s =
     determined None m σ σ (op.Atomic atomic.AtomicFence) Threads false [] [] (in_table atomic.AtomicFence) b refl (unchanged m σ b.framed) (stays_refl σ)
 fenced (Err x) m σ b s = not_begun x m σ (op.Atomic atomic.AtomicFence) Threads false (in_table atomic.AtomicFence).is b s
+
+pub unfenced : {X : Type 0} (r : Result X Refusal) (σ : State) → IfErr r (λ e. StopsWith σ Threads false e) → IfErr r IsOfContent
+unfenced (Ok x) σ s = tt
+unfenced (Err x) σ s = stopped_by_content σ Threads false x s

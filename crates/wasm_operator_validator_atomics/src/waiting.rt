@@ -1,9 +1,11 @@
 //! Threads that wait, are woken, or see each other's writes.
 
+ghost use Rattle.std.specs.Prelude.{IfErr};
 ghost use Rattle.wasm_operators_visit.specs.operator.Op.{Op};
 ghost use Rattle.wasm_operator_validator_rules.specs.Accesses.{wait};
 ghost use Rattle.wasm_operator_validator_state.specs.State.{Checks};
 ghost use Rattle.wasm_operator_validator_state.specs.Refusals.{refused};
+ghost use Rattle.wasm_operator_validator_determined.specs.Operators.{IsOfContent};
 ghost use Rattle.wasm_operator_validator_atomics.specs.Atomics.{IsAtomic};
 
 use crate::reaching::reach_atomic;
@@ -62,7 +64,8 @@ pub fn check_atomic_fence<R: WasmModuleResources>(
     validator: &mut OperatorValidator,
     resources: &R,
 ) -> Result<(), Refusal>
-    ensures { Checks (R.meaning resources.now) validator.old (Op.Atomic AtomicOperator.AtomicFence) (refused result) validator.new }
+    ensures checks { Checks (R.meaning resources.now) validator.old (Op.Atomic AtomicOperator.AtomicFence) (refused result) validator.new }
+    ensures memory { IfErr result IsOfContent }
 {
     let _resources = resources;
     validator.begin(Proposal::Threads, false)

@@ -11,6 +11,8 @@ use Rattle.wasm_operator_validator_rules.specs.Operands.{Operand}
 use Rattle.wasm_operator_validator_rules.specs.Context.{Context, Initialised}
 use Rattle.wasm_operator_validator_rules.specs.Row.{GroupRow, TableRow, names_float, after}
 use Rattle.wasm_operator_validator_state.specs.State.{State}
+use Rattle.wasm_operator_validator_state.specs.declared.refusal.Refusal.{Refusal}
+use Rattle.wasm_operator_validator_state.specs.declared.refusal.Refusal.TheVariants as refusals
 
 -- the operator is of this proposal, with a float in its name or not, and neither opens nor ends a frame
 pub record IsPlain (o : Op) (p : Proposal) (float : Bool) : Type 0 where
@@ -45,3 +47,8 @@ pub record Stays (σ τ : State) : Type 0 where
   pub given : τ.given ≡ σ.given
   pub failed : τ.failed ≡ σ.failed
   pub saved : τ.saved ≡ σ.saved
+
+-- a refusal that is not for memory
+abbrev pub IsOfContent : Refusal → Type 0
+IsOfContent refusals.OutOfMemory = ⊥
+IsOfContent r = Unit {0}

@@ -1,11 +1,12 @@
 //! Memories and data segments.
 
-ghost use Rattle.std.specs.Prelude.{◌≡◌, ◌&&◌, true, false, slice_get, MatchResult};
+ghost use Rattle.std.specs.Prelude.{◌≡◌, ◌&&◌, true, false, slice_get, IfErr, MatchResult};
 ghost use Rattle.wasm_types.specs.externs.Addresses.{address_type};
 ghost use Rattle.wasm_operators_expression.specs.operator.Op.{Op};
 ghost use Rattle.wasm_operator_validator_rules.specs.InstructionTypes.{names_data};
 ghost use Rattle.wasm_operator_validator_state.specs.State.{Checks};
 ghost use Rattle.wasm_operator_validator_state.specs.Refusals.{refused};
+ghost use Rattle.wasm_operator_validator_determined.specs.Operators.{IsOfContent};
 
 use wasm_operator_validator_resources::WasmModuleResources;
 use wasm_operator_validator_stacks::OperatorValidator;
@@ -137,7 +138,8 @@ pub fn check_data_drop<R: WasmModuleResources>(
     resources: &R,
     data_index: u32,
 ) -> Result<(), Refusal>
-    ensures { Checks (R.meaning resources.now) validator.old (Op.Bulk (BulkOperator.DataDrop data_index)) (refused result) validator.new }
+    ensures checks { Checks (R.meaning resources.now) validator.old (Op.Bulk (BulkOperator.DataDrop data_index)) (refused result) validator.new }
+    ensures memory { IfErr result IsOfContent }
 {
     match validator.begin(Proposal::BulkMemory, false) {
         Ok(()) => (),
@@ -180,7 +182,8 @@ fn find_memory<R: WasmModuleResources>(resources: &R, at: u32) -> Result<MemoryT
 
 // Whether the data count section, where it stands, names a data segment.
 fn find_data<R: WasmModuleResources>(resources: &R, at: u32) -> Result<(), Refusal>
-    ensures { MatchResult result (λ _. names_data (R.meaning resources.now).«module».data_count at ≡ true) (λ r. names_data (R.meaning resources.now).«module».data_count at ≡ false) }
+    ensures found { MatchResult result (λ _. names_data (R.meaning resources.now).«module».data_count at ≡ true) (λ r. names_data (R.meaning resources.now).«module».data_count at ≡ false) }
+    ensures content { IfErr result IsOfContent }
 {
     let count = match resources.data_count() {
         Some(count) => count,

@@ -1,8 +1,10 @@
 //! Copies into tables, and element segments.
 
+ghost use Rattle.std.specs.Prelude.{IfErr};
 ghost use Rattle.wasm_operators_expression.specs.operator.Op.{Op};
 ghost use Rattle.wasm_operator_validator_state.specs.State.{Checks};
 ghost use Rattle.wasm_operator_validator_state.specs.Refusals.{refused};
+ghost use Rattle.wasm_operator_validator_determined.specs.Operators.{IsOfContent};
 
 use crate::finding::{find_elements, length_type, usable_table};
 use wasm_operator_validator_resources::WasmModuleResources;
@@ -83,7 +85,8 @@ pub fn check_elem_drop<R: WasmModuleResources>(
     resources: &R,
     elem_index: u32,
 ) -> Result<(), Refusal>
-    ensures { Checks (R.meaning resources.now) validator.old (Op.Bulk (BulkOperator.ElemDrop elem_index)) (refused result) validator.new }
+    ensures checks { Checks (R.meaning resources.now) validator.old (Op.Bulk (BulkOperator.ElemDrop elem_index)) (refused result) validator.new }
+    ensures memory { IfErr result IsOfContent }
 {
     match validator.begin(Proposal::BulkMemory, false) {
         Ok(()) => (),

@@ -1,10 +1,10 @@
 //! Tables and element segments by their indices.
 
-ghost use Rattle.std.specs.Prelude.{◌≡◌, ◌&&◌, None, Some, slice_get, MatchResult};
+ghost use Rattle.std.specs.Prelude.{◌≡◌, ◌&&◌, None, Some, slice_get, IfErr, MatchResult};
 ghost use Rattle.wasm_types.specs.externs.Addresses.{address_type};
 ghost use Rattle.wasm_operator_validator_rules.specs.Context.{Table};
 ghost use Rattle.wasm_operator_validator_resources.specs.Meaning.{table_in, reference_in};
-ghost use Rattle.wasm_operator_validator_determined.specs.Operators.{IsUsable};
+ghost use Rattle.wasm_operator_validator_determined.specs.Operators.{IsUsable, IsOfContent};
 ghost use Rattle.wasm_operator_validator_tables.specs.Tables.{table_is_shared};
 
 use wasm_operator_validator_determined::may_use;
@@ -41,7 +41,8 @@ pub(crate) fn find_elements<R: WasmModuleResources>(
     resources: &R,
     at: u32,
 ) -> Result<RefType, Refusal>
-    ensures { MatchResult result (λ t. slice_get (R.meaning resources.now).«module».elements at ≡ Some (reference_in (R.meaning resources.now) t)) (λ r. slice_get (R.meaning resources.now).«module».elements at ≡ None) }
+    ensures found { MatchResult result (λ t. slice_get (R.meaning resources.now).«module».elements at ≡ Some (reference_in (R.meaning resources.now) t)) (λ r. slice_get (R.meaning resources.now).«module».elements at ≡ None) }
+    ensures content { IfErr result IsOfContent }
 {
     match resources.element_type_at(at) {
         Some(ty) => Ok(ty),

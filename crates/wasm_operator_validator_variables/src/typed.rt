@@ -1,8 +1,10 @@
 //! Choices of a written type.
 
+ghost use Rattle.std.specs.Prelude.{IfErr};
 ghost use Rattle.wasm_operators_expression.specs.operator.Op.{Op, ParametricTree};
 ghost use Rattle.wasm_operator_validator_state.specs.State.{Checks};
 ghost use Rattle.wasm_operator_validator_state.specs.Refusals.{refused};
+ghost use Rattle.wasm_operator_validator_determined.specs.Operators.{IsOfContent};
 
 use wasm_operator_validator_determined::{copied, may_use_type, refusal_of};
 use wasm_operator_validator_resources::WasmModuleResources;
@@ -45,7 +47,8 @@ pub fn check_typed_select_multi<R: WasmModuleResources>(
     resources: &R,
     tys: &[ValType],
 ) -> Result<(), Refusal>
-    ensures { Checks (R.meaning resources.now) validator.old (Op.Parametric (ParametricTree.TypedSelectMulti tys.now)) (refused result) validator.new }
+    ensures checks { Checks (R.meaning resources.now) validator.old (Op.Parametric (ParametricTree.TypedSelectMulti tys.now)) (refused result) validator.new }
+    ensures memory { IfErr result IsOfContent }
 {
     let _resources = resources;
     let _tys = tys;

@@ -13,6 +13,7 @@ use Rattle.wasm_operator_validator_rules.specs.Row.{Takes, GroupRow, after}
 use Rattle.wasm_operator_validator_resources.specs.Meaning.{Meaning}
 use Rattle.wasm_operator_validator_state.specs.Refusals.{Does, kind_of}
 use Rattle.wasm_operator_validator_state.specs.declared.refusal.Refusal.{Refusal}
+use Rattle.wasm_operator_validator_state.specs.declared.refusal.Refusal.TheVariants as refusals
 use Rattle.wasm_operator_validator_state.specs.State.{State, initialised, context, types_in, Accepts, Decides, Checks}
 use Rattle.wasm_operator_validator_state.specs.Steps.{Stacks, IsOpen, SameFrames, MayPop, Popped, Pushed, Exchanged}
 use Rattle.wasm_operator_validator_state.specs.Entering.{MayBegin, StopsWith}
@@ -21,7 +22,7 @@ use Rattle.wasm_operator_validator_state.specs.laws.Accepting.{advanced, stacks_
 use Rattle.wasm_operator_validator_state.specs.laws.Rows.{row_image, ordinary, by_no_row}
 use Rattle.wasm_operator_validator_state.specs.laws.Entering.{enabled}
 use Rattle.wasm_operator_validator_state.specs.laws.Checks.{checks_stopped, checks_going}
-use Rattle.wasm_operator_validator_determined.specs.Operators.{IsPlain, IsInTable, Stays}
+use Rattle.wasm_operator_validator_determined.specs.Operators.{IsPlain, IsInTable, Stays, IsOfContent}
 use Rattle.wasm_operator_validator_determined.specs.laws.Same.{same_refl, stays_refl}
 
 -- ---- refusals
@@ -30,6 +31,11 @@ use Rattle.wasm_operator_validator_determined.specs.laws.Same.{same_refl, stays_
 pub not_begun : (r : Refusal) (m : Meaning) (σ : State) (o : Op) (p : Proposal) (f : Bool) → IsPlain o p f → Denies (kind_of r) (MayBegin σ p f) → StopsWith σ p f r
     → Checks m σ o (Some (kind_of r)) σ
 not_begun r m σ o p f i d s = checks_stopped m σ o p f r i.plain (i.of, i.named) d s
+
+-- and that is for content
+pub stopped_by_content : (σ : State) (p : Proposal) (f : Bool) (r : Refusal) → StopsWith σ p f r → IsOfContent r
+stopped_by_content σ p f refusals.OutOfMemory s = s
+stopped_by_content σ p f r s = tt
 
 -- behind it
 pub refused_then : (k : ErrorKind) (m : Meaning) (σ τ : State) (o : Op) (p : Proposal) (f : Bool) → MayBegin σ p f → Stays σ τ

@@ -26,12 +26,12 @@ returns-in-Err-find_data g c =
     let m = g.R.WasmModuleResources.meaning c.args.resources.now in
     refused_here _ m c.args.validator.now (op.Bulk (bulk.MemoryInit c.args.data_index c.args.mem)) BulkMemory false c.in-Ok.ensures.begins
     (undetermined m c.args.validator.now (op.Bulk (bulk.MemoryInit c.args.data_index c.args.mem)) BulkMemory false (init_in_table c.args.data_index c.args.mem) c.in-Ok.ensures.begins
-    (init_no_data m c.args.validator.now c.args.data_index c.args.mem c.in-Ok-find_memory.memory c.in-Ok-find_memory.ensures c.in-Err-find_data.ensures))
+    (init_no_data m c.args.validator.now c.args.data_index c.args.mem c.in-Ok-find_memory.memory c.in-Ok-find_memory.ensures c.in-Err-find_data.ensures.found))
 
 pub returns : goal.returns
 returns g c =
     let m = g.R.WasmModuleResources.meaning c.args.resources.now in
     determined (refused c.pop_operands.result) m c.args.validator.now c.pop_operands.new.self (op.Bulk (bulk.MemoryInit c.args.data_index c.args.mem)) BulkMemory false (c.index_type.result ∷ vals.I32 ∷ vals.I32 ∷ []) []
     (init_in_table c.args.data_index c.args.mem) c.in-Ok.ensures.begins
-    (init_type m c.args.validator.now c.args.data_index c.args.mem c.in-Ok-find_memory.memory c.index_type.result c.in-Ok-find_memory.ensures c.in-Ok-find_data.ensures c.index_type.ensures)
+    (init_type m c.args.validator.now c.args.data_index c.args.mem c.in-Ok-find_memory.memory c.index_type.result c.in-Ok-find_memory.ensures c.in-Ok-find_data.ensures.found c.index_type.ensures)
     (taken_only (refused c.pop_operands.result) m c.args.validator.now c.pop_operands.new.self (types_in m (c.index_type.result ∷ vals.I32 ∷ vals.I32 ∷ [])) c.pop_operands.ensures.does) (record { given = c.pop_operands.ensures.given; failed = c.pop_operands.ensures.failed; saved = c.pop_operands.ensures.saved })
