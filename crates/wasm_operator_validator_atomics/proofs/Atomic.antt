@@ -1,6 +1,6 @@
 -- Atomic accesses among the rows.
-use Rattle.std.proofs.Common.{◌≡◌, ◌↔◌, ◌∙◌, ◌&&◌, List, [], ◌∷◌, Bool, true, false, Option, Some, None, Result, Ok, Err, IfErr, refl, sym, ap, slice_get, if◌then◌else◌}
-use Rattle.wasm_types.specs.trees.Types.{Number, number, i32, i64}
+use Rattle.std.proofs.Common.{◌≡◌, ◌∙◌, ◌&&◌, List, [], ◌∷◌, Bool, true, false, Option, Some, None, Result, Ok, Err, IfErr, refl, sym, ap, slice_get, if◌then◌else◌}
+use Rattle.wasm_types.specs.trees.Types.{Number, i32, i64}
 use Rattle.wasm_types.specs.externs.declared.memory.MemoryType.{MemoryType}
 use Rattle.wasm_types.specs.values.declared.value.ValType.{ValType}
 use Rattle.wasm_types.specs.values.declared.value.ValType.TheVariants as vals
@@ -13,9 +13,9 @@ use Rattle.wasm_operators_expression.specs.operator.Op as op
 use Rattle.wasm_operator_validator_rules.specs.Operands.{ValueType}
 use Rattle.wasm_operator_validator_rules.specs.Context.{Context, address_type}
 use Rattle.wasm_operator_validator_rules.specs.Accesses.{Access, AccessOf, atomic_access_of, load, store, modify, compare_exchange, notify, wait, is_aligned, is_within, is_in_memory}
-use Rattle.wasm_operator_validator_rules.specs.InstructionTypes.{InstructionType, ◌⟶◌, accesses, atomic_type_of, instruction_type}
+use Rattle.wasm_operator_validator_rules.specs.InstructionTypes.{◌⟶◌, accesses, atomic_type_of, instruction_type}
 use Rattle.wasm_operator_validator_resources.specs.Meaning.{Meaning, type_in}
-use Rattle.wasm_operator_validator_state.specs.Refusals.{Does, kind_of, refused}
+use Rattle.wasm_operator_validator_state.specs.Refusals.{Does, refused}
 use Rattle.wasm_operator_validator_state.specs.declared.refusal.Refusal.{Refusal}
 use Rattle.wasm_operator_validator_state.specs.Entering.{MayBegin, StopsWith}
 use Rattle.wasm_operator_validator_state.specs.State.{State, context, types_in, Checks}

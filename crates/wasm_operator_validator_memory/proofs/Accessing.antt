@@ -1,6 +1,6 @@
 -- Loads and stores among the rows.
-use Rattle.std.proofs.Common.{◌≡◌, ◌↔◌, ◌∙◌, ◌&&◌, ℕ, List, [], ◌∷◌, Bool, true, false, Option, Some, None, refl, sym, ap, slice_get, if◌then◌else◌}
-use Rattle.wasm_types.specs.trees.Types.{Number, number}
+use Rattle.std.proofs.Common.{◌≡◌, ◌∙◌, ◌&&◌, [], ◌∷◌, Bool, true, false, Option, Some, None, refl, sym, ap, slice_get, if◌then◌else◌}
+use Rattle.wasm_types.specs.trees.Types.{Number}
 use Rattle.wasm_types.specs.externs.Addresses as addresses
 use Rattle.wasm_types.specs.externs.declared.memory.MemoryType.{MemoryType}
 use Rattle.wasm_types.specs.values.declared.value.ValType.{ValType}
@@ -10,10 +10,9 @@ use Rattle.wasm_operators_expression.specs.memory.declared.memory.MemoryOperator
 use Rattle.wasm_operators_expression.specs.memory.declared.memory.MemoryOperator.TheVariants as memory
 use Rattle.wasm_operators_expression.specs.operator.Op as op
 use Rattle.wasm_operator_validator_rules.specs.Operands.{ValueType}
-use Rattle.wasm_operator_validator_rules.specs.Numbers.{numbers, is_float}
 use Rattle.wasm_operator_validator_rules.specs.Context.{Context, address_type}
-use Rattle.wasm_operator_validator_rules.specs.Accesses.{Access, AccessOf, access_of, load, store, operands_of, results_of, moves_float, may_access, is_aligned, is_within, is_in_memory}
-use Rattle.wasm_operator_validator_rules.specs.InstructionTypes.{InstructionType, ◌⟶◌, provided, named, accesses, memory_type_of, instruction_type}
+use Rattle.wasm_operator_validator_rules.specs.Accesses.{Access, AccessOf, access_of, load, store, moves_float, may_access, is_aligned, is_within, is_in_memory}
+use Rattle.wasm_operator_validator_rules.specs.InstructionTypes.{◌⟶◌, accesses, memory_type_of, instruction_type}
 use Rattle.wasm_operator_validator_rules.specs.Row.{float_access}
 use Rattle.wasm_operator_validator_resources.specs.Meaning.{Meaning, type_in}
 use Rattle.wasm_operator_validator_state.specs.State.{State, context, types_in}
@@ -55,7 +54,8 @@ not_within k a o m x e f g = reached_at k a o m false e (second_false (is_aligne
 pub not_in_memory : (k : Bool) (a : MemArg) (o : Option MemoryType) (m : MemoryType) (x : Bool) → Some m ≡ o → x ≡ is_in_memory a.target → x ≡ false → reached k a o ≡ None
 not_in_memory k a o m x e f g = reached_at k a o m false e (third_false (is_aligned k a) (is_within m a) (is_in_memory a.target) (sym f ∙ g))
 
-pub found : (n : Meaning) (k : Bool) (a : MemArg) (o : Option MemoryType) (m : MemoryType) (x y z : Bool) (t : ValType) → Some m ≡ o → x ≡ is_aligned k a → x ≡ true → y ≡ is_within m a → y ≡ true
+pub found : (n : Meaning) (k : Bool) (a : MemArg) (o : Option MemoryType) (m : MemoryType) (x y z : Bool) (t : ValType) → Some m ≡ o → x ≡ is_aligned k a → x ≡ true
+    → y ≡ is_within m a → y ≡ true
     → z ≡ is_in_memory a.target → z ≡ true → t ≡ addresses.address_type m.memory64 → reached k a o ≡ Some (type_in n t)
 found n k a o m x y z t e f g h i j l p =
     reached_at k a o m true e (all_true (is_aligned k a) (is_within m a) (is_in_memory a.target) (sym f ∙ g) (sym h ∙ i) (sym j ∙ l))

@@ -1,5 +1,5 @@
 -- Which accesses a memory allows (WebAssembly 3.0, validation, memory instructions).
-use Rattle.std.specs.Prelude.{◌≡◌, Bool, true, false, Option, Some, None, if◌then◌else◌}
+use Rattle.std.specs.Prelude.{◌≡◌, Bool, Option, Some, None, if◌then◌else◌}
 use Rattle.wasm_types.specs.trees.Types.{Number, i32, i64, f32, f64, v128, number}
 use Rattle.wasm_types.specs.externs.declared.memory.MemoryType.{MemoryType}
 use Rattle.wasm_types.specs.values.declared.value.ValType.{ValType}

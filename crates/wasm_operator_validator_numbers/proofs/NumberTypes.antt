@@ -1,5 +1,5 @@
 -- Operators on numbers, and constants, by their types.
-use Rattle.std.proofs.Common.{◌≡◌, ◌∙◌, List, [], ◌∷◌, Bool, Some, refl, sym, ap}
+use Rattle.std.proofs.Common.{◌≡◌, List, [], ◌∷◌, Bool, Some, refl}
 use Rattle.wasm_types.specs.values.declared.value.ValType.{ValType}
 use Rattle.wasm_operators_expression.specs.info.declared.proposal.Proposal.{Proposal}
 use Rattle.wasm_operators_expression.specs.info.declared.proposal.Proposal.TheVariants.{Mvp}
@@ -8,10 +8,9 @@ use Rattle.wasm_operators_expression.specs.memory.declared.constant.ConstOperato
 use Rattle.wasm_operators_expression.specs.memory.Table.{const_info}
 use Rattle.wasm_operators_expression.specs.numbers.declared.numeric.NumericOperator.{NumericOperator}
 use Rattle.wasm_operators_expression.specs.operator.Op as op
-use Rattle.wasm_operator_validator_rules.specs.Operands.{ValueType}
 use Rattle.wasm_operator_validator_rules.specs.Numbers.{class_of, taken_by, given_by, constant_type}
 use Rattle.wasm_operator_validator_rules.specs.InstructionTypes.{◌⟶◌, instruction_type}
-use Rattle.wasm_operator_validator_resources.specs.Meaning.{Meaning, type_in}
+use Rattle.wasm_operator_validator_resources.specs.Meaning.{Meaning}
 use Rattle.wasm_operator_validator_state.specs.State.{State, context, types_in}
 use Rattle.wasm_operator_validator_determined.specs.Operators.{IsInTable}
 use Rattle.wasm_operator_validator_determined.specs.laws.Types.{number_in, numbers_in}

@@ -1,5 +1,5 @@
 -- Copies into tables, and element segments.
-use Rattle.std.proofs.Common.{◌≡◌, ◌↔◌, ◌∙◌, ◌&&◌, ℕ, List, [], ◌∷◌, Bool, true, false, IsTrue, Option, Some, None, refl, sym, ap, subst, slice_get}
+use Rattle.std.proofs.Common.{◌≡◌, ◌↔◌, ◌∙◌, ◌&&◌, ℕ, List, [], ◌∷◌, Bool, false, IsTrue, Option, Some, None, sym, ap, subst, slice_get}
 use Rattle.wasm_types.specs.externs.Addresses as addresses
 use Rattle.wasm_types.specs.externs.declared.table.TableType.{TableType}
 use Rattle.wasm_types.specs.trees.Below.{Below}
@@ -10,7 +10,7 @@ use Rattle.wasm_operators_expression.specs.memory.declared.bulk.BulkOperator.The
 use Rattle.wasm_operators_expression.specs.operator.Op as op
 use Rattle.wasm_operator_validator_rules.specs.Operands.{ValueType, Operand}
 use Rattle.wasm_operator_validator_rules.specs.Context.{Table, address_type}
-use Rattle.wasm_operator_validator_rules.specs.InstructionTypes.{InstructionType, ◌⟶◌, named, i32_type, shorter, instruction_type}
+use Rattle.wasm_operator_validator_rules.specs.InstructionTypes.{◌⟶◌, named, i32_type, shorter}
 use Rattle.wasm_operator_validator_rules.specs.Row.{Takes, BulkRow}
 use Rattle.wasm_operator_validator_resources.specs.Meaning.{Meaning, type_in, table_in, reference_in}
 use Rattle.wasm_operator_validator_state.specs.State.{State, context, types_in}
@@ -37,7 +37,8 @@ CopyRow m σ x y popped pushed = BulkRow (context m σ.given σ.opens) (bulk.Tab
 abbrev Copies : Table → Table → List Operand → List Operand → Type 0
 Copies t s popped pushed = Takes (address_type t.table64 ∷ address_type s.table64 ∷ shorter t.table64 s.table64 ∷ []) [] popped pushed
 
-pub copy_row : (m : Meaning) (σ : State) (x y : ℕ) (t s : TableType) (a b l : ValType) → UsableTable m σ x (table_in m t) → UsableTable m σ y (table_in m s) → Fit m s.element_type t.element_type
+pub copy_row : (m : Meaning) (σ : State) (x y : ℕ) (t s : TableType) (a b l : ValType) → UsableTable m σ x (table_in m t) → UsableTable m σ y (table_in m s)
+    → Fit m s.element_type t.element_type
     → IsIndex t a → IsIndex s b → l ≡ addresses.address_type (t.table64 && s.table64) → (popped pushed : List Operand)
     → CopyRow m σ x y popped pushed ↔ Takes (types_in m (a ∷ b ∷ l ∷ [])) (types_in m []) popped pushed
 copy_row m σ x y t s a b l u v f p q r popped pushed =

@@ -1,5 +1,5 @@
 -- Tables among the rows.
-use Rattle.std.proofs.Common.{◌≡◌, ◌↔◌, ◌∙◌, ℕ, List, [], ◌∷◌, Bool, false, Option, Some, None, refl, sym, ap, slice_get}
+use Rattle.std.proofs.Common.{◌≡◌, ◌↔◌, ℕ, List, [], ◌∷◌, false, Option, Some, None, refl, slice_get}
 use Rattle.wasm_types.specs.externs.Addresses as addresses
 use Rattle.wasm_types.specs.externs.declared.table.TableType.{TableType}
 use Rattle.wasm_types.specs.values.declared.value.ValType.{ValType}
@@ -12,7 +12,7 @@ use Rattle.wasm_operator_validator_rules.specs.Operands.{Operand}
 use Rattle.wasm_operator_validator_rules.specs.Context.{Context, Table, address_type}
 use Rattle.wasm_operator_validator_rules.specs.InstructionTypes.{InstructionType, ◌⟶◌, instruction_type}
 use Rattle.wasm_operator_validator_rules.specs.Row.{BulkRow, TableRow}
-use Rattle.wasm_operator_validator_resources.specs.Meaning.{Meaning, type_in, table_in}
+use Rattle.wasm_operator_validator_resources.specs.Meaning.{Meaning, table_in}
 use Rattle.wasm_operator_validator_state.specs.State.{State, context, types_in}
 use Rattle.wasm_operator_validator_determined.specs.Operators.{IsPlain, IsInTable, IsUsable}
 use Rattle.wasm_operator_validator_determined.specs.laws.Types.{address_is, reference_is}

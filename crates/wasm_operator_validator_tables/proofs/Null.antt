@@ -5,11 +5,9 @@ use Rattle.wasm_types.specs.error.declared.error.ErrorKind.TheVariants as kinds
 use Rattle.wasm_types.specs.error.Denials.{Denies}
 use Rattle.wasm_types.specs.error.DenialLaws.{denies_from}
 use Rattle.wasm_types.specs.trees.Types.{HeapOf, abstract, concrete, exact, ref, heap_map}
-use Rattle.wasm_types.specs.trees.Each.{EachHeap}
 use Rattle.wasm_types.specs.trees.Trees.{TypeTree}
 use Rattle.wasm_types.specs.trees.Below.{value_is_shared}
 use Rattle.wasm_types.specs.trees.Gates.{HeapIsAllowed, ValueIsAllowed}
-use Rattle.wasm_types.specs.indices.declared.index.UnpackedIndex.{UnpackedIndex}
 use Rattle.wasm_types.specs.values.declared.heap.HeapType.{HeapType}
 use Rattle.wasm_types.specs.values.declared.value.ValType.{ValType}
 use Rattle.wasm_types.specs.values.Reference.{Reference}
@@ -20,9 +18,9 @@ use Rattle.wasm_operators_expression.specs.memory.declared.bulk.BulkOperator.The
 use Rattle.wasm_operators_expression.specs.operator.Op as op
 use Rattle.wasm_operators_expression.specs.operator.Op.{Op}
 use Rattle.wasm_operator_validator_rules.specs.Operands.{ValueType, Operand}
-use Rattle.wasm_operator_validator_rules.specs.Context.{Module, IsTypeIndex, IsType, written_type}
+use Rattle.wasm_operator_validator_rules.specs.Context.{IsType, written_type}
 use Rattle.wasm_operator_validator_rules.specs.Row.{Takes, GroupRow}
-use Rattle.wasm_operator_validator_resources.specs.Meaning.{Meaning, type_in, named_type, heap_in}
+use Rattle.wasm_operator_validator_resources.specs.Meaning.{Meaning, type_in, named_type}
 use Rattle.wasm_operator_validator_resources.specs.Answers.{IsWritten, IsNamed}
 use Rattle.wasm_operator_validator_state.specs.State.{State, initialised, context, types_in, Accepts, Checks}
 use Rattle.wasm_operator_validator_state.specs.Entering.{MayBegin}
@@ -30,7 +28,7 @@ use Rattle.wasm_operator_validator_state.specs.laws.Rows.{some_row}
 use Rattle.wasm_operator_validator_determined.specs.Operators.{MayUseIn}
 use Rattle.wasm_operator_validator_determined.specs.laws.Types.{is_written}
 use Rattle.wasm_operator_validator_determined.specs.laws.Same.{stays_refl}
-use Rattle.wasm_operator_validator_determined.specs.laws.Usable.{denies_as, fails}
+use Rattle.wasm_operator_validator_determined.specs.laws.Usable.{fails}
 use Rattle.wasm_operator_validator_determined.specs.laws.Determined.{refused_then, no_row}
 use Rattle.wasm_operator_validator_tables.specs.Tables.{null_of, reference_to}
 use Rattle.wasm_operator_validator_tables.proofs.Indexing.{is_bulk}

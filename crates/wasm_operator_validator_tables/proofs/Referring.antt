@@ -1,5 +1,5 @@
 -- `ref.is_null`.
-use Rattle.std.proofs.Common.{◌≡◌, ◌↔◌, ◌∙◌, List, [], ◌∷◌, Bool, true, false, Option, Some, None, refl, sym, subst}
+use Rattle.std.proofs.Common.{◌≡◌, List, [], ◌∷◌, true, false, Option, Some, None, refl, subst}
 use Rattle.wasm_types.specs.error.declared.error.ErrorKind.{ErrorKind}
 use Rattle.wasm_types.specs.error.Denials.{Denies}
 use Rattle.wasm_types.specs.error.DenialLaws.{denies, denies_from}
@@ -79,7 +79,8 @@ tested k m σ ρ τ a b p e x s =
     checks_going k m σ τ is_null ReferenceTypes false b (done k m σ ρ τ a b p e x) z.given z.failed z.saved
 
 -- where it comes there is a reference
-at_reference : (m : Meaning) (σ : State) → MayBegin σ ReferenceTypes false → (os : List Op) × Accepts m σ (is_null ∷ os) → (t : Operand) × (rest : List Operand) × IsReference t × Stacks m σ (t ∷ rest)
+at_reference : (m : Meaning) (σ : State) → MayBegin σ ReferenceTypes false → (os : List Op) × Accepts m σ (is_null ∷ os)
+    → (t : Operand) × (rest : List Operand) × IsReference t × Stacks m σ (t ∷ rest)
 at_reference m σ b (os, y) =
     let (popped, pushed, rest, (u, (v, j, f, g)), c) = some_row m σ is_null os refl b.framed y in
     let c' : Stacks m σ (v ∷ rest) = rw f at c in (v, rest, j, c')
@@ -88,7 +89,8 @@ pub nothing_tested : (k : ErrorKind) (m : Meaning) (σ τ : State) → MayBegin 
 nothing_tested k m σ τ b d s =
     refused_then k m σ τ is_null ReferenceTypes false b s (denies_from k _ _ (λ y. let (t, rest, j, c) = at_reference m σ b y in (t, rest, c)) d)
 
-pub no_reference : (k : ErrorKind) (m : Meaning) (σ ρ : State) (a : MaybeType) → MayBegin σ ReferenceTypes false → PoppedAny m σ a ρ → may_refer a ≡ false → Checks m σ is_null (Some k) ρ
+pub no_reference : (k : ErrorKind) (m : Meaning) (σ ρ : State) (a : MaybeType) → MayBegin σ ReferenceTypes false → PoppedAny m σ a ρ → may_refer a ≡ false
+    → Checks m σ is_null (Some k) ρ
 no_reference k m σ ρ a b p e =
     refused_then k m σ ρ is_null ReferenceTypes false b (stays_same σ ρ p.same)
     (denies k _ (λ y. let (t, rest, j, c) = at_reference m σ b y in none_referred m a t e j ((p.stacks t rest).0 c).0))

@@ -1,5 +1,5 @@
 -- Operands of any type: `drop`, and `select` without a type.
-use Rattle.std.proofs.Common.{◌≡◌, ◌↔◌, ◌∙◌, List, [], ◌∷◌, ◌++◌, Bool, true, false, Option, Some, None, not, refl, sym, ap, subst, reverse}
+use Rattle.std.proofs.Common.{◌≡◌, ◌↔◌, ◌∙◌, List, [], ◌∷◌, true, false, Option, Some, None, not, refl, sym, ap, subst}
 use Rattle.wasm_types.specs.error.declared.error.ErrorKind.{ErrorKind}
 use Rattle.wasm_types.specs.error.Denials.{Denies}
 use Rattle.wasm_types.specs.error.DenialLaws.{denies, denies_from}
@@ -12,7 +12,7 @@ use Rattle.wasm_types.specs.values.ValueKinds.{is_reference}
 use Rattle.wasm_operators_expression.specs.info.declared.proposal.Proposal.TheVariants.{Mvp}
 use Rattle.wasm_operators_expression.specs.operator.Op as op
 use Rattle.wasm_operators_expression.specs.operator.Op.{Op}
-use Rattle.wasm_operator_validator_rules.specs.Operands.{ValueType, Operand, bottom, some_reference, known, OperandBelow, AllBelow}
+use Rattle.wasm_operator_validator_rules.specs.Operands.{ValueType, Operand, bottom, some_reference, known, OperandBelow}
 use Rattle.wasm_operator_validator_rules.specs.InstructionTypes.{i32_type}
 use Rattle.wasm_operator_validator_rules.specs.Row.{IsNumber}
 use Rattle.wasm_operator_validator_resources.specs.Meaning.{Meaning, type_in}
@@ -20,9 +20,9 @@ use Rattle.wasm_operator_validator_state.specs.declared.operand.MaybeType.{Maybe
 use Rattle.wasm_operator_validator_state.specs.declared.operand.MaybeType.TheVariants as maybe
 use Rattle.wasm_operator_validator_state.specs.Refusals.{Does}
 use Rattle.wasm_operator_validator_state.specs.State.{State, Stands, Accepts, Decides, Checks}
-use Rattle.wasm_operator_validator_state.specs.Steps.{Stacks, Topped, MayPop, MayPopAny, Popped, PoppedAny, PushedAny}
+use Rattle.wasm_operator_validator_state.specs.Steps.{Stacks, MayPop, MayPopAny, Popped, PoppedAny, PushedAny}
 use Rattle.wasm_operator_validator_state.specs.laws.Operands.{operand_refl, all_below_refl}
-use Rattle.wasm_operator_validator_state.specs.laws.Rows.{Reached, Least, by_row, some_row}
+use Rattle.wasm_operator_validator_state.specs.laws.Rows.{Reached, by_row, some_row}
 use Rattle.wasm_operator_validator_state.specs.Entering.{MayBegin}
 use Rattle.wasm_operator_validator_state.specs.laws.Entering.{enabled}
 use Rattle.wasm_operator_validator_state.specs.laws.Checks.{checks_going}
@@ -30,7 +30,7 @@ use Rattle.wasm_operator_validator_determined.specs.Operators.{IsPlain, Stays}
 use Rattle.wasm_operator_validator_determined.specs.laws.Types.{i32_in}
 use Rattle.wasm_operator_validator_determined.specs.laws.Same.{same_trans, stays_trans, stays_same}
 use Rattle.wasm_operator_validator_determined.specs.laws.Determined.{refused_then}
-use Rattle.wasm_operator_validator_variables.specs.Choices.{may_choose, Agrees, Chooses}
+use Rattle.wasm_operator_validator_variables.specs.Choices.{may_choose, Chooses}
 
 -- ---- drop
 
@@ -205,7 +205,8 @@ choice_at m σ b (os, y) =
     let (popped, pushed, rest, (e, (t, j, f, g)), c) = some_row m σ select_op os refl b.framed y in
     let c' : Choice m σ t rest = rw f at c in (t, rest, j, c')
 
-pub no_choice : (k : ErrorKind) (m : Meaning) (σ τ : State) → MayBegin σ Mvp false → Denies k (MayPop m σ (known (type_in m vals.I32) ∷ [])) → Stays σ τ → Checks m σ select_op (Some k) τ
+pub no_choice : (k : ErrorKind) (m : Meaning) (σ τ : State) → MayBegin σ Mvp false → Denies k (MayPop m σ (known (type_in m vals.I32) ∷ [])) → Stays σ τ
+    → Checks m σ select_op (Some k) τ
 no_choice k m σ τ b d s =
     refused_then k m σ τ select_op Mvp false b s
     (denies_from k _ _ (λ y. let (t, rest, j, c) = choice_at m σ b y in

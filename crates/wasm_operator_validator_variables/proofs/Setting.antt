@@ -1,18 +1,18 @@
 -- A local that was set.
-use Rattle.std.proofs.Common.{◌≡◌, ◌↔◌, ◌∙◌, ◌==◌, ◌||◌, ℕ, List, [], ◌∷◌, ◌++◌, Bool, true, false, Option, Some, None, Result, Ok, Err, OnOk, IfErr, refl, sym, ap, subst}
+use Rattle.std.proofs.Common.{◌≡◌, ◌↔◌, ◌∙◌, ◌==◌, ◌||◌, ℕ, List, [], ◌∷◌, ◌++◌, Bool, true, false, Some, Result, Ok, Err, OnOk, IfErr, refl, sym, subst}
 use Rattle.std.specs.Prelude.{if◌then◌else◌}
 use Rattle.std.specs.List.{list_any}
 use Rattle.std.proofs.lemmas.List.Folds.{list_any-append}
 use Rattle.wasm_types.specs.error.Denials.{Denies}
 use Rattle.wasm_types.specs.error.declared.error.ErrorKind.{ErrorKind}
-use Rattle.wasm_types.specs.error.DenialLaws.{denies, denies_from}
+use Rattle.wasm_types.specs.error.DenialLaws.{denies_from}
 use Rattle.wasm_operators_expression.specs.info.declared.proposal.Proposal.{Proposal}
 use Rattle.wasm_operators_expression.specs.operator.Op.{Op}
 use Rattle.wasm_operator_validator_rules.specs.Operands.{ValueType, Operand, stack}
 use Rattle.wasm_operator_validator_rules.specs.Context.{Initialised, initialised_at_first}
 use Rattle.wasm_operator_validator_rules.specs.Row.{Takes, GroupRow, after}
 use Rattle.wasm_operator_validator_resources.specs.Meaning.{Meaning}
-use Rattle.wasm_operator_validator_state.specs.Refusals.{Does, kind_of, refused}
+use Rattle.wasm_operator_validator_state.specs.Refusals.{kind_of, refused}
 use Rattle.wasm_operator_validator_state.specs.State.{Given, State, initialised, context, types_in, Accepts, Decides, Checks}
 use Rattle.wasm_operator_validator_state.specs.Steps.{Stacks, MayPop, Exchanged}
 use Rattle.wasm_operator_validator_state.specs.declared.refusal.Refusal.{Refusal}

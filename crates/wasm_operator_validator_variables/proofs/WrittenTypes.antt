@@ -1,26 +1,19 @@
 -- Choices of a written type.
-use Rattle.std.proofs.Common.{◌≡◌, ◌↔◌, ◌∙◌, ℕ, List, [], ◌∷◌, Bool, true, false, IsTrue, refl, sym, ap, subst}
+use Rattle.std.proofs.Common.{◌≡◌, ◌↔◌, ◌∙◌, List, [], ◌∷◌, Bool, true, false, IsTrue, refl, sym, subst}
 use Rattle.wasm_types.specs.error.declared.error.ErrorKind.{ErrorKind}
 use Rattle.wasm_types.specs.error.Denials.{Denies}
 use Rattle.wasm_types.specs.error.DenialLaws.{denies_from}
-use Rattle.wasm_types.specs.indices.declared.index.UnpackedIndex.TheVariants as index
-use Rattle.wasm_types.specs.trees.Types.{ref, heap_map, value_map}
-use Rattle.wasm_types.specs.trees.Each.{EachHeap, EachValue}
 use Rattle.wasm_types.specs.trees.Below.{value_is_shared}
-use Rattle.wasm_types.specs.values.declared.heap.HeapType.{HeapType}
-use Rattle.wasm_types.specs.values.declared.heap.HeapType.TheVariants as heap
 use Rattle.wasm_types.specs.values.declared.value.ValType.{ValType}
 use Rattle.wasm_types.specs.values.declared.value.ValType.TheVariants as vals
-use Rattle.wasm_types.specs.values.Trees.{heap_of}
-use Rattle.wasm_types.specs.values.Values.{value_of}
 use Rattle.wasm_operators_expression.specs.info.declared.proposal.Proposal.TheVariants.{ReferenceTypes}
 use Rattle.wasm_operators_expression.specs.operator.Op as op
 use Rattle.wasm_operators_expression.specs.operator.Op.{Op}
 use Rattle.wasm_operator_validator_rules.specs.Operands.{ValueType, Operand}
-use Rattle.wasm_operator_validator_rules.specs.Context.{Module, IsTypeIndex, IsType, written_type}
+use Rattle.wasm_operator_validator_rules.specs.Context.{IsType}
 use Rattle.wasm_operator_validator_rules.specs.InstructionTypes.{i32_type}
 use Rattle.wasm_operator_validator_rules.specs.Row.{Takes, GroupRow}
-use Rattle.wasm_operator_validator_resources.specs.Meaning.{Meaning, type_in, named_type}
+use Rattle.wasm_operator_validator_resources.specs.Meaning.{Meaning, type_in}
 use Rattle.wasm_operator_validator_state.specs.State.{State, initialised, context, types_in, Accepts}
 use Rattle.wasm_operator_validator_state.specs.laws.Rows.{some_row}
 use Rattle.wasm_operator_validator_state.specs.Entering.{MayBegin}

@@ -1,5 +1,5 @@
 -- Steps of a check one after the other change the operands of the innermost frame alone.
-use Rattle.std.proofs.Common.{◌≡◌, ◌∙◌, List, [], ◌∷◌, refl}
+use Rattle.std.proofs.Common.{◌∙◌, List, [], ◌∷◌, refl}
 use Rattle.wasm_operator_validator_state.specs.State.{Open, State}
 use Rattle.wasm_operator_validator_state.specs.Steps.{IsOpen, SameFrames, Same}
 use Rattle.wasm_operator_validator_determined.specs.Operators.{Stays}

@@ -1,4 +1,3 @@
-use Rattle.wasm_types.specs.error.DenialLaws.{denies}
 use Rattle.wasm_operator_validator_determined.specs.laws.Usable.{denies_as}
 use Rattle.wasm_operator_validator_tables.proofs.Null.{far_known, far_unallowed, far_unknown}
 use Rattle.wasm_operator_validator_tables.proofs.naming.name_far.Goals as goal
