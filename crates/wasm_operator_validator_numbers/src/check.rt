@@ -1,47 +1,56 @@
 //! Operators on numbers by their types.
 
-ghost use Rattle.std.specs.Prelude.{◌≡◌, ◌==◌, bit_and};
-ghost use Rattle.wasm_operators_expression.specs.info.Info.{features_of};
 ghost use Rattle.wasm_operators_visit.specs.operator.Op.{Op};
-ghost use Rattle.wasm_operator_validator_state.specs.State.{Decides};
+ghost use Rattle.wasm_operator_validator_state.specs.State.{Checks};
 ghost use Rattle.wasm_operator_validator_state.specs.Refusals.{refused};
-ghost use Rattle.wasm_operator_validator_numbers.specs.Numbers.{IsInteger};
+ghost use Rattle.wasm_operator_validator_numbers.specs.Numbers.{IsNumeric, IsConstant};
 
-use bitflags::Flags;
 use wasm_operator_validator_resources::WasmModuleResources;
 use wasm_operator_validator_stacks::OperatorValidator;
 use wasm_operator_validator_state::Refusal;
-use wasm_operators_expression::Proposal;
+use wasm_operators_expression::{ConstOperator, Proposal};
 use wasm_operators_visit::NumericOperator;
-use wasm_types::{ValType, WasmFeatures};
+use wasm_types::ValType;
 
-/// Whether these features allow what a proposal brought.
-pub(crate) fn is_enabled(features: WasmFeatures, proposal: Proposal) -> bool
-    ensures { result ≡ (bit_and features.0 (features_of proposal) == features_of proposal) }
-{
-    features.contains(proposal.feature())
-}
-
-/// Takes and gives operands of these types, where the proposal is allowed.
-pub(crate) fn check_integers<R: WasmModuleResources>(
+/// An operator on numbers, which takes and gives these types; it is of this proposal, and has a float in its name or not (WebAssembly
+/// 3.0, validation, numeric instructions).
+#[inline]
+pub fn check_numbers<R: WasmModuleResources>(
     validator: &mut OperatorValidator,
     resources: &R,
-    proposal: Proposal,
     op: NumericOperator,
+    proposal: Proposal,
+    floats: bool,
     takes: &[ValType],
     gives: &[ValType],
 ) -> Result<(), Refusal>
-    requires { IsInteger proposal op takes.now gives.now }
-    ensures { Decides (R.meaning resources.now) validator.old (Op.Numeric op) (refused result) validator.new }
+    requires { IsNumeric op proposal floats takes.now gives.now }
+    ensures { Checks (R.meaning resources.now) validator.old (Op.Numeric op) (refused result) validator.new }
 {
     let _op = op;
-    if validator.is_done() {
-        return Err(Refusal::AfterEnd);
-    }
-    if !is_enabled(validator.features(), proposal) {
-        return Err(Refusal::NotEnabled {
-            feature: proposal.feature(),
-        });
+    match validator.begin(proposal, floats) {
+        Ok(()) => (),
+        Err(refusal) => return Err(refusal),
     }
     validator.exchange(resources, takes, gives)
+}
+
+/// A constant, which gives this type (WebAssembly 3.0, validation, numeric instructions).
+#[inline]
+pub fn check_constant<R: WasmModuleResources>(
+    validator: &mut OperatorValidator,
+    resources: &R,
+    op: ConstOperator,
+    floats: bool,
+    ty: &ValType,
+) -> Result<(), Refusal>
+    requires { IsConstant op floats ty.now }
+    ensures { Checks (R.meaning resources.now) validator.old (Op.Const op) (refused result) validator.new }
+{
+    let _op = op;
+    match validator.begin(Proposal::Mvp, floats) {
+        Ok(()) => (),
+        Err(refusal) => return Err(refusal),
+    }
+    validator.push_operands(resources, &[*ty])
 }

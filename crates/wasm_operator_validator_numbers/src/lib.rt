@@ -1,6 +1,6 @@
-//! The visitor that validates operators, and its visits of operators on integers.
+//! Operators on numbers, constants, and the visitor that validates with its visits of operators on integers.
 //!
-//! Each visit decides its operator: it is not refused exactly where the operator may come, out of memory aside, and leaves what may
+//! Each check and each visit decides its operator: it is not refused exactly where the operator may come, out of memory aside, and leaves what may
 //! follow (`Decides` of `wasm_operator_validator_state`).
 #![tactic(auto)]
 
@@ -8,4 +8,5 @@ mod check;
 mod integers;
 mod proposal;
 
+pub use check::{check_constant, check_numbers};
 pub use proposal::WasmProposalValidator;

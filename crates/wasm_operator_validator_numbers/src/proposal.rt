@@ -1,12 +1,12 @@
 //! The visitor that validates operators.
 
-ghost use Rattle.std.specs.Prelude.{◌≡◌};
+ghost use Rattle.std.specs.Prelude.{◌≡◌, false};
 ghost use Rattle.wasm_operators_visit.specs.operator.Op.{Op};
-ghost use Rattle.wasm_operator_validator_state.specs.State.{Decides};
+ghost use Rattle.wasm_operator_validator_state.specs.State.{Visits};
 ghost use Rattle.wasm_operator_validator_state.specs.Refusals.{refused_by};
-ghost use Rattle.wasm_operator_validator_numbers.specs.Numbers.{IsInteger};
+ghost use Rattle.wasm_operator_validator_numbers.specs.Numbers.{IsNumeric};
 
-use crate::check::check_integers;
+use crate::check::check_numbers;
 use wasm_operator_validator_resources::WasmModuleResources;
 use wasm_operator_validator_stacks::OperatorValidator;
 use wasm_operators_expression::Proposal;
@@ -26,7 +26,7 @@ pub struct WasmProposalValidator<'v, 'r, R: WasmModuleResources> {
 impl<'a, 'v, 'r, R: WasmModuleResources> Visitor<'a> for WasmProposalValidator<'v, 'r, R> {
     type Output = Result<()>;
 
-    ghost visits = { λ before op answer after. Decides (R.meaning before.resources.now) before.inner.now op (refused_by answer) after.inner.now × (after.inner.ghost_name ≡ before.inner.ghost_name) };
+    ghost visits = { λ before op answer after. Visits (R.meaning before.resources.now) before.inner.now op (refused_by answer) after.inner.now × (after.inner.ghost_name ≡ before.inner.ghost_name) × (after.resources.now ≡ before.resources.now) };
 }
 
 impl<'v, 'r, R: WasmModuleResources> WasmProposalValidator<'v, 'r, R> {
@@ -38,13 +38,25 @@ impl<'v, 'r, R: WasmModuleResources> WasmProposalValidator<'v, 'r, R> {
         takes: &[ValType],
         gives: &[ValType],
     ) -> Result<()>
-        requires { IsInteger proposal op takes.now gives.now }
-        ensures decides { Decides (R.meaning self.old.resources.now) self.old.inner.now (Op.Numeric op) (refused_by result) self.new.inner.now }
+        requires { IsNumeric op proposal false takes.now gives.now }
+        ensures visits { Visits (R.meaning self.old.resources.now) self.old.inner.now (Op.Numeric op) (refused_by result) self.new.inner.now }
         ensures lent { self.new.inner.ghost_name ≡ self.old.inner.ghost_name }
+        ensures resources { self.new.resources.now ≡ self.old.resources.now }
     {
-        match check_integers(self.inner, self.resources, proposal, op, takes, gives) {
+        match check_numbers(
+            self.inner,
+            self.resources,
+            op,
+            proposal,
+            false,
+            takes,
+            gives,
+        ) {
             Ok(()) => Ok(()),
-            Err(refusal) => Err(refusal.error(self.offset)),
+            Err(refusal) => {
+                self.inner.fail();
+                Err(refusal.error(self.offset))
+            }
         }
     }
 }

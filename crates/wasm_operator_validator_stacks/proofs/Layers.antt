@@ -49,13 +49,13 @@ use Rattle.wasm_operator_validator_state.specs.declared.frame.Frame.{Frame}
 use Rattle.wasm_operator_validator_tape.specs.Kept.{ReplacesLast}
 use Rattle.wasm_operator_validator_stacks.specs.Layout.{opens_of, Layered}
 
--- what no step changes
+-- what most steps leave: what never changes, what was saved, and whether an operator was refused
 abbrev pub Fixed : Type 0
-Fixed = Given × Saved
+Fixed = Given × Saved × Bool
 
 -- the state that these stand for, with the innermost and the top first
 abbrev pub seen : Fixed → List Frame → List MaybeType → List ℕ → State
-seen w frames operands inits = record { given = w.0; inits = inits; opens = opens_of frames operands inits; saved = w.1 }
+seen w frames operands inits = record { given = w.0; inits = inits; opens = opens_of frames operands inits; failed = w.2; saved = w.1 }
 
 -- a frame with these operands of its own
 abbrev pub opened : Frame → List ℕ → List MaybeType → Open
@@ -71,7 +71,7 @@ pub seen_pop : (μ : Meaning) (w : Fixed) (f : Frame) (fs : List Frame) (m : May
 seen_pop μ w f fs m ns inits h =
     let e : suc (length ns) - f.height ≡ suc (length ns - f.height) = omega arith in
     record {
-      same = record { given = refl; inits = refl; frames = rw e (refl, refl, refl, refl); saved = refl };
+      same = record { given = refl; inits = refl; frames = rw e (refl, refl, refl, refl); failed = refl; saved = refl };
       stacks = λ t s. rw e (λ c. c, λ c. c);
     }
 
@@ -80,7 +80,7 @@ pub seen_push : (μ : Meaning) (w : Fixed) (f : Frame) (fs : List Frame) (m : Ma
 seen_push μ w f fs m ns inits h =
     let e : suc (length ns) - f.height ≡ suc (length ns - f.height) = omega arith in
     record {
-      same = record { given = refl; inits = refl; frames = rw e (refl, refl, refl, refl); saved = refl };
+      same = record { given = refl; inits = refl; frames = rw e (refl, refl, refl, refl); failed = refl; saved = refl };
       stacks = λ s. rw e (topped μ f.unreachable m (take (length ns - f.height) ns) s);
     }
 
@@ -90,7 +90,7 @@ pub seen_bare : (μ : Meaning) (w : Fixed) (f : Frame) (fs : List Frame) (ms : L
 seen_bare μ w f fs ms inits h u =
     let e : length ms - f.height ≡ 0 = omega arith in
     record {
-      same = record { given = refl; inits = refl; frames = (refl, refl, refl, refl); saved = refl };
+      same = record { given = refl; inits = refl; frames = (refl, refl, refl, refl); failed = refl; saved = refl };
       stacks = λ t s. rw (e, u) (λ c. (tt, tt), λ c. tt);
     }
 
@@ -112,7 +112,7 @@ seen_jump μ w f fs ms inits h =
     let k = length-cut f ms h in
     let e : length (cut f ms) - f.height ≡ 0 = omega arith in
     record {
-      same = record { given = refl; inits = refl; frames = rw e (refl, refl, refl, refl); saved = refl };
+      same = record { given = refl; inits = refl; frames = rw e (refl, refl, refl, refl); failed = refl; saved = refl };
       stacks = λ s. rw e tt;
     }
 
@@ -238,9 +238,9 @@ pub sound_push : (w : Fixed) (cs : List Frame) (ms : List MaybeType) (inits : Li
 sound_push w cs ms inits m o l = (held_push some_meaning w cs ms inits m o l).1
 
 -- what an operand validator keeps, by its parts
-abbrev pub fixed : ℕ → List ValType → ℕ → Bool → Option (List MaybeType) → Option (List Frame) → Option (List ℕ) → Fixed
-fixed bits locals params shared operands frames inits =
-    (record { bits = bits; locals = locals; params = params; shared = shared }, record { operands = operands; frames = frames; inits = inits })
+abbrev pub fixed : ℕ → List ValType → ℕ → Bool → Option (List MaybeType) → Option (List Frame) → Option (List ℕ) → Bool → Bool → Fixed
+fixed bits locals params shared operands frames inits before failed =
+    (record { bits = bits; locals = locals; params = params; shared = shared }, record { operands = operands; frames = frames; inits = inits; failed = before }, failed)
 
 -- a frame is open where there is a last one
 pub open_last : (w : Fixed) (cs : List Frame) (ms : List MaybeType) (inits : List ℕ) (r : Option Frame) → r ≡ slice_get cs (length cs - 1)

@@ -35,7 +35,8 @@ use Rattle.wasm_operators_expression.specs.immediates.declared.frames.FrameKind.
 use Rattle.wasm_operator_validator_state.specs.declared.operand.MaybeType.{MaybeType}
 use Rattle.wasm_operator_validator_state.specs.declared.frame.Frame.{Frame}
 use Rattle.wasm_operator_validator_state.specs.State.{Open}
-use Rattle.wasm_operator_validator_stacks.specs.Layout.{opens_of, Layered, IsBare, Leaves}
+use Rattle.wasm_operator_validator_state.specs.Steps.{IsBare, Leaves}
+use Rattle.wasm_operator_validator_stacks.specs.Layout.{opens_of, Layered}
 use Rattle.wasm_operator_validator_stacks.proofs.Layers.{Fixed, held, Sound, top_frame, height_below, reverse_last}
 
 opens_count : (fs : List Frame) (ms : List MaybeType) (inits : List ℕ) → length (opens_of fs ms inits) ≡ length fs

@@ -26,10 +26,10 @@ frames_trans (o ∷ outer) (p ∷ others) [] b c = absurd c
 frames_trans (o ∷ outer) (p ∷ others) (q ∷ more) b c = (c.0 ∙ b.0, c.1 ∙ b.1, c.2 ∙ b.2, c.3 ∙ b.3)
 
 pub same_refl : (σ : State) → IsOpen σ.opens → Same σ σ
-same_refl σ i = record { given = refl; inits = refl; frames = frames_refl σ.opens i; saved = refl }
+same_refl σ i = record { given = refl; inits = refl; frames = frames_refl σ.opens i; failed = refl; saved = refl }
 
 pub same_trans : (σ ρ τ : State) → Same σ ρ → Same ρ τ → Same σ τ
-same_trans σ ρ τ a b = record { given = b.given ∙ a.given; inits = b.inits ∙ a.inits; frames = frames_trans σ.opens ρ.opens τ.opens a.frames b.frames; saved = b.saved ∙ a.saved }
+same_trans σ ρ τ a b = record { given = b.given ∙ a.given; inits = b.inits ∙ a.inits; frames = frames_trans σ.opens ρ.opens τ.opens a.frames b.frames; failed = b.failed ∙ a.failed; saved = b.saved ∙ a.saved }
 
 -- one known operand
 pub popped_known : (m : Meaning) (σ τ : State) (a : MaybeType) (t : ValueType) (b : Bool) → PoppedAny m σ a τ → IsTrue b ↔ Stands m a (known t) → b ≡ true → Popped m σ (known t ∷ []) τ

@@ -25,8 +25,9 @@ Layered [] height inits = Unit {0}
 Layered (f ∷ fs) height inits = (f.height ≤ height) × (f.init_height ≤ inits) × Layered fs f.height f.init_height
 
 -- the state that frames, operands and locals that were set stand for, as they lie in memory, the last on top
-abbrev pub state_of : Given → Saved → List Frame → List MaybeType → List ℕ → State
-state_of w saved frames operands inits = record { given = w; inits = inits; opens = opens_of (reverse frames) (reverse operands) inits; saved = saved }
+abbrev pub state_of : Given → Saved → Bool → List Frame → List MaybeType → List ℕ → State
+state_of w saved failed frames operands inits =
+    record { given = w; inits = inits; opens = opens_of (reverse frames) (reverse operands) inits; failed = failed; saved = saved }
 
 abbrev pub IsLayered : List Frame → List MaybeType → List ℕ → Type 0
 IsLayered frames operands inits = Layered (reverse frames) (length operands) (length inits)
@@ -39,10 +40,10 @@ IsSavedLayered frames operands inits = ⊥
 
 -- outside an attempt
 abbrev pub none_saved : Saved
-none_saved = record { operands = None; frames = None; inits = None }
+none_saved = record { operands = None; frames = None; inits = None; failed = false }
 
 abbrev pub restored : State → Option (List Frame) → Option (List MaybeType) → Option (List ℕ) → State
-restored σ (Some frames) (Some operands) (Some inits) = state_of σ.given none_saved frames operands inits
+restored σ (Some frames) (Some operands) (Some inits) = state_of σ.given none_saved σ.saved.failed frames operands inits
 restored σ frames operands inits = record σ { saved = none_saved }
 
 -- the state that a rollback gives: what was saved, outside an attempt, or nothing changes where nothing was
@@ -52,16 +53,3 @@ rolled_back σ = restored σ σ.saved.frames σ.saved.operands σ.saved.inits
 -- a reference to this abstract type may be taken for one of this type
 abbrev pub IsAbstractFit : Meaning → Bool → AbstractHeapType → ValType → Type 0
 IsAbstractFit m s a t = OperandBelow (known (ref false (abstract s (abstract_of a)))) (known (type_in m t))
-
--- the innermost frame has no operands of its own
-abbrev pub IsBare : List Open → Type 0
-IsBare [] = ⊥
-IsBare (o ∷ outer) = o.operands ≡ []
-
--- the innermost frame was left, and is the one that was given; what was set in it is not set any more
-abbrev pub LeavesTo : List Open → State → Frame → State → Type 0
-LeavesTo [] σ f τ = ⊥
-LeavesTo (o ∷ outer) σ f τ = (o.operands ≡ []) × (f.kind ≡ o.kind) × (f.block_type ≡ o.block) × (τ ≡ record σ { opens = outer; inits = o.before })
-
-abbrev pub Leaves : State → Frame → State → Type 0
-Leaves σ f τ = LeavesTo σ.opens σ f τ

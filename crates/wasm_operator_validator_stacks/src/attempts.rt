@@ -1,6 +1,6 @@
 //! Attempts: an operator is tried, and taken back.
 
-ghost use Rattle.std.specs.Prelude.{◌≡◌, []};
+ghost use Rattle.std.specs.Prelude.{◌≡◌, [], false};
 ghost use Rattle.wasm_operator_validator_stacks.specs.Layout.{none_saved, rolled_back};
 
 use crate::OperatorValidator;
@@ -18,13 +18,15 @@ impl OperatorValidator {
         params: u32,
         shared: bool,
     ) -> OperatorValidator
-        ensures { result ≡ record { given = record { bits = features.0; locals = locals; params = params; shared = shared }; inits = []; opens = []; saved = none_saved } }
+        ensures { result ≡ record { given = record { bits = features.0; locals = locals; params = params; shared = shared }; inits = []; opens = []; failed = false; saved = none_saved } }
     {
         OperatorValidator {
             features,
             locals,
             params,
             shared,
+            failed: false,
+            failed_before: false,
             operands: Tape::new(alloc),
             control: Tape::new(alloc),
             inits: Tape::new(alloc),
@@ -36,6 +38,7 @@ impl OperatorValidator {
         ensures same { self.new ≡ record self.old { saved = self.new.saved } }
         ensures saves { rolled_back self.new ≡ record self.old { saved = none_saved } }
     {
+        self.failed_before = self.failed;
         self.operands.begin();
         self.control.begin();
         self.inits.begin();
@@ -45,15 +48,21 @@ impl OperatorValidator {
     pub fn commit(&mut self)
         ensures { self.new ≡ record self.old { saved = none_saved } }
     {
+        self.failed_before = false;
         self.operands.commit();
         self.control.commit();
         self.inits.commit();
     }
 
-    /// Ends an attempt, if one has begun: what stood where it began stands again. It takes no memory.
+    /// Ends an attempt, if one has begun: what stood where it began stands again, also whether an operator had been refused. It
+    /// takes no memory.
     pub fn rollback(&mut self)
         ensures { self.new ≡ rolled_back self.old }
     {
+        if self.operands.is_in_attempt() {
+            self.failed = self.failed_before;
+        }
+        self.failed_before = false;
         self.operands.rollback();
         self.control.rollback();
         self.inits.rollback();

@@ -4,9 +4,8 @@ ghost use Rattle.std.specs.Prelude.{◌≡◌, ◌∷◌, ◌++◌, [], OnOk, If
 ghost use Rattle.wasm_types.specs.error.Denials.{Denies};
 ghost use Rattle.wasm_operator_validator_state.specs.Refusals.{kind_of};
 ghost use Rattle.wasm_operator_validator_state.specs.State.{Open};
-ghost use Rattle.wasm_operator_validator_state.specs.Steps.{IsOpen, begun};
+ghost use Rattle.wasm_operator_validator_state.specs.Steps.{IsOpen, begun, Leaves, IsBare};
 ghost use Rattle.wasm_operator_validator_state.specs.declared.refusal.Refusal.TheVariants.{OutOfMemory};
-ghost use Rattle.wasm_operator_validator_stacks.specs.Layout.{Leaves, IsBare};
 
 use crate::OperatorValidator;
 use wasm_operator_validator_state::{Frame, Refusal};
@@ -58,6 +57,7 @@ impl OperatorValidator {
         requires { IsOpen self.old.opens }
         ensures left { MatchResult result (λ frame. Leaves self.old frame self.new) (λ r. Denies (kind_of r) (IsBare self.old.opens)) }
         ensures given { self.new.given ≡ self.old.given }
+        ensures failed { self.new.failed ≡ self.old.failed }
         ensures saved { self.new.saved ≡ self.old.saved }
     {
         let Some(frame) = self.control.as_slice().last().copied() else {
@@ -93,5 +93,12 @@ impl OperatorValidator {
         ensures { result ≡ slice_get self.now.given.locals local_index }
     {
         self.locals.get(local_index)
+    }
+    /// Whether the function is shared: then it may use what is shared alone (the proposal on shared everything).
+    #[inline]
+    pub fn is_shared(&self) -> bool
+        ensures { result ≡ self.now.given.shared }
+    {
+        self.shared
     }
 }

@@ -18,13 +18,15 @@ use wasm_operator_validator_tape::Tape;
 use wasm_types::{ValType, WasmFeatures};
 
 /// What is known of a body: the locals, and the operands of all open frames in one place. After a refusal it may stand for
-/// anything, but what an attempt has saved stays as it was.
+/// anything, but what an attempt has saved stays as it was. Whoever answers a visit notes a refusal by [`Self::fail`].
 #[derive(Drop)]
 pub struct OperatorValidator {
     pub(crate) features: WasmFeatures,
     pub(crate) locals: Locals,
     pub(crate) params: u32,
     pub(crate) shared: bool,
+    pub(crate) failed: bool,
+    pub(crate) failed_before: bool,
     pub(crate) operands: Tape<MaybeType>,
     pub(crate) control: Tape<Frame>,
     pub(crate) inits: Tape<u32>,
@@ -33,7 +35,7 @@ pub struct OperatorValidator {
 impl Model for OperatorValidator {
     ghost Value = { State };
 
-    ghost view = { λ v. state_of (record { bits = v.features.0; locals = v.locals; params = v.params; shared = v.shared }) (record { operands = v.operands.1; frames = v.control.1; inits = v.inits.1 }) v.control.0 v.operands.0 v.inits.0 };
+    ghost view = { λ v. state_of (record { bits = v.features.0; locals = v.locals; params = v.params; shared = v.shared }) (record { operands = v.operands.1; frames = v.control.1; inits = v.inits.1; failed = v.failed_before }) v.failed v.control.0 v.operands.0 v.inits.0 };
 
     ghost invariant = { λ v. IsLayered v.control.0 v.operands.0 v.inits.0 × IsSavedLayered v.control.1 v.operands.1 v.inits.1 };
 }
@@ -60,6 +62,7 @@ impl OperatorValidator {
     pub fn pop_any(&mut self) -> Result<MaybeType, Refusal>
         ensures does { (m : Meaning) → MatchResult result (λ a. PoppedAny m self.old a self.new) (λ r. Denies (kind_of r) (MayPopAny m self.old)) }
         ensures given { self.new.given ≡ self.old.given }
+        ensures failed { self.new.failed ≡ self.old.failed }
         ensures saved { self.new.saved ≡ self.old.saved }
     {
         let Some(frame) = self.control.as_slice().last().copied() else {
@@ -86,6 +89,7 @@ impl OperatorValidator {
         requires { IsOpen self.old.opens }
         ensures does { (m : Meaning) → Does (refused result) (PushedAny m self.old operand self.new) (Unit {0}) }
         ensures given { self.new.given ≡ self.old.given }
+        ensures failed { self.new.failed ≡ self.old.failed }
         ensures saved { self.new.saved ≡ self.old.saved }
     {
         let Ok(()) = self.operands.push(operand) else {
@@ -99,6 +103,7 @@ impl OperatorValidator {
         requires { IsOpen self.old.opens }
         ensures does { (m : Meaning) → Does (refused result) (Jumped m self.old self.new) (Unit {0}) }
         ensures given { self.new.given ≡ self.old.given }
+        ensures failed { self.new.failed ≡ self.old.failed }
         ensures saved { self.new.saved ≡ self.old.saved }
     {
         let Some(frame) = self.control.as_slice().last().copied() else {
@@ -121,6 +126,7 @@ impl OperatorValidator {
     ) -> Result<(), Refusal>
         ensures does { Does (refused result) (Popped (R.meaning resources.now) self.old (known (type_in (R.meaning resources.now) expected.now) ∷ []) self.new) (MayPop (R.meaning resources.now) self.old (known (type_in (R.meaning resources.now) expected.now) ∷ [])) }
         ensures given { self.new.given ≡ self.old.given }
+        ensures failed { self.new.failed ≡ self.old.failed }
         ensures saved { self.new.saved ≡ self.old.saved }
     {
         let found = match self.pop_any() {
@@ -142,6 +148,7 @@ impl OperatorValidator {
         requires { IsOpen self.old.opens }
         ensures does { Does (refused result) (Popped (R.meaning resources.now) self.old (stack (types_in (R.meaning resources.now) types.now)) self.new) (MayPop (R.meaning resources.now) self.old (stack (types_in (R.meaning resources.now) types.now))) }
         ensures given { self.new.given ≡ self.old.given }
+        ensures failed { self.new.failed ≡ self.old.failed }
         ensures saved { self.new.saved ≡ self.old.saved }
     {
         let mut left = types;
@@ -161,6 +168,7 @@ impl OperatorValidator {
         requires { IsOpen self.old.opens }
         ensures does { Does (refused result) (Pushed (R.meaning resources.now) self.old (stack (types_in (R.meaning resources.now) types.now)) self.new) (Unit {0}) }
         ensures given { self.new.given ≡ self.old.given }
+        ensures failed { self.new.failed ≡ self.old.failed }
         ensures saved { self.new.saved ≡ self.old.saved }
     {
         let _resources = resources;
@@ -180,6 +188,7 @@ impl OperatorValidator {
         requires { IsOpen self.old.opens }
         ensures does { Does (refused result) (Exchanged (R.meaning resources.now) self.old (types_in (R.meaning resources.now) popped.now) (types_in (R.meaning resources.now) pushed.now) self.new) (MayPop (R.meaning resources.now) self.old (stack (types_in (R.meaning resources.now) popped.now))) }
         ensures given { self.new.given ≡ self.old.given }
+        ensures failed { self.new.failed ≡ self.old.failed }
         ensures saved { self.new.saved ≡ self.old.saved }
     {
         self.pop_operands(resources, popped)?;

@@ -1,5 +1,5 @@
 -- A body by its operators one after the other, and as a tree.
-use Rattle.std.specs.Prelude.{◌≡◌, ◌↔◌, List, [], ◌∷◌}
+use Rattle.std.specs.Prelude.{◌≡◌, ◌↔◌, List, [], ◌∷◌, true, false}
 use Rattle.wasm_operators_expression.specs.immediates.declared.block.BlockType.{BlockType}
 use Rattle.wasm_operators_expression.specs.immediates.declared.frames.FrameKind.TheVariants as frames
 use Rattle.wasm_operators_expression.specs.operator.Op.{Op}
@@ -12,7 +12,7 @@ use Rattle.wasm_operator_validator_state.specs.Steps.{begun}
 
 -- what is known where a body of a function type begins
 abbrev pub fresh : Given → BlockType → Saved → State
-fresh w b saved = record { given = w; inits = []; opens = begun frames.Block b [] ∷ []; saved = saved }
+fresh w b saved = record { given = w; inits = []; opens = begun frames.Block b [] ∷ []; failed = false; saved = saved }
 
 -- the context of such a body
 abbrev pub body_context : Meaning → Given → BlockType → Context
@@ -33,7 +33,11 @@ BodiesAreAccepted =
 
 -- where every frame has ended, nothing more may come, and nothing else ends
 abbrev pub EndIsLast : Type 0
-EndIsLast = (m : Meaning) (σ : State) → Accepts m σ [] ↔ (σ.opens ≡ [])
+EndIsLast = (m : Meaning) (σ : State) → Accepts m σ [] ↔ ((σ.failed ≡ false) × (σ.opens ≡ []))
 
 abbrev pub NothingFollows : Type 0
 NothingFollows = (m : Meaning) (σ : State) (o : Op) (os : List Op) → σ.opens ≡ [] → Accepts m σ (o ∷ os) → ⊥
+
+-- after a refusal nothing may come
+abbrev pub NothingAfterRefusal : Type 0
+NothingAfterRefusal = (m : Meaning) (σ : State) (os : List Op) → σ.failed ≡ true → Accepts m σ os → ⊥

@@ -2,6 +2,7 @@
 pub mod Refusals
 pub mod State
 pub mod Steps
+pub mod Entering
 pub mod Bodies
 -- Worked operands and refusals.
 pub mod worked

@@ -13,13 +13,7 @@ kind_of refusals.OutOfMemory = kinds.OutOfMemory
 kind_of refusals.AfterRefusal = kinds.Failed
 kind_of refusals.AfterEnd = kinds.Other
 kind_of (refusals.NotEnabled feature) = kinds.MissingFeature feature
-kind_of (refusals.TypeMismatch expected found) = kinds.Other
-kind_of (refusals.EmptyStack expected) = kinds.Other
-kind_of refusals.EmptyStackOfAny = kinds.Other
-kind_of refusals.ValuesRemain = kinds.Other
-kind_of refusals.UnknownLabel = kinds.Other
-kind_of (refusals.UnknownLocal index) = kinds.Other
-kind_of (refusals.UninitializedLocal index) = kinds.Other
+kind_of r = kinds.Other
 
 -- The fact holds of a refusal that is not for memory.
 abbrev pub OfContent : ErrorKind → Type 0 → Type 0

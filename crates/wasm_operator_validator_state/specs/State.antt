@@ -1,7 +1,8 @@
 -- What a validator knows, and which operators may still come: the meaning m says what its types are.
-use Rattle.std.specs.Prelude.{◌≡◌, ◌↔◌, ℕ, List, [], ◌∷◌, ◌++◌, Bool, true, false, map, Option, Some, None, ◌==◌, ◌||◌}
+use Rattle.std.specs.Prelude.{◌≡◌, ◌↔◌, ℕ, List, [], ◌∷◌, ◌++◌, Bool, true, false, map, Option, Some, None, is_some, ◌==◌, ◌||◌}
 use Rattle.std.specs.List.{list_any}
 use Rattle.wasm_types.specs.error.declared.error.ErrorKind.{ErrorKind}
+use Rattle.wasm_types.specs.error.declared.error.ErrorKind.TheVariants as kinds
 use Rattle.wasm_types.specs.trees.Types.{InnerOf, function, array_of, struct_of, continuation, ref, abstract}
 use Rattle.wasm_types.specs.trees.Trees.{TypeTree}
 use Rattle.wasm_types.specs.trees.Below.{expanded}
@@ -40,17 +41,21 @@ pub record Open : Type 0 where
   pub operands : List MaybeType
   pub unreachable : Bool
 
--- what stood where an attempt began, if one has begun: operands, frames and locals that were set, as they lie in memory
+-- what stood where an attempt began, if one has begun: operands, frames and locals that were set, as they lie in memory, and
+-- whether an operator had been refused
 pub record Saved : Type 0 where
   pub operands : Option (List MaybeType)
   pub frames : Option (List OpenFrame)
   pub inits : Option (List ℕ)
+  pub failed : Bool
 
--- what a validator knows: the locals that were set, and the open frames, the innermost first; what a rollback puts back
+-- what a validator knows: the locals that were set, and the open frames, the innermost first; whether it has refused an
+-- operator; what a rollback puts back
 pub record State : Type 0 where
   pub given : Given
   pub inits : List ℕ
   pub opens : List Open
+  pub failed : Bool
   pub saved : Saved
 
 -- ---- what it means
@@ -129,10 +134,28 @@ ClosesAll m w pushed (o ∷ outer) set os =
     (s : List Operand) × Covers m o.unreachable o.operands s
     × InFrame (context m w (o ∷ outer)) (frame_of m w o) set (pushed ++ s) os (λ rest. ClosesAll m w (stack (results m o)) outer (initialised m w o.before) rest)
 
+-- nothing comes after a refusal; else the operators close all open frames
 abbrev pub Accepts : Meaning → State → List Op → Type 0
-Accepts m σ os = ClosesAll m σ.given [] σ.opens (initialised m σ.given σ.inits) os
+Accepts m σ os = (σ.failed ≡ false) × ClosesAll m σ.given [] σ.opens (initialised m σ.given σ.inits) os
 
 -- What an answer to an operator says: it is not refused, and then what may follow before is what may follow behind it; or it is, and
 -- nothing that begins with it is accepted, unless memory ran out.
 abbrev pub Decides : Meaning → State → Op → Option ErrorKind → State → Type 0
 Decides m σ o answer τ = Does answer ((os : List Op) → Accepts m σ (o ∷ os) ↔ Accepts m τ os) ((os : List Op) × Accepts m σ (o ∷ os))
+
+-- What the check of an operator promises: it decides it; where an operator was refused before it is refused for that; what never
+-- changes, what was saved and whether an operator had been refused stay.
+pub record Checks (m : Meaning) (σ : State) (o : Op) (answer : Option ErrorKind) (τ : State) : Type 0 where
+  pub decides : Decides m σ o answer τ
+  pub stopped : σ.failed ≡ true → answer ≡ Some kinds.Failed
+  pub given : τ.given ≡ σ.given
+  pub failed : τ.failed ≡ σ.failed
+  pub saved : τ.saved ≡ σ.saved
+
+-- What a visit promises: the same, but that it is known then whether it was refused.
+pub record Visits (m : Meaning) (σ : State) (o : Op) (answer : Option ErrorKind) (τ : State) : Type 0 where
+  pub decides : Decides m σ o answer τ
+  pub stopped : σ.failed ≡ true → answer ≡ Some kinds.Failed
+  pub given : τ.given ≡ σ.given
+  pub failed : τ.failed ≡ is_some answer
+  pub saved : τ.saved ≡ σ.saved

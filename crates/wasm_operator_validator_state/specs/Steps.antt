@@ -4,6 +4,7 @@ use Rattle.wasm_operators_expression.specs.immediates.declared.block.BlockType.{
 use Rattle.wasm_operators_expression.specs.immediates.declared.frames.FrameKind.{FrameKind}
 use Rattle.wasm_operator_validator_rules.specs.Operands.{ValueType, Operand, AllBelow, stack}
 use Rattle.wasm_operator_validator_resources.specs.Meaning.{Meaning}
+use Rattle.wasm_operator_validator_state.specs.declared.frame.Frame.{Frame as OpenFrame}
 use Rattle.wasm_operator_validator_state.specs.declared.operand.MaybeType.{MaybeType}
 use Rattle.wasm_operator_validator_state.specs.State.{Open, State, Stands, Covers, signature_of}
 
@@ -29,6 +30,7 @@ pub record Same (σ τ : State) : Type 0 where
   pub given : τ.given ≡ σ.given
   pub inits : τ.inits ≡ σ.inits
   pub frames : SameFrames σ.opens τ.opens
+  pub failed : τ.failed ≡ σ.failed
   pub saved : τ.saved ≡ σ.saved
 
 -- exactly these operands were taken off
@@ -82,3 +84,16 @@ pub record Entered (m : Meaning) (σ : State) (k : FrameKind) (b : BlockType) (�
   pub saved : τ.saved ≡ σ.saved
   pub frames : SameFrames (begun k b σ.inits ∷ σ.opens) τ.opens
   pub stacks : (s : List Operand) → Stacks m τ s ↔ AllBelow (stack (signature_of m b).params) s
+
+-- the innermost frame has no operands of its own
+abbrev pub IsBare : List Open → Type 0
+IsBare [] = ⊥
+IsBare (o ∷ outer) = o.operands ≡ []
+
+-- the innermost frame was left, and is the one that was given; what was set in it is not set any more
+abbrev pub LeavesTo : List Open → State → OpenFrame → State → Type 0
+LeavesTo [] σ f τ = ⊥
+LeavesTo (o ∷ outer) σ f τ = (o.operands ≡ []) × (f.kind ≡ o.kind) × (f.block_type ≡ o.block) × (τ ≡ record σ { opens = outer; inits = o.before })
+
+abbrev pub Leaves : State → OpenFrame → State → Type 0
+Leaves σ f τ = LeavesTo σ.opens σ f τ

@@ -1,6 +1,6 @@
 //! The laws, each on the contract of a function that does nothing.
 
-ghost use Rattle.wasm_operator_validator_state.specs.Bodies.{BodiesAreAccepted, EndIsLast, NothingFollows};
+ghost use Rattle.wasm_operator_validator_state.specs.Bodies.{BodiesAreAccepted, EndIsLast, NothingFollows, NothingAfterRefusal};
 ghost use Rattle.wasm_operator_validator_resources.specs.Meaning.{Meaning};
 ghost use Rattle.wasm_operator_validator_state.specs.worked.Bodies.{BodiesWorked};
 ghost use Rattle.wasm_operator_validator_state.specs.worked.Operands.{OperandsWorked};
@@ -26,6 +26,12 @@ pub const fn bodies_are_accepted()
 pub const fn ends_are_last()
     ensures last { EndIsLast }
     ensures nothing_follows { NothingFollows }
+{}
+
+/// After a refused operator nothing may come.
+#[tactic(auto, using(crate::specs::laws::Accepting::accepts_not_failed))]
+pub const fn refusals_are_last()
+    ensures { NothingAfterRefusal }
 {}
 
 /// Which operators may come where a body begins, and which not.

@@ -12,4 +12,4 @@ mod refusal;
 
 pub use frame::Frame;
 pub use operand::MaybeType;
-pub use refusal::Refusal;
+pub use refusal::{Reason, Refusal, Space};

@@ -1,6 +1,6 @@
 //! The stack.
 
-ghost use Rattle.std.specs.Prelude.{◌≡◌, true, false, ◌∷◌, ◌++◌, ◌+◌, ◌<◌, List, [], length, Option, Some, None, OnOk, IfOk, IfErr, MatchOption, MatchResult, reverse, take};
+ghost use Rattle.std.specs.Prelude.{◌≡◌, true, false, [], ◌∷◌, ◌++◌, ◌+◌, ◌<◌, List, [], length, Option, Some, None, OnOk, IfOk, IfErr, MatchOption, MatchResult, reverse, take};
 ghost use Rattle.std.specs.Vec.{vec_capacity};
 ghost use Rattle.wasm_operator_validator_tape.specs.Kept.{saved, IsKept, HasRoom, ReplacesLast};
 
@@ -114,6 +114,14 @@ impl<T: Copy + Drop> Tape<T> {
             let _item = self.pop()?;
         }
         Ok(())
+    }
+
+    /// An empty stack from now on, outside an attempt.
+    pub fn clear(&mut self)
+        ensures { self.new ≡ ([], None) }
+    {
+        self.items.clear();
+        self.attempt = false;
     }
 
     /// Begins an attempt.

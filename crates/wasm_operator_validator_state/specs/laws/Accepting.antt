@@ -1,5 +1,5 @@
 -- What each kind of operator does to what a state accepts.
-use Rattle.std.proofs.Common.{◌≡◌, ◌↔◌, ℕ, List, [], ◌∷◌, ◌++◌, Bool, true, false, Some, None, refl, map}
+use Rattle.std.proofs.Common.{◌≡◌, ◌↔◌, ◌∙◌, ℕ, List, [], ◌∷◌, ◌++◌, Bool, true, false, Some, None, refl, sym, map}
 use Rattle.wasm_operators_expression.specs.immediates.declared.block.BlockType.{BlockType}
 use Rattle.wasm_operators_expression.specs.immediates.declared.frames.FrameKind.{FrameKind}
 use Rattle.wasm_operators_expression.specs.operator.Op.{Op}
@@ -112,6 +112,7 @@ pub record Advanced (m : Meaning) (σ : State) (o : Op) (τ : State) : Type 0 wh
   pub given : τ.given ≡ σ.given
   pub set : initialised m τ.given τ.inits ≡ after o (initialised m σ.given σ.inits)
   pub frames : SameFrames σ.opens τ.opens
+  pub failed : τ.failed ≡ σ.failed
   pub stacks : (n : List Operand) → Stacks m τ n ↔ Image m σ o n
 
 pub advanced : (m : Meaning) (σ τ : State) (o : Op) → role_of o ≡ role.Plain → Advanced m σ o τ → (os : List Op) → Accepts m σ (o ∷ os) ↔ Accepts m τ os
@@ -121,41 +122,49 @@ advanced m σ τ o p a os = (ahead, back)
     both = same_open σ.opens τ.opens a.frames
 
     ahead : Accepts m σ (o ∷ os) → Accepts m τ os
-    ahead x =
+    ahead (f, x) =
         let (s, c, l) = (closes_left m σ.given [] σ.opens _ (o ∷ os) both.0).0 x in
         let (n, st, q) = (left_plain m σ.given σ.opens _ s o os p).0 l in
-        let q' : Left m τ.given σ.opens (initialised m τ.given τ.inits) n os = rw (a.set, a.given) q in
-        (closes_left m τ.given [] τ.opens _ os both.1).1
-        (n, (a.stacks n).1 (s, n, c, st, all_below_refl n), (same_left m τ.given σ.opens τ.opens _ n os a.frames).0 q')
+        let q' : Left m τ.given σ.opens (initialised m τ.given τ.inits) n os = rw (a.set, a.given) q in (
+          a.failed ∙ f,
+          (closes_left m τ.given [] τ.opens _ os both.1).1
+              (n, (a.stacks n).1 (s, n, c, st, all_below_refl n), (same_left m τ.given σ.opens τ.opens _ n os a.frames).0 q'),
+        )
 
     back : Accepts m τ os → Accepts m σ (o ∷ os)
-    back x =
+    back (f, x) =
         let (n, c, l) = (closes_left m τ.given [] τ.opens _ os both.1).0 x in
         let (s, k, d, st, b) = (a.stacks n).0 c in
         let q = (same_left m τ.given σ.opens τ.opens _ n os a.frames).1 l in
-        let q' : Left m σ.given σ.opens (after o (initialised m σ.given σ.inits)) n os = rw (← a.set, ← a.given) q in
-        (closes_left m σ.given [] σ.opens _ (o ∷ os) both.0).1
-        (s, d, (left_plain m σ.given σ.opens _ s o os p).1 (k, st, left_below m σ.given σ.opens _ k n os b q'))
+        let q' : Left m σ.given σ.opens (after o (initialised m σ.given σ.inits)) n os = rw (← a.set, ← a.given) q in (
+          sym a.failed ∙ f,
+          (closes_left m σ.given [] σ.opens _ (o ∷ os) both.0).1
+              (s, d, (left_plain m σ.given σ.opens _ s o os p).1 (k, st, left_below m σ.given σ.opens _ k n os b q')),
+        )
 
 -- what no operator does is not accepted
 pub refused : (m : Meaning) (σ : State) (o : Op) → role_of o ≡ role.Plain → IsOpen σ.opens
     → ((s n : List Operand) → Stacks m σ s → Steps (context m σ.given σ.opens) (initialised m σ.given σ.inits) o s n → ⊥)
     → (os : List Op) → Accepts m σ (o ∷ os) → ⊥
-refused m σ o p i never os x =
+refused m σ o p i never os (f, x) =
     let (s, c, l) = (closes_left m σ.given [] σ.opens _ (o ∷ os) i).0 x in
     let (n, st, q) = (left_plain m σ.given σ.opens _ s o os p).0 l in
     never s n c st
 
 -- with no operators left all frames must have ended, and after the last end nothing may follow
-pub accepts_nothing : (m : Meaning) (σ : State) → Accepts m σ [] ↔ (σ.opens ≡ [])
-accepts_nothing m σ = at σ.opens
+pub accepts_nothing : (m : Meaning) (σ : State) → Accepts m σ [] ↔ ((σ.failed ≡ false) × (σ.opens ≡ []))
+accepts_nothing m σ = (λ (f, x). (f, (at σ.opens).0 x), λ (f, e). (f, (at σ.opens).1 e))
   where
     at : (opens : List Open) → ClosesAll m σ.given [] opens (initialised m σ.given σ.inits) [] ↔ (opens ≡ [])
     at [] = (λ a. refl, λ a. refl)
     at (o ∷ outer) = (λ (s, c, l). absurd (in_nothing _ _ _ s _ l), λ e. cc)
 
 pub accepts_no_more : (m : Meaning) (σ : State) (o : Op) (os : List Op) → σ.opens ≡ [] → Accepts m σ (o ∷ os) → ⊥
-accepts_no_more m σ o os e x = let y : o ∷ os ≡ [] = rw e at x in cc
+accepts_no_more m σ o os e (f, x) = let y : o ∷ os ≡ [] = rw e at x in cc
+
+-- after a refusal nothing may come
+pub accepts_not_failed : (m : Meaning) (σ : State) (os : List Op) → σ.failed ≡ true → Accepts m σ os → ⊥
+accepts_not_failed m σ os e (f, x) = let y : true ≡ false = sym e ∙ f in cc
 
 -- ---- the end of a frame
 
@@ -178,16 +187,18 @@ left_end m w [] set s os = (λ a. absurd a, λ a. absurd a.1)
 left_end m w (o ∷ outer) set s os = in_end _ (frame_of m w o) set s os _
 
 pub ends : (m : Meaning) (σ : State) (os : List Op) → IsOpen σ.opens
-    → Accepts m σ (end ∷ os) ↔ (Stacks m σ (results_of m σ.opens) × MayEnd m σ.opens × AfterEnd m σ.given σ.opens os)
+    → Accepts m σ (end ∷ os) ↔ ((σ.failed ≡ false) × Stacks m σ (results_of m σ.opens) × MayEnd m σ.opens × AfterEnd m σ.given σ.opens os)
 ends m σ os i = (ahead, back)
   where
-    ahead : Accepts m σ (end ∷ os) → Stacks m σ (results_of m σ.opens) × MayEnd m σ.opens × AfterEnd m σ.given σ.opens os
-    ahead x =
+    ahead : Accepts m σ (end ∷ os) → (σ.failed ≡ false) × Stacks m σ (results_of m σ.opens) × MayEnd m σ.opens × AfterEnd m σ.given σ.opens os
+    ahead (f, x) =
         let (s, c, l) = (closes_left m σ.given [] σ.opens _ (end ∷ os) i).0 x in
         let (b, n, a) = (left_end m σ.given σ.opens _ s os).0 l in
-        (stacks_below m σ.opens s _ c b, n, a)
+        (f, stacks_below m σ.opens s _ c b, n, a)
 
-    back : Stacks m σ (results_of m σ.opens) × MayEnd m σ.opens × AfterEnd m σ.given σ.opens os → Accepts m σ (end ∷ os)
-    back (c, n, a) =
-        (closes_left m σ.given [] σ.opens _ (end ∷ os) i).1
-        (results_of m σ.opens, c, (left_end m σ.given σ.opens _ (results_of m σ.opens) os).1 (all_below_refl (results_of m σ.opens), n, a))
+    back : (σ.failed ≡ false) × Stacks m σ (results_of m σ.opens) × MayEnd m σ.opens × AfterEnd m σ.given σ.opens os → Accepts m σ (end ∷ os)
+    back (f, c, n, a) = (
+      f,
+      (closes_left m σ.given [] σ.opens _ (end ∷ os) i).1
+          (results_of m σ.opens, c, (left_end m σ.given σ.opens _ (results_of m σ.opens) os).1 (all_below_refl (results_of m σ.opens), n, a)),
+    )

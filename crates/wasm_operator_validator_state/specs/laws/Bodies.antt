@@ -46,7 +46,7 @@ pub bodies_are_accepted : BodiesAreAccepted
 bodies_are_accepted m w b saved os = (ahead, back)
   where
     ahead : Accepts m (fresh w b saved) os → (c : Code) × IsBody (body_context m w b) w.params c × (os ≡ walk c)
-    ahead (s, covers, (c, rest, i, e, t, r)) =
+    ahead (f, (s, covers, (c, rest, i, e, t, r))) =
         let n = covers_nothing m s covers in
         let t' = subst (λ (x : List Operand). Typed (inside (signature_of m b).results (body_context m w b))
         (block_frame (signature_of m b).params (signature_of m b).results (initialised m w []))
@@ -61,15 +61,18 @@ bodies_are_accepted m w b saved os = (ahead, back)
 
     back : (c : Code) × IsBody (body_context m w b) w.params c × (os ≡ walk c) → Accepts m (fresh w b saved) os
     back (c, y, e) = (
-      [],
-      tt,
+      refl,
       (
-        c,
         [],
-        y.expression,
-        e ∙ sym (append-nil (walk c)),
-        params_aside (inside (signature_of m b).results (body_context m w b)) [] (signature_of m b).params
-            (signature_of m b).results (initialised m w []) (initialised m w []) c [] y.expression y.typed,
-        refl,
+        tt,
+        (
+          c,
+          [],
+          y.expression,
+          e ∙ sym (append-nil (walk c)),
+          params_aside (inside (signature_of m b).results (body_context m w b)) [] (signature_of m b).params
+              (signature_of m b).results (initialised m w []) (initialised m w []) c [] y.expression y.typed,
+          refl,
+        ),
       ),
     )

@@ -30,7 +30,7 @@ Least m σ o τ = (popped pushed rest : List Operand) → RowAt m σ o popped pu
 abbrev pub Unfit : Meaning → State → Op → Type 0
 Unfit m σ o = (popped pushed rest : List Operand) → RowAt m σ o popped pushed → Stacks m σ (reverse popped ++ rest) → ⊥
 
-row_image : (m : Meaning) (σ τ : State) (o : Op) → SameFrames σ.opens τ.opens → Reached m σ o τ → Least m σ o τ → (n : List Operand) → Stacks m τ n ↔ Image m σ o n
+pub row_image : (m : Meaning) (σ τ : State) (o : Op) → SameFrames σ.opens τ.opens → Reached m σ o τ → Least m σ o τ → (n : List Operand) → Stacks m τ n ↔ Image m σ o n
 row_image m σ τ o b reached least n = (
   λ c. let (popped, pushed, rest, row, d, l) = reached n c in
       (reverse popped ++ rest, reverse pushed ++ rest, d, (popped, pushed, rest, row, all_below_refl (reverse popped ++ rest), refl), l),
@@ -47,13 +47,14 @@ by_row m σ τ o p keeps same reached least =
       given = same.given;
       set = rw (same.given, same.inits, keeps (initialised m σ.given σ.inits)) refl;
       frames = same.frames;
+      failed = same.failed;
       stacks = row_image m σ τ o same.frames reached least;
     })
 
 -- where an operator is accepted, some row fits
 pub some_row : (m : Meaning) (σ : State) (o : Op) (os : List Op) → role_of o ≡ role.Plain → IsOpen σ.opens → Accepts m σ (o ∷ os)
     → (popped pushed rest : List Operand) × RowAt m σ o popped pushed × Stacks m σ (reverse popped ++ rest)
-some_row m σ o os p i x =
+some_row m σ o os p i (f, x) =
     let (s, c, l) = (closes_left m σ.given [] σ.opens _ (o ∷ os) i).0 x in
     let (n, (popped, pushed, rest, row, b, e), q) = (left_plain m σ.given σ.opens _ s o os p).0 l in
     (popped, pushed, rest, row, stacks_below m σ.opens s (reverse popped ++ rest) c b)

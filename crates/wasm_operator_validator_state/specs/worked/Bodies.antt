@@ -21,7 +21,7 @@ unreachable = op.Control control.Unreachable
 
 -- a body without features and locals that gives this
 abbrev pub body_of : BlockType → State
-body_of b = fresh (record { bits = 0; locals = []; params = 0; shared = false }) b (record { operands = None; frames = None; inits = None })
+body_of b = fresh (record { bits = 0; locals = []; params = 0; shared = false }) b (record { operands = None; frames = None; inits = None; failed = false })
 
 abbrev pub Accepted : Meaning → BlockType → List Op → Type 0
 Accepted m b os = Accepts m (body_of b) os

@@ -4,7 +4,9 @@ use Rattle.wasm_types.specs.error.declared.error.ErrorKind.TheVariants as kinds
 use Rattle.wasm_types.specs.features.declared.WasmFeatures.{WasmFeatures}
 use Rattle.wasm_types.specs.values.declared.value.ValType.TheVariants.{I32}
 use Rattle.wasm_operator_validator_state.specs.declared.operand.MaybeType.TheVariants as maybe
+use Rattle.wasm_operator_validator_state.specs.declared.refusal.Reason.TheVariants as reasons
 use Rattle.wasm_operator_validator_state.specs.declared.refusal.Refusal.TheVariants as refusals
+use Rattle.wasm_operator_validator_state.specs.declared.refusal.Space.TheVariants as spaces
 use Rattle.wasm_operator_validator_state.specs.Refusals.{kind_of}
 
 pub record RefusalsWorked : Type 0 where
@@ -19,3 +21,6 @@ pub record RefusalsWorked : Type 0 where
   pub label : kind_of refusals.UnknownLabel ≡ kinds.Other
   pub local : (x : ℕ) → kind_of (refusals.UnknownLocal x) ≡ kinds.Other
   pub unset : (x : ℕ) → kind_of (refusals.UninitializedLocal x) ≡ kinds.Other
+  pub unknown : (x : ℕ) → kind_of (refusals.Unknown spaces.Memory x) ≡ kinds.Other
+  pub because : kind_of (refusals.Because reasons.ElseOutsideIf) ≡ kinds.Other
+  pub no_reference : kind_of (refusals.ExpectedReference maybe.Bottom) ≡ kinds.Other

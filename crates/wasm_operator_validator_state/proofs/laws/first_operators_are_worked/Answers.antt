@@ -15,10 +15,10 @@ use Rattle.wasm_operator_validator_state.proofs.laws.first_operators_are_worked.
 pub returns : goal.returns
 unfolding type_in
 returns c = λ m. record {
-  empty = (ends m (body_of block.Empty) [] tt).1 (tt, tt, refl);
-  no_end = λ a. let e = (accepts_nothing m (body_of block.Empty)).0 a in cc;
-  behind_end = λ a. let e : ◌≡◌ {A = List Op} (end ∷ []) [] = ((ends m (body_of block.Empty) (end ∷ []) tt).0 a).2 in cc;
-  result_missing = λ a. ((ends m (body_of (block.Val I32)) [] tt).0 a).0;
+  empty = (ends m (body_of block.Empty) [] tt).1 (refl, tt, tt, refl);
+  no_end = λ a. let e = ((accepts_nothing m (body_of block.Empty)).0 a).1 in cc;
+  behind_end = λ a. let e : ◌≡◌ {A = List Op} (end ∷ []) [] = ((ends m (body_of block.Empty) (end ∷ []) tt).0 a).3 in cc;
+  result_missing = λ a. ((ends m (body_of (block.Val I32)) [] tt).0 a).1;
   result_unreached =
       (bodies_are_accepted m (body_of (block.Val I32)).given (block.Val I32) (body_of (block.Val I32)).saved (unreachable ∷ end ∷ [])).1 (
         plain unreachable (close end),
@@ -28,5 +28,5 @@ returns c = λ m. record {
         },
         refl,
       );
-  else_alone = λ (s, c, l). let e = ((in_else _ _ _ s (end ∷ []) _).0 l).0 in cc;
+  else_alone = λ (f, (s, c, l)). let e = ((in_else _ _ _ s (end ∷ []) _).0 l).0 in cc;
 }

@@ -1,0 +1,2 @@
+-- Which types a check names for an atomic access.
+pub mod Atomics

@@ -1,0 +1,4 @@
+pub mod Types
+pub mod Same
+pub mod Determined
+pub mod Usable

@@ -1,0 +1,13 @@
+//! How a check is proved where the module determines the operator's type, and what checks share.
+//!
+//! `specs/laws/Determined.antt` says how the promise of a check (`Checks` of `wasm_operator_validator_state`) follows from its steps and
+//! an equation of the table of instruction types. An operator owes that equation alone.
+#![tactic(auto)]
+
+mod copying;
+mod refusals;
+mod shared;
+
+pub use copying::copied;
+pub use refusals::refusal_of;
+pub use shared::{may_use, may_use_type};

@@ -1,0 +1,27 @@
+use Rattle.std.proofs.Common.{[], ◌∷◌}
+use Rattle.wasm_operators_expression.specs.info.declared.proposal.Proposal.TheVariants.{Mvp}
+use Rattle.wasm_operators_expression.specs.operator.Op as op
+use Rattle.wasm_operator_validator_rules.specs.Accesses.{load}
+use Rattle.wasm_operator_validator_state.specs.Refusals.{refused}
+use Rattle.wasm_operator_validator_determined.specs.laws.Determined.{not_begun, refused_here, undetermined, determined}
+use Rattle.wasm_operator_validator_memory.proofs.Accessing.{load_in_table, load_type, no_access}
+use Rattle.wasm_operator_validator_memory.proofs.accesses.check_load.Goals as goal
+
+pub returns-in-Err : goal.returns-in-Err
+returns-in-Err g c =
+    let m = g.R.WasmModuleResources.meaning c.args.resources.now in
+    not_begun c.in-Err.refusal m c.args.validator.now (op.Memory c.args.op) Mvp c.args.floats (load_in_table c.args.op c.args.memarg.now c.args.floats c.args.ty.now c.requires).is c.in-Err.ensures.begins c.in-Err.ensures.stops
+
+pub returns-in-Err-reach : goal.returns-in-Err-reach
+returns-in-Err-reach g c =
+    let m = g.R.WasmModuleResources.meaning c.args.resources.now in
+    refused_here _ m c.args.validator.now (op.Memory c.args.op) Mvp c.args.floats c.in-Ok.ensures.begins
+    (undetermined m c.args.validator.now (op.Memory c.args.op) Mvp c.args.floats (load_in_table c.args.op c.args.memarg.now c.args.floats c.args.ty.now c.requires) c.in-Ok.ensures.begins
+    (no_access m c.args.validator.now load c.args.op c.args.memarg.now c.args.floats c.args.ty.now c.requires c.in-Err-reach.ensures))
+
+pub returns : goal.returns
+returns g c =
+    let m = g.R.WasmModuleResources.meaning c.args.resources.now in
+    determined (refused c.exchange.result) m c.args.validator.now c.exchange.new.self (op.Memory c.args.op) Mvp c.args.floats (c.in-Ok-reach.address ∷ []) (c.args.ty.now ∷ [])
+    (load_in_table c.args.op c.args.memarg.now c.args.floats c.args.ty.now c.requires) c.in-Ok.ensures.begins
+    (load_type m c.args.validator.now c.args.op c.args.memarg.now c.args.floats c.args.ty.now c.in-Ok-reach.address c.requires c.in-Ok-reach.ensures) c.exchange.ensures.does (record { given = c.exchange.ensures.given; failed = c.exchange.ensures.failed; saved = c.exchange.ensures.saved })

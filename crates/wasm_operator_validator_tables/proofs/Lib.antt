@@ -1,0 +1,4 @@
+pub mod Indexing
+pub mod Copying
+pub mod Referring
+pub mod Null

@@ -1,0 +1,2 @@
+-- What tables and references are, by cases.
+pub mod Tables

@@ -1,0 +1,36 @@
+//! Nulls.
+
+ghost use Rattle.wasm_operators_expression.specs.operator.Op.{Op};
+ghost use Rattle.wasm_operator_validator_state.specs.State.{Checks};
+ghost use Rattle.wasm_operator_validator_state.specs.Refusals.{refused};
+
+use crate::naming::name_null;
+use wasm_operator_validator_determined::may_use_type;
+use wasm_operator_validator_resources::WasmModuleResources;
+use wasm_operator_validator_stacks::OperatorValidator;
+use wasm_operator_validator_state::{Reason, Refusal};
+use wasm_operators_expression::{BulkOperator, Proposal};
+use wasm_types::HeapType;
+
+/// `ref.null` (WebAssembly 3.0, validation, reference instructions).
+pub fn check_ref_null<R: WasmModuleResources>(
+    validator: &mut OperatorValidator,
+    resources: &R,
+    hty: HeapType,
+) -> Result<(), Refusal>
+    ensures { Checks (R.meaning resources.now) validator.old (Op.Bulk (BulkOperator.RefNull hty)) (refused result) validator.new }
+{
+    match validator.begin(Proposal::ReferenceTypes, false) {
+        Ok(()) => (),
+        Err(refusal) => return Err(refusal),
+    }
+    let features = validator.features();
+    let ty = match name_null(resources, &features, &hty) {
+        Ok(ty) => ty,
+        Err(refusal) => return Err(refusal),
+    };
+    if !may_use_type(validator, resources, &ty) {
+        return Err(Refusal::Because(Reason::NotShared));
+    }
+    validator.push_operands(resources, &[ty])
+}

@@ -1,0 +1,4 @@
+pub mod Operators
+pub mod Setting
+pub mod Selecting
+pub mod WrittenTypes

@@ -1,0 +1,3 @@
+-- What a global is by its sharedness, and what a choice gives.
+pub mod Variables
+pub mod Choices

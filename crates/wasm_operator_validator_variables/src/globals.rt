@@ -1,0 +1,81 @@
+//! Globals.
+
+ghost use Rattle.std.specs.Prelude.{slice_get, MatchResult};
+ghost use Rattle.wasm_operators_expression.specs.operator.Op.{Op};
+ghost use Rattle.wasm_operator_validator_resources.specs.Meaning.{global_in};
+ghost use Rattle.wasm_operator_validator_rules.specs.Context.{Global};
+ghost use Rattle.wasm_operator_validator_state.specs.State.{Checks};
+ghost use Rattle.wasm_operator_validator_state.specs.Refusals.{refused};
+ghost use Rattle.wasm_operator_validator_determined.specs.Operators.{IsUsable};
+ghost use Rattle.wasm_operator_validator_variables.specs.Variables.{global_is_shared};
+
+use wasm_operator_validator_determined::may_use;
+use wasm_operator_validator_resources::WasmModuleResources;
+use wasm_operator_validator_stacks::OperatorValidator;
+use wasm_operator_validator_state::{Reason, Refusal, Space};
+use wasm_operators_expression::{MemoryOperator, Proposal};
+use wasm_types::GlobalType;
+
+/// `global.get` (WebAssembly 3.0, validation, variable instructions).
+pub fn check_global_get<R: WasmModuleResources>(
+    validator: &mut OperatorValidator,
+    resources: &R,
+    global_index: u32,
+) -> Result<(), Refusal>
+    ensures { Checks (R.meaning resources.now) validator.old (Op.Memory (MemoryOperator.GlobalGet global_index)) (refused result) validator.new }
+{
+    match validator.begin(Proposal::Mvp, false) {
+        Ok(()) => (),
+        Err(refusal) => return Err(refusal),
+    }
+    let global = match usable_global(validator, resources, global_index) {
+        Ok(global) => global,
+        Err(refusal) => return Err(refusal),
+    };
+    validator.push_operands(resources, &[global.content_type])
+}
+
+/// `global.set`, of a global that may be written (WebAssembly 3.0, validation, variable instructions).
+pub fn check_global_set<R: WasmModuleResources>(
+    validator: &mut OperatorValidator,
+    resources: &R,
+    global_index: u32,
+) -> Result<(), Refusal>
+    ensures { Checks (R.meaning resources.now) validator.old (Op.Memory (MemoryOperator.GlobalSet global_index)) (refused result) validator.new }
+{
+    match validator.begin(Proposal::Mvp, false) {
+        Ok(()) => (),
+        Err(refusal) => return Err(refusal),
+    }
+    let global = match usable_global(validator, resources, global_index) {
+        Ok(global) => global,
+        Err(refusal) => return Err(refusal),
+    };
+    if !global.mutable {
+        return Err(Refusal::Because(Reason::ImmutableGlobal));
+    }
+    validator.pop_operand(resources, &global.content_type)
+}
+
+// The global at an index, where the function may use it.
+fn usable_global<R: WasmModuleResources>(
+    validator: &OperatorValidator,
+    resources: &R,
+    at: u32,
+) -> Result<GlobalType, Refusal>
+    ensures { MatchResult result (λ v. IsUsable validator.now global_is_shared (slice_get (R.meaning resources.now).«module».globals at) (global_in (R.meaning resources.now) v)) (λ r. (v : Global) → IsUsable validator.now global_is_shared (slice_get (R.meaning resources.now).«module».globals at) v → ⊥) }
+{
+    let global = match resources.global_at(at) {
+        Some(global) => global,
+        None => {
+            return Err(Refusal::Unknown {
+                space: Space::Global,
+                index: at,
+            });
+        }
+    };
+    if !may_use(validator, global.shared) {
+        return Err(Refusal::Because(Reason::NotShared));
+    }
+    Ok(global)
+}

@@ -1,0 +1,82 @@
+//! Locals.
+
+ghost use Rattle.std.specs.Prelude.{◌≡◌, slice_get, MatchResult};
+ghost use Rattle.wasm_types.specs.trees.Below.{value_is_shared};
+ghost use Rattle.wasm_operators_expression.specs.operator.Op.{Op};
+ghost use Rattle.wasm_operator_validator_resources.specs.Meaning.{type_in};
+ghost use Rattle.wasm_operator_validator_rules.specs.Operands.{ValueType};
+ghost use Rattle.wasm_operator_validator_state.specs.State.{Checks, types_in};
+ghost use Rattle.wasm_operator_validator_state.specs.Refusals.{refused};
+ghost use Rattle.wasm_operator_validator_determined.specs.Operators.{IsUsable};
+
+use wasm_operator_validator_determined::{copied, may_use_type};
+use wasm_operator_validator_resources::WasmModuleResources;
+use wasm_operator_validator_stacks::OperatorValidator;
+use wasm_operator_validator_state::{Reason, Refusal};
+use wasm_operators_expression::{MemoryOperator, Proposal};
+use wasm_types::ValType;
+
+/// `local.set`: the local has a value from here on (WebAssembly 3.0, validation, variable instructions).
+pub fn check_local_set<R: WasmModuleResources>(
+    validator: &mut OperatorValidator,
+    resources: &R,
+    local_index: u32,
+) -> Result<(), Refusal>
+    ensures { Checks (R.meaning resources.now) validator.old (Op.Memory (MemoryOperator.LocalSet local_index)) (refused result) validator.new }
+{
+    match validator.begin(Proposal::Mvp, false) {
+        Ok(()) => (),
+        Err(refusal) => return Err(refusal),
+    }
+    let ty = match usable_local(validator, resources, local_index) {
+        Ok(ty) => ty,
+        Err(refusal) => return Err(refusal),
+    };
+    match validator.pop_operand(resources, &ty) {
+        Ok(()) => (),
+        Err(refusal) => return Err(refusal),
+    }
+    validator.set_init(local_index)
+}
+
+/// `local.tee`: the same, and the value stays (WebAssembly 3.0, validation, variable instructions).
+pub fn check_local_tee<R: WasmModuleResources>(
+    validator: &mut OperatorValidator,
+    resources: &R,
+    local_index: u32,
+) -> Result<(), Refusal>
+    ensures { Checks (R.meaning resources.now) validator.old (Op.Memory (MemoryOperator.LocalTee local_index)) (refused result) validator.new }
+{
+    match validator.begin(Proposal::Mvp, false) {
+        Ok(()) => (),
+        Err(refusal) => return Err(refusal),
+    }
+    let ty = match usable_local(validator, resources, local_index) {
+        Ok(ty) => ty,
+        Err(refusal) => return Err(refusal),
+    };
+    match validator.exchange(resources, &[copied(&ty)], &[copied(&ty)]) {
+        Ok(()) => (),
+        Err(refusal) => return Err(refusal),
+    }
+    validator.set_init(local_index)
+}
+
+// The type of a local, where the function may use it.
+#[inline]
+fn usable_local<R: WasmModuleResources>(
+    validator: &OperatorValidator,
+    resources: &R,
+    local_index: u32,
+) -> Result<ValType, Refusal>
+    ensures { MatchResult result (λ t. IsUsable validator.now value_is_shared (slice_get (types_in (R.meaning resources.now) validator.now.given.locals) local_index) (type_in (R.meaning resources.now) t)) (λ r. (t : ValueType) → IsUsable validator.now value_is_shared (slice_get (types_in (R.meaning resources.now) validator.now.given.locals) local_index) t → ⊥) }
+{
+    let ty = match validator.local(local_index) {
+        Some(ty) => ty,
+        None => return Err(Refusal::UnknownLocal { local_index }),
+    };
+    if !may_use_type(validator, resources, &ty) {
+        return Err(Refusal::Because(Reason::NotShared));
+    }
+    Ok(ty)
+}
