@@ -154,8 +154,13 @@ bytes_mended k s p h e = go (nat_lt (length s.rest) k) refl e
     go true lt g = (
       take k (s.rest ++ replicate h 0),
       record { rest = drop k (s.rest ++ replicate h 0); place = s.place + k; settings = s.settings; start = s.start },
-      bytes-enough k (extended s (replicate h 0)) (omega (arith, ltb-true _ _ lt, need_is {A = List ℕ} s.place p (k - length s.rest) h g,
-       length-append s.rest (replicate h 0), length-replicate {A = ℕ} h 0)),
+      bytes-enough k (extended s (replicate h 0)) (omega (
+        arith,
+        ltb-true _ _ lt,
+        need_is {A = List ℕ} s.place p (k - length s.rest) h g,
+        length-append s.rest (replicate h 0),
+        length-replicate {A = ℕ} h 0,
+      )),
     )
     go false lt g = absurd cc
 
@@ -184,13 +189,13 @@ number_cut (suc k) (c ∷ text) a y b p h e = go (number_cut k text (a + 1) y b 
     go rest true f g = absurd cc
     go rest false f g = elim (short_then (unsigned k 4 (at text (a + 1) y b)) (λ m. pure (128 * m + (c - 128))) p h g) [
       | inl i ↦ let r = rest i in record {
-          one = r.one;
-          begun = (ltb-false _ _ f, r.begun);
-          value = 128 * r.value + (c - 128);
-          there = r.there;
-          mended = ap (λ (v : Bool). cond v (pure c) (unsigned k 4 >>= λ m. pure (128 * m + (c - 128))) (at (text ++ 0 ∷ []) (a + 1) y b)) f
-              ∙ ap (λ (o : Outcome ℕ). continue_with o (λ m. pure (128 * m + (c - 128)))) r.mended;
-        }
+        one = r.one;
+        begun = (ltb-false _ _ f, r.begun);
+        value = 128 * r.value + (c - 128);
+        there = r.there;
+        mended = ap (λ (v : Bool). cond v (pure c) (unsigned k 4 >>= λ m. pure (128 * m + (c - 128))) (at (text ++ 0 ∷ []) (a + 1) y b)) f
+            ∙ ap (λ (o : Outcome ℕ). continue_with o (λ m. pure (128 * m + (c - 128)))) r.mended;
+      }
       | inr d ↦ let no : done (128 * d.0 + (c - 128)) d.1 ≡ short p h = d.3 in absurd cc
     ]
 
@@ -251,15 +256,15 @@ module _ (z : Settings) (p : Progress) (id : ℕ) where
   unfolding contents
   contents_mends n w q h e = elim (short_then (next_part n w) (contents_next z p id) q h e) [
     | inl f ↦ elim (short_then (bytes n w) (λ text. pure (part_at w text)) q h f) [
-        | inl g ↦
+      | inl g ↦
           let m = bytes_mended n w q h g in
           let u : State = extended w (replicate h 0) in (
             replicate h 0,
             length-replicate {A = ℕ} h 0,
             subst (λ (o : Outcome (List ℕ)). IsSettled (continue_with (continue_with o (λ text. pure (part_at u text))) (contents_next z p id))) (sym m.2) (contents_settled (part_at u m.0) m.1),
           )
-        | inr d ↦ let no : done (part_at w d.0) d.1 ≡ short q h = d.3 in absurd cc
-      ]
+      | inr d ↦ let no : done (part_at w d.0) d.1 ≡ short q h = d.3 in absurd cc
+    ]
     | inr d ↦ absurd (not_settled (contents_next z p id d.0 d.1) q h (contents_settled d.0 d.1) d.3)
   ]
 
@@ -275,12 +280,12 @@ module _ (z : Settings) (p : Progress) (id : ℕ) where
           → Mends (cond v (number_before (w.place + n) >>= λ k. pure (code_next p n (w.place + n) k)) (refuse_at Other w.place)) w h
       go true f = elim (short_then (number_before (w.place + n) w) (λ k. pure (code_next p n (w.place + n) k)) q h f) [
         | inl g ↦
-          let c = number_cut 4 w.rest w.place w.settings w.start q h (kept_short (w.place + n) w.place q h (u32 w) g) in (
-            0 ∷ [],
-            sym c.one,
-            subst (λ (o : Outcome ℕ). IsSettled (continue_with (kept (w.place + n) w.place o) (λ k. pure (code_next p n (w.place + n) k)))) (sym c.mended)
-                (last c.value c.there (nat_lt (w.place + n) c.there.place)),
-          )
+            let c = number_cut 4 w.rest w.place w.settings w.start q h (kept_short (w.place + n) w.place q h (u32 w) g) in (
+              0 ∷ [],
+              sym c.one,
+              subst (λ (o : Outcome ℕ). IsSettled (continue_with (kept (w.place + n) w.place o) (λ k. pure (code_next p n (w.place + n) k)))) (sym c.mended)
+                  (last c.value c.there (nat_lt (w.place + n) c.there.place)),
+            )
         | inr d ↦ let no : done (code_next p n (w.place + n) d.0) d.1 ≡ short q h = d.3 in absurd cc
       ]
       go false f = absurd cc
@@ -303,9 +308,9 @@ module _ (z : Settings) (p : Progress) (id : ℕ) where
   section_cut text a y b q h e = elim (short_then (u32 (at text (a + 1) y b)) (ordered z p id) q h e) [
     | inl f ↦ begun text (number_cut 4 text (a + 1) y b q h f)
     | inr d ↦
-      let m = ordered_mends d.0 d.1 q h d.3 in
-      let read = stays d.0 d.1 m.0 (u32 (at text (a + 1) y b)) (u32 (at (text ++ m.0) (a + 1) y b)) d.2 ((lawful-unsigned 4 4).steady (at text (a + 1) y b) m.0) in
-      inl (m.0, m.1, subst (λ (o : Outcome ℕ). IsSettled (continue_with o (ordered z p id))) (sym read) m.2)
+        let m = ordered_mends d.0 d.1 q h d.3 in
+        let read = stays d.0 d.1 m.0 (u32 (at text (a + 1) y b)) (u32 (at (text ++ m.0) (a + 1) y b)) d.2 ((lawful-unsigned 4 4).steady (at text (a + 1) y b) m.0) in
+        inl (m.0, m.1, subst (λ (o : Outcome ℕ). IsSettled (continue_with o (ordered z p id))) (sym read) m.2)
   ]
     where
       begun : (more : List ℕ) → Cut 4 more (a + 1) y b h → Mends (next_section z p) (at (id ∷ more) a y b) h ⊎ ((h ≡ 1) × IsBegun more)
@@ -323,8 +328,8 @@ module _ (p : Progress) (left end : ℕ) where
       go true f = absurd cc
       go false f = elim (short_then (bytes n w) (λ text. pure (entry text, one_less p left end)) q h f) [
         | inl g ↦
-          let m = bytes_mended n w q h g in
-          (replicate h 0, length-replicate {A = ℕ} h 0, subst (λ (o : Outcome (List ℕ)). IsSettled {A = Next} (continue_with o (λ text. pure (entry text, one_less p left end)))) (sym m.2) tt)
+            let m = bytes_mended n w q h g in
+            (replicate h 0, length-replicate {A = ℕ} h 0, subst (λ (o : Outcome (List ℕ)). IsSettled {A = Next} (continue_with o (λ text. pure (entry text, one_less p left end)))) (sym m.2) tt)
         | inr d ↦ let no : done {A = Next} (entry d.0, one_less p left end) d.1 ≡ short q h = d.3 in absurd cc
       ]
 
@@ -334,9 +339,9 @@ module _ (p : Progress) (left end : ℕ) where
   entry_cut text a y b q h e = elim (short_then (number_before end (at text a y b)) (body p left end) q h e) [
     | inl f ↦ begun text (number_cut 4 text a y b q h (kept_short end a q h (u32 (at text a y b)) f))
     | inr d ↦
-      let m = body_mends d.0 d.1 q h d.3 in
-      let read = stays d.0 d.1 m.0 (number_before end (at text a y b)) (number_before end (at (text ++ m.0) a y b)) d.2 ((lawful-number_before end).steady (at text a y b) m.0) in
-      inl (m.0, m.1, subst (λ (o : Outcome ℕ). IsSettled (continue_with o (body p left end))) (sym read) m.2)
+        let m = body_mends d.0 d.1 q h d.3 in
+        let read = stays d.0 d.1 m.0 (number_before end (at text a y b)) (number_before end (at (text ++ m.0) a y b)) d.2 ((lawful-number_before end).steady (at text a y b) m.0) in
+        inl (m.0, m.1, subst (λ (o : Outcome ℕ). IsSettled (continue_with o (body p left end))) (sym read) m.2)
   ]
     where
       empty : (v : Bool) → IsSettled (continue_with (cond v (Fault Other a) (done 0 (at [] (a + 1) y b))) (body p left end))
@@ -384,13 +389,13 @@ header_mends (c ∷ d ∷ x ∷ f ∷ rest) a y b q h e = go (is_magic (c ∷ d 
         → (more : List ℕ) × (length more ≡ h) × IsSettled (header (at ((c ∷ d ∷ x ∷ f ∷ rest) ++ more) a y b))
     go true g = elim (short_then (bytes 4 (at rest (a + 4) y b)) header_after q h g) [
       | inl k ↦
-        let m = bytes_mended 4 (at rest (a + 4) y b) q h k in
-        let more : List ℕ = replicate h 0 in (
-          more,
-          length-replicate {A = ℕ} h 0,
-          whole more (settled_if (is_magic (c ∷ d ∷ x ∷ f ∷ [])) (bytes 4 >>= header_after) (refuse Other 4) (at (rest ++ more) (a + 4) y b)
-          (subst (λ (o : Outcome (List ℕ)). IsSettled (continue_with o header_after)) (sym m.2) (after_settled m.0 m.1)) tt),
-        )
+          let m = bytes_mended 4 (at rest (a + 4) y b) q h k in
+          let more : List ℕ = replicate h 0 in (
+            more,
+            length-replicate {A = ℕ} h 0,
+            whole more (settled_if (is_magic (c ∷ d ∷ x ∷ f ∷ [])) (bytes 4 >>= header_after) (refuse Other 4) (at (rest ++ more) (a + 4) y b)
+                (subst (λ (o : Outcome (List ℕ)). IsSettled (continue_with o header_after)) (sym m.2) (after_settled m.0 m.1)) tt),
+          )
       | inr k ↦ absurd (not_settled (header_after k.0 k.1) q h (after_settled k.0 k.1) k.3)
     ]
     go false g = absurd cc

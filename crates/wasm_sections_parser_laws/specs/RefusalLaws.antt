@@ -156,7 +156,7 @@ module _ (fs : List Frame) (p q r : Parser) (text rest : List ℕ) (e : ErrorVal
       let taken : Takes (reads p text) text t = record { parts = sym (append-nil text); place = refl; settings = refl; start = refl } in
       let run = module_run (settings_of p) m text xs (reads p text) t h order counted taken room in
       let left = run_prefix (settings_of p) xs (shapes_of fs) fresh run.0 q.progress (reads p text) t (stands q rest p.offset) run.1
-          (all_run fs p q text rest first calls going none) (stuck fs p q text rest first calls going none) in
+      (all_run fs p q text rest first calls going none) (stuck fs p q text rest first calls going none) in
       let there : counts_agree run.0 ≡ true = agree m.parts (begun fresh) run.0 refl run.2 order counts in
       ended run.0 t left.0 left.2 run.3 there refl (refused_cases q r rest e c going)
     where
