@@ -37,7 +37,7 @@ taken (Err e) = 0
 -- what a parser answers behind the end and behind a refusal: an error of its own kind
 abbrev pub FailedBefore : Parser → Result Chunk ErrorValue → Parser → Type 0
 FailedBefore p (Ok c) q = ⊥
-FailedBefore p (Err e) q = (e.kind ≡ Failed) × (q ≡ p)
+FailedBefore p (Err e) q = (e.kind ≡ Failed) × (q ≡ p) × (e.offset ≡ p.offset)
 
 -- ---- calls, one after the other, over a text that comes in pieces
 

@@ -164,7 +164,7 @@ header_next w = record { after = left w 0 8 []; read = refl; placed = (refl, ref
 
 start_next : (w : WasmFeatures) → IsNext (parser w 8 stages.Sections) long_start 4 (frames.Section 8 (left w 10 10 (0x05 ∷ 0x00 ∷ []))) (behind_start w)
 unfolding step next_section contents in_part unsigned
-start_next w = record { after = left w 8 12 []; read = refl; placed = (refl, refl); consumed = refl; offset = refl; features = refl }
+start_next w = record { after = left w 8 12 []; read = refl; placed = (refl, refl, refl); consumed = refl; offset = refl; features = refl }
 
 pub call_rows : CallRows
 unfolding step next_header header next_section contents in_part unsigned
@@ -177,7 +177,7 @@ call_rows = record {
   no_need_at_the_end = λ w h. let e = h.0 in cc;
   part = λ w. (refl, (10, refl), refl);
   refused = λ w. inr (record { size = 4; frame = frames.Section 8 (left w 10 10 (0x05 ∷ 0x00 ∷ [])); behind = behind_start w; parses = start_next w; refused = refl; failed = refl });
-  failed = λ w. inl (refl, refl);
+  failed = λ w. inl (refl, refl, refl);
   not_again = λ w h. h.1;
 }
 
