@@ -1,0 +1,2 @@
+pub mod Unset
+pub mod Marking

@@ -1,0 +1,16 @@
+use Rattle.std.proofs.Common.{refl}
+use Rattle.std.specs.Vec.{vec_len}
+use Rattle.wasm_operator_validator_inits.proofs.Marking.{resized, more_sound, more_first}
+use Rattle.wasm_operator_validator_inits.proofs.inits.LocalInits.define.Goals as goal
+
+pub invariant_of-self-2 : goal.invariant_of-self-2
+invariant_of-self-2 c =
+    let e = resized c.self.inside.marks.items c.as_slice-held.result.now c.resize.new.self.items (vec_len c.self.inside.marks) c.args.count c.args.mark
+    c.as_slice-held.ensures.value c.as_slice-held.ensures.len c.in_ok-resize.ensures.items in
+    more_sound c.self.inside.marks.items c.resize.new.self.items c.args.count c.args.mark c.self.inside.inits.0 c.self.inside.inits.1 e c.requires.fresh c.self.invariant
+
+pub returns-clause-defined : goal.returns-clause-defined
+returns-clause-defined c =
+    let e = resized c.self.inside.marks.items c.as_slice-held.result.now c.resize.new.self.items (vec_len c.self.inside.marks) c.args.count c.args.mark
+    c.as_slice-held.ensures.value c.as_slice-held.ensures.len c.in_ok-resize.ensures.items in
+    rw (← c.self.view_is) (rw (more_first c.self.inside.marks.items c.resize.new.self.items c.args.count c.args.mark e) refl)
