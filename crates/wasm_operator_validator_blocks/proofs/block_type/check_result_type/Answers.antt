@@ -1,0 +1,8 @@
+use Rattle.wasm_operator_validator_state.specs.Refusals.{kind_of}
+use Rattle.wasm_operator_validator_blocks.proofs.Naming.{no_type_at_all}
+use Rattle.wasm_operator_validator_blocks.proofs.block_type.check_result_type.Goals as goal
+
+pub returns-in-Err : goal.returns-in-Err
+returns-in-Err g c =
+    no_type_at_all c.in-Err.error.kind (kind_of c.type_refusal.result) (g.R.WasmModuleResources.meaning c.args.resources.now) c.args.features.0 c.args.written c.check_value_type.new.ty
+    c.in-Err.ensures.refused c.type_refusal.ensures.1 c.in-Err.ensures.answer

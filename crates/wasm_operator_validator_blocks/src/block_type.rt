@@ -1,0 +1,78 @@
+//! Which block types code may write.
+
+ghost use Rattle.std.specs.Prelude.{◌≡◌, ◌↔◌, MatchResult};
+ghost use Rattle.wasm_types.specs.error.Denials.{Denies};
+ghost use Rattle.wasm_types.specs.error.declared.error.ErrorKind.TheVariants.{OutOfMemory};
+ghost use Rattle.wasm_operator_validator_rules.specs.Operands.{ValueType};
+ghost use Rattle.wasm_operator_validator_rules.specs.Context.{Signature, IsType};
+ghost use Rattle.wasm_operator_validator_resources.specs.Meaning.{type_in};
+ghost use Rattle.wasm_operator_validator_state.specs.Refusals.{kind_of};
+ghost use Rattle.wasm_operator_validator_state.specs.State.{Given, signature_of};
+ghost use Rattle.wasm_operator_validator_blocks.specs.Signatures.{IsBlock};
+
+use crate::signatures::function_at;
+use wasm_operator_validator_resources::WasmModuleResources;
+use wasm_operator_validator_state::{Reason, Refusal, Space};
+use wasm_operators_expression::BlockType;
+use wasm_types::{Error, ErrorKind, ValType, WasmFeatures};
+
+/// A block type as code writes it, under these features, with the types in it named by their ids (WebAssembly 3.0, validation, types,
+/// block types).
+pub fn check_block_type<R: WasmModuleResources>(
+    resources: &R,
+    features: WasmFeatures,
+    written: BlockType,
+) -> Result<BlockType, Refusal>
+    ensures { (w : Given) → w.bits ≡ features.0 → MatchResult result (λ named. IsBlock (R.meaning resources.now) w written (signature_of (R.meaning resources.now) named)) (λ r. Denies (kind_of r) ((b : Signature) × IsBlock (R.meaning resources.now) w written b)) }
+{
+    match written {
+        BlockType::Empty => Ok(BlockType::Empty),
+        BlockType::Val(ty) => match check_result_type(resources, features, ty) {
+            Ok(named) => Ok(BlockType::Val(named)),
+            Err(refusal) => Err(refusal),
+        },
+        BlockType::FuncType(type_index) => {
+            if !features.multi_value() {
+                return Err(Refusal::NotEnabled {
+                    feature: WasmFeatures::MULTI_VALUE,
+                });
+            }
+            match function_at(resources, type_index) {
+                Some(_) => Ok(BlockType::FuncType(type_index)),
+                None => Err(Refusal::Unknown {
+                    space: Space::FunctionType,
+                    index: type_index,
+                }),
+            }
+        }
+    }
+}
+
+/// A value type as code writes it, with the types in it named by their ids. Numbers that need no feature are not asked.
+fn check_result_type<R: WasmModuleResources>(
+    resources: &R,
+    features: WasmFeatures,
+    written: ValType,
+) -> Result<ValType, Refusal>
+    ensures { MatchResult result (λ named. IsType features.0 (R.meaning resources.now).«module» written (type_in (R.meaning resources.now) named)) (λ r. Denies (kind_of r) ((t : ValueType) × IsType features.0 (R.meaning resources.now).«module» written t)) }
+{
+    let mut ty = written;
+    match resources.check_value_type(&mut ty, &features, 0) {
+        Ok(()) => Ok(ty),
+        Err(error) => Err(type_refusal(&error)),
+    }
+}
+
+/// Why a value type is refused, in few bytes.
+#[cold]
+fn type_refusal(error: &Error) -> Refusal
+    ensures { (kind_of result ≡ OutOfMemory) ↔ (error.now.kind ≡ OutOfMemory) }
+{
+    match error.kind() {
+        ErrorKind::MissingFeature(feature) => Refusal::NotEnabled { feature },
+        ErrorKind::OutOfMemory => Refusal::OutOfMemory,
+        ErrorKind::EndOfData { needed_hint: _ } => Refusal::Because(Reason::UnknownType),
+        ErrorKind::Failed => Refusal::Because(Reason::UnknownType),
+        ErrorKind::Other => Refusal::Because(Reason::UnknownType),
+    }
+}
