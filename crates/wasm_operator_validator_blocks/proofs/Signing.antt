@@ -45,9 +45,12 @@ same_type o t u e f = let g : ◌≡◌ {A = Option TypeTree} (Some t) (Some u) 
 
 by_inner : (m : Meaning) (x : ℕ) (t : TypeTree) (i : CompositeInnerType) → slice_get m.«module».types x ≡ Some t → inner_map (named_type m) (inner_of i) ≡ expanded t
     → IsFunctionAt m x (option_map (signature_in m) (func_in i))
-by_inner m x t (Func f) e p =
-    (t, e, sym p ∙ (let g : function (map (value_map (named_type m)) (map value_of f.params.items)) (map (value_map (named_type m)) (map value_of f.results.items))
-    ≡ function (types_in m f.params.items) (types_in m f.results.items) = rw (types_twice m f.params.items, types_twice m f.results.items) refl in g))
+by_inner m x t (Func f) e p = (
+  t,
+  e,
+  sym p ∙ (let g : function (map (value_map (named_type m)) (map value_of f.params.items)) (map (value_map (named_type m)) (map value_of f.results.items))
+      ≡ function (types_in m f.params.items) (types_in m f.results.items) = rw (types_twice m f.params.items, types_twice m f.results.items) refl in g),
+)
 by_inner m x t (Array a) e p = λ u b f q. (let h = same_type _ t u e f in let k = p ∙ ap expanded h ∙ q in cc)
 by_inner m x t (Struct s) e p = λ u b f q. (let h = same_type _ t u e f in let k = p ∙ ap expanded h ∙ q in cc)
 by_inner m x t (Cont c) e p = λ u b f q. (let h = same_type _ t u e f in let k = p ∙ ap expanded h ∙ q in cc)

@@ -9,7 +9,11 @@ use wasm_types::ValType;
 
 /// Whether operands of the first types may be taken for operands of the second, each for that in its place (WebAssembly 3.0,
 /// validation, matching, result types).
-pub fn are_below<R: WasmModuleResources>(resources: &R, found: &[ValType], expected: &[ValType]) -> bool
+pub fn are_below<R: WasmModuleResources>(
+    resources: &R,
+    found: &[ValType],
+    expected: &[ValType],
+) -> bool
     ensures { IsTrue result ↔ AllBelow (all_known (types_in (R.meaning resources.now) found.now)) (all_known (types_in (R.meaning resources.now) expected.now)) }
 {
     if found.len() != expected.len() {

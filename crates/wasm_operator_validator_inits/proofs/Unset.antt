@@ -36,7 +36,7 @@ pub unset_at : (first : List Bool) (xs : List ℕ) (k : ℕ) → AreUnset first 
 unset_at first [] k u a = cc
 unset_at first (x ∷ xs) k (g, m, u) a =
     elim (x == k) as (λ b. (x == k) ≡ b → get_or first k true ≡ false) [
-      true ↦ λ e. (let h : x ≡ k = eqb-true x k e in let g' : get_or first k true ≡ false = rw h at g in g')
+      | true ↦ λ e. (let h : x ≡ k = eqb-true x k e in let g' : get_or first k true ≡ false = rw h at g in g')
       | false ↦ λ e. unset_at first xs k u (let a' : (false || is_among xs k) ≡ true = rw e at a in a')
     ] refl
 

@@ -125,18 +125,22 @@ advanced m σ τ o p a os = (ahead, back)
     ahead (f, x) =
         let (s, c, l) = (closes_left m σ.given [] σ.opens _ (o ∷ os) both.0).0 x in
         let (n, st, q) = (left_plain m σ.given σ.opens _ s o os p).0 l in
-        let q' : Left m τ.given σ.opens (initialised m τ.given τ.inits) n os = rw (a.set, a.given) q in
-        (a.failed ∙ f, (closes_left m τ.given [] τ.opens _ os both.1).1
-        (n, (a.stacks n).1 (s, n, c, st, all_below_refl n), (same_left m τ.given σ.opens τ.opens _ n os a.frames).0 q'))
+        let q' : Left m τ.given σ.opens (initialised m τ.given τ.inits) n os = rw (a.set, a.given) q in (
+          a.failed ∙ f,
+          (closes_left m τ.given [] τ.opens _ os both.1).1
+              (n, (a.stacks n).1 (s, n, c, st, all_below_refl n), (same_left m τ.given σ.opens τ.opens _ n os a.frames).0 q'),
+        )
 
     back : Accepts m τ os → Accepts m σ (o ∷ os)
     back (f, x) =
         let (n, c, l) = (closes_left m τ.given [] τ.opens _ os both.1).0 x in
         let (s, k, d, st, b) = (a.stacks n).0 c in
         let q = (same_left m τ.given σ.opens τ.opens _ n os a.frames).1 l in
-        let q' : Left m σ.given σ.opens (after o (initialised m σ.given σ.inits)) n os = rw (← a.set, ← a.given) q in
-        (sym a.failed ∙ f, (closes_left m σ.given [] σ.opens _ (o ∷ os) both.0).1
-        (s, d, (left_plain m σ.given σ.opens _ s o os p).1 (k, st, left_below m σ.given σ.opens _ k n os b q')))
+        let q' : Left m σ.given σ.opens (after o (initialised m σ.given σ.inits)) n os = rw (← a.set, ← a.given) q in (
+          sym a.failed ∙ f,
+          (closes_left m σ.given [] σ.opens _ (o ∷ os) both.0).1
+              (s, d, (left_plain m σ.given σ.opens _ s o os p).1 (k, st, left_below m σ.given σ.opens _ k n os b q')),
+        )
 
 -- what no operator does is not accepted
 pub refused : (m : Meaning) (σ : State) (o : Op) → role_of o ≡ role.Plain → IsOpen σ.opens
@@ -193,6 +197,8 @@ ends m σ os i = (ahead, back)
         (f, stacks_below m σ.opens s _ c b, n, a)
 
     back : (σ.failed ≡ false) × Stacks m σ (results_of m σ.opens) × MayEnd m σ.opens × AfterEnd m σ.given σ.opens os → Accepts m σ (end ∷ os)
-    back (f, c, n, a) =
-        (f, (closes_left m σ.given [] σ.opens _ (end ∷ os) i).1
-        (results_of m σ.opens, c, (left_end m σ.given σ.opens _ (results_of m σ.opens) os).1 (all_below_refl (results_of m σ.opens), n, a)))
+    back (f, c, n, a) = (
+      f,
+      (closes_left m σ.given [] σ.opens _ (end ∷ os) i).1
+          (results_of m σ.opens, c, (left_end m σ.given σ.opens _ (results_of m σ.opens) os).1 (all_below_refl (results_of m σ.opens), n, a)),
+    )

@@ -33,9 +33,11 @@ pushed_closes m σ τ xs p os = (ahead, back)
     ahead : ClosesFrom m σ xs os → Accepts m τ os
     ahead (f, x) =
         let (rest, d, l) = (closes_left m σ.given xs σ.opens _ os both.0).0 x in
-        let n = moved m σ.given τ.given σ.inits τ.inits σ.opens (xs ++ rest) os (sym p.same.given) (sym p.same.inits) l in
-        (p.same.failed ∙ f, (closes_left m τ.given [] τ.opens _ os both.1).1
-        (xs ++ rest, (p.stacks (xs ++ rest)).1 (rest, d, all_below_refl (xs ++ rest)), (same_left m τ.given σ.opens τ.opens _ (xs ++ rest) os p.same.frames).0 n))
+        let n = moved m σ.given τ.given σ.inits τ.inits σ.opens (xs ++ rest) os (sym p.same.given) (sym p.same.inits) l in (
+          p.same.failed ∙ f,
+          (closes_left m τ.given [] τ.opens _ os both.1).1
+              (xs ++ rest, (p.stacks (xs ++ rest)).1 (rest, d, all_below_refl (xs ++ rest)), (same_left m τ.given σ.opens τ.opens _ (xs ++ rest) os p.same.frames).0 n),
+        )
 
     back : Accepts m τ os → ClosesFrom m σ xs os
     back (f, x) =
@@ -219,9 +221,11 @@ elses m σ os i = (ahead, back)
         (f, e, stacks_below m σ.opens s _ c b, a)
 
     back : (σ.failed ≡ false) × IsIfTop σ.opens × Stacks m σ (results_of m σ.opens) × AfterElse m σ.given σ.opens os → Accepts m σ (else ∷ os)
-    back (f, e, c, a) =
-        (f, (closes_left m σ.given [] σ.opens _ (else ∷ os) i).1
-        (results_of m σ.opens, c, (left_else m σ.given σ.opens _ (results_of m σ.opens) os).1 (e, all_below_refl (results_of m σ.opens), a)))
+    back (f, e, c, a) = (
+      f,
+      (closes_left m σ.given [] σ.opens _ (else ∷ os) i).1
+          (results_of m σ.opens, c, (left_else m σ.given σ.opens _ (results_of m σ.opens) os).1 (e, all_below_refl (results_of m σ.opens), a)),
+    )
 
 -- ---- the innermost frame is left
 
@@ -289,8 +293,8 @@ else_left m w [] ps ρ f τ os s l e = absurd s
 else_left m w (o ∷ outer) [] ρ f τ os s l e = absurd s
 else_left m w (o ∷ outer) (p ∷ others) ρ f τ os s l e =
     else_parts (λ (v : Given) (js : List ℕ) (c : BlockType) (ps : List Open). ClosesAll m v (stack (signature_of m c).params) (begun frames.Else c js ∷ ps) (initialised m v js) os)
-        τ.given w τ.inits o.before f.block_type o.block τ.opens outer
-        (ap (λ (x : State). x.given) l.3 ∙ e) (ap (λ (x : State). x.inits) l.3 ∙ s.2) (l.2 ∙ s.1) (ap (λ (x : State). x.opens) l.3 ∙ s.3)
+    τ.given w τ.inits o.before f.block_type o.block τ.opens outer
+    (ap (λ (x : State). x.given) l.3 ∙ e) (ap (λ (x : State). x.inits) l.3 ∙ s.2) (l.2 ∙ s.1) (ap (λ (x : State). x.opens) l.3 ∙ s.3)
 
 pub turned : (m : Meaning) (σ ρ : State) (f : OpenFrame) (τ : State) → Popped m σ (results_of m σ.opens) ρ → IsIfTop σ.opens → Leaves ρ f τ → (os : List Op)
     → Accepts m σ (else ∷ os) ↔ BeginsFrame m τ frames.Else f.block_type os

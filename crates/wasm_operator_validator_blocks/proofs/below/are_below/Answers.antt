@@ -11,11 +11,12 @@ returns-then-found-expected g c =
 
 pub returns-then-not-is_subtype : goal.returns-then-not-is_subtype
 returns-then-not-is_subtype g c =
-    let m = g.R.WasmModuleResources.meaning c.args.resources.now in
-    (λ t. (let x : false ≡ true = t in cc),
-    λ b. (let d = below_at m c.args.found.now c.args.expected.now c.loop-i.i c.index-found-i.result c.index-expected-i.result b c.loop-i-test.true in
-    let d' : Below (type_in m c.index-found-i.result) (type_in m c.index-expected-i.result) = rw (← c.index-found-i.is, ← c.index-expected-i.is) at d in
-    let x : false ≡ true = sym c.if-not-is_subtype.true ∙ c.is_subtype.ensures.1 d' in cc))
+    let m = g.R.WasmModuleResources.meaning c.args.resources.now in (
+      λ t. (let x : false ≡ true = t in cc),
+      λ b. (let d = below_at m c.args.found.now c.args.expected.now c.loop-i.i c.index-found-i.result c.index-expected-i.result b c.loop-i-test.true in
+          let d' : Below (type_in m c.index-found-i.result) (type_in m c.index-expected-i.result) = rw (← c.index-found-i.is, ← c.index-expected-i.is) at d in
+          let x : false ≡ true = sym c.if-not-is_subtype.true ∙ c.is_subtype.ensures.1 d' in cc),
+    )
 
 pub returns : goal.returns
 returns g c =
