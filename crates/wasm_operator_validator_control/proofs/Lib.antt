@@ -1,0 +1,3 @@
+pub mod Jumping
+pub mod Opening
+pub mod Ending
