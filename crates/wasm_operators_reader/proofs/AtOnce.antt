@@ -46,11 +46,11 @@ use Rattle.wasm_operators_expression.specs.decode_encoding.Opcodes.{is_prefix}
 use Rattle.wasm_operators_expression.specs.decode_encoding.Coded.{Coded, operator}
 use Rattle.wasm_operators_expression.specs.decode_encoding.CodedLaws.{decides-operator}
 use Rattle.wasm_operators_expression.specs.decode_encoding.Operators.{coded_of}
-use Rattle.wasm_operators_expression.specs.Frames.{behind as frames_after, after}
+use Rattle.wasm_operators_expression.specs.Frames.{behind as frames_after}
 use Rattle.wasm_operators_expression.specs.Stack.{around}
 use Rattle.wasm_operators_read_short.specs.Short.{BeginsWith, IsTold}
 use Rattle.wasm_operators_reader.specs.Standing.{Reads}
-use Rattle.wasm_operators_reader.specs.Visiting.{Tells, VisitsPlain}
+use Rattle.wasm_operators_reader.specs.Visiting.{Finds, Tells, VisitsPlain}
 
 -- ---- roles by the first byte
 
@@ -130,21 +130,6 @@ module _ {V A : Type 0} (visits : V → Op → A → V → Type 0) (s : State) (
         told = found.told;
       }
 
--- ---- what was read
-
-pub read_at_once : (s : State) (p features e : ℕ) (text : List ℕ) → text ≡ s.rest → features ≡ s.settings.features → (o : Op) → IsTold features text p e (λ q. q ≡ o)
-    → (ks js : List FrameKind) → after o ks ≡ Some js → Reads (record { bytes = behind p s; frames = ks }) o (record { bytes = behind e s; frames = js })
-read_at_once s p features e text bytes_are same o found ks js fits =
-    let tells = told_at_once {V = Op} {A = Unit {0}} (λ v q a w. q ≡ v) s p o o tt features e text bytes_are same found in
-    record {
-      canonical = subst (λ (q : Op). IsTrue (is_canonical q)) tells.told tells.canonical;
-      read = tells.read ∙ ap (λ (q : Op). Done (coded_of q) (behind e s)) tells.told;
-      fits = fits;
-    }
-
-pub read_inside : (s : State) (p features e : ℕ) (text : List ℕ) → text ≡ s.rest → features ≡ s.settings.features → (o : Op) → IsTold features text p e (λ q. q ≡ o) → e ≤ length text
-read_inside s p features e text bytes_are same o found = told_inside {V = Op} {A = Unit {0}} (λ v q a w. q ≡ v) s p o o tt features e text bytes_are same found
-
 -- ---- in frames
 
 -- where the role fits the frames, it is read there
@@ -152,6 +137,11 @@ pub told_in : {V A : Type 0} (visits : V → Op → A → V → Type 0) (s t : S
     → Tells visits r s v answer t w → r ≡ q → frames_after q ks ≡ Some js → VisitsPlain visits (record { bytes = s; frames = ks }) v answer (record { bytes = t; frames = js }) w
 told_in visits s t v w answer r q ks js h e fits =
     (h.op, record { canonical = h.canonical; read = h.read; fits = ap (λ (p : Role). frames_after p ks) (h.role_is ∙ e) ∙ fits }, h.no_vector, h.told)
+
+pub found_in : (s t : State) (o : Op) (r q : Role) (ks js : List FrameKind) → Finds r s o t → r ≡ q → frames_after q ks ≡ Some js
+    → Reads (record { bytes = s; frames = ks }) o (record { bytes = t; frames = js })
+found_in s t o r q ks js h e fits = subst (λ (p : Op). Reads (record { bytes = s; frames = ks }) p (record { bytes = t; frames = js })) h.told
+    (record { canonical = h.canonical; read = h.read; fits = ap (λ (p : Role). frames_after p ks) (h.role_is ∙ e) ∙ fits })
 
 -- what the three roles make of frames, if one is open
 pub stays_open : (ks : List FrameKind) → nat_eq (length ks) 0 ≡ false → frames_after Plain ks ≡ Some ks

@@ -41,3 +41,7 @@ pub record Tells {V A : Type 0} (visits : V → Op → A → V → Type 0) (role
   pub role_is : role_of op ≡ role
   pub no_vector : is_simd op ≡ false
   pub told : visits v op answer w
+
+-- an operator of this role, which is not on vectors, is read from one state to the other
+abbrev pub Finds : Role → State → Op → State → Type 0
+Finds role s o t = Tells {V = Op} {A = Unit {0}} (λ v q a w. q ≡ v) role s o tt t o

@@ -5,7 +5,7 @@ ghost use Rattle.wasm_operators_decode_codes.specs.OpcodeRoles.{plain_role};
 ghost use Rattle.wasm_operators_expression.specs.operator.declared.role.Role.TheVariants.{Plain, Opens, End};
 ghost use Rattle.wasm_operators_expression.specs.operator.Op.{op_of};
 ghost use Rattle.wasm_operators_reader.specs.Standing.{Reads};
-ghost use Rattle.wasm_operators_reader.specs.Visiting.{Tells, VisitsPlain};
+ghost use Rattle.wasm_operators_reader.specs.Visiting.{Finds, Tells, VisitsPlain};
 
 use crate::cursor::Cursor;
 use wasm_operators_expression::{ControlStack, FrameKind, Operator, Role};
@@ -128,6 +128,77 @@ pub(crate) fn visit_frequent<'a, V: VisitOperator<'a>>(
     }
 }
 
+/// The next operator, and the role of its first byte.
+#[inline(always)]
+fn read_next<'a>(reader: &mut Cursor<'a>) -> Option<Operator<'a>>
+    ensures read { IfSome result (λ op. Finds (plain_role (get_or reader.old.rest 0 0)) reader.old (op_of op) reader.new) }
+    ensures stays { IfNone result (reader.new ≡ reader.old) }
+{
+    let features = reader.features();
+    let Some((op, end)) = short_operator_at(reader.bytes, reader.position, features) else {
+        return None;
+    };
+    reader.position = end;
+    Some(op)
+}
+
+/// The same of an operator that leaves the frames.
+#[inline(always)]
+fn read_inside<'a>(reader: &mut Cursor<'a>, control: &ControlStack) -> Option<Operator<'a>>
+    requires { plain_role (get_or reader.old.rest 0 0) ≡ Plain }
+    ensures read { IfSome result (λ op. Reads (record { bytes = reader.old; frames = control.now.frames }) (op_of op) (record { bytes = reader.new; frames = control.now.frames })) }
+    ensures stays { IfNone result (reader.new ≡ reader.old) }
+{
+    if control.is_empty() {
+        return None;
+    }
+    let Some(op) = read_next(reader) else {
+        return None;
+    };
+    Some(op)
+}
+
+/// The same of one that opens a frame.
+#[inline]
+fn read_opening<'a>(
+    frame: FrameKind,
+    reader: &mut Cursor<'a>,
+    control: &mut ControlStack,
+) -> Option<Operator<'a>>
+    requires { plain_role (get_or reader.old.rest 0 0) ≡ Opens frame }
+    ensures read { IfSome result (λ op. Reads (record { bytes = reader.old; frames = control.old.frames }) (op_of op) (record { bytes = reader.new; frames = control.new.frames })) }
+    ensures stays { IfNone result ((reader.new ≡ reader.old) × (control.new.frames ≡ control.old.frames)) }
+{
+    if control.is_empty() {
+        return None;
+    }
+    let Ok(()) = control.push(frame) else {
+        return None;
+    };
+    let Some(op) = read_next(reader) else {
+        control.pop();
+        return None;
+    };
+    Some(op)
+}
+
+/// The same of `end`.
+#[inline(always)]
+fn read_closing<'a>(reader: &mut Cursor<'a>, control: &mut ControlStack) -> Option<Operator<'a>>
+    requires { plain_role (get_or reader.old.rest 0 0) ≡ End }
+    ensures read { IfSome result (λ op. Reads (record { bytes = reader.old; frames = control.old.frames }) (op_of op) (record { bytes = reader.new; frames = control.new.frames })) }
+    ensures stays { IfNone result ((reader.new ≡ reader.old) × (control.new.frames ≡ control.old.frames)) }
+{
+    if control.is_empty() {
+        return None;
+    }
+    let Some(op) = read_next(reader) else {
+        return None;
+    };
+    control.pop();
+    Some(op)
+}
+
 /// Reads the next operator, where it is a frequent one in a frequent form that may come next. None where it is another, and
 /// where none is read, or memory for a frame is refused: then nothing changes.
 #[inline(always)]
@@ -138,18 +209,21 @@ pub(crate) fn read_frequent<'a>(
     ensures read { IfSome result (λ op. Reads (record { bytes = reader.old; frames = control.old.frames }) (op_of op) (record { bytes = reader.new; frames = control.new.frames })) }
     ensures stays { IfNone result ((reader.new ≡ reader.old) × (control.new.frames ≡ control.old.frames)) }
 {
-    let features = reader.features();
-    let Some((op, end)) = short_operator_at(reader.bytes, reader.position, features) else {
-        return None;
-    };
-    let Ok(fits) = control.advance(&op) else {
-        return None;
-    };
-    if !fits {
+    if reader.eof() {
         return None;
     }
-    reader.position = end;
-    Some(op)
+    match role_of(reader.first()) {
+        Role::Plain => {
+            let op = read_inside(reader, control)?;
+            Some(op)
+        }
+        Role::Opens(frame) => read_opening(frame, reader, control),
+        Role::End => read_closing(reader, control),
+        Role::Else => None,
+        Role::Catch => None,
+        Role::CatchAll => None,
+        Role::Delegate => None,
+    }
 }
 
 /// The role of the operators that begin with this byte.
