@@ -6,6 +6,7 @@ use wasm_types::{HeapType, Ieee32, Ieee64, RefType, ValType};
 use wasm_operators::{BlockType, BrTable, MemArg, Ordering, ResumeTable, TryTable};
 
 /// How many operators were visited.
+#[derive(Drop)]
 pub struct Counter {
     /// So many.
     pub operators: u64,
