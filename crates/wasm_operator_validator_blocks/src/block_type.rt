@@ -59,17 +59,17 @@ fn check_result_type<R: WasmModuleResources>(
     let mut ty = written;
     match resources.check_value_type(&mut ty, &features, 0) {
         Ok(()) => Ok(ty),
-        Err(error) => Err(type_refusal(&error)),
+        Err(error) => Err(type_refusal(&error, written)),
     }
 }
 
 /// Why a value type is refused, in few bytes.
 #[cold]
-fn type_refusal(error: &Error) -> Refusal
+fn type_refusal(error: &Error, ty: ValType) -> Refusal
     ensures { (kind_of result ≡ OutOfMemory) ↔ (error.now.kind ≡ OutOfMemory) }
 {
     match error.kind() {
-        ErrorKind::MissingFeature(feature) => Refusal::NotEnabled { feature },
+        ErrorKind::MissingFeature(feature) => Refusal::TypeNotEnabled { feature, ty },
         ErrorKind::OutOfMemory => Refusal::OutOfMemory,
         ErrorKind::EndOfData { needed_hint: _ } => Refusal::Because(Reason::UnknownType),
         ErrorKind::Failed => Refusal::Because(Reason::UnknownType),

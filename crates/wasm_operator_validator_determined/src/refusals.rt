@@ -13,7 +13,10 @@ pub fn refusal_of(error: &Error, written: &ValType) -> Refusal
     ensures { kind_of result ≡ refusal_kind error.now.kind }
 {
     match error.kind() {
-        ErrorKind::MissingFeature(feature) => Refusal::NotEnabled { feature },
+        ErrorKind::MissingFeature(feature) => Refusal::TypeNotEnabled {
+            feature,
+            ty: *written,
+        },
         ErrorKind::OutOfMemory => Refusal::OutOfMemory,
         ErrorKind::Failed => Refusal::AfterRefusal,
         ErrorKind::EndOfData { needed_hint: _ } => unknown_type(written),

@@ -55,7 +55,7 @@ fn check_reference(features: &WasmFeatures, ty: &RefType, offset: u64) -> Result
         HeapType::Exact(_) => require(
             features.custom_descriptors(),
             WasmFeatures::CUSTOM_DESCRIPTORS,
-            "exact references require the custom descriptors proposal",
+            "custom descriptors required for exact reference types",
             offset,
         ),
         HeapType::Abstract { shared, ty: kind } => {
@@ -77,7 +77,7 @@ fn check_defined(features: &WasmFeatures, offset: u64) -> Result<()>
     require(
         features.function_references(),
         WasmFeatures::FUNCTION_REFERENCES,
-        "references to defined types require function references",
+        "function references required for index reference types",
         offset,
     )
 }
@@ -97,7 +97,7 @@ fn check_abstract(
     require(
         !shared || features.shared_everything_threads(),
         WasmFeatures::SHARED_EVERYTHING_THREADS,
-        "shared references require shared-everything-threads",
+        "shared reference types require the shared-everything-threads proposal",
         offset,
     )?;
     check_collector(features, ty, offset)?;
@@ -115,7 +115,7 @@ fn check_collector(features: &WasmFeatures, ty: AbstractHeapType, offset: u64) -
     require(
         untraced || features.gc_types(),
         WasmFeatures::GC_TYPES,
-        "the reference requires types of the collector",
+        "gc types are disallowed but found type which requires gc",
         offset,
     )
 }
@@ -136,19 +136,19 @@ fn check_kind(
         AbstractHeapType::Func | AbstractHeapType::Extern => require(
             nullable || features.function_references(),
             WasmFeatures::FUNCTION_REFERENCES,
-            "non-null references require function references",
+            "function references required for non-nullable types",
             offset,
         ),
         AbstractHeapType::Exn | AbstractHeapType::NoExn => require(
             features.exceptions(),
             WasmFeatures::EXCEPTIONS,
-            "references to exceptions require exceptions",
+            "exception refs not supported without the exception handling feature",
             offset,
         ),
         AbstractHeapType::Cont | AbstractHeapType::NoCont => require(
             features.stack_switching(),
             WasmFeatures::STACK_SWITCHING,
-            "references to continuations require stack switching",
+            "continuation refs not supported without the stack switching feature",
             offset,
         ),
         AbstractHeapType::Any
@@ -161,7 +161,7 @@ fn check_kind(
         | AbstractHeapType::NoFunc => require(
             features.gc(),
             WasmFeatures::GC,
-            "the reference requires garbage collection",
+            "heap types not supported without the gc feature",
             offset,
         ),
     }

@@ -1,4 +1,5 @@
 -- What is known, which operators may come, what steps do, and what refusals are: definitions, in the order in which they are read.
+pub mod Names
 pub mod Refusals
 pub mod State
 pub mod Steps

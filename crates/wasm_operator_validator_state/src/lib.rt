@@ -9,7 +9,10 @@ mod frame;
 pub mod laws;
 mod operand;
 mod refusal;
+mod texts;
+mod type_names;
 
 pub use frame::Frame;
 pub use operand::MaybeType;
 pub use refusal::{Reason, Refusal, Space};
+pub use type_names::ty_to_str;

@@ -4,8 +4,11 @@ ghost use Rattle.std.specs.Prelude.{◌≡◌};
 ghost use Rattle.wasm_types.specs.error.declared.error.ErrorKind.TheVariants.{Other};
 ghost use Rattle.wasm_operator_validator_state.specs.Refusals.{kind_of, OfContent};
 
-use crate::MaybeType;
-use std::fmt::Display;
+use crate::texts::{
+    empty_stack, expected_reference, feature_text, mismatch, reason_text, type_feature_text,
+    uninitialized_local, unknown, unknown_local,
+};
+use crate::{MaybeType, ty_to_str};
 use wasm_types::{Error, ValType, WasmFeatures};
 
 /// Why an operator is refused. It has no text and no offset, so that it is answered in few registers.
@@ -19,6 +22,8 @@ pub enum Refusal {
     AfterEnd,
     /// The operator needs a feature.
     NotEnabled { feature: WasmFeatures },
+    /// A type that the operator names needs a feature.
+    TypeNotEnabled { feature: WasmFeatures, ty: ValType },
     /// The operand on top does not fit the type.
     TypeMismatch { expected: ValType, found: MaybeType },
     /// There is no operand where one of this type is expected.
@@ -118,10 +123,13 @@ impl Refusal {
             Refusal::AfterRefusal => Error::failed("an operator was refused before", offset),
             Refusal::AfterEnd => Error::new("operators remaining after end of function", offset),
             Refusal::NotEnabled { feature } => {
-                Error::missing_feature(feature, "support is not enabled", offset)
+                Error::missing_feature(feature, feature_text(feature), offset)
             }
-            Refusal::TypeMismatch { expected, found } => type_mismatch(offset, expected, found),
-            Refusal::EmptyStack { expected } => empty_stack(offset, expected),
+            Refusal::TypeNotEnabled { feature, ty } => {
+                Error::missing_feature(feature, type_feature_text(feature, ty), offset)
+            }
+            Refusal::TypeMismatch { expected, found } => mismatch(offset, expected, found),
+            Refusal::EmptyStack { expected } => empty_stack(offset, ty_to_str(expected)),
             Refusal::EmptyStackOfAny => empty_stack(offset, "a type"),
             Refusal::ValuesRemain => Error::new(
                 "type mismatch: values remaining on stack at end of block",
@@ -134,122 +142,5 @@ impl Refusal {
             Refusal::ExpectedReference { found } => expected_reference(offset, found),
             Refusal::Because(reason) => Error::new(reason_text(reason), offset),
         }
-    }
-}
-
-#[cold]
-fn type_mismatch(offset: u64, expected: ValType, found: MaybeType) -> Error
-    ensures kind { result.kind ≡ Other }
-    ensures offset { result.offset ≡ offset }
-{
-    match found {
-        MaybeType::Bottom | MaybeType::UnknownRef(_) => Error::fmt(
-            format_args!("type mismatch: expected {expected}, found a reference"),
-            offset,
-        ),
-        MaybeType::Known(found) => Error::fmt(
-            format_args!("type mismatch: expected {expected}, found {found}"),
-            offset,
-        ),
-    }
-}
-
-#[cold]
-fn empty_stack<D: Display + Drop>(offset: u64, expected: D) -> Error
-    ensures kind { result.kind ≡ Other }
-    ensures offset { result.offset ≡ offset }
-{
-    Error::fmt(
-        format_args!("type mismatch: expected {expected} but nothing on stack"),
-        offset,
-    )
-}
-
-#[cold]
-fn unknown_local(offset: u64, local_index: u32) -> Error
-    ensures kind { result.kind ≡ Other }
-    ensures offset { result.offset ≡ offset }
-{
-    Error::fmt(
-        format_args!("unknown local {local_index}: local index out of bounds"),
-        offset,
-    )
-}
-
-#[cold]
-fn uninitialized_local(offset: u64, local_index: u32) -> Error
-    ensures kind { result.kind ≡ Other }
-    ensures offset { result.offset ≡ offset }
-{
-    Error::fmt(format_args!("uninitialized local: {local_index}"), offset)
-}
-
-#[cold]
-fn unknown(offset: u64, space: Space, index: u32) -> Error
-    ensures kind { result.kind ≡ Other }
-    ensures offset { result.offset ≡ offset }
-{
-    let name = space_name(space);
-    Error::fmt(
-        format_args!("unknown {name} {index}: {name} index out of bounds"),
-        offset,
-    )
-}
-
-fn space_name(space: Space) -> &'static str {
-    match space {
-        Space::Type => "type",
-        Space::FunctionType => "function type",
-        Space::Function => "function",
-        Space::Table => "table",
-        Space::Memory => "memory",
-        Space::Global => "global",
-        Space::Tag => "tag",
-        Space::Element => "elem segment",
-        Space::Data => "data segment",
-    }
-}
-
-fn reason_text(reason: Reason) -> &'static str {
-    match reason {
-        Reason::ElseOutsideIf => "else found outside of an `if` block",
-        Reason::NoElse => "type mismatch: an `if` without `else` must give what it takes",
-        Reason::LabelsDiffer => {
-            "type mismatch: br_table target labels have different number of types"
-        }
-        Reason::ResultsDiffer => {
-            "type mismatch: the callee's results are not those of the current function"
-        }
-        Reason::NotFunctions => "indirect calls must go through a table with type <= funcref",
-        Reason::NotShared => "shared functions cannot access unshared items",
-        Reason::UnknownType => "unknown type: type index out of bounds",
-        Reason::Alignment => "malformed memop alignment: alignment must not be larger than natural",
-        Reason::AtomicAlignment => "atomic instructions must always specify maximum alignment",
-        Reason::OffsetOutOfRange => "offset out of range: must be <= 2**32",
-        Reason::ArrayTarget => "an access to a memory reaches into an array",
-        Reason::ImmutableGlobal => "global is immutable: cannot modify it with `global.set`",
-        Reason::NoDataCount => "data count section required",
-        Reason::UndeclaredFunction => "undeclared function reference",
-        Reason::ElementTypes => "type mismatch: the elements don't fit the table",
-        Reason::SelectOfReferences => "type mismatch: select only takes integral types",
-        Reason::SelectOfTypes => "type mismatch: select operands have different types",
-        Reason::SelectArity => "invalid result arity",
-    }
-}
-
-#[cold]
-fn expected_reference(offset: u64, found: MaybeType) -> Error
-    ensures kind { result.kind ≡ Other }
-    ensures offset { result.offset ≡ offset }
-{
-    match found {
-        MaybeType::Bottom | MaybeType::UnknownRef(_) => Error::new(
-            "type mismatch: expected a reference",
-            offset,
-        ),
-        MaybeType::Known(found) => Error::fmt(
-            format_args!("type mismatch: expected ref but found {found}"),
-            offset,
-        ),
     }
 }

@@ -14,6 +14,7 @@ pub record RefusalsWorked : Type 0 where
   pub before : kind_of refusals.AfterRefusal ≡ kinds.Failed
   pub ended : kind_of refusals.AfterEnd ≡ kinds.Other
   pub feature : (f : WasmFeatures) → kind_of (refusals.NotEnabled f) ≡ kinds.MissingFeature f
+  pub feature_of_type : (f : WasmFeatures) → kind_of (refusals.TypeNotEnabled f I32) ≡ kinds.MissingFeature f
   pub mismatch : kind_of (refusals.TypeMismatch I32 maybe.Bottom) ≡ kinds.Other
   pub empty : kind_of (refusals.EmptyStack I32) ≡ kinds.Other
   pub empty_of_any : kind_of refusals.EmptyStackOfAny ≡ kinds.Other
