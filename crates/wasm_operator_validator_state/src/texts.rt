@@ -4,7 +4,7 @@ ghost use Rattle.std.specs.Prelude.{◌≡◌};
 ghost use Rattle.wasm_types.specs.error.declared.error.ErrorKind.TheVariants.{Other};
 
 use crate::{MaybeType, Reason, Space, ty_to_str};
-use wasm_types::{Error, HeapType, RefType, ValType, WasmFeatures};
+use wasm_types::{AbstractHeapType, Error, HeapType, RefType, ValType, WasmFeatures};
 
 /// An operand of another type than the one that is expected.
 #[cold]
@@ -19,7 +19,7 @@ pub fn mismatch(offset: u64, expected: ValType, found: MaybeType) -> Error
             offset,
         ),
         MaybeType::UnknownRef(Some(ty)) => {
-            let found = RefType::abstract_type(false, false, ty).wat();
+            let found = abstract_name(ty);
             Error::fmt(
                 format_args!("type mismatch: expected subtype of {wanted}, found {found}"),
                 offset,
@@ -32,6 +32,14 @@ pub fn mismatch(offset: u64, expected: ValType, found: MaybeType) -> Error
                 offset,
             )
         }
+    }
+}
+
+// The name of a reference to this type that is not null.
+fn abstract_name(ty: AbstractHeapType) -> &'static str {
+    match RefType::new(false, HeapType::Abstract { shared: false, ty }) {
+        Some(reference) => reference.wat(),
+        None => "heap type",
     }
 }
 

@@ -11,7 +11,6 @@ fn assert_message(rt: &impl Abort, refusal: Refusal, message: &str) {
 
 #[test]
 fn operands(rt: HostRuntime) {
-    let exact_function = RefType::abstract_type(false, false, AbstractHeapType::Func);
     let rows: [(ValType, MaybeType, &str); 4] = [
         (
             ValType::I32,
@@ -29,7 +28,7 @@ fn operands(rt: HostRuntime) {
             "type mismatch: expected i32, found heap type",
         ),
         (
-            ValType::Ref(exact_function),
+            ValType::Ref(RefType::FUNC),
             MaybeType::UnknownRef(Some(AbstractHeapType::Extern)),
             "type mismatch: expected subtype of (ref func), found (ref extern)",
         ),
@@ -55,7 +54,6 @@ fn operands(rt: HostRuntime) {
 
 #[test]
 fn features_of_types(rt: HostRuntime) {
-    let function = ValType::Ref(RefType::abstract_type(false, false, AbstractHeapType::Func));
     let rows: [(WasmFeatures, ValType, &str); 5] = [
         (
             WasmFeatures::FLOATS,
@@ -69,17 +67,17 @@ fn features_of_types(rt: HostRuntime) {
         ),
         (
             WasmFeatures::FUNCTION_REFERENCES,
-            function,
+            ValType::Ref(RefType::FUNC),
             "function references required for non-nullable types",
         ),
         (
             WasmFeatures::GC,
-            function,
+            ValType::Ref(RefType::FUNC),
             "heap types not supported without the gc feature",
         ),
         (
             WasmFeatures::EXCEPTIONS,
-            function,
+            ValType::Ref(RefType::FUNC),
             "exception refs not supported without the exception handling feature",
         ),
     ];
