@@ -1,5 +1,7 @@
 //! The frames of a module.
 
+ghost use Rattle.std.specs.Prelude.{◌≡◌};
+
 use std::ops::Range;
 use wasm_types::BinaryReader;
 
@@ -15,14 +17,43 @@ pub enum Encoding {
 /// A custom section (WebAssembly 3.0, binary format, custom section).
 #[derive(Drop)]
 pub struct CustomSectionReader<'a> {
+    pub(crate) name: &'a str,
+    pub(crate) data: &'a [u8],
+    pub(crate) data_offset: u64,
+    pub(crate) range: Range<u64>,
+}
+
+impl<'a> CustomSectionReader<'a> {
     /// Its name.
-    pub name: &'a str,
+    pub fn name(&self) -> &'a str
+        ensures { result.now ≡ self.now.name.now }
+    {
+        self.name
+    }
+
     /// What follows the name.
-    pub data: &'a [u8],
+    pub fn data(&self) -> &'a [u8]
+        ensures { result.now ≡ self.now.«data».now }
+    {
+        self.data
+    }
+
     /// The offset of what follows the name.
-    pub data_offset: u64,
+    pub fn data_offset(&self) -> u64
+        ensures { result ≡ self.now.data_offset }
+    {
+        self.data_offset
+    }
+
     /// The offsets of the contents, the name too.
-    pub range: Range<u64>,
+    pub fn range(&self) -> Range<u64>
+        ensures { result ≡ self.now.range }
+    {
+        Range {
+            start: self.range.start,
+            end: self.range.end,
+        }
+    }
 }
 
 /// A piece of a module.

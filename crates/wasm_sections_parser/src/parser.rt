@@ -14,7 +14,9 @@ use wasm_types::{BinaryReader, Error, Result, WasmFeatures};
 /// What a call gives.
 #[derive(Drop)]
 pub enum Chunk<'a> {
-    /// So many bytes more are needed.
+    /// So many more bytes than were given are needed: with fewer the call is answered so again, and as many, or more, can bring a
+    /// frame or a refusal (`wasm_sections_parser_hints` has the laws). Where the bytes end within a size this is 1, which may only bring
+    /// another request. The parser is as it was: the next call is given the same bytes again, with more behind them.
     NeedMoreData(usize),
     /// A frame of so many bytes.
     Parsed {

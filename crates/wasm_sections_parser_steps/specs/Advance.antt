@@ -1,5 +1,5 @@
--- Each frame but the end takes a byte at least, and no byte that is not there.
-use Rattle.std.proofs.Common.{◌≡◌, ℕ, ◌+◌, ◌<◌, ◌≤◌, List, length, sym, ap, ◌∙◌, subst, arith, cond, Bool, true, false, Ok, Err}
+-- Each frame but the end takes a byte at least, and no byte that is not there; and behind the end alone a parser is over.
+use Rattle.std.proofs.Common.{◌≡◌, ℕ, ◌+◌, ◌<◌, ◌≤◌, List, length, refl, sym, ap, ◌∙◌, subst, arith, cond, Bool, true, false, Ok, Err}
 use Rattle.std.specs.Prelude.{nat_lt, ◌==◌}
 use Rattle.std.proofs.lemmas.List.{length-append}
 use Rattle.wasm_types.specs.limits.Settings.{Settings}
@@ -18,10 +18,10 @@ use Rattle.wasm_sections_parser.specs.declared.progress.Stage.TheVariants as sta
 use Rattle.wasm_sections_parser.specs.declared.progress.Progress.{Progress}
 use Rattle.wasm_sections_parser.specs.Steps.{Shape, version, custom, section, code, entry, the_end, one_less, is_over, Next, behind_code, next_section, next_entry, at_stage, step}
 use Rattle.wasm_sections_parser.specs.StepLaws.{lawful-step}
-use Rattle.wasm_sections_parser.specs.Parsing.{reads, at_end, IsNext, Ends, Comes, IsOver, one_of, Parses}
+use Rattle.wasm_sections_parser.specs.Parsing.{shape_of, reads, at_end, IsNext, Ends, Comes, IsOver, one_of, Parses}
 use Rattle.wasm_sections_parser_steps.specs.BodyLaws.{body_spelled}
 use Rattle.wasm_sections_parser_steps.specs.SectionCases.{Given, section_given}
-use Rattle.wasm_sections_parser_steps.specs.StepCases.{entry_is, header_given}
+use Rattle.wasm_sections_parser_steps.specs.StepCases.{entry_is, header_given, no_end}
 
 abbrev given : Next → State → Outcome Next
 given y t = Done y t
@@ -66,6 +66,36 @@ module _ (z : Settings) (p : Progress) (s t : State) where
   unfolding step
   step_advances y e = stage_advances p.stage y e
 
+  -- ---- behind a step something may come
+
+  section_goes_on : (x : Shape) (q : Progress) → Given z p s x q t → is_over q ≡ false
+  section_goes_on (version h) q g = absurd g
+  section_goes_on (custom n c) q g = ap is_over g.0
+  section_goes_on (section id c) q g = ap is_over g.1.2
+  section_goes_on (code n k) q g = ap is_over g.1.noted
+  section_goes_on (entry c) q g = absurd g
+  section_goes_on the_end q g = absurd g
+
+  stage_goes_on : (g : Stage) (y : Next) → at_stage z p g s ≡ given y t → is_over y.1 ≡ false
+  unfolding behind_code
+  stage_goes_on stages.Header y e = ap (λ (v : Next). is_over v.1) (sym (header_given p s t y e).1)
+  stage_goes_on stages.Sections y e = section_goes_on y.0 y.1 (section_given z p s t y e)
+  stage_goes_on (stages.Code left end) y e = go (left == 0) e
+    where
+      behind : (b : Bool) → cond b (refuse_at {A = Next} Other s.place) (next_section z p) s ≡ given y t → is_over y.1 ≡ false
+      behind true f = absurd cc
+      behind false f = section_goes_on y.0 y.1 (section_given z p s t y f)
+
+      go : (b : Bool) → cond b (behind_code z p end) (next_entry p left end) s ≡ given y t → is_over y.1 ≡ false
+      go true f = behind (nat_lt s.place end) f
+      go false f = ap (λ (v : Next). is_over v.1) (sym (entry_is p left end s t y f).1)
+  stage_goes_on stages.Ended y e = absurd cc
+  stage_goes_on stages.Failed y e = absurd cc
+
+  step_goes_on : (y : Next) → step z p s ≡ given y t → is_over y.1 ≡ false
+  unfolding step
+  step_goes_on y e = stage_goes_on p.stage y e
+
 -- ---- what a call takes
 
 abbrev pub is_end : Frame → Bool
@@ -98,6 +128,27 @@ module _ (p : Parser) (text : List ℕ) (eof : Bool) (n : ℕ) (f : Frame) (q : 
       over : (b : Bool) → one_of b (IsOver p (Ok (Parsed n f)) q)
           (one_of (at_end p text) (Ends p eof (Ok (Parsed n f)) q) (Comes p text eof (Ok (Parsed n f)) q))
           → (n ≤ length text) × (is_end f ≡ false → 0 < n) × (q.offset ≡ p.offset + n)
+      over true g = absurd g
+      over false g = between (at_end p text) g
+
+  no_end_next : (k : Frame) → IsNext p text n k q → is_end k ≡ false
+  no_end_next (frames.Version v e r) h = refl
+  no_end_next (frames.Custom c) h = refl
+  no_end_next (frames.Section id r) h = refl
+  no_end_next (frames.CodeStart v r k) h = refl
+  no_end_next (frames.CodeEntry r) h = refl
+  no_end_next (frames.End place) h = absurd (no_end (reads p text).settings p.progress q.progress (reads p text) h.after h.read)
+
+  -- behind a frame a parser is over exactly where that is the end
+  pub parsed_is_over : Parses p text eof (Ok (Parsed n f)) q → is_over q.progress ≡ is_end f
+  parsed_is_over h = over (is_over p.progress) h
+    where
+      between : (b : Bool) → one_of b (Ends p eof (Ok (Parsed n f)) q) (Comes p text eof (Ok (Parsed n f)) q) → is_over q.progress ≡ is_end f
+      between true g = ap (λ (v : Parser). is_over v.progress) g.4 ∙ sym (ap is_end g.3)
+      between false g = step_goes_on (reads p text).settings p.progress (reads p text) g.after (shape_of f, q.progress) g.read ∙ sym (no_end_next f g)
+
+      over : (b : Bool) → one_of b (IsOver p (Ok (Parsed n f)) q)
+          (one_of (at_end p text) (Ends p eof (Ok (Parsed n f)) q) (Comes p text eof (Ok (Parsed n f)) q)) → is_over q.progress ≡ is_end f
       over true g = absurd g
       over false g = between (at_end p text) g
 

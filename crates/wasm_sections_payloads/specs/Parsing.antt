@@ -1,24 +1,27 @@
 -- What a call of a parser answers, and where the parser stands then (WebAssembly 3.0, binary format, modules).
-use Rattle.std.specs.Prelude.{◌≡◌, ◌⊎◌, ℕ, List, [], ◌∷◌, ◌++◌, drop, Bool, true, Result, Ok, Err}
+use Rattle.std.specs.Prelude.{◌≡◌, ◌⊎◌, ℕ, List, [], ◌∷◌, ◌++◌, drop, Bool, true, false, Result, Ok, Err}
 use Rattle.wasm_types.specs.error.declared.error.ErrorKind.TheVariants.{Failed}
 use Rattle.wasm_types.specs.error.ErrorValue.{ErrorValue}
+use Rattle.wasm_types.specs.reader.Reading.{IsNotMemory}
 use Rattle.wasm_sections_parser.specs.declared.frame.Frame.{Frame}
 use Rattle.wasm_sections_parser.specs.declared.parser.Parser.{Parser}
 use Rattle.wasm_sections_parser.specs.declared.parser.Chunk.TheVariants as raw
 use Rattle.wasm_sections_parser.specs.declared.progress.Stage.TheVariants as stages
 use Rattle.wasm_sections_parser.specs.Parsing.{staged, Parses}
 use Rattle.wasm_sections_payloads.specs.declared.payload.Payload.{Payload}
+use Rattle.wasm_sections_payloads.specs.declared.payload.Payload.TheVariants as payloads
 use Rattle.wasm_sections_payloads.specs.declared.parser.Chunk.{Chunk}
 use Rattle.wasm_sections_payloads.specs.declared.parser.Chunk.TheVariants.{NeedMoreData, Parsed}
 use Rattle.wasm_sections_payloads.specs.Payloads.{IsPayloadOf, IsRefusedAs}
 
--- A frame comes next that is no payload. The parser stays where it stood before it, and has failed.
+-- A frame comes next that is no payload, which is never for memory. The parser stays where it stood before it, and has failed.
 pub record IsUnreadable (p : Parser) (text : List ℕ) (eof : Bool) (e : ErrorValue) (q : Parser) : Type 0 where
   pub size : ℕ
   pub frame : Frame
   pub behind : Parser
   pub parses : Parses p text eof (Ok (raw.Parsed size frame)) behind
   pub refused : IsRefusedAs frame e
+  pub no_memory : IsNotMemory e.kind
   pub failed : q ≡ staged p stages.Failed
 
 -- What a call answers to these bytes, behind which none follow where eof says so: the payload that the next frame is, of as many
@@ -55,3 +58,30 @@ pub record CalledPayload (p : Parser) (text : List ℕ) (answer : Result Chunk E
 abbrev pub PayloadCalls : Parser → List ℕ → List Payload → Parser → List ℕ → Type 0
 PayloadCalls p text [] q rest = (p ≡ q) × (text ≡ rest)
 PayloadCalls p text (x ∷ xs) q rest = (n : ℕ) × (r : Parser) × CalledPayload p text (Ok (Parsed n x)) r × PayloadCalls r (drop n text) xs q rest
+
+-- whether a payload is the end
+abbrev pub is_end_payload : Payload → Bool
+is_end_payload (payloads.Version n e r) = false
+is_end_payload (payloads.TypeSection s) = false
+is_end_payload (payloads.ImportSection s) = false
+is_end_payload (payloads.FunctionSection s) = false
+is_end_payload (payloads.TableSection s) = false
+is_end_payload (payloads.MemorySection s) = false
+is_end_payload (payloads.TagSection s) = false
+is_end_payload (payloads.GlobalSection s) = false
+is_end_payload (payloads.ExportSection s) = false
+is_end_payload (payloads.StartSection n r) = false
+is_end_payload (payloads.ElementSection s) = false
+is_end_payload (payloads.DataCountSection n r) = false
+is_end_payload (payloads.DataSection s) = false
+is_end_payload (payloads.CodeSectionStart n r k) = false
+is_end_payload (payloads.CodeSectionEntry body) = false
+is_end_payload (payloads.CustomSection c) = false
+is_end_payload (payloads.UnknownSection i c r) = false
+is_end_payload (payloads.End place) = true
+
+-- the last of these is the end, and no other is
+abbrev pub EndIsLast : List Payload → Type 0
+EndIsLast [] = ⊥
+EndIsLast (x ∷ []) = is_end_payload x ≡ true
+EndIsLast (x ∷ (y ∷ ys)) = (is_end_payload x ≡ false) × EndIsLast (y ∷ ys)

@@ -4,7 +4,7 @@ use Rattle.std.proofs.lemmas.List.{append-nil, length-drop}
 use Rattle.wasm_types.specs.error.ErrorValue.{ErrorValue}
 use Rattle.wasm_sections_parser.specs.declared.frame.Frame.{Frame}
 use Rattle.wasm_sections_parser.specs.declared.parser.Parser.{Parser}
-use Rattle.wasm_sections_parser_laws.specs.Advance.{parsed_within}
+use Rattle.wasm_sections_parser_laws.specs.Advance.{parsed_within, parsed_is_over}
 use Rattle.wasm_sections_parser.specs.declared.frame.Frame.TheVariants as frames
 use Rattle.wasm_sections_parser.specs.declared.parser.Chunk.TheVariants.{Parsed}
 use Rattle.wasm_sections_parser.specs.Steps.{Shape, is_over}
@@ -59,14 +59,28 @@ walk_ends ps p s u t first walk next over = go next.1.0 next.1.1 next.1.2 (sym n
     go (frames.CodeStart n r k) h i l = absurd cc
     go (frames.CodeEntry b) h i k = absurd cc
 
+-- a walk is over exactly where its parser is
+walk_over : (ps : List Payload) (s u : Standing) → is_over s.parser.progress ≡ s.over → Walks s ps u → is_over u.parser.progress ≡ u.over
+walk_over [] s u same h = subst (λ (v : Standing). is_over v.parser.progress ≡ v.over) h same
+walk_over (p ∷ ps) s u same h =
+    let given = h.1.1.1 in
+    walk_over ps h.0 u (parsed_is_over s.parser s.rest true given.0 h.1.1.0 h.0.parser given.1 ∙ sym h.1.1.3) h.2
+
+-- a walk from the start of a module that goes on has a parser that goes on
+walk_going : (ps : List Payload) (s u : Standing) → s.parser.progress ≡ fresh → Walks s ps u → u.over ≡ false → is_over u.parser.progress ≡ false
+walk_going [] s u first h going = ap (λ (v : Standing). is_over v.parser.progress) (sym h) ∙ ap is_over first
+walk_going (p ∷ ps) s u first h going =
+    let given = h.1.1.1 in
+    walk_over ps h.0 u (parsed_is_over s.parser s.rest true given.0 h.1.1.0 h.0.parser given.1 ∙ sym h.1.1.3) h.2 ∙ going
+
 -- a whole module is refused only at a frame that is no payload
 pub walk_accepted : (ps : List Payload) (e : ErrorValue) (ys : List Shape) (s u t : Standing) → s.parser.progress ≡ fresh → s.parser.offset + length s.rest < 2 ^ 64 → IsModule (settings_of s.parser) s.rest ys
-    → Walks s ps u → is_over u.parser.progress ≡ false → NextPayload u (Some (Err e)) t → (f : Frame) × IsFrameOf u.parser u.rest f t.parser t.rest × IsRefusedAs f e
-walk_accepted ps e ys s u t first room m walk going next = go next.3
+    → Walks s ps u → NextPayload u (Some (Err e)) t → (f : Frame) × IsFrameOf u.parser u.rest f t.parser t.rest × IsRefusedAs f e
+walk_accepted ps e ys s u t first room m walk next = go next.3
   where
     go : IsFaultOf u.parser u.rest e t.parser ⊎ ((f : Frame) × IsFrameOf u.parser u.rest f t.parser t.rest × IsRefusedAs f e) → (f : Frame) × IsFrameOf u.parser u.rest f t.parser t.rest × IsRefusedAs f e
     go (inr h) = h
     go (inl h) =
         let calls = walk_calls ps s u walk in
         let called : Called u.parser u.rest (Err e) t.parser = record { piece = u.rest; later = []; eof = true; whole = sym (append-nil u.rest); told = λ k. refl; parses = h } in
-        absurd (not_refused calls.0 s.parser u.parser t.parser s.rest u.rest e first calls.2 going called m.outer ys m.frames m.ordered m.counted m.counts room)
+        absurd (not_refused calls.0 s.parser u.parser t.parser s.rest u.rest e first calls.2 (walk_going ps s u first walk next.0) called m.outer ys m.frames m.ordered m.counted m.counts room)

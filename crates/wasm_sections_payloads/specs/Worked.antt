@@ -1,5 +1,5 @@
 -- Worked frames as payloads, calls of the parser, and walks over a module.
-use Rattle.std.proofs.Common.{◌≡◌, ℕ, List, [], ◌∷◌, refl, sym, arith, Bool, true, false, Some, None, Ok, Err, inl, inr}
+use Rattle.std.proofs.Common.{◌≡◌, ℕ, List, [], ◌∷◌, refl, sym, subst, arith, Bool, true, false, Some, None, Ok, Err, inl, inr}
 use Rattle.wasm_types.specs.limits.Limits.{default_limits}
 use Rattle.wasm_types.specs.limits.Settings.{no_features}
 use Rattle.wasm_types.specs.features.declared.WasmFeatures.{WasmFeatures}
@@ -7,8 +7,9 @@ use Rattle.wasm_types.specs.decoding.declared.Refusal.TheVariants as refusals
 use Rattle.wasm_types.specs.decoding.Decoder.{State, Outcome, Done, Short, Fault}
 use Rattle.wasm_types.specs.decoding.Exact.{value_is, state_is}
 use Rattle.wasm_types.specs.decoding.Leb.{unsigned}
-use Rattle.wasm_types.specs.error.declared.error.ErrorKind.TheVariants.{Failed, Other}
+use Rattle.wasm_types.specs.error.declared.error.ErrorKind.TheVariants.{Failed, Other, OutOfMemory}
 use Rattle.wasm_types.specs.error.ErrorValue.{ErrorValue}
+use Rattle.wasm_types.specs.reader.Reading.{IsNotMemory}
 use Rattle.wasm_types.specs.groups.declared.rec_group.RecGroup.{RecGroup}
 use Rattle.wasm_sections_frames.specs.Decode.{header}
 use Rattle.wasm_sections_limited.specs.declared.section.SectionLimited.{SectionLimited}
@@ -25,7 +26,7 @@ use Rattle.wasm_sections_payloads.specs.declared.payload.Payload.{Payload}
 use Rattle.wasm_sections_payloads.specs.declared.payload.Payload.TheVariants as payloads
 use Rattle.wasm_sections_payloads.specs.declared.parser.Chunk.TheVariants.{NeedMoreData, Parsed}
 use Rattle.wasm_sections_payloads.specs.Payloads.{front_of, IsPayloadOf, IsRefusedAs}
-use Rattle.wasm_sections_payloads.specs.Parsing.{ParsesPayload}
+use Rattle.wasm_sections_payloads.specs.Parsing.{IsUnreadable, ParsesPayload, EndIsLast}
 use Rattle.wasm_sections_payloads.specs.Walking.{Standing, NextPayload, Walks}
 
 -- ---- frames
@@ -139,7 +140,7 @@ behind_start w = record { offset = 12; features = w; progress = record { stage =
 
 -- Seven bytes of the header need one more, and not two; all eight are a payload. Behind it no byte needs two, or is the end where none
 -- follows; an id, a size of 5 and one byte need four. A start section with a byte behind its number is refused: the parser stays
--- where it stood, and fails from then on.
+-- where it stood, and fails from then on; never for memory. The end comes once, and last.
 pub record CallRows : Type 0 where
   pub seven : (w : WasmFeatures) → ParsesPayload (parser w 0 stages.Header) first_seven false (Ok (NeedMoreData 1)) (parser w 0 stages.Header)
   pub not_two : (w : WasmFeatures) → ParsesPayload (parser w 0 stages.Header) first_seven false (Ok (NeedMoreData 2)) (parser w 0 stages.Header) → ⊥
@@ -150,6 +151,10 @@ pub record CallRows : Type 0 where
   pub part : (w : WasmFeatures) → ParsesPayload (parser w 8 stages.Sections) (0x01 ∷ 0x05 ∷ 0x01 ∷ []) false (Ok (NeedMoreData 4)) (parser w 8 stages.Sections)
   pub refused : (w : WasmFeatures) → ParsesPayload (parser w 8 stages.Sections) long_start false (Err error) (parser w 8 stages.Failed)
   pub failed : (w : WasmFeatures) → ParsesPayload (parser w 8 stages.Failed) first_eight false (Err failed_before) (parser w 8 stages.Failed)
+  pub not_for_memory : (w : WasmFeatures) (e : ErrorValue) → IsUnreadable (parser w 8 stages.Sections) long_start false e (parser w 8 stages.Failed) → e.kind ≡ OutOfMemory → ⊥
+  pub end_last : EndIsLast (version_1 ∷ payloads.End 8 ∷ [])
+  pub end_twice : EndIsLast (version_1 ∷ payloads.End 8 ∷ payloads.End 8 ∷ []) → ⊥
+  pub no_end : EndIsLast (version_1 ∷ []) → ⊥
   pub not_again : (w : WasmFeatures) → ParsesPayload (parser w 8 stages.Failed) first_eight false (Ok (Parsed 8 version_1)) (parser w 16 stages.Sections) → ⊥
 
 abbrev short : ℕ → ℕ → Outcome (Shape × Progress)
@@ -176,8 +181,12 @@ call_rows = record {
   end = λ w. (frames.End 8, (refl, refl, refl, refl, refl), refl);
   no_need_at_the_end = λ w h. let e = h.0 in cc;
   part = λ w. (refl, (10, refl), refl);
-  refused = λ w. inr (record { size = 4; frame = frames.Section 8 (left w 10 10 (0x05 ∷ 0x00 ∷ [])); behind = behind_start w; parses = start_next w; refused = refl; failed = refl });
+  refused = λ w. inr (record { size = 4; frame = frames.Section 8 (left w 10 10 (0x05 ∷ 0x00 ∷ [])); behind = behind_start w; parses = start_next w; refused = refl; no_memory = tt; failed = refl });
   failed = λ w. inl (refl, refl, refl);
+  not_for_memory = λ w e h k. subst IsNotMemory k h.no_memory;
+  end_last = (refl, refl);
+  end_twice = λ h. let e = h.1.0 in cc;
+  no_end = λ h. cc;
   not_again = λ w h. h.1;
 }
 

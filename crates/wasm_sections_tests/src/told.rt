@@ -34,7 +34,7 @@ pub(crate) fn summary<'a>(payload: &Payload<'a>) -> (&'a str, u64) {
             size: _,
         } => ("Code", u64::from(*count)),
         Payload::CodeSectionEntry(body) => ("Body", body.range().start),
-        Payload::CustomSection(section) => (section.name, section.data_offset),
+        Payload::CustomSection(section) => (section.name(), section.data_offset()),
         Payload::UnknownSection {
             id,
             contents: _,
