@@ -1,2 +1,3 @@
 pub mod Unset
 pub mod Marking
+pub mod Fewer

@@ -1,5 +1,5 @@
 -- Which locals are initialised (WebAssembly 3.0, validation, conventions, local types).
-use Rattle.std.specs.Prelude.{◌≡◌, ◌==◌, ◌||◌, ◌∷◌, ◌++◌, [], ℕ, Bool, false, List, Option, get_or, if◌then◌else◌}
+use Rattle.std.specs.Prelude.{◌≡◌, ◌==◌, ◌<◌, ◌||◌, ◌∷◌, ◌++◌, [], ℕ, Bool, false, List, Option, Some, None, get_or, if◌then◌else◌}
 use Rattle.std.specs.List.{list_any}
 
 -- what is known of the locals: for each whether it has a value from the start; those that were set since, in order; and those that
@@ -24,3 +24,12 @@ with_set l k = if has_value l k then l.set else l.set ++ k ∷ []
 -- the list without its last item
 abbrev pub IsWithoutLast : List ℕ → List ℕ → Type 0
 IsWithoutLast before after = (x : ℕ) × (before ≡ after ++ x ∷ [])
+
+-- each of them is among the first so many locals
+abbrev pub AreBelow : ℕ → List ℕ → Type 0
+AreBelow n [] = Unit {0}
+AreBelow n (x ∷ xs) = (x < n) × AreBelow n xs
+
+abbrev pub AreSavedBelow : ℕ → Option (List ℕ) → Type 0
+AreSavedBelow n None = Unit {0}
+AreSavedBelow n (Some xs) = AreBelow n xs

@@ -2,7 +2,7 @@
 
 ghost use Rattle.std.specs.Prelude.{◌≡◌, ◌++◌, ◌+◌, ◌<◌, ◌^◌, [], ℕ, true, false, Some, None, map, not, length, replicate, take, get_or, set, nat_eq, OnOk, IfErr, MatchOption, if◌then◌else◌};
 ghost use Rattle.wasm_types.specs.values.ValueKinds.{is_defaultable_type};
-ghost use Rattle.wasm_operator_validator_inits.specs.Inits.{is_among, has_value, with_set, IsWithoutLast};
+ghost use Rattle.wasm_operator_validator_inits.specs.Inits.{is_among, has_value, with_set, IsWithoutLast, AreBelow, AreSavedBelow};
 ghost use Rattle.wasm_operator_validator_inits.specs.Marks.{is_first, is_set, AreUnset};
 ghost use Rattle.wasm_operator_validator_inits.specs.declared.inits.Mark.TheVariants.{Unset};
 
@@ -74,6 +74,7 @@ impl LocalInits {
     pub fn define_locals(&mut self, count: u32, ty: &ValType) -> Result<(), AllocError>
         requires { length self.old.first + count < 2 ^ 32 }
         ensures defined { OnOk result (self.new ≡ record self.old { first = self.old.first ++ replicate count (is_defaultable_type ty.now) }) }
+        ensures before { AreBelow (length self.old.first) self.new.set × AreSavedBelow (length self.old.first) self.new.saved }
         ensures refused { IfErr result (λ _. self.new ≡ self.old) }
     {
         if ty.is_defaultable() {
@@ -86,11 +87,20 @@ impl LocalInits {
         requires within { length self.old.first + count < 2 ^ 32 }
         requires fresh { is_set mark ≡ false }
         ensures defined { OnOk result (self.new ≡ record self.old { first = self.old.first ++ replicate count (is_first mark) }) }
+        ensures before { AreBelow (length self.old.first) self.new.set × AreSavedBelow (length self.old.first) self.new.saved }
         ensures refused { IfErr result (λ _. self.new ≡ self.old) }
     {
         let held = self.marks.as_slice().len();
         self.marks.resize(held + count, mark)?;
         Ok(())
+    }
+
+    /// Only the first so many locals stay, where none of the others was set. It takes no memory.
+    pub fn truncate(&mut self, len: usize)
+        requires unset { AreBelow len self.old.set × AreSavedBelow len self.old.saved }
+        ensures { self.new ≡ record self.old { first = take len self.old.first } }
+    {
+        self.marks.truncate(len);
     }
 
     /// Whether a local has no value yet.

@@ -1,4 +1,4 @@
-use Rattle.std.proofs.Common.{ℕ, get_or}
+use Rattle.std.proofs.Common.{get_or}
 use Rattle.std.proofs.lemmas.List.{get_or_default}
 use Rattle.wasm_operator_validator_inits.proofs.Marking.{each_inside, each_more, each_later}
 use Rattle.wasm_operator_validator_inits.proofs.inits.mark_each.Goals as goal
