@@ -1,6 +1,5 @@
 -- The rows of branches and returns.
 use Rattle.std.proofs.Common.{◌≡◌, ◌↔◌, ◌∙◌, ℕ, List, [], ◌∷◌, ◌++◌, Some, None, false, refl, sym, ap, subst, append-nil, slice_get, map}
-use Rattle.wasm_types.specs.trees.Types.{i32, number}
 use Rattle.wasm_operators_expression.specs.info.declared.proposal.Proposal.TheVariants.{Mvp}
 use Rattle.wasm_operators_expression.specs.control.declared.control.ControlOperator.TheVariants as control
 use Rattle.wasm_operators_expression.specs.operator.Op as op

@@ -96,7 +96,7 @@ pub end_last : (m : Meaning) (σ κ : State) (bt : BlockType) (k : FrameKind) �
 end_last m σ κ bt k b t x may n s =
     checks_going None m σ κ end Mvp false b
     (λ os. (let e = ended m σ x.bare x.frame κ (top_popped m σ κ bt k t x) ((top_end m σ.opens bt k t).0 may) x.leaves os in
-        let g = closes_nothing m κ (results_of m σ.opens) n os in (λ y. g.0 (e.0 y), λ y. e.1 (g.1 y))))
+    let g = closes_nothing m κ (results_of m σ.opens) n os in (λ y. g.0 (e.0 y), λ y. e.1 (g.1 y))))
     s.given s.failed s.saved
 
 end_decided : (r : Option ErrorKind) (m : Meaning) (σ κ τ : State) (bt : BlockType) (k : FrameKind) → IsTop bt k σ.opens → Finishes m σ bt κ → MayClose k (signature_of m bt)
@@ -164,7 +164,7 @@ below_reverse (x ∷ a) (y ∷ b) p = rw (reverse_cons x a, reverse_cons y b) (b
 pub below_as_stacks : (ts us : List ValueType) → AllBelow (all_known ts) (all_known us) ↔ AllBelow (stack ts) (stack us)
 below_as_stacks ts us = (
   λ p. below_reverse (all_known ts) (all_known us) p,
-  λ p. rw (reverse-reverse, reverse-reverse) at below_reverse (stack ts) (stack us) p,
+  λ p. (let q : AllBelow (reverse (reverse (all_known ts))) (reverse (reverse (all_known us))) = below_reverse (stack ts) (stack us) p in rw (reverse-reverse, reverse-reverse) at q),
 )
 
 pub if_closes : (b : Bool) (s : Signature) (ts us : List ValueType) → ts ≡ s.params → us ≡ s.results → IsTrue b ↔ AllBelow (all_known ts) (all_known us) → IsTrue b ↔ MayClose frames.If s

@@ -1,5 +1,5 @@
 -- Operators that open a frame.
-use Rattle.std.proofs.Common.{◌≡◌, ◌↔◌, ◌∙◌, ℕ, List, [], ◌∷◌, ◌++◌, Option, Some, None, refl, sym, ap, subst, append_assoc, slice_get}
+use Rattle.std.proofs.Common.{◌≡◌, ◌↔◌, ◌∙◌, false, List, [], ◌∷◌, ◌++◌, Option, Some, None, refl, sym, ap, subst}
 use Rattle.wasm_types.specs.error.declared.error.ErrorKind.{ErrorKind}
 use Rattle.wasm_types.specs.error.Denials.{Denies}
 use Rattle.wasm_types.specs.error.DenialLaws.{denies_from}
@@ -10,20 +10,23 @@ use Rattle.wasm_operators_expression.specs.immediates.declared.block.BlockType.{
 use Rattle.wasm_operators_expression.specs.immediates.declared.block.BlockType.TheVariants as block
 use Rattle.wasm_operators_expression.specs.immediates.declared.frames.FrameKind.{FrameKind}
 use Rattle.wasm_operators_expression.specs.immediates.declared.frames.FrameKind.TheVariants as frames
+use Rattle.wasm_operators_expression.specs.info.declared.proposal.Proposal.TheVariants.{Mvp}
 use Rattle.wasm_operators_expression.specs.control.declared.control.ControlOperator.TheVariants as control
 use Rattle.wasm_operators_expression.specs.operator.Op as op
 use Rattle.wasm_operators_expression.specs.operator.Op.{Op}
 use Rattle.wasm_operators_expression.specs.operator.declared.role.Role.TheVariants as role
 use Rattle.wasm_operators_expression.specs.operator.Roles.{role_of}
-use Rattle.wasm_operator_validator_rules.specs.Operands.{ValueType, Operand, known, stack}
+use Rattle.wasm_operator_validator_rules.specs.Operands.{ValueType, known, stack}
 use Rattle.wasm_operator_validator_rules.specs.Context.{Context, Signature, IsBlockType}
-use Rattle.wasm_operator_validator_rules.specs.Typed.{OpensFrame, HasType, block_type_of, entry_of}
+use Rattle.wasm_operator_validator_rules.specs.Typed.{HasType, block_type_of, entry_of}
 use Rattle.wasm_operator_validator_rules.specs.InstructionTypes.{i32_type}
 use Rattle.wasm_operator_validator_resources.specs.Meaning.{Meaning}
 use Rattle.wasm_operator_validator_state.specs.Refusals.{Does}
-use Rattle.wasm_operator_validator_state.specs.State.{Given, Open, State, signature_of, context, Accepts, Decides}
+use Rattle.wasm_operator_validator_state.specs.State.{Given, Open, State, signature_of, context, Accepts, Decides, Checks}
+use Rattle.wasm_operator_validator_state.specs.Entering.{MayBegin}
+use Rattle.wasm_operator_validator_state.specs.laws.Checks.{checks_going}
 use Rattle.wasm_operator_validator_state.specs.Steps.{Stacks, IsOpen, Popped, MayPop, Pushed, begun}
-use Rattle.wasm_operator_validator_state.specs.laws.Frames.{Means, BeginsFrame, opened, may_open, pushed_closes}
+use Rattle.wasm_operator_validator_state.specs.laws.Frames.{Means, opened, may_open, pushed_closes}
 use Rattle.wasm_operator_validator_blocks.specs.Signatures.{IsBlock}
 use Rattle.wasm_operator_validator_control.specs.Opening.{Opened}
 use Rattle.wasm_operator_validator_determined.specs.laws.Same.{same_trans}
@@ -55,8 +58,11 @@ pub block_means : (m : Meaning) (w : Given) (o : Op) (k : FrameKind) (bt named :
 block_means m w o k bt named r e i opens c = (
   λ (p, h). (let h' : HasType (context m w opens) (Some bt) c = subst (λ (x : Option BlockType). HasType (context m w opens) x c) e h in
       one_block (context m w opens) bt c (signature_of m named) h' ((anywhere m w opens bt (signature_of m named)).0 i)),
-  λ f. (r, (let h : HasType (context m w opens) (Some bt) c = subst (λ (x : Signature). IsBlockType (context m w opens) bt x) (sym f) ((anywhere m w opens bt (signature_of m named)).0 i) in
-      subst (λ (x : Option BlockType). HasType (context m w opens) x c) (sym e) h)),
+  λ f. (
+    r,
+    (let h : HasType (context m w opens) (Some bt) c = subst (λ (x : Signature). IsBlockType (context m w opens) bt x) (sym f) ((anywhere m w opens bt (signature_of m named)).0 i) in
+        subst (λ (x : Option BlockType). HasType (context m w opens) x c) (sym e) h),
+  ),
 )
 
 -- ---- an opener that takes its parameters
@@ -75,12 +81,14 @@ opener (Some h) m σ τ o k bt named r e i b entry x =
     (rest, subst (λ (v : Signature). Stacks m σ (stack v.params ++ rest)) g d')) x
 
 -- the block type is none that code may write
-pub no_opener : (h : ErrorKind) (m : Meaning) (σ : State) (o : Op) (k : FrameKind) (bt : BlockType) → role_of o ≡ role.Opens k → block_type_of o ≡ Some bt → IsOpen σ.opens
-    → Denies h ((b : Signature) × IsBlock m σ.given bt b) → Denies h ((os : List Op) × Accepts m σ (o ∷ os))
-no_opener h m σ o k bt r e i =
-    denies_from h _ _ (λ (os, a). let (c, rest, f, d) = may_open m σ o k os r i a in
+pub no_opener : (h : ErrorKind) (m : Meaning) (σ : State) (o : Op) (k : FrameKind) (bt : BlockType) → role_of o ≡ role.Opens k → block_type_of o ≡ Some bt → MayBegin σ Mvp false
+    → Denies h ((b : Signature) × IsBlock m σ.given bt b) → Checks m σ o (Some h) σ
+no_opener h m σ o k bt r e b d =
+    checks_going (Some h) m σ σ o Mvp false b
+    (denies_from h _ _ (λ (os, a). let (c, rest, f, d) = may_open m σ o k os r b.framed a in
     let f' : HasType (context m σ.given σ.opens) (Some bt) c = subst (λ (x : Option BlockType). HasType (context m σ.given σ.opens) x c) e f.1 in
-    (c, (anywhere m σ.given σ.opens bt c).1 f'))
+    (c, (anywhere m σ.given σ.opens bt c).1 f')) d)
+    refl refl refl
 
 -- ---- an `if`
 

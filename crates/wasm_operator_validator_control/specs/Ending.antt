@@ -1,5 +1,4 @@
 -- What ending a frame does to a validator.
-use Rattle.std.specs.Prelude.{List, ◌++◌}
 use Rattle.wasm_operators_expression.specs.immediates.declared.block.BlockType.{BlockType}
 use Rattle.wasm_operator_validator_rules.specs.Operands.{stack}
 use Rattle.wasm_operator_validator_resources.specs.Meaning.{Meaning}

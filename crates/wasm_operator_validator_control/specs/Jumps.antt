@@ -1,5 +1,5 @@
 -- What an operator does behind which nothing is reached.
-use Rattle.std.specs.Prelude.{◌++◌, List}
+use Rattle.std.specs.Prelude.{List}
 use Rattle.wasm_operator_validator_rules.specs.Operands.{ValueType, Operand, stack}
 use Rattle.wasm_operator_validator_resources.specs.Meaning.{Meaning}
 use Rattle.wasm_operator_validator_state.specs.State.{State}

@@ -183,11 +183,7 @@ fn finish_frame<R: WasmModuleResources>(
 }
 
 /// Whether a frame may end without an `else`: an `if` must give what it takes.
-fn may_close<R: WasmModuleResources>(
-    resources: &R,
-    block_type: &BlockType,
-    kind: FrameKind,
-) -> bool
+fn may_close<R: WasmModuleResources>(resources: &R, block_type: &BlockType, kind: FrameKind) -> bool
     ensures { IsTrue result ↔ MayClose kind (signature_of (R.meaning resources.now) block_type.now) }
 {
     match kind {

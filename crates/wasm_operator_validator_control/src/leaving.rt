@@ -13,7 +13,7 @@ use wasm_operator_validator_state::Refusal;
 use wasm_types::ValType;
 
 /// Takes operands off, behind which nothing is reached.
-pub(crate) fn jump_with<R: WasmModuleResources>(
+pub fn jump_with<R: WasmModuleResources>(
     validator: &mut OperatorValidator,
     resources: &R,
     types: &[ValType],

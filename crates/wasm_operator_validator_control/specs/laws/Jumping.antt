@@ -1,8 +1,7 @@
 -- Operators behind which nothing is reached, and operators that take one operand first.
-use Rattle.std.proofs.Common.{◌≡◌, ◌↔◌, ◌∙◌, List, [], ◌∷◌, ◌++◌, Bool, true, false, Option, Some, None, refl, sym, ap, subst, reverse, append-nil, append_assoc}
+use Rattle.std.proofs.Common.{◌≡◌, ◌↔◌, List, [], ◌∷◌, ◌++◌, Bool, true, false, Option, Some, None, refl, subst, reverse, append-nil, append_assoc}
 use Rattle.std.proofs.lemmas.List.{reverse-append, reverse-reverse, map-append}
 use Rattle.wasm_types.specs.error.declared.error.ErrorKind.{ErrorKind}
-use Rattle.wasm_types.specs.error.Denials.{Denies}
 use Rattle.wasm_types.specs.error.DenialLaws.{denies_from}
 use Rattle.wasm_types.specs.trees.Types.{ref, abstract}
 use Rattle.wasm_types.specs.values.Trees.{abstract_of}
@@ -15,12 +14,12 @@ use Rattle.wasm_operator_validator_resources.specs.Meaning.{Meaning, type_in}
 use Rattle.wasm_operator_validator_state.specs.declared.operand.MaybeType.{MaybeType}
 use Rattle.wasm_operator_validator_state.specs.declared.operand.MaybeType.TheVariants as maybe
 use Rattle.wasm_operator_validator_state.specs.Refusals.{Does}
-use Rattle.wasm_operator_validator_state.specs.State.{Open, State, Stands, Covers, initialised, context, Accepts, Decides, Checks}
+use Rattle.wasm_operator_validator_state.specs.State.{Open, State, Stands, Covers, initialised, context, Decides, Checks}
 use Rattle.wasm_operator_validator_state.specs.Steps.{StacksOf, Stacks, IsOpen, Popped, MayPop, Jumped, Exchanged}
 use Rattle.wasm_operator_validator_state.specs.Entering.{MayBegin}
 use Rattle.wasm_operator_validator_state.specs.laws.Operands.{operand_refl, all_below_refl}
 use Rattle.wasm_operator_validator_state.specs.laws.Accepting.{same_open}
-use Rattle.wasm_operator_validator_state.specs.laws.Rows.{RowAt, by_row, some_row}
+use Rattle.wasm_operator_validator_state.specs.laws.Rows.{by_row, some_row}
 use Rattle.wasm_operator_validator_state.specs.laws.Entering.{enabled}
 use Rattle.wasm_operator_validator_state.specs.laws.Checks.{checks_going}
 use Rattle.wasm_operator_validator_determined.specs.Operators.{IsPlain, Stays}

@@ -1,11 +1,11 @@
 -- What a label names, as the code looks it up.
-use Rattle.std.proofs.Common.{◌≡◌, ◌∙◌, ℕ, zero, suc, List, [], ◌∷◌, Option, Some, None, refl, sym, ap, slice_get, option_map, map, length, ◌-◌}
+use Rattle.std.proofs.Common.{◌≡◌, ◌∙◌, ℕ, zero, suc, List, [], ◌∷◌, Option, Some, None, refl, sym, ap, slice_get, option_map, map, length, ◌-◌, arith}
 use Rattle.wasm_operators_expression.specs.immediates.declared.block.BlockType.{BlockType}
 use Rattle.wasm_operators_expression.specs.immediates.declared.frames.FrameKind.{FrameKind}
 use Rattle.wasm_operator_validator_rules.specs.Operands.{ValueType}
 use Rattle.wasm_operator_validator_rules.specs.Context.{label_of}
 use Rattle.wasm_operator_validator_resources.specs.Meaning.{Meaning}
-use Rattle.wasm_operator_validator_state.specs.State.{Open, signature_of, label, results, last_of, outermost_results}
+use Rattle.wasm_operator_validator_state.specs.State.{Open, signature_of, label, outermost_results}
 use Rattle.wasm_operator_validator_state.specs.Steps.{IsOpen}
 
 -- the type and the kind of the frame that a label names
@@ -45,6 +45,9 @@ not_labelled us o e f = let g : ◌≡◌ {A = Option (List ValueType)} None (So
 
 -- ---- the outermost frame, that of the body
 
+last_frame : (o p : Open) (outer : List Open) → frame_at (o ∷ p ∷ outer) (length (o ∷ p ∷ outer) - 1) ≡ frame_at (p ∷ outer) (length (p ∷ outer) - 1)
+last_frame o p outer = let e : length (o ∷ p ∷ outer) - 1 ≡ suc (length (p ∷ outer) - 1) = omega arith in ap (frame_at (o ∷ p ∷ outer)) e
+
 pub outermost_at : (m : Meaning) (opens : List Open) (bt : BlockType) (k : FrameKind) → IsFrame (frame_at opens (length opens - 1)) bt k
     → outermost_results m opens ≡ (signature_of m bt).results
 outermost_at m [] bt k e = absurd (nothing e)
@@ -52,9 +55,9 @@ outermost_at m [] bt k e = absurd (nothing e)
     nothing : IsFrame None bt k → ⊥
     nothing e = cc
 outermost_at m (o ∷ []) bt k e = sym (ap (λ (x : BlockType × FrameKind). (signature_of m x.0).results) (same_frame (bt, k) (o.block, o.kind) e))
-outermost_at m (o ∷ p ∷ outer) bt k e = outermost_at m (p ∷ outer) bt k e
+outermost_at m (o ∷ p ∷ outer) bt k e = outermost_at m (p ∷ outer) bt k (e ∙ last_frame o p outer)
 
 pub some_outermost : (opens : List Open) → IsOpen opens → IsNoFrame (frame_at opens (length opens - 1)) → ⊥
 some_outermost [] i e = i
 some_outermost (o ∷ []) i e = cc
-some_outermost (o ∷ p ∷ outer) i e = some_outermost (p ∷ outer) tt e
+some_outermost (o ∷ p ∷ outer) i e = some_outermost (p ∷ outer) tt (e ∙ last_frame o p outer)

@@ -1,6 +1,5 @@
-use Rattle.std.proofs.Common.{false, refl, List}
+use Rattle.std.proofs.Common.{false, refl}
 use Rattle.wasm_operators_expression.specs.info.declared.proposal.Proposal.TheVariants.{Mvp}
-use Rattle.wasm_operator_validator_rules.specs.Operands.{ValueType, stack}
 use Rattle.wasm_operator_validator_rules.specs.Context.{label_of}
 use Rattle.wasm_operator_validator_state.specs.Refusals.{refused}
 use Rattle.wasm_operator_validator_state.specs.State.{signature_of}

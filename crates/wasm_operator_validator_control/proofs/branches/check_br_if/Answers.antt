@@ -36,7 +36,7 @@ returns g c =
     by_types (refused c.exchange.result) m c.args.validator.now c.exchange.new.self (br_if c.args.relative_depth) Mvp false (ts ++ i32_type ∷ []) ts (br_if_is c.args.relative_depth) c.in-Ok.ensures.begins
     (λ set. refl) (br_if_row m c.args.validator.now c.args.relative_depth ts (label_at m c.args.validator.now.opens c.args.relative_depth c.in-Some.block_type c.in-Some.kind c.in-Some.ensures))
     (exchanged_more (refused c.exchange.result) m c.args.validator.now c.pop_operand.new.self c.exchange.new.self i32_type ts ts
-        (rw (i32_in m) at c.in-Ok-pop_operand.ensures.does) (rw c.label_types-types.ensures at c.exchange.ensures.does))
+    (rw (i32_in m) at c.in-Ok-pop_operand.ensures.does) (rw c.label_types-types.ensures at c.exchange.ensures.does))
     (stays_trans c.args.validator.now c.pop_operand.new.self c.exchange.new.self
-        (record { given = c.pop_operand.ensures.given; failed = c.pop_operand.ensures.failed; saved = c.pop_operand.ensures.saved })
-        (record { given = c.exchange.ensures.given; failed = c.exchange.ensures.failed; saved = c.exchange.ensures.saved }))
+    (record { given = c.pop_operand.ensures.given; failed = c.pop_operand.ensures.failed; saved = c.pop_operand.ensures.saved })
+    (record { given = c.exchange.ensures.given; failed = c.exchange.ensures.failed; saved = c.exchange.ensures.saved }))

@@ -1,4 +1,4 @@
-use Rattle.std.proofs.Common.{◌≡◌, ◌∙◌, ap}
+use Rattle.std.proofs.Common.{◌∙◌, ap}
 use Rattle.wasm_operator_validator_state.specs.Refusals.{kind_of, refused}
 use Rattle.wasm_operator_validator_determined.specs.laws.Usable.{fails}
 use Rattle.wasm_operator_validator_state.specs.State.{State}
@@ -25,7 +25,7 @@ returns g c =
     (is_top c.args.validator.now.opens c.in-Some.block_type c.in-Some.kind c.in-Some.ensures) (c.is_if.ensures.0 c.if-not-is_if.false) c.in-Ok-finish_frame.ensures.does
     c.in-Ok-enter.ensures.entered (rw c.block_params.ensures at c.push_operands.ensures.does)
     (record {
-        given = c.push_operands.ensures.given ∙ ap (λ (x : State). x.given) c.in-Ok-enter.ensures.entered ∙ c.finish_frame.ensures.given;
-        failed = c.push_operands.ensures.failed ∙ ap (λ (x : State). x.failed) c.in-Ok-enter.ensures.entered ∙ c.finish_frame.ensures.failed;
-        saved = c.push_operands.ensures.saved ∙ ap (λ (x : State). x.saved) c.in-Ok-enter.ensures.entered ∙ c.finish_frame.ensures.saved;
+      given = c.push_operands.ensures.given ∙ ap (λ (x : State). x.given) c.in-Ok-enter.ensures.entered ∙ c.finish_frame.ensures.given;
+      failed = c.push_operands.ensures.failed ∙ ap (λ (x : State). x.failed) c.in-Ok-enter.ensures.entered ∙ c.finish_frame.ensures.failed;
+      saved = c.push_operands.ensures.saved ∙ ap (λ (x : State). x.saved) c.in-Ok-enter.ensures.entered ∙ c.finish_frame.ensures.saved;
     })

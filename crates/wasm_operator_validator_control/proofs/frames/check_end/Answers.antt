@@ -33,7 +33,7 @@ returns g c =
     (is_top c.args.validator.now.opens c.in-Some.block_type c.in-Some.kind c.in-Some.ensures) c.in-Ok-finish_frame.ensures.does (c.may_close.ensures.0 c.if-not-may_close.false)
     (rw c.block_results.ensures at c.push_operands.ensures.does)
     (record {
-        given = c.push_operands.ensures.given ∙ c.finish_frame.ensures.given;
-        failed = c.push_operands.ensures.failed ∙ c.finish_frame.ensures.failed;
-        saved = c.push_operands.ensures.saved ∙ c.finish_frame.ensures.saved;
+      given = c.push_operands.ensures.given ∙ c.finish_frame.ensures.given;
+      failed = c.push_operands.ensures.failed ∙ c.finish_frame.ensures.failed;
+      saved = c.push_operands.ensures.saved ∙ c.finish_frame.ensures.saved;
     })

@@ -1,4 +1,3 @@
-use Rattle.wasm_operator_validator_resources.specs.Meaning.{Meaning}
 use Rattle.wasm_operator_validator_state.specs.State.{signature_of, types_in}
 use Rattle.wasm_operator_validator_control.proofs.Ending.{if_closes}
 use Rattle.wasm_operator_validator_control.proofs.frames.may_close.Goals as goal
