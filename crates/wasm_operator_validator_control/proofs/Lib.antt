@@ -1,0 +1,3 @@
+pub mod BranchRows
+pub mod Opening
+pub mod Ending

@@ -1,0 +1,2 @@
+pub mod Jumping
+pub mod Labels

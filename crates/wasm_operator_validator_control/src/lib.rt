@@ -1,0 +1,13 @@
+//! Checks of the operators of control (WebAssembly 3.0, validation, control instructions): blocks, branches, returns.
+//!
+//! Each check decides its operator, and leaves the validator so that what may follow the operator may come
+//! (`Checks` of `wasm_operator_validator_state`).
+#![tactic(auto)]
+
+mod branches;
+mod frames;
+mod leaving;
+
+pub use branches::{check_br, check_br_if, check_nop, check_return, check_unreachable};
+pub use frames::{check_block, check_else, check_end, check_if, check_loop};
+pub use leaving::jump_with;
