@@ -1,4 +1,6 @@
 -- What types in code stand for, where that needs no module.
+-- what a type that a module writes stands for
+pub use Rattle.wasm_operator_validator_stacks.specs.laws.Written.{is_written}
 use Rattle.std.proofs.Common.{◌≡◌, ◌∙◌, ℕ, List, [], ◌∷◌, Bool, true, false, refl, ap, map}
 use Rattle.wasm_types.specs.indices.declared.index.UnpackedIndex.TheVariants as index
 use Rattle.wasm_types.specs.trees.Types.{Number, i32, number, ref, heap_map, value_map}
@@ -45,6 +47,3 @@ address_in m false = refl
 
 pub address_is : (m : Meaning) (b : Bool) (t : ValType) → t ≡ addresses.address_type b → type_in m t ≡ address_type b
 address_is m b t e = ap (type_in m) e ∙ address_in m b
-
--- what a type that a module writes stands for
-pub use Rattle.wasm_operator_validator_stacks.specs.laws.Written.{is_written}
