@@ -3,3 +3,4 @@ pub mod Popping
 pub mod Fits
 pub mod Leaving
 pub mod Setting
+pub mod MoreLocals

@@ -1,5 +1,5 @@
 -- Locals that have a value, and one more that has.
-use Rattle.std.proofs.Common.{◌≡◌, ◌∙◌, ◌≤◌, ◌<◌, ◌==◌, ◌||◌, ◌++◌, ◌∷◌, [], ℕ, zero, suc, Bool, true, false, not, List, length, reverse, get_or, slice_get, Option, Some, if◌then◌else◌, refl, sym, ap, subst, arith, ⊎_elim}
+use Rattle.std.proofs.Common.{◌≡◌, ◌∙◌, ◌≤◌, ◌<◌, ◌==◌, ◌||◌, ◌++◌, ◌∷◌, [], ℕ, zero, suc, Bool, true, false, List, length, reverse, get_or, slice_get, if◌then◌else◌, refl, ap, subst, arith, ⊎_elim}
 use Rattle.std.specs.List.{list_any}
 use Rattle.std.proofs.lemmas.Bool.{lt-ltb, le-ltb, cases_lt}
 use Rattle.wasm_types.specs.values.declared.value.ValType.{ValType}
@@ -10,8 +10,8 @@ use Rattle.wasm_operator_validator_resources.specs.Meaning.{Meaning, type_in}
 use Rattle.wasm_operator_validator_inits.specs.Inits.{is_among}
 use Rattle.wasm_operator_validator_state.specs.declared.operand.MaybeType.{MaybeType}
 use Rattle.wasm_operator_validator_state.specs.declared.frame.Frame.{Frame}
-use Rattle.wasm_operator_validator_state.specs.State.{State, types_in, initialised}
-use Rattle.wasm_operator_validator_stacks.specs.Layout.{opens_of, Layered, first_of}
+use Rattle.wasm_operator_validator_state.specs.State.{types_in}
+use Rattle.wasm_operator_validator_stacks.specs.Layout.{Layered, first_of}
 use Rattle.wasm_operator_validator_stacks.proofs.Layers.{Fixed, held}
 use Rattle.wasm_operator_validator_stacks.proofs.Leaving.{opens_set, layered_set}
 

@@ -5,6 +5,7 @@
 #![tactic(auto)]
 
 mod attempts;
+mod defining;
 mod entering;
 mod fitting;
 mod frames;

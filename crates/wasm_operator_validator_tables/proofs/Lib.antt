@@ -2,3 +2,4 @@ pub mod Indexing
 pub mod Copying
 pub mod Referring
 pub mod Null
+pub mod ToFunctions

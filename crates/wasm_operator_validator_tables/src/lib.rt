@@ -6,12 +6,14 @@
 
 mod copies;
 mod finding;
+mod functions;
 mod naming;
 mod nulls;
 mod references;
 mod tables;
 
 pub use copies::{check_elem_drop, check_table_copy, check_table_init};
+pub use functions::check_ref_func;
 pub use nulls::check_ref_null;
 pub use references::check_ref_is_null;
 pub use tables::{

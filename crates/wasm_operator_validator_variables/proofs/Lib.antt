@@ -2,3 +2,4 @@ pub mod Operators
 pub mod Setting
 pub mod Selecting
 pub mod WrittenTypes
+pub mod Room

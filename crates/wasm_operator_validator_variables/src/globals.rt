@@ -1,13 +1,14 @@
 //! Globals.
 
-ghost use Rattle.std.specs.Prelude.{slice_get, MatchResult};
+ghost use Rattle.std.specs.Prelude.{◌≡◌, slice_get, MatchResult, IfErr};
+ghost use Rattle.wasm_types.specs.error.declared.error.ErrorKind.TheVariants.{Other};
 ghost use Rattle.wasm_operators_expression.specs.operator.Op.{Op};
 ghost use Rattle.wasm_operator_validator_resources.specs.Meaning.{global_in};
 ghost use Rattle.wasm_operator_validator_rules.specs.Context.{Global};
 ghost use Rattle.wasm_operator_validator_state.specs.State.{Checks};
-ghost use Rattle.wasm_operator_validator_state.specs.Refusals.{refused};
+ghost use Rattle.wasm_operator_validator_state.specs.Refusals.{refused, kind_of};
 ghost use Rattle.wasm_operator_validator_determined.specs.Operators.{IsUsable};
-ghost use Rattle.wasm_operator_validator_variables.specs.Variables.{global_is_shared};
+ghost use Rattle.wasm_operator_validator_variables.specs.Variables.{global_is_shared, WantsRoom};
 
 use wasm_operator_validator_determined::may_use;
 use wasm_operator_validator_resources::WasmModuleResources;
@@ -22,7 +23,8 @@ pub fn check_global_get<R: WasmModuleResources>(
     resources: &R,
     global_index: u32,
 ) -> Result<(), Refusal>
-    ensures { Checks (R.meaning resources.now) validator.old (Op.Memory (MemoryOperator.GlobalGet global_index)) (refused result) validator.new }
+    ensures checks { Checks (R.meaning resources.now) validator.old (Op.Memory (MemoryOperator.GlobalGet global_index)) (refused result) validator.new }
+    ensures room { WantsRoom (R.meaning resources.now) validator.old (Op.Memory (MemoryOperator.GlobalGet global_index)) (refused result) }
 {
     match validator.begin(Proposal::Mvp, false) {
         Ok(()) => (),
@@ -41,7 +43,8 @@ pub fn check_global_set<R: WasmModuleResources>(
     resources: &R,
     global_index: u32,
 ) -> Result<(), Refusal>
-    ensures { Checks (R.meaning resources.now) validator.old (Op.Memory (MemoryOperator.GlobalSet global_index)) (refused result) validator.new }
+    ensures checks { Checks (R.meaning resources.now) validator.old (Op.Memory (MemoryOperator.GlobalSet global_index)) (refused result) validator.new }
+    ensures room { WantsRoom (R.meaning resources.now) validator.old (Op.Memory (MemoryOperator.GlobalSet global_index)) (refused result) }
 {
     match validator.begin(Proposal::Mvp, false) {
         Ok(()) => (),
@@ -63,7 +66,8 @@ fn usable_global<R: WasmModuleResources>(
     resources: &R,
     at: u32,
 ) -> Result<GlobalType, Refusal>
-    ensures { MatchResult result (λ v. IsUsable validator.now global_is_shared (slice_get (R.meaning resources.now).«module».globals at) (global_in (R.meaning resources.now) v)) (λ r. (v : Global) → IsUsable validator.now global_is_shared (slice_get (R.meaning resources.now).«module».globals at) v → ⊥) }
+    ensures usable { MatchResult result (λ v. IsUsable validator.now global_is_shared (slice_get (R.meaning resources.now).«module».globals at) (global_in (R.meaning resources.now) v)) (λ r. (v : Global) → IsUsable validator.now global_is_shared (slice_get (R.meaning resources.now).«module».globals at) v → ⊥) }
+    ensures refused { IfErr result (λ r. kind_of r ≡ Other) }
 {
     let global = match resources.global_at(at) {
         Some(global) => global,

@@ -1,13 +1,15 @@
 //! Locals.
 
-ghost use Rattle.std.specs.Prelude.{◌≡◌, slice_get, MatchResult};
+ghost use Rattle.std.specs.Prelude.{◌≡◌, slice_get, MatchResult, IfErr};
 ghost use Rattle.wasm_types.specs.trees.Below.{value_is_shared};
 ghost use Rattle.wasm_operators_expression.specs.operator.Op.{Op};
 ghost use Rattle.wasm_operator_validator_resources.specs.Meaning.{type_in};
 ghost use Rattle.wasm_operator_validator_rules.specs.Operands.{ValueType};
 ghost use Rattle.wasm_operator_validator_state.specs.State.{Checks, types_in};
-ghost use Rattle.wasm_operator_validator_state.specs.Refusals.{refused};
+ghost use Rattle.wasm_types.specs.error.declared.error.ErrorKind.TheVariants.{Other};
+ghost use Rattle.wasm_operator_validator_state.specs.Refusals.{refused, kind_of};
 ghost use Rattle.wasm_operator_validator_determined.specs.Operators.{IsUsable};
+ghost use Rattle.wasm_operator_validator_variables.specs.Variables.{WantsRoom};
 
 use wasm_operator_validator_determined::{copied, may_use_type};
 use wasm_operator_validator_resources::WasmModuleResources;
@@ -22,7 +24,8 @@ pub fn check_local_get<R: WasmModuleResources>(
     resources: &R,
     local_index: u32,
 ) -> Result<(), Refusal>
-    ensures { Checks (R.meaning resources.now) validator.old (Op.Memory (MemoryOperator.LocalGet local_index)) (refused result) validator.new }
+    ensures checks { Checks (R.meaning resources.now) validator.old (Op.Memory (MemoryOperator.LocalGet local_index)) (refused result) validator.new }
+    ensures room { WantsRoom (R.meaning resources.now) validator.old (Op.Memory (MemoryOperator.LocalGet local_index)) (refused result) }
 {
     match validator.begin(Proposal::Mvp, false) {
         Ok(()) => (),
@@ -44,7 +47,8 @@ pub fn check_local_set<R: WasmModuleResources>(
     resources: &R,
     local_index: u32,
 ) -> Result<(), Refusal>
-    ensures { Checks (R.meaning resources.now) validator.old (Op.Memory (MemoryOperator.LocalSet local_index)) (refused result) validator.new }
+    ensures checks { Checks (R.meaning resources.now) validator.old (Op.Memory (MemoryOperator.LocalSet local_index)) (refused result) validator.new }
+    ensures room { WantsRoom (R.meaning resources.now) validator.old (Op.Memory (MemoryOperator.LocalSet local_index)) (refused result) }
 {
     match validator.begin(Proposal::Mvp, false) {
         Ok(()) => (),
@@ -67,7 +71,8 @@ pub fn check_local_tee<R: WasmModuleResources>(
     resources: &R,
     local_index: u32,
 ) -> Result<(), Refusal>
-    ensures { Checks (R.meaning resources.now) validator.old (Op.Memory (MemoryOperator.LocalTee local_index)) (refused result) validator.new }
+    ensures checks { Checks (R.meaning resources.now) validator.old (Op.Memory (MemoryOperator.LocalTee local_index)) (refused result) validator.new }
+    ensures room { WantsRoom (R.meaning resources.now) validator.old (Op.Memory (MemoryOperator.LocalTee local_index)) (refused result) }
 {
     match validator.begin(Proposal::Mvp, false) {
         Ok(()) => (),
@@ -91,7 +96,8 @@ fn usable_local<R: WasmModuleResources>(
     resources: &R,
     local_index: u32,
 ) -> Result<ValType, Refusal>
-    ensures { MatchResult result (λ t. IsUsable validator.now value_is_shared (slice_get (types_in (R.meaning resources.now) validator.now.given.locals) local_index) (type_in (R.meaning resources.now) t)) (λ r. (t : ValueType) → IsUsable validator.now value_is_shared (slice_get (types_in (R.meaning resources.now) validator.now.given.locals) local_index) t → ⊥) }
+    ensures usable { MatchResult result (λ t. IsUsable validator.now value_is_shared (slice_get (types_in (R.meaning resources.now) validator.now.given.locals) local_index) (type_in (R.meaning resources.now) t)) (λ r. (t : ValueType) → IsUsable validator.now value_is_shared (slice_get (types_in (R.meaning resources.now) validator.now.given.locals) local_index) t → ⊥) }
+    ensures refused { IfErr result (λ r. kind_of r ≡ Other) }
 {
     let ty = match validator.local(local_index) {
         Some(ty) => ty,

@@ -3,6 +3,7 @@
 ghost use Rattle.wasm_operators_expression.specs.operator.Op.{Op, ParametricTree};
 ghost use Rattle.wasm_operator_validator_state.specs.State.{Checks};
 ghost use Rattle.wasm_operator_validator_state.specs.Refusals.{refused};
+ghost use Rattle.wasm_operator_validator_variables.specs.Variables.{WantsRoom};
 
 use crate::choosing::chosen;
 use wasm_operator_validator_resources::WasmModuleResources;
@@ -16,7 +17,8 @@ pub fn check_drop<R: WasmModuleResources>(
     validator: &mut OperatorValidator,
     resources: &R,
 ) -> Result<(), Refusal>
-    ensures { Checks (R.meaning resources.now) validator.old (Op.Parametric ParametricTree.Drop) (refused result) validator.new }
+    ensures checks { Checks (R.meaning resources.now) validator.old (Op.Parametric ParametricTree.Drop) (refused result) validator.new }
+    ensures room { WantsRoom (R.meaning resources.now) validator.old (Op.Parametric ParametricTree.Drop) (refused result) }
 {
     let _resources = resources;
     match validator.begin(Proposal::Mvp, false) {

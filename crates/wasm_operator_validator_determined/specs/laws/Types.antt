@@ -1,4 +1,6 @@
 -- What types in code stand for, where that needs no module.
+-- what a type that a module writes stands for
+pub use Rattle.wasm_operator_validator_stacks.specs.laws.Written.{is_written}
 use Rattle.std.proofs.Common.{◌≡◌, ◌∙◌, ℕ, List, [], ◌∷◌, Bool, true, false, refl, ap, map}
 use Rattle.wasm_types.specs.indices.declared.index.UnpackedIndex.TheVariants as index
 use Rattle.wasm_types.specs.trees.Types.{Number, i32, number, ref, heap_map, value_map}
@@ -45,26 +47,3 @@ address_in m false = refl
 
 pub address_is : (m : Meaning) (b : Bool) (t : ValType) → t ≡ addresses.address_type b → type_in m t ≡ address_type b
 address_is m b t e = ap (type_in m) e ∙ address_in m b
-
--- ---- what a type that a module writes stands for
-
-heap_written : (m : Meaning) (h : HeapType) → EachHeap (IsTypeIndex m.«module») (heap_of h) → heap_map (named_type m) (heap_of h) ≡ heap_map (written_type m.«module») (heap_of h)
-heap_written m (heap.Abstract s a) k = refl
-heap_written m (heap.Concrete (index.Module n)) k = refl
-heap_written m (heap.Concrete (index.RecGroup n)) k = absurd k
-heap_written m (heap.Concrete (index.Id i)) k = absurd k
-heap_written m (heap.Exact (index.Module n)) k = refl
-heap_written m (heap.Exact (index.RecGroup n)) k = absurd k
-heap_written m (heap.Exact (index.Id i)) k = absurd k
-
-type_written : (m : Meaning) (t : ValType) → EachValue (IsTypeIndex m.«module») (value_of t) → type_in m t ≡ value_map (written_type m.«module») (value_of t)
-unfolding type_in
-type_written m vals.I32 k = refl
-type_written m vals.I64 k = refl
-type_written m vals.F32 k = refl
-type_written m vals.F64 k = refl
-type_written m vals.V128 k = refl
-type_written m (vals.Ref r) k = ap (ref r.nullable) (heap_written m r.heap k)
-
-pub is_written : (m : Meaning) (bits : ℕ) (t : ValType) (u : ValueType) → IsType bits m.«module» t u → IsType bits m.«module» t (type_in m t)
-is_written m bits t u i = record { allowed = i.allowed; known = i.known; is = type_written m t i.known }

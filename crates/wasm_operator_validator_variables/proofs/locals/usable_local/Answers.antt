@@ -6,21 +6,21 @@ use Rattle.wasm_operator_validator_determined.specs.laws.Usable.{none_usable, no
 use Rattle.wasm_operator_validator_variables.proofs.Operators.{local_known, local_unknown}
 use Rattle.wasm_operator_validator_variables.proofs.locals.usable_local.Goals as goal
 
-pub returns-in-None : goal.returns-in-None
-returns-in-None g c =
+pub returns-in-None-clause-usable : goal.returns-in-None-clause-usable
+returns-in-None-clause-usable g c =
     let m = g.R.WasmModuleResources.meaning c.args.resources.now in
     let ts = c.args.validator.now.given.locals in
     none_usable c.args.validator.now value_is_shared (slice_get (types_in m ts) c.args.local_index) (local_unknown m ts c.args.local_index c.in-None.ensures)
 
-pub returns-then-not-may_use_type : goal.returns-then-not-may_use_type
-returns-then-not-may_use_type g c =
+pub returns-then-not-may_use_type-clause-usable : goal.returns-then-not-may_use_type-clause-usable
+returns-then-not-may_use_type-clause-usable g c =
     let m = g.R.WasmModuleResources.meaning c.args.resources.now in
     let ts = c.args.validator.now.given.locals in
     not_usable c.args.validator.now value_is_shared (slice_get (types_in m ts) c.args.local_index) (type_in m c.in-Some.ty) c.may_use_type.result
     (local_known m ts c.args.local_index c.in-Some.ty c.in-Some.ensures) c.may_use_type.ensures c.if-not-may_use_type.true
 
-pub returns : goal.returns
-returns g c =
+pub returns-clause-usable : goal.returns-clause-usable
+returns-clause-usable g c =
     let m = g.R.WasmModuleResources.meaning c.args.resources.now in
     let ts = c.args.validator.now.given.locals in
     usable c.args.validator.now value_is_shared (slice_get (types_in m ts) c.args.local_index) (type_in m c.in-Some.ty) c.may_use_type.result

@@ -1,4 +1,4 @@
-use Rattle.std.proofs.Common.{◌∙◌, ◌<◌, length, not, Bool, ap}
+use Rattle.std.proofs.Common.{◌∙◌, ◌<◌, length, not, ap}
 use Rattle.wasm_operator_validator_stacks.proofs.Setting.{inside_first, value_by}
 use Rattle.wasm_operator_validator_stacks.proofs.validator.OperatorValidator.is_uninit.Goals as goal
 

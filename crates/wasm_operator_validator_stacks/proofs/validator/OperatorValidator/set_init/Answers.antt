@@ -1,7 +1,5 @@
-use Rattle.std.proofs.Common.{◌∙◌, ◌<◌, ◌||◌, length, reverse, get_or, false}
-use Rattle.std.specs.List.{list_any}
-use Rattle.wasm_operator_validator_inits.specs.Inits.{is_among, has_value}
-use Rattle.wasm_operator_validator_state.specs.State.{initialised}
+use Rattle.std.proofs.Common.{◌<◌, length, reverse}
+use Rattle.wasm_operator_validator_inits.specs.Inits.{has_value}
 use Rattle.wasm_operator_validator_stacks.proofs.Layers.{fixed}
 use Rattle.wasm_operator_validator_stacks.proofs.Setting.{inside_first, value_by, layered_if, held_set}
 use Rattle.wasm_operator_validator_stacks.proofs.validator.OperatorValidator.set_init.Goals as goal
