@@ -1,5 +1,5 @@
 -- The rows of calls.
-use Rattle.std.proofs.Common.{◌≡◌, ◌↔◌, ◌∙◌, ℕ, Bool, false, List, [], ◌∷◌, ◌++◌, Some, refl, sym, ap, subst, reverse, append_assoc}
+use Rattle.std.proofs.Common.{◌≡◌, ◌↔◌, ℕ, false, List, [], ◌∷◌, ◌++◌, refl, sym, ap, subst, reverse, append_assoc}
 use Rattle.std.proofs.lemmas.List.{reverse-append}
 use Rattle.wasm_types.specs.error.declared.error.ErrorKind.{ErrorKind}
 use Rattle.wasm_types.specs.error.Denials.{Denies}
@@ -9,7 +9,7 @@ use Rattle.wasm_operators_expression.specs.control.declared.control.ControlOpera
 use Rattle.wasm_operators_expression.specs.operator.Op as op
 use Rattle.wasm_operators_expression.specs.operator.Op.{Op}
 use Rattle.wasm_operator_validator_rules.specs.Operands.{ValueType, Operand, AllBelow, known, all_known, stack}
-use Rattle.wasm_operator_validator_rules.specs.Context.{Context, Table, Signature, address_type}
+use Rattle.wasm_operator_validator_rules.specs.Context.{Table, Signature, address_type}
 use Rattle.wasm_operator_validator_rules.specs.Row.{Takes, GroupRow, IsIndirect}
 use Rattle.wasm_operator_validator_resources.specs.Meaning.{Meaning}
 use Rattle.wasm_operator_validator_state.specs.State.{State, initialised, context, outermost_results, Accepts}
@@ -92,7 +92,7 @@ pub call_indirect_row : (m : Meaning) (σ : State) (y x : ℕ) (t : Table) (b : 
     → RowOf m σ (call_indirect y x) popped pushed ↔ Takes (takes_index t b) b.results popped pushed
 call_indirect_row m σ y x t b f n popped pushed = (
   λ (u, c, i, k). by_parts (λ (w : Table) (v : Signature). Takes (takes_index w v) v.results popped pushed) t u b c
-  (one_table m σ x t u f (indirect_table m σ y x u c i)) (one_function σ m.«module».types y b c n (indirect_type m σ y x u c i)) k,
+      (one_table m σ x t u f (indirect_table m σ y x u c i)) (one_function σ m.«module».types y b c n (indirect_type m σ y x u c i)) k,
   λ k. (t, b, indirect m σ y x t b f n, k),
 )
 
@@ -129,8 +129,11 @@ returns_others m σ x b rs e n o r =
 pub return_call_indirect_last : (m : Meaning) (σ : State) (y x : ℕ) (t : Table) (b : Signature) (rs : List ValueType) → IsFunctionTable m σ x t → NamedType m σ y b
     → outermost_results m σ.opens ≡ rs → Returns b rs → IsLast m σ (return_call_indirect y x) (takes_index t b)
 return_call_indirect_last m σ y x t b rs f n e r popped pushed = (
-  λ (u, c, any, i, k, h). (any, by_parts (λ (w : Table) (v : Signature). popped ≡ any ++ all_known (takes_index w v)) t u b c
-  (one_table m σ x t u f (indirect_table m σ y x u c i)) (one_function σ m.«module».types y b c n (indirect_type m σ y x u c i)) h),
+  λ (u, c, any, i, k, h). (
+    any,
+    by_parts (λ (w : Table) (v : Signature). popped ≡ any ++ all_known (takes_index w v)) t u b c
+        (one_table m σ x t u f (indirect_table m σ y x u c i)) (one_function σ m.«module».types y b c n (indirect_type m σ y x u c i)) h,
+  ),
   λ (any, h). (t, b, any, indirect m σ y x t b f n, subst (λ (v : List ValueType). Returns b v) (sym e) r, h),
 )
 

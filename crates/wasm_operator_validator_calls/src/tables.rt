@@ -51,9 +51,7 @@ fn is_of_functions<R: WasmModuleResources>(resources: &R, element: RefType, shar
         ty: AbstractHeapType::Func,
     };
     match RefType::new(true, functions) {
-        Some(functions) => {
-            resources.is_subtype(ValType::Ref(element), ValType::Ref(functions))
-        }
+        Some(functions) => { resources.is_subtype(ValType::Ref(element), ValType::Ref(functions)) }
         None => unreachable!(),
     }
 }

@@ -1,19 +1,8 @@
-use Rattle.std.proofs.Common.{◌∙◌, ◌∷◌, ◌++◌, [], Some, false, refl, sym}
-use Rattle.wasm_types.specs.error.Denials.{Denies}
-use Rattle.wasm_types.specs.error.DenialLaws.{denies, denies_from}
+use Rattle.std.proofs.Common.{false, refl}
 use Rattle.wasm_operators_expression.specs.info.declared.proposal.Proposal.TheVariants.{Mvp}
-use Rattle.wasm_operator_validator_rules.specs.Context.{address_type}
-use Rattle.wasm_operator_validator_resources.specs.Meaning.{table_in}
-use Rattle.wasm_operator_validator_state.specs.Refusals.{refused, kind_of}
-use Rattle.wasm_operator_validator_state.specs.State.{signature_of}
-use Rattle.wasm_operator_validator_determined.specs.laws.Types.{address_is}
-use Rattle.wasm_operator_validator_determined.specs.laws.Same.{stays_trans}
-use Rattle.wasm_operator_validator_determined.specs.laws.Determined.{not_begun, refused_here, refused_then, by_types}
-use Rattle.wasm_operator_validator_determined.specs.laws.Usable.{fails}
+use Rattle.wasm_operator_validator_state.specs.Refusals.{refused}
+use Rattle.wasm_operator_validator_determined.specs.laws.Determined.{refused_here, by_types}
 use Rattle.wasm_operator_validator_blocks.specs.Signatures.{signature_in}
-use Rattle.wasm_operator_validator_control.specs.laws.Jumping.{by_last, pops_last, exchanged_more, jumps_more}
-use Rattle.wasm_operator_validator_control.specs.laws.Labels.{outermost_at, some_outermost}
-use Rattle.wasm_operator_validator_calls.proofs.Naming.{none_named}
 use Rattle.wasm_operator_validator_calls.proofs.CallRows.{call, call_is, call_row, no_call}
 use Rattle.wasm_operator_validator_calls.proofs.calls.check_call.Goals as goal
 

@@ -1,19 +1,14 @@
-use Rattle.std.proofs.Common.{◌∙◌, ◌∷◌, ◌++◌, [], Some, false, refl, sym}
-use Rattle.wasm_types.specs.error.Denials.{Denies}
-use Rattle.wasm_types.specs.error.DenialLaws.{denies, denies_from}
+use Rattle.std.proofs.Common.{false, refl}
+use Rattle.wasm_types.specs.error.DenialLaws.{denies}
 use Rattle.wasm_operators_expression.specs.info.declared.proposal.Proposal.TheVariants.{Mvp}
 use Rattle.wasm_operator_validator_rules.specs.Context.{address_type}
 use Rattle.wasm_operator_validator_resources.specs.Meaning.{table_in}
 use Rattle.wasm_operator_validator_state.specs.Refusals.{refused, kind_of}
-use Rattle.wasm_operator_validator_state.specs.State.{signature_of}
 use Rattle.wasm_operator_validator_determined.specs.laws.Types.{address_is}
 use Rattle.wasm_operator_validator_determined.specs.laws.Same.{stays_trans}
-use Rattle.wasm_operator_validator_determined.specs.laws.Determined.{not_begun, refused_here, refused_then, by_types}
-use Rattle.wasm_operator_validator_determined.specs.laws.Usable.{fails}
+use Rattle.wasm_operator_validator_determined.specs.laws.Determined.{refused_here, refused_then, by_types}
 use Rattle.wasm_operator_validator_blocks.specs.Signatures.{signature_in}
-use Rattle.wasm_operator_validator_control.specs.laws.Jumping.{by_last, pops_last, exchanged_more, jumps_more}
-use Rattle.wasm_operator_validator_control.specs.laws.Labels.{outermost_at, some_outermost}
-use Rattle.wasm_operator_validator_calls.proofs.Naming.{none_named}
+use Rattle.wasm_operator_validator_control.specs.laws.Jumping.{exchanged_more}
 use Rattle.wasm_operator_validator_calls.proofs.CallRows.{call_indirect, call_indirect_is, call_indirect_row, no_call_indirect, no_indirect_type, takes_index, no_index}
 use Rattle.wasm_operator_validator_calls.proofs.calls.check_call_indirect.Goals as goal
 
@@ -47,5 +42,5 @@ returns g c =
     (call_indirect_is c.args.type_index c.args.table_index) c.in-Ok.ensures.begins (λ set. refl)
     (call_indirect_row m c.args.validator.now c.args.type_index c.args.table_index t b c.in-Ok-function_table.ensures c.in-Ok-found.ensures)
     (exchanged_more (refused c.exchange.result) m c.args.validator.now c.pop_operand.new.self c.exchange.new.self (address_type t.table64) b.params b.results
-        (rw (address_is m t.table64 c.index_type.result c.index_type.ensures) at c.in-Ok-pop_operand.ensures.does) (rw (c.params.ensures, c.results.ensures) at c.exchange.ensures.does))
+    (rw (address_is m t.table64 c.index_type.result c.index_type.ensures) at c.in-Ok-pop_operand.ensures.does) (rw (c.params.ensures, c.results.ensures) at c.exchange.ensures.does))
     (stays_trans c.args.validator.now c.pop_operand.new.self c.exchange.new.self (record { given = c.pop_operand.ensures.given; failed = c.pop_operand.ensures.failed; saved = c.pop_operand.ensures.saved }) (record { given = c.exchange.ensures.given; failed = c.exchange.ensures.failed; saved = c.exchange.ensures.saved }))

@@ -1,19 +1,12 @@
-use Rattle.std.proofs.Common.{◌∙◌, ◌∷◌, ◌++◌, [], Some, false, refl, sym}
-use Rattle.wasm_types.specs.error.Denials.{Denies}
-use Rattle.wasm_types.specs.error.DenialLaws.{denies, denies_from}
+use Rattle.std.proofs.Common.{false, refl}
 use Rattle.wasm_operators_expression.specs.info.declared.proposal.Proposal.TheVariants.{TailCall}
-use Rattle.wasm_operator_validator_rules.specs.Context.{address_type}
-use Rattle.wasm_operator_validator_resources.specs.Meaning.{table_in}
-use Rattle.wasm_operator_validator_state.specs.Refusals.{refused, kind_of}
+use Rattle.wasm_operator_validator_state.specs.Refusals.{refused}
 use Rattle.wasm_operator_validator_state.specs.State.{signature_of}
-use Rattle.wasm_operator_validator_determined.specs.laws.Types.{address_is}
-use Rattle.wasm_operator_validator_determined.specs.laws.Same.{stays_trans}
-use Rattle.wasm_operator_validator_determined.specs.laws.Determined.{not_begun, refused_here, refused_then, by_types}
+use Rattle.wasm_operator_validator_determined.specs.laws.Determined.{not_begun, refused_here}
 use Rattle.wasm_operator_validator_determined.specs.laws.Usable.{fails}
 use Rattle.wasm_operator_validator_blocks.specs.Signatures.{signature_in}
-use Rattle.wasm_operator_validator_control.specs.laws.Jumping.{by_last, pops_last, exchanged_more, jumps_more}
+use Rattle.wasm_operator_validator_control.specs.laws.Jumping.{by_last}
 use Rattle.wasm_operator_validator_control.specs.laws.Labels.{outermost_at, some_outermost}
-use Rattle.wasm_operator_validator_calls.proofs.Naming.{none_named}
 use Rattle.wasm_operator_validator_calls.proofs.CallRows.{return_call, return_call_is, return_call_last, no_return_call, returns_others}
 use Rattle.wasm_operator_validator_calls.proofs.tails.check_return_call.Goals as goal
 
@@ -35,7 +28,7 @@ returns-then-not-gives_results g c =
     let m = g.R.WasmModuleResources.meaning c.args.resources.now in
     refused_here _ m c.args.validator.now (return_call c.args.function_index) TailCall false c.in-Ok.ensures.begins
     (returns_others m c.args.validator.now c.args.function_index (signature_in m c.in-Ok-callee.function.now) (signature_of m c.in-Some.body).results c.in-Ok.ensures.begins c.in-Ok-callee.ensures
-        (outermost_at m c.args.validator.now.opens c.in-Some.body c.in-Some.field-0-1 c.in-Some.ensures) (fails c.gives_results.result c.gives_results.ensures c.if-not-gives_results.true))
+    (outermost_at m c.args.validator.now.opens c.in-Some.body c.in-Some.field-0-1 c.in-Some.ensures) (fails c.gives_results.result c.gives_results.ensures c.if-not-gives_results.true))
 
 pub returns : goal.returns
 returns g c =
@@ -43,5 +36,5 @@ returns g c =
     let b = signature_in m c.in-Ok-callee.function.now in
     by_last (refused c.jump_with.result) m c.args.validator.now c.jump_with.new.validator (return_call c.args.function_index) TailCall false b.params (return_call_is c.args.function_index) c.in-Ok.ensures.begins
     (λ set. refl) (return_call_last m c.args.validator.now c.args.function_index b (signature_of m c.in-Some.body).results c.in-Ok-callee.ensures
-        (outermost_at m c.args.validator.now.opens c.in-Some.body c.in-Some.field-0-1 c.in-Some.ensures) (c.gives_results.ensures.0 c.if-not-gives_results.false))
+    (outermost_at m c.args.validator.now.opens c.in-Some.body c.in-Some.field-0-1 c.in-Some.ensures) (c.gives_results.ensures.0 c.if-not-gives_results.false))
     (rw c.params.ensures at c.jump_with.ensures.does) (record { given = c.jump_with.ensures.given; failed = c.jump_with.ensures.failed; saved = c.jump_with.ensures.saved })

@@ -1,6 +1,5 @@
-use Rattle.std.proofs.Common.{◌∙◌, ◌∷◌, ◌++◌, [], Some, false, refl, sym}
-use Rattle.wasm_types.specs.error.Denials.{Denies}
-use Rattle.wasm_types.specs.error.DenialLaws.{denies, denies_from}
+use Rattle.std.proofs.Common.{false, refl}
+use Rattle.wasm_types.specs.error.DenialLaws.{denies}
 use Rattle.wasm_operators_expression.specs.info.declared.proposal.Proposal.TheVariants.{TailCall}
 use Rattle.wasm_operator_validator_rules.specs.Context.{address_type}
 use Rattle.wasm_operator_validator_resources.specs.Meaning.{table_in}
@@ -8,12 +7,11 @@ use Rattle.wasm_operator_validator_state.specs.Refusals.{refused, kind_of}
 use Rattle.wasm_operator_validator_state.specs.State.{signature_of}
 use Rattle.wasm_operator_validator_determined.specs.laws.Types.{address_is}
 use Rattle.wasm_operator_validator_determined.specs.laws.Same.{stays_trans}
-use Rattle.wasm_operator_validator_determined.specs.laws.Determined.{not_begun, refused_here, refused_then, by_types}
+use Rattle.wasm_operator_validator_determined.specs.laws.Determined.{not_begun, refused_here, refused_then}
 use Rattle.wasm_operator_validator_determined.specs.laws.Usable.{fails}
 use Rattle.wasm_operator_validator_blocks.specs.Signatures.{signature_in}
-use Rattle.wasm_operator_validator_control.specs.laws.Jumping.{by_last, pops_last, exchanged_more, jumps_more}
+use Rattle.wasm_operator_validator_control.specs.laws.Jumping.{by_last, jumps_more}
 use Rattle.wasm_operator_validator_control.specs.laws.Labels.{outermost_at, some_outermost}
-use Rattle.wasm_operator_validator_calls.proofs.Naming.{none_named}
 use Rattle.wasm_operator_validator_calls.proofs.CallRows.{return_call_indirect, return_call_indirect_is, return_call_indirect_last, no_return_call_indirect, no_return_type, returns_others_through, takes_index, no_last_index}
 use Rattle.wasm_operator_validator_calls.proofs.tails.check_return_call_indirect.Goals as goal
 
@@ -51,7 +49,7 @@ returns-then-not-gives_results g c =
     let m = g.R.WasmModuleResources.meaning c.args.resources.now in
     refused_then _ m c.args.validator.now c.pop_operand.new.self (return_call_indirect c.args.type_index c.args.table_index) TailCall false c.in-Ok.ensures.begins (record { given = c.pop_operand.ensures.given; failed = c.pop_operand.ensures.failed; saved = c.pop_operand.ensures.saved })
     (returns_others_through m c.args.validator.now c.args.type_index c.args.table_index (signature_in m c.in-Ok-found.function.now) (signature_of m c.in-Some.body).results c.in-Ok.ensures.begins c.in-Ok-found.ensures
-        (outermost_at m c.args.validator.now.opens c.in-Some.body c.in-Some.field-0-1 c.in-Some.ensures) (fails c.gives_results.result c.gives_results.ensures c.if-not-gives_results.true))
+    (outermost_at m c.args.validator.now.opens c.in-Some.body c.in-Some.field-0-1 c.in-Some.ensures) (fails c.gives_results.result c.gives_results.ensures c.if-not-gives_results.true))
 
 pub returns : goal.returns
 returns g c =
@@ -61,7 +59,7 @@ returns g c =
     by_last (refused c.jump_with.result) m c.args.validator.now c.jump_with.new.validator (return_call_indirect c.args.type_index c.args.table_index) TailCall false (takes_index t b)
     (return_call_indirect_is c.args.type_index c.args.table_index) c.in-Ok.ensures.begins (λ set. refl)
     (return_call_indirect_last m c.args.validator.now c.args.type_index c.args.table_index t b (signature_of m c.in-Some.body).results c.in-Ok-function_table.ensures c.in-Ok-found.ensures
-        (outermost_at m c.args.validator.now.opens c.in-Some.body c.in-Some.field-0-1 c.in-Some.ensures) (c.gives_results.ensures.0 c.if-not-gives_results.false))
+    (outermost_at m c.args.validator.now.opens c.in-Some.body c.in-Some.field-0-1 c.in-Some.ensures) (c.gives_results.ensures.0 c.if-not-gives_results.false))
     (jumps_more (refused c.jump_with.result) m c.args.validator.now c.pop_operand.new.self c.jump_with.new.validator (address_type t.table64) b.params
-        (rw (address_is m t.table64 c.index_type.result c.index_type.ensures) at c.in-Ok-pop_operand.ensures.does) (rw c.params.ensures at c.jump_with.ensures.does))
+    (rw (address_is m t.table64 c.index_type.result c.index_type.ensures) at c.in-Ok-pop_operand.ensures.does) (rw c.params.ensures at c.jump_with.ensures.does))
     (stays_trans c.args.validator.now c.pop_operand.new.self c.jump_with.new.validator (record { given = c.pop_operand.ensures.given; failed = c.pop_operand.ensures.failed; saved = c.pop_operand.ensures.saved }) (record { given = c.jump_with.ensures.given; failed = c.jump_with.ensures.failed; saved = c.jump_with.ensures.saved }))
