@@ -1,0 +1,2 @@
+-- What a call may name.
+pub mod Callees
