@@ -1,0 +1,93 @@
+//! The calls that need a visitor of all operators, at the counter.
+//!
+//! The evidence that a type has a trait is checked method by method wherever a generic function is called with it, and that
+//! of all visits together is more than the check of one declaration may take. So each group of visits has a trait of its
+//! own, whose `impl` takes the evidence of its group once.
+
+ghost use Rattle.std.specs.Prelude.{◌≡◌, false, Ok, Err, IfOk, IfErr};
+ghost use Rattle.wasm_types.specs.reader.Reading.{IsNotMemory, NeedsNoMemory};
+ghost use Rattle.wasm_operators_reader.specs.expression.Code.{Code, walk};
+ghost use Rattle.wasm_operators_reader.specs.expression.Spelling.{SpelledExpression};
+ghost use Rattle.wasm_operators_reader.specs.Standing.{Standing, at_start};
+ghost use Rattle.wasm_operators_visiting.specs.Walking.{HasNoVectors, VisitsAll, WalksTo, WalksUntil, StopsPlain};
+
+use crate::{Counter, Full};
+use std::alloc::Global;
+use wasm_operators_visiting::{
+    VisitAtomic, VisitControl, VisitFloats, VisitGc, VisitIntegers, VisitMemory, VisitShared,
+    visit_expression,
+};
+use wasm_types::BinaryReader;
+
+/// Has the visits of control.
+pub trait DrivenControl<'a>: VisitControl<'a, Output = Result<(), Full>> {}
+
+/// Has the visits of memories.
+pub trait DrivenMemory<'a>: VisitMemory<'a, Output = Result<(), Full>> {}
+
+/// Has the visits of aggregates.
+pub trait DrivenGc<'a>: VisitGc<'a, Output = Result<(), Full>> {}
+
+/// Has the visits of integers.
+pub trait DrivenIntegers<'a>: VisitIntegers<'a, Output = Result<(), Full>> {}
+
+/// Has the visits of floats.
+pub trait DrivenFloats<'a>: VisitFloats<'a, Output = Result<(), Full>> {}
+
+/// Has the visits of atomic accesses to memories.
+pub trait DrivenAtomic<'a>: VisitAtomic<'a, Output = Result<(), Full>> {}
+
+/// Has the visits of the other atomic accesses.
+pub trait DrivenShared<'a>: VisitShared<'a, Output = Result<(), Full>> {}
+
+impl<'a> DrivenControl<'a> for Counter {}
+
+impl<'a> DrivenMemory<'a> for Counter {}
+
+impl<'a> DrivenGc<'a> for Counter {}
+
+impl<'a> DrivenIntegers<'a> for Counter {}
+
+impl<'a> DrivenFloats<'a> for Counter {}
+
+impl<'a> DrivenAtomic<'a> for Counter {}
+
+impl<'a> DrivenShared<'a> for Counter {}
+
+/// Is told all operators but those on vectors.
+pub trait Driven<'a>: DrivenControl<'a>
+    + DrivenMemory<'a>
+    + DrivenGc<'a>
+    + DrivenIntegers<'a>
+    + DrivenFloats<'a>
+    + DrivenAtomic<'a>
+    + DrivenShared<'a> {}
+
+impl<'a> Driven<'a> for Counter {}
+
+/// As `visit_expression`.
+///
+/// # Errors
+///
+/// As `visit_expression`.
+pub fn walk_all<'a, V: Driven<'a>>(
+    alloc: Global,
+    reader: BinaryReader<'a>,
+    visitor: &mut V,
+) -> wasm_types::Result<Result<(), Full>>
+    ensures whole { IfOk result (λ end. IfOk end (λ _. (c : Code) × SpelledExpression reader.entry.settings c reader.entry.rest × HasNoVectors (walk c) × VisitsAll V.visits (Ok tt) visitor.old (walk c) visitor.new)) }
+    ensures ended { IfOk result (λ end. IfErr end (λ x. WalksUntil V.visits (Ok tt) (at_start reader.entry) visitor.old (Err x) visitor.new)) }
+    ensures refused { IfErr result (λ e. IsNotMemory e.kind → (c : Code) → SpelledExpression reader.entry.settings c reader.entry.rest → HasNoVectors (walk c) → ⊥) }
+    ensures stops { IfErr result (λ e. (t : Standing) × WalksTo V.visits (Ok tt) (at_start reader.entry) visitor.old t visitor.new × StopsPlain t e) }
+{
+    visit_expression(alloc, reader, visitor)
+}
+
+/// The counter walks.
+pub fn count_expression(
+    alloc: Global,
+    reader: BinaryReader<'_>,
+    counter: &mut Counter,
+) -> wasm_types::Result<Result<(), Full>> {
+    walk_all(alloc, reader, counter)
+}
