@@ -83,9 +83,9 @@ values_worked = record {
   exactly = (tt, refl);
   declared_exactly = search rules;
   not_exactly = search rules;
-  under = (tt, id_of 2, itself, (refl, struct_eq));
-  not_under = λ h. let e = only_itself h.1 h.2 in search rules;
-  not_under_shared = λ h. let e = only_itself h.1 h.2 in search rules;
+  under = (tt, (id_of 2, itself, (refl, struct_eq)));
+  not_under = λ h. let e = only_itself h.1.0 h.1.1 in search rules;
+  not_under_shared = λ h. let e = only_itself h.1.0 h.1.1 in search rules;
   over = (tt, λ j d. let e = only_itself j d in search rules);
   not_over = λ h. let e = h.1 (id_of 2) itself in search rules;
   not_over_shared = λ h. let e = h.1 (id_of 2) itself in search rules;

@@ -3,4 +3,5 @@ pub mod Knowing
 pub mod Parts
 pub mod Adding
 pub mod Finding
+pub mod Chains
 pub mod WorkedProofs

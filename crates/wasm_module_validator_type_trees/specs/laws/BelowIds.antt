@@ -4,10 +4,10 @@ use Rattle.std.specs.Option.{option_map}
 use Rattle.wasm_types.specs.indices.declared.index.CoreTypeId.{CoreTypeId}
 use Rattle.wasm_types.specs.indices.declared.index.UnpackedIndex.{UnpackedIndex}
 use Rattle.wasm_types.specs.indices.declared.index.UnpackedIndex.TheVariants.{Module, RecGroup, Id}
-use Rattle.wasm_types.specs.trees.Types.{Abstract, HeapOf, abstract, concrete, exact, ValueOf, number, ref, heap_map, value_map, EntryOf, entry_map, InnerOf, inner_map}
+use Rattle.wasm_types.specs.trees.Types.{Abstract, HeapOf, abstract, concrete, exact, ValueOf, number, ref, heap_map, value_map, EntryOf, InnerOf, inner_map}
 use Rattle.wasm_types.specs.trees.Types.{function, array_of, struct_of, continuation}
 use Rattle.wasm_types.specs.trees.Each.{EachHeap, EachValue}
-use Rattle.wasm_types.specs.trees.Trees.{TypeTree, opened}
+use Rattle.wasm_types.specs.trees.Trees.{TypeTree}
 use Rattle.wasm_types.specs.trees.AbstractOrder.{AbstractBelow}
 use Rattle.wasm_types.specs.trees.Below.{expanded, is_shared, supertype, abstract_of, bottom_of, DeclaredBelow, itself, declared, IsBelowAbstract, IsAboveAbstract}
 use Rattle.wasm_types.specs.trees.Below.{HeapBelow, Below, heap_is_shared, value_is_shared}
@@ -15,7 +15,7 @@ use Rattle.wasm_module_validator_type_trees.specs.Groups.{Group, count, tree_of}
 use Rattle.wasm_module_validator_type_trees.specs.Formed.{IsFormed, AreCanonical}
 use Rattle.wasm_module_validator_type_trees.specs.ByIds as ids
 use Rattle.wasm_module_validator_type_trees.specs.ByIds.{supertype_of, IdBelow, tree_named}
-use Rattle.wasm_module_validator_type_trees.specs.BelowIds.{IsIdBelow, undeclared, entry_by_id, heap_is_shared_by_id, value_is_shared_by_id, IsUnder, IsOver}
+use Rattle.wasm_module_validator_type_trees.specs.BelowIds.{IsIdBelow, undeclared, entry_by_id, heap_is_shared_by_id, value_is_shared_by_id}
 use Rattle.wasm_module_validator_type_trees.specs.BelowIds.{IdBelowAbstract, AbstractBelowId, HeapBelowById, ValueBelowById}
 use Rattle.wasm_module_validator_type_trees.specs.laws.Apart.{apart}
 use Rattle.wasm_module_validator_type_trees.specs.laws.Ids.{opens, supertype_tree, supertype_below, trees_below, below_by_ids}
@@ -83,11 +83,11 @@ module _ (groups : List Group) (formed : IsFormed groups) (c : AreCanonical grou
   above_abstract : (i : CoreTypeId) (s : Bool) (a : Abstract) → i.0 < count groups → AbstractBelowId groups i s a ↔ IsAboveAbstract (tree_of groups i.0) s a
   above_abstract i s a lt = (
     λ h u d. let found = tree_above d i lt refl in
-    let over = h found.0 found.1 in
-    (over.0 ∙ sym (shared_tree found.0 found.2) ∙ ap is_shared found.3, over.1 ∙ sym (bottom_tree found.0 found.2) ∙ ap (λ t. bottom_of (expanded t)) found.3),
+        let over = h found.0 found.1 in
+        (over.0 ∙ sym (shared_tree found.0 found.2) ∙ ap is_shared found.3, over.1 ∙ sym (bottom_tree found.0 found.2) ∙ ap (λ t. bottom_of (expanded t)) found.3),
     λ h j d. let known = above_known d lt in
-    let over = h (tree_of groups j.0) (trees_below groups formed c d lt) in
-    (over.0 ∙ shared_tree j known, over.1 ∙ bottom_tree j known),
+        let over = h (tree_of groups j.0) (trees_below groups formed c d lt) in
+        (over.0 ∙ shared_tree j known, over.1 ∙ bottom_tree j known),
   )
 
   same_tree : (i j : CoreTypeId) → i.0 < count groups → j.0 < count groups → (i ≡ j) ↔ (tree_of groups i.0 ≡ tree_of groups j.0)
