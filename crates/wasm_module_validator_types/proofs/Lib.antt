@@ -4,4 +4,5 @@ pub mod Parts
 pub mod Adding
 pub mod Finding
 pub mod Chains
+pub mod References
 pub mod WorkedProofs

@@ -15,7 +15,10 @@ ghost use Rattle.wasm_module_validator_type_trees.specs.BelowIds.{IsIdBelow, id_
 ghost use Rattle.wasm_module_validator_type_trees.specs.BelowIds.{IsUnder, IsOver, IdBelowAbstract, AbstractBelowId, HeapBelowById, ValueBelowById};
 
 use crate::TypeList;
-use wasm_types::{AbstractHeapType, CompositeInnerType, CoreTypeId, HeapType, RefType, SubType, UnpackedIndex, ValType};
+use wasm_types::{
+    AbstractHeapType, CompositeInnerType, CoreTypeId, HeapType, RefType, SubType, UnpackedIndex,
+    ValType, equality_is_identity,
+};
 
 // The abstract type of a constructor.
 fn abstract_type_of(inner: &CompositeInnerType) -> AbstractHeapType
@@ -111,8 +114,7 @@ impl TypeList {
         ensures { IsTrue result ↔ IsOver self.now.groups shared (abstract_in ty) id }
     {
         let stored = self.stored(id);
-        shared == stored.composite_type.shared
-            && ty == bottom_type_of(&stored.composite_type.inner)
+        shared == stored.composite_type.shared && ty == bottom_type_of(&stored.composite_type.inner)
     }
 
     // Whether the type of an id is below an abstract type, by itself or by what it is declared below.
@@ -232,7 +234,10 @@ impl TypeList {
                 Some(b_ref) => self.reftype_is_subtype(a_ref, b_ref),
                 None => false,
             },
-            None => a == b,
+            None => {
+                equality_is_identity();
+                a == b
+            }
         }
     }
 
@@ -244,10 +249,14 @@ impl TypeList {
         match ty.heap_type() {
             HeapType::Abstract { shared, ty: _ } => shared,
             HeapType::Concrete(index) => {
-                self.stored(id_in(index, self.type_count())).composite_type.shared
+                self.stored(id_in(index, self.type_count()))
+                    .composite_type
+                    .shared
             }
             HeapType::Exact(index) => {
-                self.stored(id_in(index, self.type_count())).composite_type.shared
+                self.stored(id_in(index, self.type_count()))
+                    .composite_type
+                    .shared
             }
         }
     }

@@ -1,24 +1,34 @@
-use Rattle.std.proofs.Common.{rules, ◌≡◌, ◌↔◌, ◌<◌, IsTrue, ℕ, ◌+◌, ◌-◌, ◌*◌, ◌≤◌, length, ◌/◌, ◌%◌, Bool, true, false, nat_eq, nat_lt, List, [], ◌∷◌, ◌++◌, slice_index_or, slice_set, bit_and, bit_or, Fits, w8, w32, w64, Bor, MutBor}
-use Rattle.wasm_types.specs.trees.AbstractOrder.{AbstractBelow, top_of}
-use Rattle.wasm_types.specs.trees.Below.{abstract_of, bottom_of, NullBelow}
-use Rattle.wasm_types.specs.trees.Types.{abstract, concrete, exact, ref}
-use Rattle.wasm_types.specs.trees.Each.{EachHeap, EachValue}
-use Rattle.wasm_types.specs.values.Trees.{heap_of}
-use Rattle.wasm_types.specs.values.Trees.{abstract_of as abstract_in}
-use Rattle.wasm_types.specs.values.Values.{value_of}
-use Rattle.wasm_types.specs.groups.Entries.{declared_of, inner_of}
-use Rattle.wasm_module_validator_type_trees.specs.Groups.{count}
-use Rattle.wasm_module_validator_type_trees.specs.BelowIds.{IsIdBelow, id_named, entry_by_id, heap_is_shared_by_id, value_is_shared_by_id, top_heap_by_id, IsUnder, IsOver, IdBelowAbstract, AbstractBelowId, HeapBelowById, ValueBelowById}
+use Rattle.std.proofs.Common.{◌≡◌, ◌∙◌, ◌<◌, sym, refl, true, false, arith}
+use Rattle.wasm_types.specs.values.Trees.{abstract_of}
+use Rattle.wasm_module_validator_type_trees.specs.ByIds.{itself, declared}
+use Rattle.wasm_module_validator_type_trees.specs.BelowIds.{IsOver}
+use Rattle.wasm_module_validator_types.proofs.Chains.{all_next, all_none}
 use Rattle.wasm_module_validator_types.proofs.list.TypeList.abstract_is_below_id.Goals as goal
 
--- src/values.rt:143:17
 pub returns-then-not-is_over : goal.returns-then-not-is_over
-returns-then-not-is_over c = ?
+returns-then-not-is_over c = (
+  λ t. let z : false ≡ true = t in absurd cc,
+  λ h. let all = c.chain.invariant.1.0 h in sym c.if-not-is_over.true ∙ c.is_over.ensures.1 (all c.chain.at itself),
+)
 
--- src/values.rt:141:9
 pub chain-preserved : goal.chain-preserved
-chain-preserved c = ?
+chain-preserved c =
+    let up = sym c.in-Some.ensures.declared in
+    let earlier : c.in-Some.above.0 < c.chain.at.0 = c.in-Some.ensures.earlier in
+    let known = c.chain.invariant.0 in
+    let same = c.chain.invariant.1 in
+    let P = IsOver c.args.self.now.groups c.args.shared (abstract_of c.args.ty) in
+    let here = c.is_over.ensures.0 c.if-not-is_over.false in (
+      omega arith,
+      (
+        λ h j below. same.0 h j (declared up below),
+        λ h. same.1 (all_next P c.chain.at c.in-Some.above up here h),
+      ),
+    )
 
--- src/values.rt:147:25
 pub returns-in-None : goal.returns-in-None
-returns-in-None c = ?
+returns-in-None c =
+    let same = c.chain.invariant.1 in
+    let P = IsOver c.args.self.now.groups c.args.shared (abstract_of c.args.ty) in
+    let here = c.is_over.ensures.0 c.if-not-is_over.false in
+    (λ t. same.1 (all_none P c.chain.at (sym c.in-None.ensures.declared) here), λ h. refl)

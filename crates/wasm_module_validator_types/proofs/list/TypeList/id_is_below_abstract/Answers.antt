@@ -15,8 +15,7 @@ chain-preserved c =
     let known = c.chain.invariant.0 in
     let same = c.chain.invariant.1 in
     let P = IsUnder c.args.self.now.groups c.args.shared (abstract_of c.args.ty) in
-    let fails : P c.chain.at → ⊥ = λ u. let z : false ≡ true = sym c.if-is_under.false ∙ c.is_under.ensures.1 u in cc in
-    (
+    let fails : P c.chain.at → ⊥ = λ u. let z : false ≡ true = sym c.if-is_under.false ∙ c.is_under.ensures.1 u in cc in (
       omega arith,
       (
         λ h. let q = same.0 h in (q.0, some_next P c.chain.at c.in-Some.above q.0 q.1 q.2 up fails, q.2),
@@ -28,8 +27,7 @@ pub returns-in-None : goal.returns-in-None
 returns-in-None c =
     let same = c.chain.invariant.1 in
     let P = IsUnder c.args.self.now.groups c.args.shared (abstract_of c.args.ty) in
-    let fails : P c.chain.at → ⊥ = λ u. let z : false ≡ true = sym c.if-is_under.false ∙ c.is_under.ensures.1 u in cc in
-    (
+    let fails : P c.chain.at → ⊥ = λ u. let z : false ≡ true = sym c.if-is_under.false ∙ c.is_under.ensures.1 u in cc in (
       λ t. let z : false ≡ true = t in absurd cc,
       λ h. let q = same.0 h in absurd (some_none P c.chain.at q.0 q.1 q.2 (sym c.in-None.ensures.declared) fails),
     )
