@@ -1,10 +1,12 @@
 -- The worked lists of groups.
 use Rattle.std.proofs.Common.{◌≡◌, refl, rules, arith, ap}
 use Rattle.wasm_types.specs.trees.Trees.{TypeTree, opened}
+use Rattle.wasm_types.specs.indices.declared.index.CoreTypeId.{CoreTypeId}
+use Rattle.wasm_types.specs.trees.AbstractOrder.{struct_eq}
 use Rattle.wasm_types.specs.trees.Unfold.{type_count, type_tree}
 use Rattle.wasm_module_validator_type_trees.specs.Groups.{tree_of, group_numbers, group_ranges, declared_by_id}
-use Rattle.wasm_module_validator_type_trees.specs.ByIds.{itself, declared}
-use Rattle.wasm_module_validator_type_trees.specs.Worked.{NumbersWorked, TreesWorked, FormsWorked, BelowWorked, both}
+use Rattle.wasm_module_validator_type_trees.specs.ByIds.{IdBelow, itself, declared}
+use Rattle.wasm_module_validator_type_trees.specs.Worked.{NumbersWorked, TreesWorked, FormsWorked, BelowWorked, ValuesWorked, both, id_of}
 
 pub numbers_worked : NumbersWorked
 unfolding type_count group_numbers group_ranges declared_by_id
@@ -62,4 +64,33 @@ below_worked = record {
   upside_down = search rules;
   unrelated = search rules;
   as_written_twice = search rules;
+}
+
+-- an id without a supertype is below itself alone
+only_itself : (j : CoreTypeId) → IdBelow both (id_of 0) j → id_of 0 ≡ j
+unfolding type_count declared_by_id
+only_itself j itself = refl
+only_itself j (declared e r) = absurd cc
+
+pub values_worked : ValuesWorked
+unfolding type_count declared_by_id
+values_worked = record {
+  numbers = refl;
+  other_numbers = search rules;
+  declared = (tt, declared refl itself);
+  upside_down = search rules;
+  null = search rules;
+  exactly = (tt, refl);
+  declared_exactly = search rules;
+  not_exactly = search rules;
+  under = (tt, (id_of 2, itself, (refl, struct_eq)));
+  not_under = λ h. let e = only_itself h.1.0 h.1.1 in search rules;
+  not_under_shared = λ h. let e = only_itself h.1.0 h.1.1 in search rules;
+  over = (tt, λ j d. let e = only_itself j d in search rules);
+  not_over = λ h. let e = h.1 (id_of 2) itself in search rules;
+  not_over_shared = λ h. let e = h.1 (id_of 2) itself in search rules;
+  shared = refl;
+  shared_numbers = refl;
+  top = refl;
+  top_of_abstract = refl;
 }

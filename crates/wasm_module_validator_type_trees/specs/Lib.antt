@@ -2,6 +2,7 @@
 pub mod Groups
 pub mod Formed
 pub mod ByIds
+pub mod BelowIds
 -- Worked lists.
 pub mod Worked
 -- Their laws, with the proofs.

@@ -3,12 +3,14 @@ use Rattle.std.specs.Prelude.{◌≡◌, ℕ, true, false, List, [], ◌∷◌, 
 use Rattle.wasm_types.specs.indices.declared.index.CoreTypeId.{CoreTypeId}
 use Rattle.wasm_types.specs.indices.declared.index.UnpackedIndex.{UnpackedIndex}
 use Rattle.wasm_types.specs.indices.declared.index.UnpackedIndex.TheVariants.{Module, RecGroup, Id}
-use Rattle.wasm_types.specs.trees.Types.{ref, concrete, value, InnerOf, function, struct_of}
+use Rattle.wasm_types.specs.trees.Types.{HeapOf, abstract, concrete, exact, ref, number, value, InnerOf, function, struct_of, ValueOf}
+use Rattle.wasm_types.specs.trees.Types as tree
 use Rattle.wasm_types.specs.trees.Trees.{opened}
 use Rattle.wasm_types.specs.groups.Entries.{Declared, first_of}
 use Rattle.wasm_module_validator_type_trees.specs.Groups.{Group, count, tree_of, group_at, group_numbers, group_ranges, declared_by_id, supertype_ids}
 use Rattle.wasm_module_validator_type_trees.specs.Formed.{IsGroupFormed, IsFormed, AreCanonical}
 use Rattle.wasm_module_validator_type_trees.specs.ByIds.{supertype_of, IdBelow}
+use Rattle.wasm_module_validator_type_trees.specs.BelowIds.{ValueBelowById, value_is_shared_by_id, top_heap_by_id}
 
 -- the id of a number, as an index and alone
 abbrev pub id : ℕ → UnpackedIndex
@@ -103,3 +105,31 @@ pub record BelowWorked : Type 0 where
   pub unrelated : IdBelow both (id_of 2) (id_of 0) → ⊥
   -- equal types, and not one id
   pub as_written_twice : IdBelow routines (id_of 0) (id_of 1) → ⊥
+
+-- a reference to this heap type, nullable or not
+abbrev pub nullable : HeapOf UnpackedIndex → ValueOf UnpackedIndex
+nullable h = ref true h
+
+abbrev pub non_null : HeapOf UnpackedIndex → ValueOf UnpackedIndex
+non_null h = ref false h
+
+-- which value types over ids are below which
+pub record ValuesWorked : Type 0 where
+  pub numbers : ValueBelowById both (number tree.i32) (number tree.i32)
+  pub other_numbers : ValueBelowById both (number tree.i32) (number tree.f32) → ⊥
+  pub declared : ValueBelowById both (non_null (concrete (id 2))) (nullable (concrete (id 1)))
+  pub upside_down : ValueBelowById both (nullable (concrete (id 1))) (nullable (concrete (id 2))) → ⊥
+  pub null : ValueBelowById both (nullable (concrete (id 2))) (non_null (concrete (id 1))) → ⊥
+  pub exactly : ValueBelowById both (nullable (exact (id 2))) (nullable (exact (id 2)))
+  pub declared_exactly : ValueBelowById both (nullable (exact (id 2))) (nullable (exact (id 1))) → ⊥
+  pub not_exactly : ValueBelowById both (nullable (concrete (id 2))) (nullable (exact (id 2))) → ⊥
+  pub under : ValueBelowById both (nullable (concrete (id 2))) (nullable (abstract false tree.eq))
+  pub not_under : ValueBelowById both (nullable (concrete (id 0))) (nullable (abstract false tree.func)) → ⊥
+  pub not_under_shared : ValueBelowById both (nullable (concrete (id 0))) (nullable (abstract true tree.eq)) → ⊥
+  pub over : ValueBelowById both (nullable (abstract false tree.none)) (nullable (exact (id 0)))
+  pub not_over : ValueBelowById both (nullable (abstract false tree.i31)) (nullable (concrete (id 2))) → ⊥
+  pub not_over_shared : ValueBelowById both (nullable (abstract true tree.none)) (nullable (concrete (id 2))) → ⊥
+  pub shared : value_is_shared_by_id both (nullable (concrete (id 2))) ≡ false
+  pub shared_numbers : value_is_shared_by_id both (number tree.v128) ≡ true
+  pub top : top_heap_by_id both (exact (id 2)) ≡ abstract false tree.any
+  pub top_of_abstract : top_heap_by_id both (abstract true tree.nofunc) ≡ abstract true tree.func

@@ -4,3 +4,4 @@ pub mod Statements
 pub mod Unrolled
 pub mod Apart
 pub mod Ids
+pub mod BelowIds

@@ -2,7 +2,8 @@
 
 ghost use Rattle.wasm_module_validator_type_trees.specs.laws.Statements.{TypesStay, EqualTypesHaveEqualIds, GroupsAreKnownByTrees};
 ghost use Rattle.wasm_module_validator_type_trees.specs.laws.Statements.{TypesOpen, SupertypesAreIds, SupertypesAreEarlier, IdsAreBelowAsTypes};
-ghost use Rattle.wasm_module_validator_type_trees.specs.Worked.{NumbersWorked, TreesWorked, FormsWorked, BelowWorked};
+ghost use Rattle.wasm_module_validator_type_trees.specs.laws.Statements.{ValuesAreBelowAsTypes, ValuesAreSharedAsTypes, ConstructorsAreOfTypes};
+ghost use Rattle.wasm_module_validator_type_trees.specs.Worked.{NumbersWorked, TreesWorked, FormsWorked, BelowWorked, ValuesWorked};
 
 /// What an id stands for never changes as groups are added.
 pub fn types_stay()
@@ -25,10 +26,18 @@ pub fn ids_speak_of_types()
     ensures below { IdsAreBelowAsTypes }
 {}
 
+/// What is said of value types over ids is what is said of value types over the types that the ids stand for.
+pub fn values_speak_of_types()
+    ensures below { ValuesAreBelowAsTypes }
+    ensures shared { ValuesAreSharedAsTypes }
+    ensures constructors { ConstructorsAreOfTypes }
+{}
+
 /// Worked lists: their numbers, their trees, which are formed, and which ids are below which.
 pub fn groups_worked()
     ensures numbers { NumbersWorked }
     ensures trees { TreesWorked }
     ensures forms { FormsWorked }
     ensures below { BelowWorked }
+    ensures values { ValuesWorked }
 {}

@@ -67,7 +67,8 @@ module _ (gs : List Group) (old new : Lists) (known more : Option Known) (is : I
   }
 
 -- as many types are stored as there are
-pub stored_length : (types source : List SubType) (ds : List Declared) (start : ℕ) → map declared_of types ≡ map (declared_map (packed_by_id start)) (map declared_of source) → map declared_of source ≡ ds
+pub stored_length : (types source : List SubType) (ds : List Declared) (start : ℕ) → map declared_of types ≡ map (declared_map (packed_by_id start)) (map declared_of source)
+    → map declared_of source ≡ ds
     → length types ≡ length ds
 stored_length types source ds start e f =
     sym (length-map types declared_of) ∙ ap length (e ∙ ap (map (declared_map (packed_by_id start))) f) ∙ length-map ds (declared_map (packed_by_id start))

@@ -1,5 +1,5 @@
 -- What is found in the parts of a list of types.
-use Rattle.std.proofs.Common.{◌≡◌, ◌∙◌, ℕ, zero, suc, ◌<◌, List, [], ◌∷◌, map, get_or, refl, ap, sym, subst, Option, Some, None}
+use Rattle.std.proofs.Common.{◌≡◌, ◌∙◌, ℕ, zero, suc, ◌<◌, ◌≤◌, List, [], ◌∷◌, length, map, get_or, refl, ap, sym, subst, Option, Some, None, arith}
 use Rattle.std.specs.Prelude.{slice_get, option_map, IfSome}
 use Rattle.wasm_types.specs.indices.declared.index.CoreTypeId.{CoreTypeId}
 use Rattle.wasm_module_validator_type_trees.specs.Groups.{Group, count}
@@ -21,6 +21,12 @@ pub get_default : {A : Type 0} (xs : List A) (i : ℕ) (d x : A) → slice_get x
 get_default [] i d x e = absurd cc
 get_default (y ∷ ys) zero d x e = cc
 get_default (y ∷ ys) (suc i) d x e = get_default ys i d x e
+
+-- an item that is not there lies past the end
+pub none_past : {A : Type 0} (xs : List A) (i : ℕ) → None ≡ slice_get xs i → length xs ≤ i
+none_past [] i e = omega arith
+none_past (x ∷ xs) zero e = absurd cc
+none_past (x ∷ xs) (suc i) e = let h = none_past xs i e in omega arith
 
 -- the supertype that is read has a lower id
 pub earlier_read : (groups : List Group) → IsFormed groups → (a : CoreTypeId) (o : Option CoreTypeId) → a.0 < count groups → o ≡ supertype_of groups a → IfSome o (λ b. b.0 < a.0)

@@ -54,7 +54,8 @@ module _ (ties : TiesDeclareTheSame) where
 -- ---- one more group
 
 -- only numbers below the count of groups have one
-below_at : (h : Group) (gs : List Group) (k : ℕ) (g : Group) (b : Bool) → eqb k (length gs) ≡ b → (group_at gs k ≡ Some g → k < length gs) → cond b (Some h) (group_at gs k) ≡ Some g → k < length (h ∷ gs)
+below_at : (h : Group) (gs : List Group) (k : ℕ) (g : Group) (b : Bool) → eqb k (length gs) ≡ b → (group_at gs k ≡ Some g → k < length gs)
+    → cond b (Some h) (group_at gs k) ≡ Some g → k < length (h ∷ gs)
 below_at h gs k g true b older e = let f = eqb-true k (length gs) b in omega arith
 below_at h gs k g false b older e = let l = older e in omega arith
 

@@ -11,6 +11,7 @@ mod list;
 mod lists;
 mod stored;
 mod subtypes;
+mod values;
 
 pub use ids::RecGroupId;
 pub use list::{MAX_TYPES, TypeList};

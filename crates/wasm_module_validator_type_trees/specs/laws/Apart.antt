@@ -178,7 +178,8 @@ at_widens h groups g a = record {
 at_first : (h : Group) (groups : List Group) → IsTrue h.is_canonical → IsGroupFormed (count groups) h → IsAt groups h
 at_first h groups c w = record { canonical = c; formed = (count groups, w); known = group_known (count groups) h c w }
 
-at_either : (h : Group) (groups : List Group) (k : ℕ) (g : Group) (b : Bool) → IsAt groups h → (group_at groups k ≡ Some g → IsAt groups g) → cond b (Some h) (group_at groups k) ≡ Some g → IsAt groups g
+at_either : (h : Group) (groups : List Group) (k : ℕ) (g : Group) (b : Bool) → IsAt groups h → (group_at groups k ≡ Some g → IsAt groups g)
+    → cond b (Some h) (group_at groups k) ≡ Some g → IsAt groups g
 at_either h groups k g true first older e = let f : h ≡ g = cc in subst (IsAt groups) f first
 at_either h groups k g false first older e = older e
 

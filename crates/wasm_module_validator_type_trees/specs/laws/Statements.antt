@@ -2,13 +2,16 @@
 use Rattle.std.specs.Prelude.{◌≡◌, ◌↔◌, ℕ, ◌<◌, IsTrue, List, ◌∷◌, Some, get_or}
 use Rattle.std.specs.Option.{option_map}
 use Rattle.wasm_types.specs.indices.declared.index.CoreTypeId.{CoreTypeId}
-use Rattle.wasm_types.specs.trees.Types.{entry_map}
+use Rattle.wasm_types.specs.indices.declared.index.UnpackedIndex.{UnpackedIndex}
+use Rattle.wasm_types.specs.trees.Types.{ValueOf, value_map, entry_map}
+use Rattle.wasm_types.specs.trees.Each.{EachValue}
 use Rattle.wasm_types.specs.trees.Trees.{opened}
-use Rattle.wasm_types.specs.trees.Below.{supertype, DeclaredBelow}
+use Rattle.wasm_types.specs.trees.Below.{supertype, DeclaredBelow, Below, value_is_shared, abstract_of, expanded}
 use Rattle.wasm_types.specs.groups.Entries.{Declared}
 use Rattle.wasm_module_validator_type_trees.specs.Groups.{Group, count, tree_of, tree_behind, declared_by_id}
 use Rattle.wasm_module_validator_type_trees.specs.Formed.{IsGroupFormed, IsMissing, IsFormed, AreCanonical, IsNewTree, KeepsTypes}
 use Rattle.wasm_module_validator_type_trees.specs.ByIds.{supertype_of, IdBelow, tree_named}
+use Rattle.wasm_module_validator_type_trees.specs.BelowIds.{IsIdBelow, ValueBelowById, value_is_shared_by_id, entry_by_id}
 
 -- each id keeps its type as a group is added
 abbrev pub TypesStay : Type 0
@@ -42,3 +45,19 @@ SupertypesAreEarlier = (groups : List Group) → IsFormed groups → (a b : Core
 abbrev pub IdsAreBelowAsTypes : Type 0
 IdsAreBelowAsTypes = (groups : List Group) → IsFormed groups → AreCanonical groups → (a b : CoreTypeId) → a.0 < count groups → b.0 < count groups
     → IdBelow groups a b ↔ DeclaredBelow (tree_of groups a.0) (tree_of groups b.0)
+
+-- a value type over ids is below another exactly where the value type over their types is
+abbrev pub ValuesAreBelowAsTypes : Type 0
+ValuesAreBelowAsTypes = (groups : List Group) → IsFormed groups → AreCanonical groups
+    → (v w : ValueOf UnpackedIndex) → EachValue (IsIdBelow (count groups)) v → EachValue (IsIdBelow (count groups)) w
+    → ValueBelowById groups v w ↔ Below (value_map (tree_named groups) v) (value_map (tree_named groups) w)
+
+-- and it has the same sharedness
+abbrev pub ValuesAreSharedAsTypes : Type 0
+ValuesAreSharedAsTypes = (groups : List Group) → IsFormed groups → AreCanonical groups → (v : ValueOf UnpackedIndex) → EachValue (IsIdBelow (count groups)) v
+    → value_is_shared_by_id groups v ≡ value_is_shared (value_map (tree_named groups) v)
+
+-- and each type its constructor
+abbrev pub ConstructorsAreOfTypes : Type 0
+ConstructorsAreOfTypes = (groups : List Group) → IsFormed groups → AreCanonical groups → (i : CoreTypeId) → i.0 < count groups
+    → abstract_of (expanded (tree_of groups i.0)) ≡ abstract_of (entry_by_id groups i).inner

@@ -19,5 +19,6 @@ returns g c =
     c.item_at-2.ensures
     ∙ ap (λ l. slice_get l (c.args.index - c.deref-snapshot.result.now.prior)) c.as_slice-3.ensures.value
     ∙ ap (λ s. slice_get s.items.items (c.args.index - s.prior)) c.deref-snapshot.ensures
-    ∙ sym (found (λ s. s.value.items.items) (λ s. s.value.prior) c.self.inside.snapshots.items c.self.inside.total c.self.inside.current.items c.snapshot_of-at.result c.args.index c.index.result.now c.self.invariant within c.index.ensures from to c.if-index-self.false)
+    ∙ sym (found (λ s. s.value.items.items) (λ s. s.value.prior) c.self.inside.snapshots.items c.self.inside.total c.self.inside.current.items c.snapshot_of-at.result c.args.index
+    c.index.result.now c.self.invariant within c.index.ensures from to c.if-index-self.false)
     ∙ ap (λ l. slice_get l.items c.args.index) c.self.view_is

@@ -1,4 +1,4 @@
-use Rattle.wasm_module_validator_type_trees.proofs.WorkedProofs.{numbers_worked, trees_worked, forms_worked, below_worked}
+use Rattle.wasm_module_validator_type_trees.proofs.WorkedProofs.{numbers_worked, trees_worked, forms_worked, below_worked, values_worked}
 use Rattle.wasm_module_validator_type_trees.proofs.laws.groups_worked.Goals as goal
 
 pub returns-clause-numbers : goal.returns-clause-numbers
@@ -12,3 +12,6 @@ returns-clause-forms c = forms_worked
 
 pub returns-clause-below : goal.returns-clause-below
 returns-clause-below c = below_worked
+
+pub returns-clause-values : goal.returns-clause-values
+returns-clause-values c = values_worked
