@@ -92,7 +92,7 @@ fn verdict_line(
 }
 
 /// Writes a text. Where that fails, what stands written is a front of it: `write_all` would not promise this.
-fn write_text<W: Write>(text: &[u8], out: &mut W) -> Result<(), CheckError>
+pub(crate) fn write_text<W: Write>(text: &[u8], out: &mut W) -> Result<(), CheckError>
     ensures ok { OnOk result (Appends (W.contents out.old) (W.contents out.new) text.now) }
     ensures err { IfErr result (λ e. (e ≡ TheWrite)
         × WritesFront text.now (W.contents out.old) (W.contents out.new)) }
