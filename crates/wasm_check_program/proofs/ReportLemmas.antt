@@ -1,6 +1,6 @@
 -- On the lines of a list of inputs.
-use Rattle.std.proofs.Common.{◌≡◌, ℕ, ◌<◌, List, [], ◌∷◌, ◌++◌, Bool, true, false, IsTrue, IfErr, Some, Option, Result, Ok, Err, length, take, map, slice_get, get_or, append_assoc, append-nil, refl, sym, ap, ◌∙◌, lit<}
-use Rattle.std.specs.Io.KnownBytes.{Keeps}
+use Rattle.std.proofs.Common.{◌≡◌, ℕ, ◌<◌, List, [], ◌∷◌, ◌++◌, Bool, true, false, IsTrue, IfOk, IfErr, Some, None, inl, subst, Option, Result, Ok, Err, length, take, map, slice_get, get_or, append_assoc, append-nil, refl, sym, ap, ◌∙◌, lit<, arith}
+use Rattle.std.specs.Io.KnownBytes.{Appends, Keeps}
 use Rattle.std.proofs.KnownBytes.{Appends-nil, Appends-trans, Appends-kept}
 use Rattle.std.proofs.lemmas.List.Elements.{All-append, All-cons, All-nil, Contains-append_left, Contains-append_right}
 use Rattle.wasm_module_validator.specs.Accepts.{Accepts}
@@ -10,10 +10,10 @@ use Rattle.wasm_check_program.specs.declared.judging.Status.{Status}
 use Rattle.wasm_check_program.specs.declared.judging.Status.TheVariants.{AllValid, SomeInvalid}
 use Rattle.wasm_check_program.specs.Lines.{HasBytes, IsLine}
 use Rattle.wasm_check_program.specs.Verdict.{IsJudged, FailsAt}
-use Rattle.std.proofs.lemmas.List.{take-map, map-id}
+use Rattle.std.proofs.lemmas.List.{take-map, map-id, take_all}
 use Rattle.std.proofs.lemmas.Option.{slice_get-map, slice_get_read}
 use Rattle.wasm_check_program.specs.declared.judging.Input.{Input}
-use Rattle.wasm_check_program.specs.Reports.{Source, source_of, sources_of, Lines, Sums, IsReported, StopsAt, Stops}
+use Rattle.wasm_check_program.specs.Reports.{Source, source_of, sources_of, Lines, WritesLines, Sums, IsReported, StopsAt, BeginsNext, StopsWriting, Stops}
 
 -- one line more
 pub Lines-more : (sources : List Source) (contents : List (List ℕ)) (text : List ℕ) (s : Source) (bytes line : List ℕ)
@@ -85,12 +85,20 @@ StopsAt-after all sources s index i old mid new status r front found same kept =
 
 -- the same of each fault
 pub Stops-after : (all sources : List Source) (s : Source) (index : ℕ) (old mid new : Option (List ℕ)) (status : Status) (e : CheckError)
-    → IsReported sources old mid status → sources ≡ take index all → slice_get all index ≡ Some s → FailsAt index s.said mid new e
+    → IsReported sources old mid status → sources ≡ take index all → slice_get all index ≡ Some s → FailsAt index s.name s.said mid new e
     → Stops all old new e
 Stops-after all sources s index old mid new status (Read i) r front found h = StopsAt-after all sources s index i old mid new status r front found h.0 h.1
 Stops-after all sources s index old mid new status (TooLong i) r front found h = (StopsAt-after all sources s index i old mid new status r front found h.0 h.2, h.1)
 Stops-after all sources s index old mid new status (OutOfMemory i) r front found h = StopsAt-after all sources s index i old mid new status r front found h.0 h.1
-Stops-after all sources s index old mid new status Write r front found h = tt
+Stops-after all sources s index old mid new status Write r front found h = record {
+  index = index;
+  contents = r.contents;
+  text = r.written.text;
+  lines = rw (← front) r.written.lines;
+  front = h.0;
+  next = rw found h.1;
+  appended = Appends-trans old mid new r.written.text h.0 r.written.appended h.2;
+}
 
 -- a flush changes nothing
 abbrev StopsAt-kept : (sources : List Source) (index : ℕ) (old mid new : Option (List ℕ)) → StopsAt sources index old mid → Keeps mid new → StopsAt sources index old new
@@ -105,7 +113,43 @@ pub Stops-kept : (sources : List Source) (old mid new : Option (List ℕ)) (e : 
 Stops-kept sources old mid new (Read i) h kept = StopsAt-kept sources i old mid new h kept
 Stops-kept sources old mid new (TooLong i) h kept = (StopsAt-kept sources i old mid new h.0 kept, h.1)
 Stops-kept sources old mid new (OutOfMemory i) h kept = StopsAt-kept sources i old mid new h kept
-Stops-kept sources old mid new Write h kept = tt
+Stops-kept sources old mid new Write h kept = record {
+  index = h.index;
+  contents = h.contents;
+  text = h.text;
+  lines = h.lines;
+  front = h.front;
+  next = h.next;
+  appended = Appends-kept old mid new (h.text ++ h.front) h.appended kept;
+}
+
+-- nothing is a front of each line
+begins_nothing : (next : Option Source) → BeginsNext next []
+begins_nothing None = refl
+begins_nothing (Some s) = inl refl
+
+-- whole lines were written, and no more
+stops_behind : (sources : List Source) (index : ℕ) (contents : List (List ℕ)) (old mid new : Option (List ℕ)) → WritesLines (take index sources) contents old mid → Keeps mid new
+    → StopsWriting sources old new
+stops_behind sources index contents old mid new h kept = record {
+  index = index;
+  contents = contents;
+  text = h.text;
+  lines = h.lines;
+  front = [];
+  next = begins_nothing (slice_get sources index);
+  appended = subst (Appends old new) (sym (append-nil h.text)) (Appends-kept old mid new h.text h.appended kept);
+}
+
+-- whatever was answered before a flush failed
+pub flush_failed : (r : Result Status CheckError) (sources : List Source) (old mid new : Option (List ℕ)) → IfOk r (IsReported sources old mid) → IfErr r (Stops sources old mid)
+    → Keeps mid new → StopsWriting sources old new
+flush_failed (Ok status) sources old mid new h e kept =
+    stops_behind sources (length sources) h.contents old mid new (subst (λ (l : List Source). WritesLines l h.contents old mid) (sym (take_all (length sources) sources (omega arith))) h.written) kept
+flush_failed (Err (Read i)) sources old mid new h e kept = stops_behind sources i e.contents old mid new e.written kept
+flush_failed (Err (TooLong i)) sources old mid new h e kept = stops_behind sources i e.0.contents old mid new e.0.written kept
+flush_failed (Err (OutOfMemory i)) sources old mid new h e kept = stops_behind sources i e.contents old mid new e.written kept
+flush_failed (Err Write) sources old mid new h e kept = Stops-kept sources old mid new Write e kept
 
 -- Stops-kept, at what a call answered
 pub IfErr-kept : {T : Type 0} (r : Result T CheckError) (sources : List Source) (old mid new : Option (List ℕ)) → IfErr r (Stops sources old mid) → Keeps mid new → IfErr r (Stops sources old new)

@@ -1,13 +1,16 @@
 -- What the program does with the files that it is given.
-use Rattle.std.specs.Prelude.{◌≡◌, ℕ, ◌<◌, codes, length, List, ◌++◌, map, Contains, slice_get, Option, Some, Result, Ok, Err}
+use Rattle.std.specs.Prelude.{◌≡◌, ℕ, ◌<◌, ◌⊎◌, codes, length, List, ◌++◌, map, Contains, slice_get, Option, Some, Result, Ok, Err}
 use Rattle.std.specs.Borrow.{Bor}
-use Rattle.std.specs.Io.KnownBytes.{Keeps}
+use Rattle.std.specs.Io.KnownBytes.{Appends, Keeps}
+use Rattle.clap.specs.declared.error.kind.ErrorKind.{ErrorKind}
+use Rattle.clap.specs.declared.error.kind.ErrorKind.TheVariants.{DisplayHelp}
 use Rattle.wasm_check_program.specs.declared.error.CheckError.{CheckError}
 use Rattle.wasm_check_program.specs.declared.error.CheckError.TheVariants.{Read, TooLong, OutOfMemory, Write}
 use Rattle.wasm_check_program.specs.declared.judging.Status.{Status}
 use Rattle.wasm_check_program.specs.declared.judging.Status.TheVariants.{AllValid, SomeInvalid}
 use Rattle.wasm_check_program.specs.declared.command.Fault.{Fault}
 use Rattle.wasm_check_program.specs.declared.command.Fault.TheVariants as faults
+use Rattle.wasm_check_program.specs.Words.{files_of, AsksForHelp, NamesNoFiles}
 use Rattle.wasm_check_program.specs.Reports.{Source, IsReported, Stops}
 
 -- what some texts say
@@ -67,6 +70,26 @@ IsStopped names old new = (fault : Fault) × StopsFiles names old new fault
 pub record Reports (names : List (List ℕ)) (old new : Option (List ℕ)) (status : Status) : Type 0 where
   pub some : 0 < length names
   pub reported : ReportsFiles names old new status
+
+-- some text was written, and nothing else
+abbrev pub Grows : Option (List ℕ) → Option (List ℕ) → Type 0
+Grows old new = (text : List ℕ) × Appends old new text
+
+-- clap answers these words with its help, and that was written, or some of it
+abbrev pub ShowsHelp : List (List ℕ) → Option (List ℕ) → Option (List ℕ) → Type 0
+ShowsHelp words old new = AsksForHelp words × Grows old new
+
+-- these words name no files, and nothing was written
+abbrev pub ReportsWords : List (List ℕ) → Option (List ℕ) → Option (List ℕ) → Type 0
+ReportsWords words old new = NamesNoFiles words × Keeps old new
+
+-- These words lead to no status of files: they name none; their help could not be shown; or a fault stopped the judging.
+abbrev pub HasNoStatus : List (List ℕ) → Option (List ℕ) → Option (List ℕ) → Type 0
+HasNoStatus words old new = ReportsWords words old new ⊎ (ShowsHelp words old new ⊎ IsStopped (files_of words) old new)
+
+-- Where clap's answer was not shown as help: nothing was written, or it is the help, of which some was.
+abbrev pub IsUnshown : ErrorKind → Option (List ℕ) → Option (List ℕ) → Type 0
+IsUnshown kind old new = Keeps old new ⊎ ((kind ≡ DisplayHelp) × Grows old new)
 
 -- what is written of a file at which the judging stopped
 abbrev pub stopped_text : CheckError → List ℕ → List ℕ

@@ -1,5 +1,5 @@
 -- The lines that the program writes, and what they say.
-use Rattle.std.specs.Prelude.{◌≡◌, ℕ, ◌≤◌, ◌^◌, false, ◌⊎◌, List, ◌++◌, length, IfSome, codes, Option}
+use Rattle.std.specs.Prelude.{◌≡◌, ℕ, ◌≤◌, ◌^◌, false, ◌⊎◌, List, [], ◌++◌, length, IfSome, codes, Option}
 use Rattle.std.specs.Fmt.{digits}
 use Rattle.wasm_module_validator.specs.Accepts.{Accepts}
 use Rattle.wasm_module_validator.specs.Refusals.{IsRefusedAt}
@@ -22,3 +22,11 @@ invalid_line name offset message = name ++ codes ": invalid at 0x" ++ digits 16 
 abbrev pub IsLine : List ℕ → List ℕ → List ℕ → Type 0
 IsLine name bytes line = (Accepts bytes × (line ≡ valid_line name))
     ⊎ (¬ Accepts bytes × ((offset : ℕ) × (message : List ℕ) × (line ≡ invalid_line name offset message) × IsRefusedAt offset bytes))
+
+-- this begins the line of these bytes
+abbrev pub BeginsLine : List ℕ → List ℕ → List ℕ → Type 0
+BeginsLine name bytes front = (line rest : List ℕ) × IsLine name bytes line × (line ≡ front ++ rest)
+
+-- the same of an input whose reader says these bytes, or it is nothing
+abbrev pub BeginsLineOf : List ℕ → Option (List ℕ) → List ℕ → Type 0
+BeginsLineOf name said front = (front ≡ []) ⊎ ((bytes : List ℕ) × HasBytes said bytes × BeginsLine name bytes front)

@@ -1,5 +1,5 @@
 -- What is written of a list of inputs.
-use Rattle.std.specs.Prelude.{◌≡◌, ℕ, List, [], ◌∷◌, ◌++◌, take, map, All, Contains, slice_get, Option, Some}
+use Rattle.std.specs.Prelude.{◌≡◌, ℕ, List, [], ◌∷◌, ◌++◌, take, map, All, Contains, slice_get, Option, Some, None}
 use Rattle.std.specs.Io.KnownBytes.{Appends}
 use Rattle.wasm_module_validator.specs.Accepts.{Accepts}
 use Rattle.wasm_check_program.specs.declared.judging.Input.{Input}
@@ -7,7 +7,7 @@ use Rattle.wasm_check_program.specs.declared.judging.Status.{Status}
 use Rattle.wasm_check_program.specs.declared.judging.Status.TheVariants.{AllValid, SomeInvalid}
 use Rattle.wasm_check_program.specs.declared.error.CheckError.{CheckError}
 use Rattle.wasm_check_program.specs.declared.error.CheckError.TheVariants.{Read, TooLong, OutOfMemory, Write}
-use Rattle.wasm_check_program.specs.Lines.{HasBytes, IsLine}
+use Rattle.wasm_check_program.specs.Lines.{HasBytes, IsLine, BeginsLineOf}
 use Rattle.wasm_check_program.specs.Faults.{IsTooLong}
 
 -- An input as a contract sees it: its name, and the bytes that its reader says it has left, where it says them.
@@ -55,9 +55,25 @@ pub record StopsAt (sources : List Source) (index : ℕ) (old new : Option (List
   pub contents : List (List ℕ)
   pub written : WritesLines (take index sources) contents old new
 
+-- what begins the line of a source; behind the last one it is nothing
+abbrev pub BeginsNext : Option Source → List ℕ → Type 0
+BeginsNext None front = front ≡ []
+BeginsNext (Some s) front = BeginsLineOf s.name s.said front
+
+-- The writing failed: what stands written are the lines of the sources before some place, whole, and at most a front of the line of
+-- the source there.
+pub record StopsWriting (sources : List Source) (old new : Option (List ℕ)) : Type 0 where
+  pub index : ℕ
+  pub contents : List (List ℕ)
+  pub text : List ℕ
+  pub lines : Lines (take index sources) contents text
+  pub front : List ℕ
+  pub next : BeginsNext (slice_get sources index) front
+  pub appended : Appends old new (text ++ front)
+
 -- what a fault leaves
 abbrev pub Stops : List Source → Option (List ℕ) → Option (List ℕ) → CheckError → Type 0
 Stops sources old new (Read i) = StopsAt sources i old new
 Stops sources old new (TooLong i) = (s : StopsAt sources i old new) × IsTooLong s.source.said
 Stops sources old new (OutOfMemory i) = StopsAt sources i old new
-Stops sources old new Write = Unit {0}
+Stops sources old new Write = StopsWriting sources old new

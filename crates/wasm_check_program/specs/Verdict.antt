@@ -1,11 +1,18 @@
 -- What is written of one input.
-use Rattle.std.specs.Prelude.{◌≡◌, ◌↔◌, ℕ, Bool, IsTrue, List, Option}
+use Rattle.std.specs.Prelude.{◌≡◌, ◌↔◌, ℕ, Bool, IsTrue, List, ◌++◌, Option}
 use Rattle.std.specs.Io.KnownBytes.{Appends, Keeps}
 use Rattle.wasm_module_validator.specs.Accepts.{Accepts}
 use Rattle.wasm_check_program.specs.declared.error.CheckError.{CheckError}
 use Rattle.wasm_check_program.specs.declared.error.CheckError.TheVariants.{Read, TooLong, OutOfMemory, Write}
-use Rattle.wasm_check_program.specs.Lines.{HasBytes, IsLine}
+use Rattle.wasm_check_program.specs.Lines.{HasBytes, IsLine, BeginsLine, BeginsLineOf}
 use Rattle.wasm_check_program.specs.Faults.{IsTooLong}
+
+-- A text could not be written: at most a front of it was.
+pub record WritesFront (text : List ℕ) (old new : Option (List ℕ)) : Type 0 where
+  pub front : List ℕ
+  pub rest : List ℕ
+  pub whole : text ≡ front ++ rest
+  pub appended : Appends old new front
 
 -- The line tells the verdict on these bytes, and so does the test.
 pub record IsVerdict (name bytes : List ℕ) (valid : Bool) (line : List ℕ) : Type 0 where
@@ -24,16 +31,17 @@ pub record IsJudged (name : List ℕ) (said : Option (List ℕ)) (valid : Bool) 
   pub has : HasBytes said bytes
   pub written : WritesLine name bytes valid old new
 
--- The bytes of the input at this place came to no verdict: nothing was written of it, unless the writing itself failed.
-abbrev pub FailsWriting : ℕ → Option (List ℕ) → Option (List ℕ) → CheckError → Type 0
-FailsWriting index old new (Read i) = ⊥
-FailsWriting index old new (TooLong i) = ⊥
-FailsWriting index old new (OutOfMemory i) = (i ≡ index) × Keeps old new
-FailsWriting index old new Write = Unit {0}
+-- The bytes of the input at this place came to no verdict: nothing was written of it; or its line could not be written: at most a
+-- front of that line was.
+abbrev pub FailsWriting : ℕ → List ℕ → List ℕ → Option (List ℕ) → Option (List ℕ) → CheckError → Type 0
+FailsWriting index name bytes old new (Read i) = ⊥
+FailsWriting index name bytes old new (TooLong i) = ⊥
+FailsWriting index name bytes old new (OutOfMemory i) = (i ≡ index) × Keeps old new
+FailsWriting index name bytes old new Write = (front : List ℕ) × BeginsLine name bytes front × Appends old new front
 
 -- the same of the whole input
-abbrev pub FailsAt : ℕ → Option (List ℕ) → Option (List ℕ) → Option (List ℕ) → CheckError → Type 0
-FailsAt index said old new (Read i) = (i ≡ index) × Keeps old new
-FailsAt index said old new (TooLong i) = (i ≡ index) × IsTooLong said × Keeps old new
-FailsAt index said old new (OutOfMemory i) = (i ≡ index) × Keeps old new
-FailsAt index said old new Write = Unit {0}
+abbrev pub FailsAt : ℕ → List ℕ → Option (List ℕ) → Option (List ℕ) → Option (List ℕ) → CheckError → Type 0
+FailsAt index name said old new (Read i) = (i ≡ index) × Keeps old new
+FailsAt index name said old new (TooLong i) = (i ≡ index) × IsTooLong said × Keeps old new
+FailsAt index name said old new (OutOfMemory i) = (i ≡ index) × Keeps old new
+FailsAt index name said old new Write = (front : List ℕ) × BeginsLineOf name said front × Appends old new front

@@ -4,12 +4,12 @@ ghost use Rattle.std.specs.Io.KnownBytes.{Keeps};
 ghost use Rattle.wasm_check_program.specs.declared.judging.Status.TheVariants.{AllValid, SomeInvalid};
 ghost use Rattle.clap.specs.Words.{found_of, kind_of, rows_of, FailsBy};
 ghost use Rattle.clap.specs.declared.error.kind.ErrorKind.TheVariants.{DisplayHelp, OutOfMemory};
-ghost use Rattle.wasm_check_program.specs.Words.{matches_on, refusals_of, files_of, AsksForHelp, NamesNoFiles};
+ghost use Rattle.wasm_check_program.specs.Words.{matches_on, refusals_of, files_of};
 ghost use Rattle.wasm_check_program.specs.Commands.{AreRead};
-ghost use Rattle.wasm_check_program.specs.Files.{texts, code_of, IsPlaced, IsNamed, FailsOpening, ReportsFiles, StopsFiles, IsStopped, Reports};
+ghost use Rattle.wasm_check_program.specs.Files.{texts, code_of, IsPlaced, IsNamed, FailsOpening, ReportsFiles, StopsFiles, Reports, Grows, ShowsHelp, HasNoStatus, IsUnshown};
 
 use crate::error::CheckError;
-use crate::judging::{Input, Status, check};
+use crate::judging::{Input, Status, check, write_text};
 use clap::error::ErrorKind;
 use clap::{Arg, ArgAction, ArgMatches, Command};
 use std::alloc::Global;
@@ -139,9 +139,10 @@ fn report<E: Write>(fault: &Fault<'_>, err: &mut E) -> u8
 }
 
 /// Shows what `clap` answers in place of matches: its help, where it is asked for, or what is wrong with the words.
-fn show<W: Write, E: Write>(answer: &clap::Error, out: &mut W, err: &mut E) -> u8
+fn show<W: Write, E: Write>(alloc: Global, answer: &clap::Error, out: &mut W, err: &mut E) -> u8
     ensures known { (result ≡ 0) ⊎ (result ≡ 2) }
-    ensures help { result ≡ 0 → kind_of answer.now ≡ DisplayHelp }
+    ensures help { result ≡ 0 → (kind_of answer.now ≡ DisplayHelp) × Grows (W.contents out.old) (W.contents out.new) }
+    ensures unshown { result ≡ 2 → IsUnshown (kind_of answer.now) (W.contents out.old) (W.contents out.new) }
     ensures memory { kind_of answer.now ≡ OutOfMemory → Keeps (W.contents out.old) (W.contents out.new) }
     ensures quiet { result < 2 → Keeps (E.contents err.old) (E.contents err.new) }
 {
@@ -153,12 +154,25 @@ fn show<W: Write, E: Write>(answer: &clap::Error, out: &mut W, err: &mut E) -> u
         let _ = err.flush();
         return 2;
     }
-    let shown = write!(out, "{answer}");
-    if shown.is_err() || out.flush().is_err() {
+    let Ok(text) = format!(in alloc; "{answer}") else {
+        return report(&Fault::OutOfMemory, err);
+    };
+    if show_help(text.as_str(), out).is_err() {
         let error = CheckError::Write;
         return report(&Fault::Stopped { error, name: "" }, err);
     }
     0
+}
+
+/// Writes the help.
+fn show_help<W: Write>(text: &str, out: &mut W) -> Result<(), CheckError>
+    ensures { Grows (W.contents out.old) (W.contents out.new) }
+{
+    write_text(text.as_bytes(), out)?;
+    if out.flush().is_err() {
+        return Err(CheckError::Write);
+    }
+    Ok(())
 }
 
 /// The exit status of what was judged, and a line for a fault.
@@ -175,8 +189,8 @@ fn conclude<E: Write>(judged: &Result<Status, Fault<'_>>, err: &mut E) -> u8
 
 /// Runs the program on these words, of which the first is its own name, and gives its exit status:
 /// 0 where all files are valid, or where `clap` answers the words with the help and it was shown; 1 where some file is
-/// invalid; 2 where the words name no files by `clap`'s reading, or where a fault stopped the judging.
-/// All files are opened before the first is judged.
+/// invalid; 2 where the words name no files by `clap`'s reading, of which nothing is written to `out`, or where a fault
+/// stopped the judging or the help. All files are opened before the first is judged.
 pub fn run<'a, F, S, W, E>(rt: &F, words: &'a [S], out: &mut W, err: &mut E) -> u8
 where
     F: Files + AllocGlobal,
@@ -185,11 +199,10 @@ where
     E: Write,
     ensures known { result ≤ 2 }
     ensures quiet { result < 2 → Keeps (E.contents err.old) (E.contents err.new) }
-    ensures valid { result ≡ 0 → AsksForHelp (map S.text words.now)
+    ensures valid { result ≡ 0 → ShowsHelp (map S.text words.now) (W.contents out.old) (W.contents out.new)
         ⊎ Reports (files_of (map S.text words.now)) (W.contents out.old) (W.contents out.new) AllValid }
     ensures invalid { result ≡ 1 → Reports (files_of (map S.text words.now)) (W.contents out.old) (W.contents out.new) SomeInvalid }
-    ensures stopped { result ≡ 2 → NamesNoFiles (map S.text words.now)
-        ⊎ IsStopped (files_of (map S.text words.now)) (W.contents out.old) (W.contents out.new) }
+    ensures stopped { result ≡ 2 → HasNoStatus (map S.text words.now) (W.contents out.old) (W.contents out.new) }
 {
     let alloc = rt.alloc();
     match parse(alloc, words) {
@@ -202,7 +215,7 @@ where
             }
             conclude(&judge_files(alloc, rt, names, out), err)
         }
-        Err(answer) => show(&answer, out, err),
+        Err(answer) => show(alloc, &answer, out, err),
     }
 }
 

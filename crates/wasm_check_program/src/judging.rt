@@ -4,12 +4,13 @@ ghost use Rattle.std.specs.Io.KnownBytes.{Appends};
 ghost use Rattle.wasm_module_validator.specs.Accepts.{Accepts};
 ghost use Rattle.wasm_check_program.specs.Lines.{HasBytes, invalid_line};
 ghost use Rattle.wasm_check_program.specs.Faults.{FailsReading};
-ghost use Rattle.wasm_check_program.specs.Verdict.{IsVerdict, WritesLine, IsJudged, FailsWriting, FailsAt};
+ghost use Rattle.wasm_check_program.specs.Verdict.{WritesFront, IsVerdict, WritesLine, IsJudged, FailsWriting, FailsAt};
+ghost use Rattle.wasm_check_program.specs.declared.error.CheckError.TheVariants.{Write as TheWrite};
 ghost use Rattle.wasm_check_program.specs.Reports.{sources_of, IsReported, Stops};
 
 use crate::error::CheckError;
 use std::alloc::{AllocError, Global};
-use std::io::{Read, Write};
+use std::io::{self, Read, Write};
 use wasm_module_validator::{ValidatorId, validate};
 use wasm_types::ErrorKind;
 
@@ -90,6 +91,30 @@ fn verdict_line(
     }
 }
 
+/// Writes a text. Where that fails, what stands written is a front of it: `write_all` would not promise this.
+pub(crate) fn write_text<W: Write>(text: &[u8], out: &mut W) -> Result<(), CheckError>
+    ensures ok { OnOk result (Appends (W.contents out.old) (W.contents out.new) text.now) }
+    ensures err { IfErr result (λ e. (e ≡ TheWrite)
+        × WritesFront text.now (W.contents out.old) (W.contents out.new)) }
+{
+    let mut written = 0;
+    for _turn in 0..u64::MAX {
+        if written == text.len() {
+            return Ok(());
+        }
+        match out.write(&text[written..]) {
+            Ok(0) => return Err(CheckError::Write),
+            Ok(count) => written += count,
+            Err(error) => {
+                if error.kind() != io::ErrorKind::Interrupted {
+                    return Err(CheckError::Write);
+                }
+            }
+        }
+    }
+    Err(CheckError::Write)
+}
+
 /// Judges these bytes, writes their line, and says whether they spell a valid module.
 fn judge_bytes<W: Write>(
     alloc: Global,
@@ -101,14 +126,12 @@ fn judge_bytes<W: Write>(
     ensures ok { IfOk result (λ valid.
         WritesLine name.now bytes.now valid (W.contents out.old) (W.contents out.new)) }
     ensures err { IfErr result
-        (FailsWriting index (W.contents out.old) (W.contents out.new)) }
+        (FailsWriting index name.now bytes.now (W.contents out.old) (W.contents out.new)) }
 {
     let Ok((is_valid, line)) = verdict_line(alloc, ValidatorId::new(index), name, bytes) else {
         return Err(CheckError::OutOfMemory(index));
     };
-    if out.write_all(line.as_bytes()).is_err() {
-        return Err(CheckError::Write);
-    }
+    write_text(line.as_bytes(), out)?;
     Ok(is_valid)
 }
 
@@ -122,7 +145,7 @@ fn judge_input<R: Read + Drop, W: Write>(
 ) -> Result<bool, CheckError>
     ensures ok { IfOk result (λ valid. IsJudged input.entry.name.now
         (R.remaining input.entry.reader) valid (W.contents out.old) (W.contents out.new)) }
-    ensures err { IfErr result (FailsAt index
+    ensures err { IfErr result (FailsAt index input.entry.name.now
         (R.remaining input.entry.reader) (W.contents out.old) (W.contents out.new)) }
 {
     read_whole(index, &mut input.reader, buffer)?;

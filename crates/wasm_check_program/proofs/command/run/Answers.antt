@@ -26,5 +26,5 @@ returns-else-is_empty-clause-stopped g c z =
     let words = map g.S.AsStr.text c.args.words.now in
     let is : c.get_strs.result ≡ Some c.in-Some.names = search rules in
     let named = named_by words c.in-Ok.matches c.get_strs.result c.in-Some.names c.in-Ok.ensures.ok c.get_strs.ensures is in
-    inr (judged_stopped (texts c.in-Some.names.now) (files_of words) (g.W.Write.contents c.args.out.now) (g.W.Write.contents c.judge_files.new.out) c.judge_files.result c.conclude.result named
-    c.judge_files.ensures.err c.conclude.ensures.code z)
+    inr (inr (judged_stopped (texts c.in-Some.names.now) (files_of words) (g.W.Write.contents c.args.out.now) (g.W.Write.contents c.judge_files.new.out) c.judge_files.result c.conclude.result named
+    c.judge_files.ensures.err c.conclude.ensures.code z))
