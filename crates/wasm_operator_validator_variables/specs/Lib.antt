@@ -3,3 +3,5 @@ pub mod Variables
 pub mod Choices
 -- When memory may be wanted: laws.
 pub mod RoomLaws
+-- Which locals that a body declares have a value: laws.
+pub mod DeclaredLaws
