@@ -3,3 +3,4 @@ pub mod Setting
 pub mod Selecting
 pub mod WrittenTypes
 pub mod Room
+pub mod Declared

@@ -6,11 +6,13 @@
 
 mod choosing;
 mod globals;
+mod laws;
 mod locals;
 mod parametric;
 mod typed;
 
 pub use globals::{check_global_get, check_global_set};
+pub use laws::{locals_start_by_types, room_is_wanted_by_types};
 pub use locals::{check_local_get, check_local_set, check_local_tee};
 pub use parametric::{check_drop, check_select};
 pub use typed::{check_typed_select, check_typed_select_multi};
