@@ -1,0 +1,2 @@
+-- How operands fit several labels.
+pub mod Fitting
