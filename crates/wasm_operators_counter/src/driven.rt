@@ -4,18 +4,23 @@
 //! of all visits together is more than the check of one declaration may take. So each group of visits has a trait of its
 //! own, whose `impl` takes the evidence of its group once.
 
-ghost use Rattle.std.specs.Prelude.{◌≡◌, false, Ok, Err, IfOk, IfErr};
+ghost use Rattle.std.specs.Prelude.{◌≡◌, ◌+◌, false, Ok, Err, length, IfOk, IfErr};
 ghost use Rattle.wasm_types.specs.reader.Reading.{IsNotMemory, NeedsNoMemory};
+ghost use Rattle.wasm_operators_reader.specs.operator.Op.{Op};
+ghost use Rattle.wasm_operators_reader.specs.decode.Memory.{keeps_list_at};
+ghost use Rattle.wasm_operators_reader.specs.visit_operator.Vectors.{is_simd};
+ghost use Rattle.wasm_operators_reader.specs.Visiting.{RefusesPlain, VisitsPlain};
+ghost use Rattle.wasm_operators_visiting.specs.InFrame.{ReadsIn, RefusesPlainIn};
 ghost use Rattle.wasm_operators_reader.specs.expression.Code.{Code, walk};
 ghost use Rattle.wasm_operators_reader.specs.expression.Spelling.{SpelledExpression};
-ghost use Rattle.wasm_operators_reader.specs.Standing.{Standing, at_start};
+ghost use Rattle.wasm_operators_reader.specs.Standing.{Standing, WantsMemory, at_start};
 ghost use Rattle.wasm_operators_visiting.specs.Walking.{HasNoVectors, VisitsAll, WalksTo, WalksUntil, StopsPlain};
 
 use crate::{Counter, Full};
 use std::alloc::Global;
 use wasm_operators_visiting::{
-    VisitAtomic, VisitControl, VisitFloats, VisitGc, VisitIntegers, VisitMemory, VisitShared,
-    visit_expression,
+    FrameStack, OperatorsReader, ReadToVisitor, VisitAtomic, VisitControl, VisitFloats, VisitGc,
+    VisitIntegers, VisitMemory, VisitShared, visit_expression,
 };
 use wasm_types::BinaryReader;
 
@@ -65,12 +70,12 @@ pub trait Driven<'a>: DrivenControl<'a>
 
 impl<'a> Driven<'a> for Counter {}
 
-/// As `visit_expression`.
+/// Visits an expression: `visit_expression`.
 ///
 /// # Errors
 ///
 /// As `visit_expression`.
-pub fn walk_all<'a, V: Driven<'a>>(
+fn walk_all<'a, V: Driven<'a>>(
     alloc: Global,
     reader: BinaryReader<'a>,
     visitor: &mut V,
@@ -83,11 +88,81 @@ pub fn walk_all<'a, V: Driven<'a>>(
     visit_expression(alloc, reader, visitor)
 }
 
-/// The counter walks.
+/// Visits the next operator: `OperatorsReader::visit_operator`.
+fn visit_one<'a, V: Driven<'a>>(
+    operators: &mut OperatorsReader<'a>,
+    visitor: &mut V,
+) -> wasm_types::Result<Result<(), Full>>
+    ensures visited { IfOk result (λ answer. VisitsPlain V.visits operators.old visitor.old answer operators.new visitor.new) }
+    ensures refused { IfErr result (λ e. RefusesPlain operators.old e × (operators.new ≡ operators.old)) }
+    ensures told { IfErr result (λ _. visitor.new ≡ visitor.old) }
+    ensures no_memory { (WantsMemory operators.old → ⊥) → NeedsNoMemory result }
+{
+    operators.visit_operator(visitor)
+}
+
+/// Visits the next operator in the frame that the visitor tells: `ReadToVisitor::visit_operator`.
+fn visit_one_in_frame<'a, V: Driven<'a> + FrameStack>(
+    alloc: Global,
+    reader: &mut BinaryReader<'a>,
+    visitor: &mut V,
+) -> wasm_types::Result<Result<(), Full>>
+    ensures visited { IfOk result (λ answer. (o : Op) × ReadsIn (V.frame visitor.old) reader.old o reader.new × (is_simd o ≡ false) × V.visits visitor.old o answer visitor.new) }
+    ensures refused { IfErr result (λ e. RefusesPlainIn (V.frame visitor.old) reader.old e × (reader.new ≡ reader.old)) }
+    ensures told { IfErr result (λ _. visitor.new ≡ visitor.old) }
+    ensures no_memory { keeps_list_at reader.old ≡ false → NeedsNoMemory result }
+{
+    reader.visit_operator(alloc, visitor)
+}
+
+/// Counts the operators of an expression, as `visit_expression` visits them. It ends with `Full` where the counter has no room.
+///
+/// # Errors
+///
+/// As `visit_expression`.
 pub fn count_expression(
     alloc: Global,
     reader: BinaryReader<'_>,
     counter: &mut Counter,
-) -> wasm_types::Result<Result<(), Full>> {
+) -> wasm_types::Result<Result<(), Full>>
+    ensures counted { IfOk result (λ end. IfOk end (λ _. (c : Code) × SpelledExpression reader.entry.settings c reader.entry.rest × HasNoVectors (walk c) × (counter.old.left ≡ counter.new.left + length (walk c)))) }
+    ensures full { IfOk result (λ end. IfErr end (λ _. counter.new.left ≡ 0)) }
+    ensures refused { IfErr result (λ e. IsNotMemory e.kind → (c : Code) → SpelledExpression reader.entry.settings c reader.entry.rest → HasNoVectors (walk c) → ⊥) }
+{
     walk_all(alloc, reader, counter)
+}
+
+/// Counts the next operator, as `OperatorsReader::visit_operator` visits it.
+///
+/// # Errors
+///
+/// As `OperatorsReader::visit_operator`.
+pub fn count_next(
+    operators: &mut OperatorsReader<'_>,
+    counter: &mut Counter,
+) -> wasm_types::Result<Result<(), Full>>
+    ensures counted { IfOk result (λ answer. IfOk answer (λ _. counter.old.left ≡ counter.new.left + 1)) }
+    ensures full { IfOk result (λ answer. IfErr answer (λ _. counter.old.left ≡ 0)) }
+    ensures refused { IfErr result (λ e. RefusesPlain operators.old e × (operators.new ≡ operators.old)) }
+    ensures told { IfErr result (λ _. counter.new ≡ counter.old) }
+{
+    visit_one(operators, counter)
+}
+
+/// Counts the next operator in the frame that the counter tells, as `ReadToVisitor::visit_operator` visits it.
+///
+/// # Errors
+///
+/// As `ReadToVisitor::visit_operator`.
+pub fn count_next_in_frame(
+    alloc: Global,
+    reader: &mut BinaryReader<'_>,
+    counter: &mut Counter,
+) -> wasm_types::Result<Result<(), Full>>
+    ensures counted { IfOk result (λ answer. IfOk answer (λ _. counter.old.left ≡ counter.new.left + 1)) }
+    ensures full { IfOk result (λ answer. IfErr answer (λ _. counter.old.left ≡ 0)) }
+    ensures refused { IfErr result (λ e. RefusesPlainIn counter.old.frame reader.old e × (reader.new ≡ reader.old)) }
+    ensures told { IfErr result (λ _. counter.new ≡ counter.old) }
+{
+    visit_one_in_frame(alloc, reader, counter)
 }

@@ -1,8 +1,8 @@
 //! A visitor of all operators but those on vectors: it counts them.
 //!
 //! A [`Counter`] has room for so many operators, and answers [`Full`] where it has none left; so a walk over an expression
-//! ends there. Which operator it is makes no difference. The calls that need all visits are methods of [`Driven`]:
-//! each group of visits is bound by a trait of its own (`src/driven.rt` tells why).
+//! ends there. Which operator it is makes no difference. [`count_expression`], [`count_next`] and
+//! [`count_next_in_frame`] are the calls that need all visits.
 #![tactic(auto)]
 
 ghost use Rattle.std.specs.Prelude.{◌≡◌, ◌+◌, IfOk, IfErr};
@@ -16,7 +16,7 @@ mod integers;
 mod memory;
 mod shared;
 
-pub use driven::{Driven, count_expression, walk_all};
+pub use driven::{Driven, count_expression, count_next, count_next_in_frame};
 use wasm_operators_visiting::{FrameKind, FrameStack, Visitor};
 
 /// That a counter has no room left.
