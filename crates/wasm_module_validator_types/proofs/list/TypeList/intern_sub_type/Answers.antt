@@ -1,8 +1,6 @@
 use Rattle.std.proofs.Common.{subst}
-use Rattle.wasm_types.specs.groups.Entries.{declared_of}
 use Rattle.wasm_module_validator_type_trees.specs.Groups.{count}
 use Rattle.wasm_module_validator_type_trees.specs.Formed.{IsGroupFormed}
-use Rattle.wasm_module_validator_types.specs.Known.{group_in}
 use Rattle.wasm_module_validator_types.proofs.Knowing.{group_below}
 use Rattle.wasm_module_validator_types.proofs.Alone.{group_alone}
 use Rattle.wasm_module_validator_types.proofs.list.TypeList.intern_sub_type.Goals as goal
