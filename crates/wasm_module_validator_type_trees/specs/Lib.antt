@@ -3,6 +3,7 @@ pub mod Groups
 pub mod Formed
 pub mod ByIds
 pub mod BelowIds
+pub mod GroupIds
 -- Worked lists.
 pub mod Worked
 -- Their laws, with the proofs.

@@ -5,3 +5,4 @@ pub mod Unrolled
 pub mod Apart
 pub mod Ids
 pub mod BelowIds
+pub mod GroupIds

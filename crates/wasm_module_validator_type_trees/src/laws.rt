@@ -2,7 +2,7 @@
 
 ghost use Rattle.wasm_module_validator_type_trees.specs.laws.Statements.{TypesStay, EqualTypesHaveEqualIds, GroupsAreKnownByTrees};
 ghost use Rattle.wasm_module_validator_type_trees.specs.laws.Statements.{TypesOpen, SupertypesAreIds, SupertypesAreEarlier, IdsAreBelowAsTypes};
-ghost use Rattle.wasm_module_validator_type_trees.specs.laws.Statements.{ValuesAreBelowAsTypes, ValuesAreSharedAsTypes, ConstructorsAreOfTypes};
+ghost use Rattle.wasm_module_validator_type_trees.specs.laws.Statements.{ValuesAreBelowAsTypes, ValuesAreSharedAsTypes, ConstructorsAreOfTypes, GroupIdsUnfold};
 ghost use Rattle.wasm_module_validator_type_trees.specs.Worked.{NumbersWorked, TreesWorked, FormsWorked, BelowWorked, ValuesWorked};
 
 /// What an id stands for never changes as groups are added.
@@ -15,6 +15,11 @@ pub fn types_stay()
 pub fn ids_are_types()
     ensures ids { EqualTypesHaveEqualIds }
     ensures groups { GroupsAreKnownByTrees }
+{}
+
+/// The ids of a group are as many as its types, one after the other, and each stands for a place of the group's tree.
+pub fn group_ids_unfold()
+    ensures { GroupIdsUnfold }
 {}
 
 /// What is said of ids is what is said of their types: what a type declares, its supertype, and what it is below by

@@ -4,5 +4,6 @@ pub mod Parts
 pub mod Adding
 pub mod Finding
 pub mod Chains
+pub mod Alone
 pub mod References
 pub mod WorkedProofs

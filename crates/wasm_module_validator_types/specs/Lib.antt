@@ -3,7 +3,7 @@ pub mod Stored
 pub mod Lists
 pub mod Known
 -- What a contract sees of it.
-pub mod List
 pub mod Lookups
+pub mod List
 -- Worked rows.
 pub mod Worked

@@ -1,11 +1,15 @@
 -- A list of types: what a contract sees of it, and what each of its parts says of its groups.
-use Rattle.std.specs.Prelude.{◌≡◌, ◌↔◌, ℕ, ◌+◌, ◌≤◌, ◌<◌, ◌^◌, Bool, IsTrue, List, ◌∷◌, length, map, reverse, Option, Some, if◌then◌else◌}
-use Rattle.wasm_types.specs.groups.Entries.{declared_of}
+use Rattle.std.specs.Prelude.{◌≡◌, ◌↔◌, ℕ, ◌+◌, ◌≤◌, ◌<◌, ◌^◌, Bool, true, false, IsTrue, List, [], ◌∷◌, length, map, reverse, Option, Some, None, if◌then◌else◌}
+use Rattle.wasm_types.specs.indices.declared.index.CoreTypeId.{CoreTypeId}
+use Rattle.wasm_types.specs.fields.declared.func.FuncType.{FuncType}
+use Rattle.wasm_types.specs.fields.Fields.{function_tree}
+use Rattle.wasm_types.specs.groups.Entries.{Declared, declared_of}
 use Rattle.wasm_module_validator_type_trees.specs.Groups.{Group, count, group_at, group_numbers, group_ranges, declared_by_id, supertype_ids}
 use Rattle.wasm_module_validator_type_trees.specs.Formed.{IsMissing, IsFormed}
 use Rattle.wasm_module_validator_types.specs.declared.lists.Interned.{Interned}
 use Rattle.wasm_module_validator_types.specs.declared.lists.Lists.{Lists}
 use Rattle.wasm_module_validator_types.specs.Known.{group_in, Known, Knows}
+use Rattle.wasm_module_validator_types.specs.Lookups.{IsAtPlace}
 
 -- the groups, the newest first, and whether further ones may be added
 pub record Types : Type 0 where
@@ -50,3 +54,21 @@ pub record Interns (old new : List Group) (g : Group) (is_new : Bool) (k : ℕ) 
   pub groups : new ≡ (if is_new then g ∷ old else old)
   pub new_exactly : IsTrue is_new ↔ IsAdded old g
   pub next : IsTrue is_new → k ≡ length old
+
+-- a type as a group of its own
+abbrev pub alone : Declared → Group
+alone d = record { is_canonical = true; types = d ∷ [] }
+
+-- such a group has a number, and the id is that of its only type
+pub record InternsAlone (old new : List Group) (d : Declared) (id : CoreTypeId) : Type 0 where
+  pub is_new : Bool
+  pub number : ℕ
+  pub interned : Interns old new (alone d) is_new number
+  pub place : IsAtPlace new number 0 id
+
+-- a function type as a subtype: final, not shared, without a supertype
+abbrev pub function_alone : FuncType → Declared
+function_alone f = record {
+  supertypes = [];
+  entry = record { is_final = true; supertype = None; shared = false; descriptor = None; describes = None; inner = function_tree f };
+}

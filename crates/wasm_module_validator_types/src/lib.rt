@@ -5,6 +5,7 @@
 #![tactic(auto)]
 
 mod ids;
+mod interning;
 mod known;
 pub mod laws;
 mod list;

@@ -28,7 +28,7 @@ pub const MAX_TYPES: usize = 1 << 20;
 /// The interned types: each group in canonical form once, each type under an id of its own.
 #[derive(Drop)]
 pub struct TypeList {
-    alloc: Global,
+    pub(crate) alloc: Global,
     lists: Lists,
     known: Option<Known>,
 }

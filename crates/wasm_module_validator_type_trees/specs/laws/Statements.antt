@@ -8,10 +8,11 @@ use Rattle.wasm_types.specs.trees.Each.{EachValue}
 use Rattle.wasm_types.specs.trees.Trees.{opened}
 use Rattle.wasm_types.specs.trees.Below.{supertype, DeclaredBelow, Below, value_is_shared, abstract_of, expanded}
 use Rattle.wasm_types.specs.groups.Entries.{Declared}
-use Rattle.wasm_module_validator_type_trees.specs.Groups.{Group, count, tree_of, tree_behind, declared_by_id}
+use Rattle.wasm_module_validator_type_trees.specs.Groups.{Group, count, tree_of, tree_behind, group_at, declared_by_id}
 use Rattle.wasm_module_validator_type_trees.specs.Formed.{IsGroupFormed, IsMissing, IsFormed, AreCanonical, IsNewTree, KeepsTypes}
 use Rattle.wasm_module_validator_type_trees.specs.ByIds.{supertype_of, IdBelow, tree_named}
 use Rattle.wasm_module_validator_type_trees.specs.BelowIds.{IsIdBelow, ValueBelowById, value_is_shared_by_id, entry_by_id}
+use Rattle.wasm_module_validator_type_trees.specs.GroupIds.{Unfolds}
 
 -- each id keeps its type as a group is added
 abbrev pub TypesStay : Type 0
@@ -61,3 +62,7 @@ ValuesAreSharedAsTypes = (groups : List Group) → IsFormed groups → AreCanoni
 abbrev pub ConstructorsAreOfTypes : Type 0
 ConstructorsAreOfTypes = (groups : List Group) → IsFormed groups → AreCanonical groups → (i : CoreTypeId) → i.0 < count groups
     → abstract_of (expanded (tree_of groups i.0)) ≡ abstract_of (entry_by_id groups i).inner
+
+-- the ids of the group of a number are known, one after the other, and each has a place of the group's tree
+abbrev pub GroupIdsUnfold : Type 0
+GroupIdsUnfold = (groups : List Group) → IsFormed groups → AreCanonical groups → (k : ℕ) (g : Group) → group_at groups k ≡ Some g → Unfolds groups k g
