@@ -6,5 +6,6 @@ pub mod Remaining
 pub mod Stepping
 pub mod Passing
 pub mod Missing
+pub mod Worked
 -- How bytes are read, as decoders, and why that is exact.
 pub mod laws
