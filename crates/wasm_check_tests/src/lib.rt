@@ -7,6 +7,8 @@
 #[cfg(test)]
 mod expect;
 #[cfg(test)]
+mod kinds;
+#[cfg(test)]
 mod modules;
 #[cfg(test)]
 mod program;

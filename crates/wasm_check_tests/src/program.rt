@@ -91,6 +91,7 @@ fn stops_at_the_first_fault(rt: HostRuntime) -> Result<(), Fail> {
         check(rt.alloc(), inputs, &mut full),
         Err(CheckError::Write),
     );
+    same(&rt, room.as_slice(), b"m42.wasm: valid\nbad.".as_slice());
     Ok(())
 }
 

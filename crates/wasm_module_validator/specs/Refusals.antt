@@ -1,10 +1,11 @@
 -- How a module is refused: the kind and the offset of the error, and what the validator is then.
-use Rattle.std.specs.Prelude.{◌≡◌, ℕ, List, Result, Ok, Err}
+use Rattle.std.specs.Prelude.{◌≡◌, ℕ, List, slice_get, Some, Result, Ok, Err}
 use Rattle.wasm_types.specs.decoding.Decoder.{State, Outcome, Done, Short, Fault}
 use Rattle.wasm_types.specs.error.declared.error.ErrorKind.{ErrorKind}
 use Rattle.wasm_types.specs.error.declared.error.ErrorKind.TheVariants as kinds
 use Rattle.wasm_types.specs.error.ErrorValue.{ErrorValue}
 use Rattle.wasm_types.specs.reader.Reading.{Fails}
+use Rattle.wasm_module_validator_bodies.specs.Missing.{EndsEarly}
 use Rattle.wasm_module_validator_operands.specs.Defaults.{default_settings}
 use Rattle.wasm_module_validator.specs.declared.validator.State.{State as Progress}
 use Rattle.wasm_module_validator.specs.declared.validator.State.TheVariants as states
@@ -14,23 +15,31 @@ use Rattle.wasm_module_validator.specs.laws.Frames.{Frames, module_frames}
 unfoldable pub at_begin : List ℕ → State
 at_begin bytes = record { rest = bytes; place = 0; settings = default_settings; start = 0 }
 
--- A function is refused with kind 5, or with kind 1 where its bytes end too early and one byte more is needed; or memory ran out.
-abbrev pub IsFunctionRefusal : ErrorKind → Type 0
-IsFunctionRefusal (kinds.EndOfData h) = h ≡ 1
-IsFunctionRefusal (kinds.MissingFeature f) = ⊥
-IsFunctionRefusal kinds.OutOfMemory = Unit {0}
-IsFunctionRefusal kinds.Failed = ⊥
-IsFunctionRefusal kinds.Other = Unit {0}
+-- The bytes of one of these functions end early: before its number of groups, a group of locals or an operator is whole.
+pub record IsCutShort (entries : List (List ℕ)) : Type 0 where
+  pub index : ℕ
+  pub body : State
+  pub found : slice_get entries index ≡ Some body.rest
+  pub early : EndsEarly body
 
--- what is refused is refused for a function
-abbrev pub RefusesFunction : {X : Type 0} → Result X ErrorValue → Type 0
-RefusesFunction (Ok x) = Unit {0}
-RefusesFunction (Err e) = IsFunctionRefusal e.kind
+-- One of these functions is refused with kind 5; or with kind 1, only where the bytes of one end early, and one byte more is needed;
+-- or memory ran out.
+abbrev pub IsFunctionRefusal : List (List ℕ) → ErrorKind → Type 0
+IsFunctionRefusal entries (kinds.EndOfData h) = (h ≡ 1) × IsCutShort entries
+IsFunctionRefusal entries (kinds.MissingFeature f) = ⊥
+IsFunctionRefusal entries kinds.OutOfMemory = Unit {0}
+IsFunctionRefusal entries kinds.Failed = ⊥
+IsFunctionRefusal entries kinds.Other = Unit {0}
+
+-- what is refused is refused for one of these functions
+abbrev pub RefusesFunction : {X : Type 0} → List (List ℕ) → Result X ErrorValue → Type 0
+RefusesFunction entries (Ok x) = Unit {0}
+RefusesFunction entries (Err e) = IsFunctionRefusal entries e.kind
 
 -- Where the header or a section can't be read the error is what refused it, of its kind and at its offset, unless memory ran out;
 -- where all of them can, a function was refused.
 abbrev pub FailsFrames : ErrorValue → Outcome Frames → Type 0
-FailsFrames e (Done f t) = IsFunctionRefusal e.kind
+FailsFrames e (Done f t) = IsFunctionRefusal f.entries e.kind
 FailsFrames e (Short p h) = let o : Outcome Frames = Short p h in Fails e o
 FailsFrames e (Fault k p) = let o : Outcome Frames = Fault k p in Fails e o
 

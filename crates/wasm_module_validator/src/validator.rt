@@ -112,8 +112,8 @@ fn state_after(judged: &Result<Types, Error>) -> State
 
 /// Validates a module that is all of these bytes.
 ///
-/// A header or a section is refused with the kind and at the offset that its reader gives; a function with kind 5, or with kind 1
-/// where its bytes end too early.
+/// A header or a section is refused with the kind and at the offset that its reader gives; a function with kind 5, or with kind 1,
+/// which comes only where a function's bytes end before its number of groups, a group of locals or an operator is whole.
 pub fn validate(alloc: Global, id: ValidatorId, bytes: &[u8]) -> Result<Types, Error>
     ensures verdict { Tells result (Accepts bytes.now) }
     ensures shown { IfOk result (λ types. (m : Module) × Judges default_settings bytes.now m × Shows types m) }
@@ -193,7 +193,7 @@ fn judge(alloc: Global, module: &ModuleFrames<'_>) -> Result<Types, Error>
     ensures verdict { Tells result (AreAccepted default_settings «module».now.types.items «module».now.functions.items (bodies «module».now.bodies.items)) }
     ensures types { IfOk result (λ t. t.types ≡ length «module».now.types.items) }
     ensures functions { IfOk result (λ t. t.functions ≡ length «module».now.functions.items) }
-    ensures kind { RefusesFunction result }
+    ensures kind { RefusesFunction (bodies «module».now.bodies.items) result }
 {
     validate_bodies(alloc, module)?;
     let types = module.types.as_slice();
@@ -207,7 +207,7 @@ fn judge(alloc: Global, module: &ModuleFrames<'_>) -> Result<Types, Error>
 /// Judges each function by its type.
 fn validate_bodies(alloc: Global, module: &ModuleFrames<'_>) -> Result<(), Error>
     ensures verdict { Tells result (AreAccepted default_settings «module».now.types.items «module».now.functions.items (bodies «module».now.bodies.items)) }
-    ensures kind { RefusesFunction result }
+    ensures kind { RefusesFunction (bodies «module».now.bodies.items) result }
 {
     let functions = module.functions.as_slice();
     let bodies = module.bodies.as_slice();
@@ -228,7 +228,7 @@ fn validate_body(
     place: usize,
 ) -> Result<(), Error>
     ensures verdict { Tells result (AcceptsAt default_settings «module».now.types.items «module».now.functions.items (bodies «module».now.bodies.items) place) }
-    ensures kind { RefusesFunction result }
+    ensures kind { RefusesFunction (bodies «module».now.bodies.items) result }
 {
     let Some(index) = module.functions.get(place) else {
         return Err(Error::new("unknown function: function index out of bounds", 0));

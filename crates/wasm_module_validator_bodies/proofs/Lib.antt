@@ -1,3 +1,4 @@
+pub mod Ending
 pub mod Groups
 pub mod Passed
 pub mod Places

@@ -5,5 +5,7 @@ pub mod Bodies
 pub mod Remaining
 pub mod Stepping
 pub mod Passing
+pub mod Missing
+pub mod Worked
 -- How bytes are read, as decoders, and why that is exact.
 pub mod laws

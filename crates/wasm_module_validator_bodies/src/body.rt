@@ -1,6 +1,6 @@
 //! Validation of a function's entry in the code section.
 
-ghost use Rattle.std.specs.Prelude.{◌≡◌, ◌↔◌, ◌≤◌, List, [], length, false, IfOk};
+ghost use Rattle.std.specs.Prelude.{◌≡◌, ◌↔◌, ◌≤◌, List, [], length, false, IfOk, IfErr};
 ghost use Rattle.wasm_types.specs.error.declared.error.ErrorKind.TheVariants.{Other};
 ghost use Rattle.wasm_types.specs.values.declared.value.ValType.{ValType as TheValType};
 ghost use Rattle.wasm_module_validator_operands.specs.Answers.{Tells, RefusedAt, RefusedWithin};
@@ -9,6 +9,7 @@ ghost use Rattle.wasm_module_validator_bodies.specs.Bodies.{AcceptsBody};
 ghost use Rattle.wasm_module_validator_operands.specs.Operands.{Does, fresh};
 ghost use Rattle.wasm_module_validator_bodies.specs.Remaining.{function_type, GroupsLeft, BodyLeft};
 ghost use Rattle.wasm_module_validator_bodies.specs.Stepping.{StepsAt, as_operator, MayRefuse, IsErrorOf};
+ghost use Rattle.wasm_module_validator_bodies.specs.Missing.{RefusedAsMissing, EndsEarly, GroupsEndEarly, OperatorsEndEarly};
 ghost use Rattle.wasm_types_numbers.specs.Numbers.{behind};
 
 use crate::numbers::{skip_i32_at, skip_i64_at};
@@ -41,12 +42,14 @@ impl FuncValidator {
     ///
     /// Ok exactly where these bytes spell groups of locals and an expression that is valid with them: at most 50,000 locals
     /// with the parameters, and an expression that gives the type's results. Otherwise the error tells what is wrong and
-    /// where, unless it is of kind 3: memory ran out, and nothing is promised of the bytes. The offset is that of one of the
-    /// body's bytes, or of its end.
+    /// where, unless it is of kind 3: memory ran out, and nothing is promised of the bytes. It is of kind 1 only where the
+    /// body ends within the number of groups, within a group or within an operator, and stands at the body's end then; content
+    /// is refused with kind 5, at the offset of one of the body's bytes or at its end.
     #[tactic(auto, using(crate::proofs::Places::within_further))]
     pub fn validate(&mut self, ty: &FuncType, body: BinaryReader<'_>) -> Result<()>
         ensures verdict { Tells result (AcceptsBody (function_type ty.now.params.items ty.now.results.items) body.entry.rest) }
         ensures within { RefusedWithin body.entry result }
+        ensures missing { RefusedAsMissing result (EndsEarly body.entry) }
     {
         let mut reader = body;
         self.read_locals(ty.params(), &mut reader)?;
@@ -60,6 +63,8 @@ impl FuncValidator {
         ensures within { RefusedWithin reader.old result }
         ensures forward { Reaches reader.old reader.new }
         ensures still { IfOk result (λ u. self.new.validator.ended ≡ false) }
+        ensures missing { RefusedAsMissing result (EndsEarly reader.old) }
+        ensures passed { IfOk result (λ u. OperatorsEndEarly reader.new → EndsEarly reader.old) }
     {
         self.begin(reader.original_position(), params)?;
         let count = reader.read_var_u32()?;
@@ -87,6 +92,8 @@ impl FuncValidator {
         ensures within { RefusedWithin reader.old result }
         ensures forward { Reaches reader.old reader.new }
         ensures still { IfOk result (λ u. self.new.validator.ended ≡ false) }
+        ensures missing { RefusedAsMissing result (GroupsEndEarly count reader.old) }
+        ensures passed { IfOk result (λ u. OperatorsEndEarly reader.new → GroupsEndEarly count reader.old) }
     {
         for _ in 0..count {
             let offset = reader.original_position();
@@ -102,6 +109,7 @@ impl FuncValidator {
         requires { self.old.validator.ended ≡ false }
         ensures verdict { Tells result (BodyLeft results.now self.old.validator body.entry.rest) }
         ensures within { RefusedWithin body.entry result }
+        ensures missing { RefusedAsMissing result (OperatorsEndEarly body.entry) }
     {
         let bytes = bytes_left(&body);
         let mut at = 0;
@@ -236,6 +244,7 @@ fn refused_operator(alloc: Global, refusal: OperatorRefusal, reader: BinaryReade
 fn ended_at(reader: &BinaryReader<'_>) -> Result<()>
     ensures verdict { Tells result (reader.now.rest ≡ []) }
     ensures within { RefusedWithin reader.now result }
+    ensures kind { IfErr result (λ e. e.kind ≡ Other) }
 {
     if reader.eof() {
         return Ok(());

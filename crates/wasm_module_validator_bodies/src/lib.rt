@@ -6,10 +6,12 @@
 #![tactic(auto)]
 
 mod body;
+mod laws;
 mod numbers;
 mod operators;
 mod types;
 
 pub use body::FuncValidator;
+pub use laws::endings_are_worked;
 pub use operators::{LocalGroup, Operator};
 pub use types::invalid_value_type;

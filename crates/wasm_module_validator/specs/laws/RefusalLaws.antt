@@ -1,14 +1,15 @@
 -- Where a module is refused, by what refused its parts.
-use Rattle.std.specs.Prelude.{◌≡◌, ℕ, List, Result, Ok, Err}
-use Rattle.std.proofs.Common.{refl}
+use Rattle.std.specs.Prelude.{◌≡◌, ℕ, List, slice_get, Some, Result, Ok, Err}
+use Rattle.std.proofs.Common.{refl, sym, subst}
 use Rattle.wasm_types.specs.decoding.Decoder.{State, Outcome, Done, Short, Fault}
-use Rattle.wasm_types.specs.decoding.Exact.{same_state}
+use Rattle.wasm_types.specs.decoding.Exact.{same_state, value_is}
 use Rattle.wasm_types.specs.error.declared.error.ErrorKind.{ErrorKind}
 use Rattle.wasm_types.specs.error.declared.error.ErrorKind.TheVariants as kinds
 use Rattle.wasm_types.specs.error.ErrorValue.{ErrorValue}
 use Rattle.wasm_types.specs.reader.Reading.{FailsAt, Fails}
 use Rattle.wasm_module_validator_operands.specs.Defaults.{default_settings}
 use Rattle.wasm_module_validator_operands.specs.Answers.{UnlessMemory, IsRefusalOf, RefusedWithin}
+use Rattle.wasm_module_validator_bodies.specs.Missing.{IfMissing, RefusedAsMissing, EndsEarly}
 use Rattle.wasm_module_validator.specs.declared.validator.State.TheVariants as states
 use Rattle.wasm_module_validator.specs.Refusals.{at_begin, IsFunctionRefusal, RefusesFunction, FailsFrames, after_function, after_frames, IsPlaceOf, IsRefusedAt}
 use Rattle.wasm_module_validator.specs.laws.Frames.{Frames, module_frames}
@@ -17,7 +18,7 @@ use Rattle.wasm_module_validator.specs.laws.Frames.{Frames, module_frames}
 pub fails_frames : (e : ErrorValue) (o : Outcome Frames) → Fails e o → FailsFrames e o
 fails_frames e (Done g u) h = not_done e.kind h
   where
-    not_done : (k : ErrorKind) → FailsAt k e.offset (Done g u) → IsFunctionRefusal k
+    not_done : (k : ErrorKind) → FailsAt k e.offset (Done g u) → IsFunctionRefusal g.entries k
     not_done (kinds.EndOfData n) h = absurd cc
     not_done (kinds.MissingFeature f) h = absurd cc
     not_done kinds.OutOfMemory h = tt
@@ -27,31 +28,33 @@ fails_frames e (Short p n) h = h
 fails_frames e (Fault k p) h = h
 
 -- where frames were read a function was refused
-pub frames_read : (e : ErrorValue) (o : Outcome Frames) (f : Frames) (t : State) → o ≡ Done f t → IsFunctionRefusal e.kind → FailsFrames e o
-frames_read e (Done g u) f t h r = r
+pub frames_read : (e : ErrorValue) (o : Outcome Frames) (f : Frames) (t : State) → o ≡ Done f t → IsFunctionRefusal f.entries e.kind → FailsFrames e o
+frames_read e (Done g u) f t h r = subst (λ (x : Frames). IsFunctionRefusal x.entries e.kind) (sym (value_is g f u t h)) r
 frames_read e (Short p n) f t h r = absurd cc
 frames_read e (Fault k p) f t h r = absurd cc
 
 -- the refusal of a function's bytes is one of a function
-function_kind : (s : State) (k : ErrorKind) (p : ℕ) → IsRefusalOf s k p → IsFunctionRefusal k
-function_kind s (kinds.EndOfData h) p r = r.1
-function_kind s (kinds.MissingFeature f) p r = r
-function_kind s kinds.OutOfMemory p r = tt
-function_kind s kinds.Failed p r = r
-function_kind s kinds.Other p r = tt
+function_kind : (entries : List (List ℕ)) (i : ℕ) (s : State) (k : ErrorKind) (p : ℕ) → slice_get entries i ≡ Some s.rest → IsRefusalOf s k p → IfMissing k (EndsEarly s)
+    → IsFunctionRefusal entries k
+function_kind entries i s (kinds.EndOfData h) p found r early = (r.1, record { index = i; body = s; found = found; early = early })
+function_kind entries i s (kinds.MissingFeature f) p found r early = r
+function_kind entries i s kinds.OutOfMemory p found r early = tt
+function_kind entries i s kinds.Failed p found r early = r
+function_kind entries i s kinds.Other p found r early = tt
 
 -- the same of an answer
-pub refuses_function : {X : Type 0} (s : State) (r : Result X ErrorValue) → RefusedWithin s r → RefusesFunction r
-refuses_function s (Ok x) w = tt
-refuses_function s (Err e) w = function_kind s e.kind e.offset w
+pub refuses_function : {X : Type 0} (entries : List (List ℕ)) (i : ℕ) (s : State) (r : Result X ErrorValue) → slice_get entries i ≡ Some s.rest → RefusedWithin s r
+    → RefusedAsMissing r (EndsEarly s) → RefusesFunction entries r
+refuses_function entries i s (Ok x) found w early = tt
+refuses_function entries i s (Err e) found w early = function_kind entries i s e.kind e.offset found w early
 
 -- a refusal of kind 5 is one of a function
-pub other_refuses : (k : ErrorKind) → k ≡ kinds.Other → IsFunctionRefusal k
-other_refuses (kinds.EndOfData h) e = absurd cc
-other_refuses (kinds.MissingFeature f) e = absurd cc
-other_refuses kinds.OutOfMemory e = tt
-other_refuses kinds.Failed e = absurd cc
-other_refuses kinds.Other e = tt
+pub other_refuses : (entries : List (List ℕ)) (k : ErrorKind) → k ≡ kinds.Other → IsFunctionRefusal entries k
+other_refuses entries (kinds.EndOfData h) e = absurd cc
+other_refuses entries (kinds.MissingFeature f) e = absurd cc
+other_refuses entries kinds.OutOfMemory e = tt
+other_refuses entries kinds.Failed e = absurd cc
+other_refuses entries kinds.Other e = tt
 
 -- a reader that was made of the bytes stands there
 pub stands_at_begin : (s : State) (bytes : List ℕ) → s.rest ≡ bytes → s.place ≡ 0 → s.start ≡ 0 → s.settings ≡ default_settings → s ≡ at_begin bytes

@@ -1,5 +1,5 @@
 -- The type's index, the type and the body are those at the function's index.
-use Rattle.std.proofs.Common.{◌≡◌, List, ℕ, Some, ap, ◌∙◌, option_map, subst}
+use Rattle.std.proofs.Common.{◌≡◌, List, ℕ, Some, ap, ◌∙◌, option_map, subst, sym}
 use Rattle.std.specs.Prelude.{slice_get}
 use Rattle.std.proofs.lemmas.Option.{slice_get-map}
 use Rattle.wasm_types.specs.decoding.Decoder.{State}
@@ -28,4 +28,12 @@ returns-clause-verdict c =
     (subst (λ (s : State). Tells c.validate.result (AcceptsBody c.in-Some-get.ty.now s.rest)) c.clone.ensures told)
 
 pub returns-clause-kind : goal.returns-clause-kind
-returns-clause-kind c = refuses_function c.clone.result c.validate.result c.validate.ensures.within
+returns-clause-kind c =
+    let module' = c.args.«module».now in
+    let place = c.args.place in
+    let entry = found_at c.deref-3.result.now module'.bodies.items place c.in-Some-get-2.body.now c.deref-3.ensures.value c.in-Some-get-2.ensures.lookup.3 in
+    let bytes_of : FunctionBody → List ℕ = λ b. b.reader.rest in
+    let body : slice_get (bodies module'.bodies.items) place ≡ Some (bytes_of c.in-Some-get-2.body.now) =
+    slice_get-map bytes_of module'.bodies.items place ∙ ap (option_map bytes_of) entry in
+    refuses_function (bodies module'.bodies.items) place c.clone.result c.validate.result
+    (body ∙ ap (λ (s : State). Some s.rest) (sym c.clone.ensures)) c.validate.ensures.within c.validate.ensures.missing
