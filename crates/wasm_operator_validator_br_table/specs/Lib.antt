@@ -1,2 +1,0 @@
--- How operands fit several labels.
-pub mod Fitting
