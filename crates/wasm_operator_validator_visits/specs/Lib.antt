@@ -1,0 +1,2 @@
+-- What a visit promises, by what its visitor answers.
+pub mod Visiting

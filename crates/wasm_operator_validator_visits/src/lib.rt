@@ -1,0 +1,10 @@
+//! The visitor that validates operators, one visit for each.
+//!
+//! Each visit decides its operator: it is not refused exactly where the operator may come, out of memory aside, and leaves what may
+//! follow (`Visits` of `wasm_operator_validator_state`); where it is refused, the validator has failed.
+#![tactic(auto)]
+
+mod integers;
+mod visitor;
+
+pub use visitor::{FromRefusal, ValidatingVisitor, WasmProposalValidator};
