@@ -3,4 +3,4 @@
 
 mod locals;
 
-pub use locals::Locals;
+pub use locals::{Locals, too_many_locals};

@@ -1,7 +1,7 @@
 //! The locals of a function.
 
 ghost use Rattle.wasm_types_limits.specs.Limits.{default_limits};
-ghost use Rattle.std.specs.Prelude.{◌≡◌, ◌+◌, ◌≤◌, ◌<◌, List, [], ◌++◌, length, replicate, slice_get, IfErr, IfSome, Some};
+ghost use Rattle.std.specs.Prelude.{◌≡◌, ◌↔◌, IsTrue, ◌+◌, ◌≤◌, ◌<◌, List, [], ◌++◌, length, replicate, slice_get, IfErr, IfSome, Some};
 ghost use Rattle.wasm_types.specs.error.declared.error.ErrorKind.TheVariants.{Other, OutOfMemory};
 ghost use Rattle.wasm_types.specs.values.declared.value.ValType.{ValType as TheValType};
 ghost use Rattle.wasm_operator_validator_locals.specs.Locals.{IsFront};
@@ -80,12 +80,12 @@ impl Locals {
     ///
     /// # Errors
     ///
-    /// There would be more than 50,000 in all: that is refused at this offset, and nothing changes. Or there is no memory for a
-    /// count above 0 within that limit.
+    /// There would be more than 50,000 in all: that is refused at this offset. Or there is no memory for a count above 0 within
+    /// that limit. Nothing changes then.
     pub fn define(&mut self, offset: u64, count: u32, ty: &ValType) -> Result<()>
         ensures does { Does result ((self.new ≡ self.old ++ replicate count ty.now) × (length self.new ≤ default_limits.locals)) (length self.old + count ≤ default_limits.locals) }
         ensures at { RefusedAt offset result }
-        ensures stays { IfErr result (λ e. e.kind ≡ Other → self.new ≡ self.old) }
+        ensures stays { IfErr result (λ _. self.new ≡ self.old) }
         ensures memory { IfErr result (λ e. e.kind ≡ OutOfMemory → (0 < count) × (length self.old + count ≤ default_limits.locals)) }
     {
         let defined = self.len_locals();
@@ -96,9 +96,20 @@ impl Locals {
             return Ok(());
         }
         let end = defined + count;
+        let held = self.runs.as_slice().len();
         self.runs.push(Run { end, ty: *ty })?;
-        grow_first(&mut self.first, defined, count, ty)?;
+        if let Err(error) = grow_first(&mut self.first, defined, count, ty) {
+            self.runs.truncate(held);
+            return Err(error);
+        }
         Ok(())
+    }
+
+    /// Whether so many more may be put at the end, by the limit.
+    pub fn may_define(&self, count: u32) -> bool
+        ensures { IsTrue result ↔ (length self.now + count ≤ default_limits.locals) }
+    {
+        count <= MAX_WASM_FUNCTION_LOCALS - self.len_locals()
     }
 
     /// The type of a local, by its index, if it is one of the first.
@@ -131,7 +142,7 @@ fn grow_first(first: &mut Vec<ValType>, defined: u32, count: u32, ty: &ValType) 
     requires { length first.old.items ≤ 64 }
     ensures front { (all : List TheValType) → length all ≡ defined → IsFront first.old.items all → IsFront first.new.items (all ++ replicate count ty.now) }
     ensures within { length first.new.items ≤ 64 }
-    ensures memory { IfErr result (λ e. e.kind ≡ OutOfMemory) }
+    ensures refused { IfErr result (λ e. (e.kind ≡ OutOfMemory) × (first.new.items ≡ first.old.items)) }
 {
     let held = first.as_slice().len();
     if held != defined as usize || held >= FIRST {
@@ -142,8 +153,9 @@ fn grow_first(first: &mut Vec<ValType>, defined: u32, count: u32, ty: &ValType) 
     Ok(())
 }
 
+/// The refusal of more locals than the limit allows.
 #[cold]
-fn too_many_locals(offset: u64) -> Error
+pub fn too_many_locals(offset: u64) -> Error
     ensures kind { result.kind ≡ Other }
     ensures offset { result.offset ≡ offset }
 {

@@ -104,6 +104,23 @@ some_label w cs xs ms inits n f d x h e =
     let k : n < length (reverse xs) = omega (arith, r, h) in
     rw (← x) (sym (held_get w xs ms inits n ∙ ap (option_map sort_of) (slice_get-get_or (reverse xs) n d k ∙ ap Some (get_or-reverse xs n d h ∙ sym e))))
 
+-- the outermost frame is the first of all
+pub no_first : (w : Fixed) (cs xs : List Frame) (ms : List MaybeType) (inits : List ℕ) → xs ≡ cs → length xs ≡ 0
+    → None ≡ option_map sort_of_open (slice_get (held w cs ms inits).opens (length (held w cs ms inits).opens - 1))
+no_first w cs xs ms inits x h =
+    let k = ap length x in
+    let n = held_count w cs ms inits in
+    no_label w cs ms inits (length (held w cs ms inits).opens - 1) (omega (arith, h, k, n))
+
+pub first_label : (w : Fixed) (cs xs : List Frame) (ms : List MaybeType) (inits : List ℕ) (f d : Frame) → xs ≡ cs → 0 < length xs → f ≡ get_or xs 0 d
+    → Some (sort_of f) ≡ option_map sort_of_open (slice_get (held w cs ms inits).opens (length (held w cs ms inits).opens - 1))
+first_label w cs xs ms inits f d x h e =
+    let k = ap length x in
+    let n = held_count w cs ms inits in
+    let i : length xs - 1 - (length (held w cs ms inits).opens - 1) ≡ 0 = omega (arith, k, n) in
+    let e' : f ≡ get_or xs (length xs - 1 - (length (held w cs ms inits).opens - 1)) d = rw i e in
+    some_label w cs xs ms inits (length (held w cs ms inits).opens - 1) f d x (omega (arith, h, k, n)) e'
+
 -- ---- one more local is set
 
 pub opens_set : (fs : List Frame) (ms : List MaybeType) (inits : List ℕ) (x height : ℕ) → Layered fs height (length inits)

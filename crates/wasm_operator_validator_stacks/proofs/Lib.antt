@@ -2,3 +2,4 @@ pub mod Layers
 pub mod Popping
 pub mod Fits
 pub mod Leaving
+pub mod Setting

@@ -1,8 +1,9 @@
 -- How the open frames lie in memory.
-use Rattle.std.specs.Prelude.{◌≡◌, ◌≤◌, ◌-◌, ℕ, reverse, Option, Some, None, Bool, List, [], ◌∷◌, length, take, drop, false}
+use Rattle.std.specs.Prelude.{◌≡◌, ◌≤◌, ◌-◌, ℕ, reverse, Option, Some, None, Bool, List, [], ◌∷◌, length, take, drop, true, false, zero, suc}
 use Rattle.wasm_types.specs.trees.Types.{ref, abstract}
 use Rattle.wasm_types.specs.values.declared.heap.AbstractHeapType.{AbstractHeapType}
 use Rattle.wasm_types.specs.values.declared.value.ValType.{ValType}
+use Rattle.wasm_types.specs.values.ValueKinds.{is_defaultable_type}
 use Rattle.wasm_types.specs.values.Trees.{abstract_of}
 use Rattle.wasm_operator_validator_rules.specs.Operands.{known, OperandBelow}
 use Rattle.wasm_operator_validator_resources.specs.Meaning.{Meaning, type_in}
@@ -31,6 +32,15 @@ state_of w saved failed frames operands inits =
 
 abbrev pub IsLayered : List Frame → List MaybeType → List ℕ → Type 0
 IsLayered frames operands inits = Layered (reverse frames) (length operands) (length inits)
+
+-- for each local, of which the first so many are parameters, whether it has a value from the start
+abbrev pub first_of : ℕ → List ValType → List Bool
+first_of n [] = []
+first_of zero (t ∷ ts) = is_defaultable_type t ∷ first_of zero ts
+first_of (suc n) (t ∷ ts) = true ∷ first_of n ts
+
+abbrev pub AreFirst : ℕ → List ValType → List Bool → Type 0
+AreFirst n locals first = (first ≡ first_of n locals) × (n ≤ length locals)
 
 -- what an attempt has saved is in order, and it has saved all three or none
 abbrev pub IsSavedLayered : Option (List Frame) → Option (List MaybeType) → Option (List ℕ) → Type 0

@@ -1,23 +1,29 @@
 //! Attempts: an operator is tried, and taken back.
 
-ghost use Rattle.std.specs.Prelude.{◌≡◌, [], false};
-ghost use Rattle.wasm_operator_validator_stacks.specs.Layout.{none_saved, rolled_back};
+ghost use Rattle.std.specs.Prelude.{◌≡◌, [], false, None};
+ghost use Rattle.wasm_operator_validator_stacks.specs.Layout.{none_saved, rolled_back, AreFirst};
 
 use crate::OperatorValidator;
 use std::alloc::Global;
+use wasm_operator_validator_inits::LocalInits;
 use wasm_operator_validator_locals::Locals;
 use wasm_operator_validator_tape::Tape;
 use wasm_types::WasmFeatures;
 
 impl OperatorValidator {
-    /// What is known where no frame is open yet: the locals, of which the first so many are parameters. It takes no memory.
+    /// What is known where no frame is open yet: the locals, of which the first so many are parameters, and which of them have a
+    /// value from the start. It takes no memory.
     pub fn new(
         alloc: Global,
         features: WasmFeatures,
         locals: Locals,
+        inits: LocalInits,
         params: u32,
         shared: bool,
     ) -> OperatorValidator
+        requires first { AreFirst params locals inits.first }
+        requires none_set { inits.set ≡ [] }
+        requires none_saved { inits.saved ≡ None }
         ensures { result ≡ record { given = record { bits = features.0; locals = locals; params = params; shared = shared }; inits = []; opens = []; failed = false; saved = none_saved } }
     {
         OperatorValidator {
@@ -29,7 +35,7 @@ impl OperatorValidator {
             failed_before: false,
             operands: Tape::new(alloc),
             control: Tape::new(alloc),
-            inits: Tape::new(alloc),
+            inits,
         }
     }
 

@@ -1,10 +1,11 @@
 //! Open frames.
 
-ghost use Rattle.std.specs.Prelude.{◌≡◌, ◌∷◌, ◌++◌, [], OnOk, IfErr, MatchResult, option_map, slice_get, length};
+ghost use Rattle.std.specs.Prelude.{◌≡◌, ◌∷◌, ◌<◌, ◌-◌, not, OnOk, IfErr, MatchResult, option_map, slice_get, length};
+ghost use Rattle.wasm_operator_validator_resources.specs.Meaning.{Meaning};
 ghost use Rattle.wasm_types.specs.error.Denials.{Denies};
 ghost use Rattle.wasm_operator_validator_state.specs.Refusals.{kind_of};
-ghost use Rattle.wasm_operator_validator_state.specs.State.{Open};
-ghost use Rattle.wasm_operator_validator_state.specs.Steps.{IsOpen, begun, Leaves, IsBare};
+ghost use Rattle.wasm_operator_validator_state.specs.State.{Open, initialised};
+ghost use Rattle.wasm_operator_validator_state.specs.Steps.{IsOpen, begun, Leaves, IsBare, with_init};
 ghost use Rattle.wasm_operator_validator_state.specs.declared.refusal.Refusal.TheVariants.{OutOfMemory};
 
 use crate::OperatorValidator;
@@ -34,6 +35,18 @@ impl OperatorValidator {
         Some((frame.block_type, frame.kind))
     }
 
+    /// The type and the kind of the outermost frame, that of the body.
+    pub fn outermost(&self) -> Option<(BlockType, FrameKind)>
+        ensures { result ≡ option_map (λ o. (o.block, o.kind)) (slice_get self.now.opens (length self.now.opens - 1)) }
+    {
+        let frames = self.control.as_slice();
+        if frames.is_empty() {
+            return None;
+        }
+        let outermost = frames[0];
+        Some((outermost.block_type, outermost.kind))
+    }
+
     /// Opens a frame. Its parameters are not on the operands yet. It is refused for memory alone, and nothing changes then.
     pub fn enter(&mut self, kind: FrameKind, block_type: BlockType) -> Result<(), Refusal>
         ensures entered { OnOk result (self.new ≡ record self.old { opens = begun kind block_type self.old.inits ∷ self.old.opens }) }
@@ -44,7 +57,7 @@ impl OperatorValidator {
             block_type,
             height: self.operands.as_slice().len(),
             unreachable: false,
-            init_height: self.inits.as_slice().len(),
+            init_height: self.inits.height(),
         };
         let Ok(()) = self.control.push(frame) else {
             return Err(Refusal::OutOfMemory);
@@ -66,7 +79,7 @@ impl OperatorValidator {
         if self.operands.as_slice().len() != frame.height {
             return Err(Refusal::ValuesRemain);
         }
-        let Ok(()) = self.inits.truncate(frame.init_height) else {
+        let Ok(()) = self.inits.pop_ctrl(frame.init_height) else {
             return Err(Refusal::OutOfMemory);
         };
         let Ok(_) = self.control.pop() else {
@@ -75,13 +88,23 @@ impl OperatorValidator {
         Ok(frame)
     }
 
-    /// Notes that a local was set. It is refused for memory alone, and nothing changes then.
+    /// Whether a local has no value yet.
+    #[inline]
+    pub fn is_uninit(&self, local_index: u32) -> bool
+        requires { local_index < length self.now.given.locals }
+        ensures { (m : Meaning) → result ≡ not (initialised m self.now.given self.now.inits local_index) }
+    {
+        self.inits.is_uninit(local_index)
+    }
+
+    /// Gives a local a value, which is noted where it has none yet. It is refused for memory alone, and nothing changes then.
     #[inline]
     pub fn set_init(&mut self, local_index: u32) -> Result<(), Refusal>
-        ensures set { OnOk result (self.new ≡ record self.old { inits = self.old.inits ++ local_index ∷ [] }) }
+        requires { local_index < length self.old.given.locals }
+        ensures set { (m : Meaning) → OnOk result (self.new ≡ with_init m self.old local_index) }
         ensures refused { IfErr result (λ r. (r ≡ OutOfMemory) × (self.new ≡ self.old)) }
     {
-        let Ok(()) = self.inits.push(local_index) else {
+        let Ok(()) = self.inits.set_init(local_index) else {
             return Err(Refusal::OutOfMemory);
         };
         Ok(())

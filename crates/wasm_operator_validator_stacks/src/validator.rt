@@ -7,10 +7,11 @@ ghost use Rattle.wasm_operator_validator_resources.specs.Meaning.{Meaning, type_
 ghost use Rattle.wasm_operator_validator_state.specs.Refusals.{Does, kind_of, refused};
 ghost use Rattle.wasm_operator_validator_state.specs.State.{State, types_in};
 ghost use Rattle.wasm_operator_validator_state.specs.Steps.{IsOpen, MayPopAny, PoppedAny, PushedAny, Popped, MayPop, Pushed, Jumped, Exchanged};
-ghost use Rattle.wasm_operator_validator_stacks.specs.Layout.{state_of, IsLayered, IsSavedLayered};
+ghost use Rattle.wasm_operator_validator_stacks.specs.Layout.{state_of, IsLayered, IsSavedLayered, AreFirst};
 
 use crate::fitting::{is_fit, type_mismatch};
 use std::marker::Model;
+use wasm_operator_validator_inits::LocalInits;
 use wasm_operator_validator_locals::Locals;
 use wasm_operator_validator_resources::WasmModuleResources;
 use wasm_operator_validator_state::{Frame, MaybeType, Refusal};
@@ -29,15 +30,15 @@ pub struct OperatorValidator {
     pub(crate) failed_before: bool,
     pub(crate) operands: Tape<MaybeType>,
     pub(crate) control: Tape<Frame>,
-    pub(crate) inits: Tape<u32>,
+    pub(crate) inits: LocalInits,
 }
 
 impl Model for OperatorValidator {
     ghost Value = { State };
 
-    ghost view = { λ v. state_of (record { bits = v.features.0; locals = v.locals; params = v.params; shared = v.shared }) (record { operands = v.operands.1; frames = v.control.1; inits = v.inits.1; failed = v.failed_before }) v.failed v.control.0 v.operands.0 v.inits.0 };
+    ghost view = { λ v. state_of (record { bits = v.features.0; locals = v.locals; params = v.params; shared = v.shared }) (record { operands = v.operands.1; frames = v.control.1; inits = v.inits.saved; failed = v.failed_before }) v.failed v.control.0 v.operands.0 v.inits.set };
 
-    ghost invariant = { λ v. IsLayered v.control.0 v.operands.0 v.inits.0 × IsSavedLayered v.control.1 v.operands.1 v.inits.1 };
+    ghost invariant = { λ v. IsLayered v.control.0 v.operands.0 v.inits.set × IsSavedLayered v.control.1 v.operands.1 v.inits.saved × AreFirst v.params v.locals v.inits.first };
 }
 
 impl OperatorValidator {

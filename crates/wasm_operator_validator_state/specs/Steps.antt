@@ -1,12 +1,12 @@
 -- What steps of a validator do to its state, by the stacks that it stands for.
-use Rattle.std.specs.Prelude.{◌≡◌, ◌↔◌, ℕ, List, [], ◌∷◌, ◌++◌, false}
+use Rattle.std.specs.Prelude.{◌≡◌, ◌↔◌, ℕ, List, [], ◌∷◌, ◌++◌, false, if◌then◌else◌}
 use Rattle.wasm_operators_expression.specs.immediates.declared.block.BlockType.{BlockType}
 use Rattle.wasm_operators_expression.specs.immediates.declared.frames.FrameKind.{FrameKind}
 use Rattle.wasm_operator_validator_rules.specs.Operands.{ValueType, Operand, AllBelow, stack}
 use Rattle.wasm_operator_validator_resources.specs.Meaning.{Meaning}
 use Rattle.wasm_operator_validator_state.specs.declared.frame.Frame.{Frame as OpenFrame}
 use Rattle.wasm_operator_validator_state.specs.declared.operand.MaybeType.{MaybeType}
-use Rattle.wasm_operator_validator_state.specs.State.{Open, State, Stands, Covers, signature_of}
+use Rattle.wasm_operator_validator_state.specs.State.{Open, State, Stands, Covers, signature_of, initialised}
 
 -- the stacks that the innermost frame's operands stand for
 abbrev pub StacksOf : Meaning → List Open → List Operand → Type 0
@@ -84,6 +84,10 @@ pub record Entered (m : Meaning) (σ : State) (k : FrameKind) (b : BlockType) (�
   pub saved : τ.saved ≡ σ.saved
   pub frames : SameFrames (begun k b σ.inits ∷ σ.opens) τ.opens
   pub stacks : (s : List Operand) → Stacks m τ s ↔ AllBelow (stack (signature_of m b).params) s
+
+-- a local has a value from here on
+abbrev pub with_init : Meaning → State → ℕ → State
+with_init m σ x = record σ { inits = if initialised m σ.given σ.inits x then σ.inits else σ.inits ++ x ∷ [] }
 
 -- the innermost frame has no operands of its own
 abbrev pub IsBare : List Open → Type 0

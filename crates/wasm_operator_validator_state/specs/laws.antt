@@ -5,4 +5,5 @@ pub mod Rows
 pub mod Entering
 pub mod Checks
 pub mod Frames
+pub mod Locals
 pub mod Bodies

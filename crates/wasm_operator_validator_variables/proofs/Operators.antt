@@ -1,5 +1,5 @@
 -- Globals and locals among the rows.
-use Rattle.std.proofs.Common.{◌≡◌, ◌↔◌, ◌∙◌, ℕ, List, [], ◌∷◌, Bool, true, false, Some, None, refl, sym, ap, subst, slice_get, option_map}
+use Rattle.std.proofs.Common.{◌≡◌, ◌↔◌, ◌∙◌, ℕ, List, [], ◌∷◌, Bool, true, false, not, Some, None, refl, sym, ap, subst, slice_get, option_map}
 use Rattle.std.proofs.lemmas.Option.{slice_get-map}
 use Rattle.wasm_types.specs.externs.declared.global.GlobalType.{GlobalType}
 use Rattle.wasm_types.specs.trees.Below.{value_is_shared}
@@ -57,6 +57,9 @@ set_constant m σ x v (e, u) h =
 
 -- ---- locals
 
+pub local_get_is : (x : ℕ) → IsPlain (op.Memory (memory.LocalGet x)) Mvp false
+local_get_is x = record { of = refl; named = refl; plain = refl }
+
 pub local_set_is : (x : ℕ) → IsPlain (op.Memory (memory.LocalSet x)) Mvp false
 local_set_is x = record { of = refl; named = refl; plain = refl }
 
@@ -83,6 +86,21 @@ at_local m σ x t P u popped pushed = (
   λ k. (t, record { local = u.0; used = u.1 }, k),
 )
 
+-- a local that has a value
+pub is_set : (b set : Bool) → b ≡ not set → b ≡ false → set ≡ true
+is_set b true e f = refl
+is_set b false e f = let x : true ≡ false = sym e ∙ f in cc
+
+pub is_unset : (b set : Bool) → b ≡ not set → b ≡ true → set ≡ false
+is_unset b true e f = let x : false ≡ true = sym e ∙ f in cc
+is_unset b false e f = refl
+
+pub local_get_row : (m : Meaning) (σ : State) (x : ℕ) (t : ValueType) → UsableLocal m σ x t → initialised m σ.given σ.inits x ≡ true → (popped pushed : List Operand)
+    → GroupRow (context m σ.given σ.opens) (initialised m σ.given σ.inits) (op.Memory (memory.LocalGet x)) popped pushed ↔ Takes [] (t ∷ []) popped pushed
+local_get_row m σ x t u i popped pushed =
+    let k = at_local m σ x t (λ v. Takes [] (v ∷ [])) u popped pushed in
+    (λ (v, l, j, h). k.0 (v, l, h), λ h. let (v, l, y) = k.1 h in (v, l, i, y))
+
 pub local_set_row : (m : Meaning) (σ : State) (x : ℕ) (t : ValueType) → UsableLocal m σ x t → (popped pushed : List Operand)
     → GroupRow (context m σ.given σ.opens) (initialised m σ.given σ.inits) (op.Memory (memory.LocalSet x)) popped pushed ↔ Takes (t ∷ []) [] popped pushed
 local_set_row m σ x t u = at_local m σ x t (λ v. Takes (v ∷ []) []) u
@@ -92,6 +110,15 @@ pub local_tee_row : (m : Meaning) (σ : State) (x : ℕ) (t : ValueType) → Usa
 local_tee_row m σ x t u = at_local m σ x t (λ v. Takes (v ∷ []) (v ∷ [])) u
 
 -- a local that may not be used has no row
+pub local_get_none : (m : Meaning) (σ : State) (x : ℕ) → ((t : ValueType) → UsableLocal m σ x t → ⊥) → (popped pushed : List Operand)
+    → GroupRow (context m σ.given σ.opens) (initialised m σ.given σ.inits) (op.Memory (memory.LocalGet x)) popped pushed → ⊥
+local_get_none m σ x n popped pushed (t, l, i, k) = n t (l.local, l.used)
+
+-- nor has one to read that has no value
+pub local_get_unset : (m : Meaning) (σ : State) (x : ℕ) → initialised m σ.given σ.inits x ≡ false → (popped pushed : List Operand)
+    → GroupRow (context m σ.given σ.opens) (initialised m σ.given σ.inits) (op.Memory (memory.LocalGet x)) popped pushed → ⊥
+local_get_unset m σ x e popped pushed (t, l, i, k) = let h : false ≡ true = sym e ∙ i in cc
+
 pub local_set_none : (m : Meaning) (σ : State) (x : ℕ) → ((t : ValueType) → UsableLocal m σ x t → ⊥) → (popped pushed : List Operand)
     → GroupRow (context m σ.given σ.opens) (initialised m σ.given σ.inits) (op.Memory (memory.LocalSet x)) popped pushed → ⊥
 local_set_none m σ x n popped pushed (t, l, k) = n t (l.local, l.used)

@@ -11,6 +11,6 @@ mod parametric;
 mod typed;
 
 pub use globals::{check_global_get, check_global_set};
-pub use locals::{check_local_set, check_local_tee};
+pub use locals::{check_local_get, check_local_set, check_local_tee};
 pub use parametric::{check_drop, check_select};
 pub use typed::{check_typed_select, check_typed_select_multi};

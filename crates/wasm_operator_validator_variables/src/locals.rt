@@ -16,6 +16,28 @@ use wasm_operator_validator_state::{Reason, Refusal};
 use wasm_operators_expression::{MemoryOperator, Proposal};
 use wasm_types::ValType;
 
+/// `local.get`, of a local that has a value (WebAssembly 3.0, validation, variable instructions).
+pub fn check_local_get<R: WasmModuleResources>(
+    validator: &mut OperatorValidator,
+    resources: &R,
+    local_index: u32,
+) -> Result<(), Refusal>
+    ensures { Checks (R.meaning resources.now) validator.old (Op.Memory (MemoryOperator.LocalGet local_index)) (refused result) validator.new }
+{
+    match validator.begin(Proposal::Mvp, false) {
+        Ok(()) => (),
+        Err(refusal) => return Err(refusal),
+    }
+    let ty = match usable_local(validator, resources, local_index) {
+        Ok(ty) => ty,
+        Err(refusal) => return Err(refusal),
+    };
+    if validator.is_uninit(local_index) {
+        return Err(Refusal::UninitializedLocal { local_index });
+    }
+    validator.push_operands(resources, &[ty])
+}
+
 /// `local.set`: the local has a value from here on (WebAssembly 3.0, validation, variable instructions).
 pub fn check_local_set<R: WasmModuleResources>(
     validator: &mut OperatorValidator,

@@ -6,7 +6,7 @@ use Rattle.wasm_operator_validator_resources.specs.Meaning.{type_in}
 use Rattle.wasm_operator_validator_state.specs.Refusals.{kind_of}
 use Rattle.wasm_operator_validator_determined.specs.laws.Determined.{not_begun, refused_here, no_row, taken_only}
 use Rattle.wasm_operator_validator_variables.proofs.Operators.{local_set_is, local_set_row, local_set_none}
-use Rattle.wasm_operator_validator_variables.proofs.Setting.{set_in_the_end, not_exchanged}
+use Rattle.wasm_operator_validator_variables.proofs.Setting.{set_in_the_end, not_exchanged, set_within}
 use Rattle.wasm_operator_validator_variables.proofs.locals.check_local_set.Goals as goal
 
 pub returns-in-Err : goal.returns-in-Err
@@ -28,10 +28,15 @@ returns-in-Err-pop_operand g c =
     (local_set_is c.args.local_index) c.in-Ok.ensures.begins (local_set_row m c.args.validator.now c.args.local_index (type_in m c.in-Ok-usable_local.ty) c.in-Ok-usable_local.ensures) c.in-Err-pop_operand.ensures.does
     (record { given = c.pop_operand.ensures.given; failed = c.pop_operand.ensures.failed; saved = c.pop_operand.ensures.saved })
 
+pub set_init-requires : goal.set_init-requires
+set_init-requires g c =
+    let m = g.R.WasmModuleResources.meaning c.args.resources.now in
+    set_within m c.args.validator.now c.pop_operand.new.self c.args.local_index (type_in m c.in-Ok-usable_local.ty) c.pop_operand.ensures.given c.in-Ok-usable_local.ensures.0
+
 pub returns : goal.returns
 returns g c =
     let m = g.R.WasmModuleResources.meaning c.args.resources.now in
     set_in_the_end c.set_init.result m c.args.validator.now c.pop_operand.new.self c.set_init.new.self (op.Memory (memory.LocalSet c.args.local_index)) Mvp false
     (type_in m c.in-Ok-usable_local.ty ∷ []) [] c.args.local_index (local_set_is c.args.local_index) c.in-Ok.ensures.begins (λ set. refl)
     (local_set_row m c.args.validator.now c.args.local_index (type_in m c.in-Ok-usable_local.ty) c.in-Ok-usable_local.ensures)
-    (taken_only None m c.args.validator.now c.pop_operand.new.self (type_in m c.in-Ok-usable_local.ty ∷ []) c.in-Ok-pop_operand.ensures.does) c.set_init.ensures.set c.set_init.ensures.refused
+    (taken_only None m c.args.validator.now c.pop_operand.new.self (type_in m c.in-Ok-usable_local.ty ∷ []) c.in-Ok-pop_operand.ensures.does) (c.set_init.ensures.set m) c.set_init.ensures.refused

@@ -5,17 +5,9 @@ use Rattle.wasm_operator_validator_locals.specs.Locals.{IsFront}
 use Rattle.wasm_operator_validator_locals.proofs.Runs.{run_fits, none_more, length-more, memory_only}
 use Rattle.wasm_operator_validator_locals.proofs.locals.Locals.define.Goals as goal
 
-pub invariant_of-self-2 : goal.invariant_of-self-2
+pub invariant_of-self-in_default : goal.invariant_of-self-in_default
 unfolding default_limits
-invariant_of-self-2 c =
-    let fits = run_fits _ _ _ c.args.count c.args.ty.now c.self.invariant.0 c.self.view_is c.len_locals-defined.ensures.value c.if-count-defined.false c.len_locals-defined.ensures.within in
-    let f = subst (λ (xs : List ValType). IsFront c.self.inside.first.items xs) c.self.view_is c.self.invariant.1 in
-    let g = c.grow_first.ensures.front c.args.self.now (sym c.len_locals-defined.ensures.value) f in
-    rw c.in_ok-push.ensures.items (fits.0, subst (λ (xs : List ValType). IsFront c.grow_first.new.first.items xs) (sym fits.1) g, c.grow_first.ensures.within)
-
-pub invariant_of-self-in_err-grow_first : goal.invariant_of-self-in_err-grow_first
-unfolding default_limits
-invariant_of-self-in_err-grow_first c =
+invariant_of-self-in_default c =
     let fits = run_fits _ _ _ c.args.count c.args.ty.now c.self.invariant.0 c.self.view_is c.len_locals-defined.ensures.value c.if-count-defined.false c.len_locals-defined.ensures.within in
     let f = subst (λ (xs : List ValType). IsFront c.self.inside.first.items xs) c.self.view_is c.self.invariant.1 in
     let g = c.grow_first.ensures.front c.args.self.now (sym c.len_locals-defined.ensures.value) f in
@@ -43,11 +35,9 @@ unfolding default_limits
 returns-in_err-push-clause-memory c =
     memory_only c.from_residual.result _ (omega (arith, c.if-count-eq0.false), omega (arith, c.if-count-defined.false, c.len_locals-defined.ensures.value, c.len_locals-defined.ensures.within))
 
-pub returns-in_err-grow_first-clause-memory : goal.returns-in_err-grow_first-clause-memory
+pub returns-in-Err-clause-memory : goal.returns-in-Err-clause-memory
 unfolding default_limits
-returns-in_err-grow_first-clause-memory c =
-    memory_only c.from_residual-in_err-grow_first.result _ (
-      omega (arith, c.if-count-eq0.false),
-      omega
-          (arith, c.if-count-defined.false, c.len_locals-defined.ensures.value, c.len_locals-defined.ensures.within),
-    )
+returns-in-Err-clause-memory c = λ e. (
+  omega (arith, c.if-count-eq0.false),
+  omega (arith, c.if-count-defined.false, c.len_locals-defined.ensures.value, c.len_locals-defined.ensures.within),
+)
