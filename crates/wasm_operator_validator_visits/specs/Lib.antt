@@ -1,2 +1,3 @@
--- What a visit promises, by what its visitor answers.
+-- What a visit promises, by what its visitor answers; operators that have no rule yet.
 pub mod Visiting
+pub mod Unsupported

@@ -4,7 +4,13 @@
 //! follow (`Visits` of `wasm_operator_validator_state`); where it is refused, the validator has failed.
 #![tactic(auto)]
 
+mod accesses;
+mod atomics;
+mod floats;
+mod gc;
 mod integers;
+mod shared;
+mod unsupported;
 mod visitor;
 
 pub use visitor::{FromRefusal, ValidatingVisitor, WasmProposalValidator};

@@ -2,6 +2,7 @@
 
 ghost use Rattle.std.specs.Prelude.{◌≡◌, true, false};
 ghost use Rattle.wasm_types.specs.error.declared.error.ErrorKind.{ErrorKind};
+ghost use Rattle.wasm_types.specs.error.declared.error.ErrorKind.TheVariants.{Other};
 ghost use Rattle.wasm_operators_visit.specs.operator.Op.{Op};
 ghost use Rattle.wasm_operator_validator_state.specs.State.{Visits};
 ghost use Rattle.wasm_operator_validator_state.specs.Refusals.{kind_of};
@@ -12,7 +13,7 @@ use std::marker::PhantomData;
 use wasm_operator_validator_numbers::check_numbers;
 use wasm_operator_validator_resources::WasmModuleResources;
 use wasm_operator_validator_stacks::OperatorValidator;
-use wasm_operator_validator_state::Refusal;
+use wasm_operator_validator_state::{Reason, Refusal};
 use wasm_operators_expression::Proposal;
 use wasm_operators_visit::{NumericOperator, Visitor};
 use wasm_types::{Error, ValType};
@@ -25,6 +26,10 @@ pub trait FromRefusal {
     /// Tells of this refusal of the operator at this offset.
     fn from_refusal(refusal: Refusal, offset: u64) -> Self
         ensures { Self.kind_told result ≡ kind_of refusal };
+
+    /// Tells that the operator of this name at this offset is not supported yet.
+    fn unsupported(name: &'static str, offset: u64) -> Self
+        ensures { Self.kind_told result ≡ Other };
 }
 
 /// The refusal itself, in few bytes.
@@ -36,6 +41,11 @@ impl FromRefusal for Refusal {
         let _offset = offset;
         refusal
     }
+
+    fn unsupported(name: &'static str, offset: u64) -> Refusal {
+        let _told = (name, offset);
+        Refusal::Because(Reason::Unsupported)
+    }
 }
 
 /// An error with a message and the operator's offset.
@@ -45,6 +55,10 @@ impl FromRefusal for Error {
     #[inline]
     fn from_refusal(refusal: Refusal, offset: u64) -> Error {
         refusal.error(offset)
+    }
+
+    fn unsupported(name: &'static str, offset: u64) -> Error {
+        Error::fmt(format_args!("{name} is not supported yet"), offset)
     }
 }
 
