@@ -50,16 +50,13 @@ fn references_are_below_each_other_by_declaration(rt: HostRuntime) {
     let _ = intern_pair(&mut list, rt.alloc()).expect(&rt, "memory");
     let known = PackedIndex::from_id(CoreTypeId::new(0)).expect(&rt, "a small number");
     if list.type_count() > 0 {
-        let low = ValType::Ref(RefType::concrete(false, known));
-        same(
-            &rt,
-            list.valtype_is_subtype(low, ValType::Ref(RefType::STRUCTREF)),
-            true,
-        );
-        same(
-            &rt,
-            list.valtype_is_subtype(ValType::Ref(RefType::STRUCTREF), low),
-            false,
-        );
+        let below = list.reftype_is_subtype(RefType::concrete(false, known), RefType::STRUCTREF);
+        let above = list.reftype_is_subtype(RefType::STRUCTREF, RefType::concrete(false, known));
+        same(&rt, (below, above), (true, false));
     }
+    same(
+        &rt,
+        list.valtype_is_subtype(ValType::I32, ValType::I64),
+        false,
+    );
 }

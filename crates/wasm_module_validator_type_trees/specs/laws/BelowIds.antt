@@ -76,7 +76,10 @@ module _ (groups : List Group) (formed : IsFormed groups) (c : AreCanonical grou
     λ h. let found = tree_above h.1 i lt refl in (
       found.0,
       found.1,
-      (sym (shared_tree found.0 found.2) ∙ ap is_shared found.3 ∙ h.2, subst (λ (x : Abstract). AbstractBelow x a) (sym (ap (λ t. abstract_of (expanded t)) found.3) ∙ abstract_tree found.0 found.2) h.3),
+      (
+        sym (shared_tree found.0 found.2) ∙ ap is_shared found.3 ∙ h.2,
+        subst (λ (x : Abstract). AbstractBelow x a) (sym (ap (λ t. abstract_of (expanded t)) found.3) ∙ abstract_tree found.0 found.2) h.3,
+      ),
     ),
   )
 

@@ -1,9 +1,9 @@
 -- The ids of a group unfold to the places of its tree.
-use Rattle.std.proofs.Common.{◌≡◌, ◌∙◌, ℕ, zero, suc, ◌+◌, ◌-◌, ◌<◌, ◌≤◌, Bool, true, false, cond, List, [], ◌∷◌, ◌++◌, length, refl, ap, sym, subst, Some, arith, eqb}
+use Rattle.std.proofs.Common.{◌≡◌, ◌∙◌, ℕ, zero, suc, ◌+◌, ◌-◌, ◌<◌, Bool, true, false, cond, List, [], ◌∷◌, ◌++◌, length, refl, ap, sym, subst, Some, arith, eqb}
 use Rattle.std.specs.Prelude.{slice_get}
 use Rattle.std.proofs.lemmas.Bool.{eqb-true}
 use Rattle.std.proofs.lemmas.List.{length-append}
-use Rattle.wasm_types.specs.trees.Trees.{GroupTree, TypeTree}
+use Rattle.wasm_types.specs.trees.Trees.{GroupTree}
 use Rattle.wasm_module_validator_type_trees.specs.Groups.{Group, count, entries_of, tree_of, tree_behind, group_at, group_ranges}
 use Rattle.wasm_module_validator_type_trees.specs.Formed.{IsFormed, AreCanonical}
 use Rattle.wasm_module_validator_type_trees.specs.GroupIds.{Unfolds}
