@@ -3,7 +3,9 @@
 
 pub use wasm_sections_elements::laws::elements_are_lawful;
 pub use wasm_sections_frames::laws::{frames_are_lawful, frames_are_unique};
-pub use wasm_sections_limited::laws::{function_types_are_exact, runs_are_exact, sections_are_exact};
+pub use wasm_sections_limited::laws::{
+    function_types_are_exact, runs_are_exact, sections_are_exact,
+};
 pub use wasm_sections_parser::laws::steps_are_lawful;
 pub use wasm_sections_parser_hints::laws::hints_are_least;
 pub use wasm_sections_parser_laws::laws::{calls_give_modules, frames_are_of_modules};

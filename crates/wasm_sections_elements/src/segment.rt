@@ -115,7 +115,11 @@ fn read_expressions<'a, E: FromReader<'a>>(
     alloc: Global,
     reader: &mut BinaryReader<'a>,
 ) -> Result<ElementOf<'a, E>>
-    ensures answer { Gives (λ x. record { mode = mode_of E.view x.kind; items = items_of E.decoder x.items }) result reader.new (expressions_by (E.decoder reader.old.settings) bits (mode_of E.view kind) reader.old) }
+    ensures answer { Gives (λ x. record {
+      mode = mode_of E.view x.kind;
+      items =
+          items_of E.decoder x.items;
+    }) result reader.new (expressions_by (E.decoder reader.old.settings) bits (mode_of E.view kind) reader.old) }
     ensures range { IfOk result (λ x. x.range ≡ record { start = start; end = reader.new.place }) }
     ensures items { IfOk result (λ x. HoldsItems E.decoder reader.new x.items) }
     ensures memory { MemoryOnlyIf E.takes_memory result }
