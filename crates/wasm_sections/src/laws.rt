@@ -7,6 +7,7 @@ pub use wasm_sections_limited::laws::{
     function_types_are_exact, runs_are_exact, sections_are_exact,
 };
 pub use wasm_sections_parser::laws::steps_are_lawful;
+pub use wasm_sections_parser_calls::laws::calls_move_on;
 pub use wasm_sections_parser_hints::laws::hints_are_least;
 pub use wasm_sections_parser_laws::laws::{calls_give_modules, frames_are_of_modules};
 pub use wasm_sections_parser_steps::laws::frames_are_spelled;

@@ -598,3 +598,15 @@ need_least p q text n h = over (is_over p.progress) refl h
         → (q ≡ p) × IsLeast p text n
     over true e g = absurd g
     over false e g = ends e (at_end p text) refl g
+
+-- where none follow, no more bytes are asked for
+pub nothing_asked : (p : Parser) (text : List ℕ) (n : ℕ) (q : Parser) → Parses p text true (Ok (NeedMoreData n)) q → ⊥
+nothing_asked p text n q h = over (is_over p.progress) h
+  where
+    between : (b : Bool) → one_of b (Ends p true (Ok (NeedMoreData n)) q) (Comes p text true (Ok (NeedMoreData n)) q) → ⊥
+    between true g = let k = g.0 in cc
+    between false g = let k = g.0 in cc
+
+    over : (b : Bool) → one_of b (IsOver p (Ok (NeedMoreData n)) q) (one_of (at_end p text) (Ends p true (Ok (NeedMoreData n)) q) (Comes p text true (Ok (NeedMoreData n)) q)) → ⊥
+    over true g = g
+    over false g = between (at_end p text) g

@@ -14,7 +14,7 @@ use Rattle.wasm_sections_parser.specs.Parsing.{between}
 use Rattle.wasm_sections_parser_steps.specs.StepCases.{step_between}
 use Rattle.wasm_sections_parser_steps.specs.StepsComplete.{start_next_is}
 use Rattle.wasm_sections_parser_steps.specs.OrderLaws.{in_order, order_gives}
-use Rattle.wasm_sections_parser_laws.specs.Runs.{fresh, Run, entries, Frames, AreNoted, Opened, IsBetween, IsOpen}
+use Rattle.wasm_sections_parser_calls.specs.Runs.{fresh, Run, entries, Frames, AreNoted, Opened, IsBetween, IsOpen}
 use Rattle.wasm_sections_parser_laws.specs.Modules.{Begun, IsFront, IsClosed, IsCut, IsSpelledFront, IsStart}
 use Rattle.wasm_sections_parser_laws.specs.RunsComplete.{entries_run, run_then, noted_last, module_run}
 use Rattle.wasm_sections_parser_laws.specs.ModuleLaws.{noted_counted}

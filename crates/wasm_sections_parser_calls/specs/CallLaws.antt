@@ -16,9 +16,9 @@ use Rattle.wasm_sections_parser.specs.declared.progress.Progress.{Progress}
 use Rattle.wasm_sections_parser.specs.Steps.{Shape, counts_agree, is_over, Next, step}
 use Rattle.wasm_sections_parser.specs.StepLaws.{lawful-step}
 use Rattle.wasm_sections_parser.specs.Parsing.{shape_of, reads, between, at_end, staged, IsNext, Ends, Comes, one_of}
-use Rattle.wasm_sections_parser_laws.specs.Runs.{Run}
-use Rattle.wasm_sections_parser_laws.specs.Calls.{settings_of, shapes_of, stands, Called, Calls}
-use Rattle.wasm_sections_parser_steps.specs.PlainLaws.{restart, restarted, plain-step}
+use Rattle.wasm_sections_parser_calls.specs.Runs.{Run}
+use Rattle.wasm_sections_parser_calls.specs.Calls.{settings_of, shapes_of, stands, Called, Calls}
+use Rattle.wasm_sections_parser_calls.specs.PlainLaws.{restart, restarted, plain-step}
 
 abbrev given : Next → State → Outcome Next
 given y t = Done y t

@@ -12,7 +12,7 @@ use Rattle.wasm_sections_frames.specs.PartLaws.{decides-header}
 use Rattle.wasm_sections_parser.specs.declared.frame.Frame.{Frame}
 use Rattle.wasm_sections_parser.specs.declared.frame.Frame.TheVariants as frames
 use Rattle.wasm_sections_parser.specs.declared.parser.Parser.{Parser}
-use Rattle.wasm_sections_parser.specs.declared.parser.Chunk.TheVariants.{NeedMoreData, Parsed}
+use Rattle.wasm_sections_parser.specs.declared.parser.Chunk.TheVariants.{Parsed}
 use Rattle.wasm_sections_parser.specs.declared.progress.Stage.{Stage}
 use Rattle.wasm_sections_parser.specs.declared.progress.Stage.TheVariants as stages
 use Rattle.wasm_sections_parser.specs.declared.progress.Progress.{Progress}
@@ -151,18 +151,6 @@ module _ (p : Parser) (text : List ℕ) (eof : Bool) (n : ℕ) (f : Frame) (q : 
           (one_of (at_end p text) (Ends p eof (Ok (Parsed n f)) q) (Comes p text eof (Ok (Parsed n f)) q)) → is_over q.progress ≡ is_end f
       over true g = absurd g
       over false g = between (at_end p text) g
-
--- where none follow, no more bytes are asked for
-pub nothing_asked : (p : Parser) (text : List ℕ) (n : ℕ) (q : Parser) → Parses p text true (Ok (NeedMoreData n)) q → ⊥
-nothing_asked p text n q h = over (is_over p.progress) h
-  where
-    between : (b : Bool) → one_of b (Ends p true (Ok (NeedMoreData n)) q) (Comes p text true (Ok (NeedMoreData n)) q) → ⊥
-    between true g = let k = g.0 in cc
-    between false g = let k = g.0 in cc
-
-    over : (b : Bool) → one_of b (IsOver p (Ok (NeedMoreData n)) q) (one_of (at_end p text) (Ends p true (Ok (NeedMoreData n)) q) (Comes p text true (Ok (NeedMoreData n)) q)) → ⊥
-    over true g = g
-    over false g = between (at_end p text) g
 
 -- a refused parser stays at its offset
 pub refused_stays : (p : Parser) (text : List ℕ) (eof : Bool) (e : ErrorValue) (q : Parser) → Parses p text eof (Err e) q → q.offset ≡ p.offset
