@@ -6,7 +6,8 @@ use std::fmt::Write;
 use std::test::Fail;
 use wasm_sections::{
     CodeSectionReader, DataKind, DataSectionReader, Element, ElementItems, ElementKind,
-    ElementSectionReader, FunctionBody, Parser, Payload, SectionLimited, TypeSectionReader,
+    ElementSectionReader, FunctionBody, Parser, Payload, SectionLimited, TableInit,
+    TableSectionReader, TypeSectionReader,
 };
 use wasm_types::{BinaryReader, FromReader, Result};
 
@@ -141,6 +142,45 @@ fn data_segments(rt: HostRuntime) -> Result<(), Fail> {
         text.as_str() == "active 0 1 7, passive 2 11, active 1 3 20, ",
         "{text}"
     );
+    Ok(())
+}
+
+// A table of null references, and one whose elements have another value at first.
+#[test]
+fn tables(rt: HostRuntime) -> Result<(), Fail> {
+    let bytes = [
+        0x02, 0x70, 0x00, 0x01, 0x40, 0x00, 0x70, 0x00, 0x02, 0xd0, 0x70, 0x0b,
+    ];
+    let mut text = String::new(rt.alloc());
+    for table in TableSectionReader::new(rt.alloc(), BinaryReader::new(&bytes, 0))? {
+        match table?.init {
+            TableInit::RefNull => write!(text, "null, ")?,
+            TableInit::Expr(_) => write!(text, "value, ")?,
+        }
+    }
+    assert!(rt; text.as_str() == "null, value, ", "{text}");
+    Ok(())
+}
+
+// A custom section's name, how many bytes follow it, and where it stands.
+#[test]
+fn custom_section(rt: HostRuntime) -> Result<(), Fail> {
+    let bytes = [
+        0x00, 0x61, 0x73, 0x6d, 0x01, 0x00, 0x00, 0x00, 0x00, 0x06, 0x04, 0x6e, 0x6f, 0x74, 0x65,
+        0x61,
+    ];
+    let mut text = String::new(rt.alloc());
+    for payload in Parser::new(rt.alloc(), 0).parse_all(&bytes) {
+        if let Payload::CustomSection(section) = payload? {
+            let name = section.name();
+            let len = section.data().len();
+            let offset = section.data_offset();
+            let start = section.range().start;
+            let end = section.range().end;
+            write!(text, "{name} {len} {offset} {start} {end}")?;
+        }
+    }
+    assert!(rt; text.as_str() == "note 1 15 10 16", "{text}");
     Ok(())
 }
 
