@@ -1,5 +1,5 @@
 -- A frame's bytes are there, and a parser stands behind them.
-use Rattle.std.proofs.Common.{subst, Ok}
+use Rattle.std.proofs.Common.{rules, subst, Ok}
 use Rattle.wasm_sections_parser.specs.declared.parser.Chunk.{Chunk}
 use Rattle.wasm_sections_parser.specs.Parsing.{Parses}
 use Rattle.wasm_sections_parser_laws.specs.Advance.{parsed_within}
@@ -16,3 +16,6 @@ returns-in-Ok-clause-moves c =
     (parsed_within c.args.self.now.frames c.args.data.now c.args.eof c.in-Ok-Parsed.consumed c.in-Ok-Parsed.frame c.parse.new.self
     (subst (λ (k : Chunk). Parses c.args.self.now.frames c.args.data.now c.args.eof
     (Ok k) c.parse.new.self) c.in-Ok-Parsed.field-0-is c.in-Ok-Parsed.ensures.answer)).2
+
+pub returns-in-Err-from_frame-clause-answer : goal.returns-in-Err-from_frame-clause-answer
+returns-in-Err-from_frame-clause-answer c = search rules
