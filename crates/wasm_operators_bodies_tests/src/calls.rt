@@ -3,6 +3,7 @@ use bitflags::Flags;
 use std::process::Abort;
 use std::test::Fail;
 use wasm_operators_bodies::{ConstExpr, FunctionBody};
+use wasm_operators_counter::{Counter, Full, count_expression, count_next};
 use wasm_types::{BinaryReader, Result, ValType, WasmFeatures};
 
 // The bytes, with all features.
@@ -80,5 +81,37 @@ fn constants(rt: HostRuntime) -> Result<(), Fail> {
         3,
         "control frames remain at end of function body or expression",
     );
+    Ok(())
+}
+
+#[test]
+fn visits(rt: HostRuntime) -> Result<(), Fail> {
+    // one i32 as a local; local.get 0, drop, end
+    let text = [0x01, 0x01, 0x7f, 0x20, 0x00, 0x1a, 0x0b];
+    let body = FunctionBody::new(rt.alloc(), bytes(&text));
+    let mut counter = Counter {
+        left: 4,
+        frame: None,
+    };
+    let reader = body.get_binary_reader_for_operators()?;
+    assert!(rt; matches!(count_expression(rt.alloc(), reader, &mut counter), Ok(Ok(()))));
+    assert!(rt; counter.left == 1);
+    let mut operators = body.get_operators_reader()?;
+    assert!(rt; matches!(count_next(&mut operators, &mut counter), Ok(Ok(()))));
+    assert!(rt; counter.left == 0 && operators.original_position() == 5);
+    // the counter has no room, and is told of the operator that is read
+    assert!(rt; matches!(count_next(&mut operators, &mut counter), Ok(Err(Full))));
+    assert!(rt; operators.original_position() == 6);
+    // i64.const 1, end
+    let value = [0x42, 0x01, 0x0b];
+    let constant = ConstExpr::new(rt.alloc(), bytes(&value));
+    counter.left = 2;
+    let mut operators = constant.get_operators_reader();
+    assert!(rt; matches!(count_next(&mut operators, &mut counter), Ok(Ok(()))));
+    assert!(rt; operators.is_end_then_eof());
+    let reader = constant.get_binary_reader();
+    counter.left = 2;
+    assert!(rt; matches!(count_expression(rt.alloc(), reader, &mut counter), Ok(Ok(()))));
+    assert!(rt; counter.left == 0);
     Ok(())
 }
