@@ -1,12 +1,7 @@
 -- What clap finds in the words, as the files that they name.
-use Rattle.std.proofs.Common.{◌≡◌, ◌==◌, true, false, arith, ℕ, ◌<◌, List, [], ◌∷◌, length, map, ap, sym, subst, refl, inl, inr, ◌∙◌}
+use Rattle.std.proofs.Common.{◌≡◌, ◌==◌, true, false, arith, ℕ, ◌<◌, List, [], ◌∷◌, length, map, ap, sym, subst, ◌∙◌}
 use Rattle.std.specs.Prelude.{codes, Option, Some, None, Result, Ok, Err, IfOk, IfErr, IsSomeAnd, option_map, unwrap_or}
-use Rattle.std.specs.Prelude.{◌≢◌, IfSome}
-use Rattle.std.specs.Io.KnownBytes.{Keeps}
-use Rattle.std.proofs.KnownBytes.{Keeps-refl}
-use Rattle.clap.specs.Words.{FailsBy, HasKind, IsAmong, Kinds, kind_of, fault_of, is_simple_and_free}
-use Rattle.clap.specs.declared.error.kind.ErrorKind.{ErrorKind}
-use Rattle.clap.specs.declared.error.kind.ErrorKind.TheVariants.{DisplayHelp, OutOfMemory}
+use Rattle.clap.specs.Words.{FailsBy, fault_of, is_simple_and_free}
 use Rattle.clap.specs.declared.error.Error.{Error}
 use Rattle.std.specs.Borrow.{Bor}
 use Rattle.clap.specs.Simple.{App, HasMatchesOf, is_simple, matches_of}
@@ -16,10 +11,9 @@ use Rattle.clap.proofs.WalkLemmas.{raw_values-rows}
 use Rattle.clap.specs.declared.parser.matches.ArgMatches.{ArgMatches}
 use Rattle.wasm_check_program.specs.Words.{wasm_check, files_of, matches_on, refusals_of}
 use Rattle.wasm_check_program.specs.declared.command.Fault.{Fault}
-use Rattle.wasm_check_program.specs.declared.command.Fault.TheVariants as faults
 use Rattle.wasm_check_program.specs.declared.judging.Status.{Status}
 use Rattle.wasm_check_program.specs.declared.judging.Status.TheVariants.{AllValid, SomeInvalid}
-use Rattle.wasm_check_program.specs.Files.{texts, code_of, ReportsFiles, StopsFiles, IsStopped, Reports, Grows, ShowsHelp, HasNoStatus, IsUnshown}
+use Rattle.wasm_check_program.specs.Files.{texts, code_of, ReportsFiles, StopsFiles, IsStopped, Reports}
 
 -- the matches of a command that is this one are this one's
 pub matches_by : {E : Type 0} (a : App) (words : List (List ℕ)) (r : Result ArgMatches E) → a ≡ wasm_check → IfOk r (HasMatchesOf a words)
@@ -28,7 +22,8 @@ matches_by a words (Ok m) e h = (h (ap is_simple e)).0 ∙ ap (λ x. matches_of 
 matches_by a words (Err x) e h = tt
 
 -- what such a command refuses is what this one does
-pub refused_by : (a : App) (words : List (List ℕ)) (r : Result ArgMatches Error) → a ≡ wasm_check → (is_simple_and_free a ≡ true → FailsBy (fault_of a words) r) → FailsBy (refusals_of words) r
+pub refused_by : (a : App) (words : List (List ℕ)) (r : Result ArgMatches Error) → a ≡ wasm_check → (is_simple_and_free a ≡ true → FailsBy (fault_of a words) r)
+    → FailsBy (refusals_of words) r
 refused_by a words r e h = subst (λ (b : App). FailsBy (fault_of b words) r) e (h (ap is_simple_and_free e))
 
 -- status 2 of what was judged is a fault's
@@ -49,16 +44,6 @@ pub named_by : (words : List (List ℕ)) (m : ArgMatches) (o : Option (Bor (List
 named_by words m o names r g e = ap (λ (x : Option (List (List ℕ))). unwrap_or x [])
     (ap (option_map (λ (s : Bor (List (Bor (List ℕ)))). map (λ v. v.now) s.now)) (sym e) ∙ g ∙ raw_values-rows (found_of m) (codes "FILE") ∙ ap (all_of (codes "FILE")) r)
 
--- the files of the words, by what the matches have
-files_named : (words : List (List ℕ)) (m : ArgMatches) (o : Option (Bor (List (Bor (List ℕ))))) → rows_of (found_of m) ≡ matches_on words
-    → option_map (λ s. map (λ v. v.now) s.now) o ≡ option_map raw_values (matched_of (found_of m) (codes "FILE"))
-    → files_of words ≡ unwrap_or (option_map (λ (s : Bor (List (Bor (List ℕ)))). map (λ v. v.now) s.now) o) []
-files_named words m o r g = sym (ap (λ (x : Option (List (List ℕ))). unwrap_or x []) (g ∙ raw_values-rows (found_of m) (codes "FILE") ∙ ap (all_of (codes "FILE")) r))
-
-no_texts : (names : List (Bor (List ℕ))) → length names ≡ 0 → texts names ≡ []
-no_texts [] e = refl
-no_texts (n ∷ names) e = absurd (omega (arith, e))
-
 -- what was judged under other names is what was judged under these
 pub judged_as : (a b : List (List ℕ)) (old new : Option (List ℕ)) (status : Status) → a ≡ b → 0 < length a → ReportsFiles a old new status → Reports b old new status
 judged_as a b old new status e some reported = subst (λ names. Reports names old new status) e (record { some = some; reported = reported })
@@ -69,39 +54,17 @@ some_texts [] e = absurd cc
 some_texts (n ∷ names) e = omega arith
 
 -- what status 0 promises of what was judged
-pub judged_valid : (a b : List (List ℕ)) (old new : Option (List ℕ)) (r : Result Status Fault) (n : ℕ) → a ≡ b → 0 < length a → IfOk r (ReportsFiles a old new) → n ≡ code_of r → n ≡ 0
+pub judged_valid : (a b : List (List ℕ)) (old new : Option (List ℕ)) (r : Result Status Fault) (n : ℕ) → a ≡ b → 0 < length a → IfOk r (ReportsFiles a old new)
+    → n ≡ code_of r → n ≡ 0
     → Reports b old new AllValid
 judged_valid a b old new (Ok AllValid) n e some h q z = judged_as a b old new AllValid e some h
 judged_valid a b old new (Ok SomeInvalid) n e some h q z = absurd (omega (arith, q, z))
 judged_valid a b old new (Err f) n e some h q z = absurd (omega (arith, q, z))
 
 -- what status 1 promises of it
-pub judged_invalid : (a b : List (List ℕ)) (old new : Option (List ℕ)) (r : Result Status Fault) (n : ℕ) → a ≡ b → 0 < length a → IfOk r (ReportsFiles a old new) → n ≡ code_of r → n ≡ 1
+pub judged_invalid : (a b : List (List ℕ)) (old new : Option (List ℕ)) (r : Result Status Fault) (n : ℕ) → a ≡ b → 0 < length a → IfOk r (ReportsFiles a old new)
+    → n ≡ code_of r → n ≡ 1
     → Reports b old new SomeInvalid
 judged_invalid a b old new (Ok AllValid) n e some h q z = absurd (omega (arith, q, z))
 judged_invalid a b old new (Ok SomeInvalid) n e some h q z = judged_as a b old new SomeInvalid e some h
 judged_invalid a b old new (Err f) n e some h q z = absurd (omega (arith, q, z))
-
--- ---- what clap answers in place of matches
-
--- the help
-pub help_shown : (words : List (List ℕ)) (e : Error) (old new : Option (List ℕ)) → HasKind (refusals_of words) e → (kind_of e ≡ DisplayHelp) × Grows old new → ShowsHelp words old new
-help_shown words e old new (inl m) h = let no = sym m ∙ h.0 in absurd cc
-help_shown words e old new (inr a) h = (subst (λ (k : ErrorKind). IsAmong k (refusals_of words)) h.0 a, h.1)
-
-among_some : (k : ErrorKind) (kinds : Kinds) → IsAmong k kinds → kinds ≢ []
-among_some k [] a e = a
-among_some k (x ∷ xs) a e = absurd cc
-
--- anything else, or the help that could not be shown
-pub not_shown : (words : List (List ℕ)) (e : Error) (old new : Option (List ℕ)) → HasKind (refusals_of words) e → IsUnshown (kind_of e) old new
-    → (kind_of e ≡ OutOfMemory → Keeps old new) → HasNoStatus words old new
-not_shown words e old new (inl m) h memory = inr (inr (faults.OutOfMemory, memory m))
-not_shown words e old new (inr a) (inl kept) memory = inl (inl (among_some (kind_of e) (refusals_of words) a), kept)
-not_shown words e old new (inr a) (inr h) memory = inr (inl (help_shown words e old new (inr a) h))
-
--- words that name no files
-pub no_files : (words : List (List ℕ)) (m : ArgMatches) (o : Option (Bor (List (Bor (List ℕ))))) (old : Option (List ℕ)) → rows_of (found_of m) ≡ matches_on words
-    → option_map (λ s. map (λ v. v.now) s.now) o ≡ option_map raw_values (matched_of (found_of m) (codes "FILE")) → IfSome o (λ names. length names.now ≡ 0) → HasNoStatus words old old
-no_files words m None old r g e = inl (inr (files_named words m None r g), Keeps-refl old)
-no_files words m (Some names) old r g e = inl (inr (sym (named_by words m (Some names) names r g refl) ∙ no_texts names.now e), Keeps-refl old)

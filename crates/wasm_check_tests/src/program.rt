@@ -1,12 +1,18 @@
 //! Inputs that are judged, or not, and what the words of a command line lead to.
 
-use crate::expect::same;
 use crate::modules::{CONST_42, EMPTY_BODY};
 use std::alloc::{AllocError, Global};
+use std::fmt::Write;
 use std::io;
 use std::io::Read;
+use std::process::Abort;
 use std::test::Fail;
-use wasm_check_program::{CheckError, Input, Status, check, run};
+use wasm_check_program::{CheckError, Input, check, run};
+
+/// Ends the test where this was not told.
+fn same(rt: &impl Abort, told: &str, wanted: &str) {
+    assert!(rt; told == wanted, "{told}");
+}
 
 /// Gives its bytes a few at a time, and then ends or fails.
 #[derive(Drop)]
@@ -48,100 +54,85 @@ fn two_inputs(alloc: Global, fails: bool) -> Result<Vec<Input<'static, Pieces>>,
     Ok(inputs)
 }
 
-#[test]
-fn says_nothing_of_no_input(rt: HostRuntime) -> Result<(), Fail> {
-    let inputs: Vec<Input<'static, Pieces>> = Vec::new(rt.alloc());
-    let mut out: Vec<u8> = Vec::new(rt.alloc());
-    same(&rt, check(rt.alloc(), inputs, &mut out)?, Status::AllValid);
-    assert!(rt; out.is_empty());
-    Ok(())
+/// What judging them answers, and the lines that are written.
+fn judged(alloc: Global, inputs: Vec<Input<'static, Pieces>>) -> Result<String, Fail> {
+    let mut out: Vec<u8> = Vec::new(alloc);
+    let answer = check(alloc, inputs, &mut out);
+    let lines = str::from_utf8(out.as_slice())?;
+    Ok(format!(in alloc; "{answer:?} {lines}")?)
 }
 
 #[test]
 fn writes_a_line_for_each_input(rt: HostRuntime) -> Result<(), Fail> {
-    let mut out: Vec<u8> = Vec::new(rt.alloc());
-    let inputs = two_inputs(rt.alloc(), false)?;
+    let alloc = rt.alloc();
+    let none = judged(alloc, Vec::new(alloc))?;
+    let both = judged(alloc, two_inputs(alloc, false)?)?;
+    let failed = judged(alloc, two_inputs(alloc, true)?)?;
     same(
         &rt,
-        check(rt.alloc(), inputs, &mut out)?,
-        Status::SomeInvalid,
+        format!(in alloc; "{none}\n{both}{failed}")?.as_str(),
+        "Ok(AllValid) \nOk(SomeInvalid) m42.wasm: valid\nbad.wasm: invalid at 0x18: type mismatch: expected i32 but nothing on stack\nErr(Read(1)) m42.wasm: valid\n",
     );
-    let text =
-        b"m42.wasm: valid\nbad.wasm: invalid at 0x18: type mismatch: expected i32 but nothing on stack\n";
-    same(&rt, out.as_slice(), text.as_slice());
     Ok(())
 }
 
+// A writer with room for twenty bytes.
 #[test]
-fn stops_at_the_first_fault(rt: HostRuntime) -> Result<(), Fail> {
-    let mut out: Vec<u8> = Vec::new(rt.alloc());
-    let inputs = two_inputs(rt.alloc(), true)?;
-    same(
-        &rt,
-        check(rt.alloc(), inputs, &mut out),
-        Err(CheckError::Read(1)),
-    );
-    same(&rt, out.as_slice(), b"m42.wasm: valid\n".as_slice());
-
+fn stops_where_the_output_is_full(rt: HostRuntime) -> Result<(), Fail> {
+    let alloc = rt.alloc();
     let mut room = [0u8; 20];
     let mut full = room.as_mut_slice();
-    let inputs = two_inputs(rt.alloc(), false)?;
+    let answer = check(alloc, two_inputs(alloc, false)?, &mut full);
+    let lines = str::from_utf8(room.as_slice())?;
     same(
         &rt,
-        check(rt.alloc(), inputs, &mut full),
-        Err(CheckError::Write),
+        format!(in alloc; "{answer:?} {lines}")?.as_str(),
+        "Err(Write) m42.wasm: valid\nbad.",
     );
-    same(&rt, room.as_slice(), b"m42.wasm: valid\nbad.".as_slice());
+    Ok(())
+}
+
+/// Adds the status of a run with these words, the first line of what it writes, and the first two of what it tells.
+fn tell(rt: &HostRuntime, text: &mut String, words: &[&str]) -> Result<(), Fail> {
+    let mut out: Vec<u8> = Vec::new(rt.alloc());
+    let mut err: Vec<u8> = Vec::new(rt.alloc());
+    let status = run(rt, words, &mut out, &mut err);
+    let shown = str::from_utf8(out.as_slice())?.lines().next().unwrap_or("");
+    write!(text, "{status} {shown}:")?;
+    for line in str::from_utf8(err.as_slice())?.lines().take(2) {
+        write!(text, " {line}")?;
+    }
+    text.push('\n')?;
     Ok(())
 }
 
 #[test]
 fn tells_faults_from_help(rt: HostRuntime) -> Result<(), Fail> {
-    let missing = "error: the following required arguments were not provided:\n  <FILE>...\n";
-    let help = "Says of each file whether it is a valid WebAssembly module\n";
-    let rows = [
-        (
-            ["wasm-check", "gone.wasm"].as_slice(),
-            2,
-            "",
-            "wasm-check: gone.wasm: cannot open\n",
-        ),
-        (
-            ["wasm-check", "/dev/null", "gone.wasm"].as_slice(),
-            2,
-            "",
-            "wasm-check: gone.wasm: cannot open\n",
-        ),
-        (
-            ["wasm-check", "--", "--help", "gone.wasm"].as_slice(),
-            2,
-            "",
-            "wasm-check: --help: cannot open\n",
-        ),
-        (["wasm-check"].as_slice(), 2, "", missing),
-        (["wasm-check", "--help"].as_slice(), 0, help, ""),
-    ];
-    for (words, status, shown, told) in rows {
-        let mut out: Vec<u8> = Vec::new(rt.alloc());
-        let mut err: Vec<u8> = Vec::new(rt.alloc());
-        same(&rt, run(&rt, words, &mut out, &mut err), status);
-        assert!(rt; out.starts_with(shown.as_bytes()) && out.is_empty() == shown.is_empty());
-        assert!(rt; err.starts_with(told.as_bytes()) && err.is_empty() == told.is_empty());
-    }
+    let mut text = String::new(rt.alloc());
+    tell(&rt, &mut text, &["wasm-check", "gone.wasm"])?;
+    tell(&rt, &mut text, &["wasm-check", "/dev/null", "gone.wasm"])?;
+    tell(&rt, &mut text, &["wasm-check", "--", "--help", "gone.wasm"])?;
+    tell(&rt, &mut text, &["wasm-check"])?;
+    tell(&rt, &mut text, &["wasm-check", "--help"])?;
+    same(
+        &rt,
+        text.as_str(),
+        "2 : wasm-check: gone.wasm: cannot open\n2 : wasm-check: gone.wasm: cannot open\n2 : wasm-check: --help: cannot open\n2 : error: the following required arguments were not provided:   <FILE>...\n0 Says of each file whether it is a valid WebAssembly module:\n",
+    );
     Ok(())
 }
 
 #[test]
 fn tells_what_went_wrong(rt: HostRuntime) -> Result<(), Fail> {
-    let rows = [
-        (CheckError::Read(0), 1, "input 0: cannot read"),
-        (CheckError::TooLong(1), 2, "input 1: too long"),
-        (CheckError::OutOfMemory(12), 3, "input 12: out of memory"),
-        (CheckError::Write, 4, "cannot write"),
-    ];
-    for (error, number, text) in rows {
-        same(&rt, error.number(), number);
-        assert!(rt; error.to_string(rt.alloc())?.as_str() == text);
-    }
+    let alloc = rt.alloc();
+    let read = CheckError::Read(0);
+    let long = CheckError::TooLong(1);
+    let memory = CheckError::OutOfMemory(12);
+    let write = CheckError::Write;
+    same(
+        &rt,
+        format!(in alloc; "{read}; {long}; {memory}; {write}")?.as_str(),
+        "input 0: cannot read; input 1: too long; input 12: out of memory; cannot write",
+    );
     Ok(())
 }

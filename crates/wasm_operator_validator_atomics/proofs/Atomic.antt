@@ -4,25 +4,25 @@ use Rattle.wasm_types.specs.trees.Types.{Number, i32, i64}
 use Rattle.wasm_types.specs.externs.declared.memory.MemoryType.{MemoryType}
 use Rattle.wasm_types.specs.values.declared.value.ValType.{ValType}
 use Rattle.wasm_types.specs.values.declared.value.ValType.TheVariants as vals
-use Rattle.wasm_operators_expression.specs.immediates.declared.memory.MemArg.{MemArg}
-use Rattle.wasm_operators_expression.specs.info.declared.proposal.Proposal.TheVariants.{Threads}
-use Rattle.wasm_operators_expression.specs.threads.declared.atomic.AtomicOperator.{AtomicOperator}
-use Rattle.wasm_operators_expression.specs.threads.declared.atomic.AtomicOperator.TheVariants as atomic
-use Rattle.wasm_operators_expression.specs.threads.Table.{atomic_info}
-use Rattle.wasm_operators_expression.specs.operator.Op as op
-use Rattle.wasm_operator_validator_rules.specs.Operands.{ValueType}
-use Rattle.wasm_operator_validator_rules.specs.Context.{Context, address_type}
-use Rattle.wasm_operator_validator_rules.specs.Accesses.{Access, AccessOf, atomic_access_of, load, store, modify, compare_exchange, notify, wait, is_aligned, is_within, is_in_memory}
-use Rattle.wasm_operator_validator_rules.specs.InstructionTypes.{◌⟶◌, accesses, atomic_type_of, instruction_type}
-use Rattle.wasm_operator_validator_resources.specs.Meaning.{Meaning, type_in}
-use Rattle.wasm_operator_validator_state.specs.Refusals.{Does, refused}
-use Rattle.wasm_operator_validator_state.specs.declared.refusal.Refusal.{Refusal}
-use Rattle.wasm_operator_validator_state.specs.Entering.{MayBegin, StopsWith}
-use Rattle.wasm_operator_validator_state.specs.State.{State, context, types_in, Checks}
-use Rattle.wasm_operator_validator_determined.specs.Operators.{IsInTable, IsOfContent}
-use Rattle.wasm_operator_validator_determined.specs.laws.Types.{number_in}
-use Rattle.wasm_operator_validator_determined.specs.laws.Same.{stays_refl}
-use Rattle.wasm_operator_validator_determined.specs.laws.Determined.{not_begun, stopped_by_content, unchanged, determined}
+use Rattle.wasm_operator_validator_memory.specs.expression.immediates.declared.memory.MemArg.{MemArg}
+use Rattle.wasm_operator_validator_memory.specs.expression.info.declared.proposal.Proposal.TheVariants.{Threads}
+use Rattle.wasm_operator_validator_memory.specs.expression.threads.declared.atomic.AtomicOperator.{AtomicOperator}
+use Rattle.wasm_operator_validator_memory.specs.expression.threads.declared.atomic.AtomicOperator.TheVariants as atomic
+use Rattle.wasm_operator_validator_memory.specs.expression.threads.Table.{atomic_info}
+use Rattle.wasm_operator_validator_memory.specs.expression.operator.Op as op
+use Rattle.wasm_operator_validator_memory.specs.rules.Operands.{ValueType}
+use Rattle.wasm_operator_validator_memory.specs.rules.Context.{Context, address_type}
+use Rattle.wasm_operator_validator_memory.specs.rules.Accesses.{Access, AccessOf, atomic_access_of, load, store, modify, compare_exchange, notify, wait, is_aligned, is_within, is_in_memory}
+use Rattle.wasm_operator_validator_memory.specs.rules.InstructionTypes.{◌⟶◌, accesses, atomic_type_of, instruction_type}
+use Rattle.wasm_operator_validator_memory.specs.resources.Meaning.{Meaning, type_in}
+use Rattle.wasm_operator_validator_memory.specs.state.Refusals.{Does, refused}
+use Rattle.wasm_operator_validator_memory.specs.state.declared.refusal.Refusal.{Refusal}
+use Rattle.wasm_operator_validator_memory.specs.state.Entering.{MayBegin, StopsWith}
+use Rattle.wasm_operator_validator_memory.specs.state.State.{State, context, types_in, Checks}
+use Rattle.wasm_operator_validator_memory.specs.determined.Operators.{IsInTable, IsOfContent}
+use Rattle.wasm_operator_validator_memory.specs.determined.laws.Types.{number_in}
+use Rattle.wasm_operator_validator_memory.specs.determined.laws.Same.{stays_refl}
+use Rattle.wasm_operator_validator_memory.specs.determined.laws.Determined.{not_begun, stopped_by_content, unchanged, determined}
 use Rattle.wasm_operator_validator_memory.specs.Reaching.{reached, number_of}
 use Rattle.wasm_operator_validator_memory.specs.laws.Reaching.{accesses_at, accesses_nowhere}
 use Rattle.wasm_operator_validator_atomics.specs.Atomics.{IsAtomic}

@@ -12,3 +12,7 @@ pub use accesses::{
     check_atomic_compare_exchange, check_atomic_load, check_atomic_modify, check_atomic_store,
 };
 pub use waiting::{check_atomic_fence, check_atomic_notify, check_atomic_wait};
+pub use wasm_operator_validator_memory::{
+    check_data_drop, check_load, check_memory_copy, check_memory_discard, check_memory_fill,
+    check_memory_grow, check_memory_init, check_memory_size, check_store,
+};

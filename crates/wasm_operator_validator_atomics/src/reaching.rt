@@ -1,13 +1,12 @@
 //! Which atomic accesses a memory allows.
 
 ghost use Rattle.std.specs.Prelude.{◌≡◌, true, slice_get, MatchResult};
-ghost use Rattle.wasm_operator_validator_resources.specs.Meaning.{type_in};
+ghost use Rattle.wasm_operator_validator_memory.specs.resources.Meaning.{type_in};
 ghost use Rattle.wasm_operator_validator_memory.specs.Reaching.{reached};
 
-use wasm_operator_validator_memory::{has_alignment, reach};
-use wasm_operator_validator_resources::WasmModuleResources;
-use wasm_operator_validator_state::{Reason, Refusal};
-use wasm_operators_expression::MemArg;
+use wasm_operator_validator_memory::{
+    MemArg, Reason, Refusal, WasmModuleResources, has_alignment, reach,
+};
 use wasm_types::ValType;
 
 /// The type of addresses of the memory that an argument reaches into, where the memory allows an atomic access by it. The alignment is

@@ -2,17 +2,16 @@
 
 ghost use Rattle.std.specs.Prelude.{IfErr};
 ghost use Rattle.wasm_operators_visit.specs.operator.Op.{Op};
-ghost use Rattle.wasm_operator_validator_rules.specs.Accesses.{wait};
-ghost use Rattle.wasm_operator_validator_state.specs.State.{Checks};
-ghost use Rattle.wasm_operator_validator_state.specs.Refusals.{refused};
-ghost use Rattle.wasm_operator_validator_determined.specs.Operators.{IsOfContent};
+ghost use Rattle.wasm_operator_validator_memory.specs.rules.Accesses.{wait};
+ghost use Rattle.wasm_operator_validator_memory.specs.state.State.{Checks};
+ghost use Rattle.wasm_operator_validator_memory.specs.state.Refusals.{refused};
+ghost use Rattle.wasm_operator_validator_memory.specs.determined.Operators.{IsOfContent};
 ghost use Rattle.wasm_operator_validator_atomics.specs.Atomics.{IsAtomic};
 
 use crate::reaching::reach_atomic;
-use wasm_operator_validator_resources::WasmModuleResources;
-use wasm_operator_validator_stacks::OperatorValidator;
-use wasm_operator_validator_state::Refusal;
-use wasm_operators_expression::{MemArg, Proposal};
+use wasm_operator_validator_memory::{
+    MemArg, OperatorValidator, Proposal, Refusal, WasmModuleResources,
+};
 use wasm_operators_visit::AtomicOperator;
 use wasm_types::ValType;
 

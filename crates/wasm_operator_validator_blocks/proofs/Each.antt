@@ -2,8 +2,8 @@
 use Rattle.std.proofs.Common.{◌≡◌, ◌↔◌, ◌∙◌, ◌<◌, ◌+◌, ℕ, zero, suc, List, [], ◌∷◌, length, map, get_or, IsTrue, true, false, Bool, refl, sym, ap, arith}
 use Rattle.wasm_types.specs.trees.Below.{Below}
 use Rattle.wasm_types.specs.values.declared.value.ValType.{ValType}
-use Rattle.wasm_operator_validator_rules.specs.Operands.{AllBelow, all_known}
-use Rattle.wasm_operator_validator_resources.specs.Meaning.{Meaning, type_in}
+use Rattle.wasm_operator_validator_state.specs.rules.Operands.{AllBelow, all_known}
+use Rattle.wasm_operator_validator_state.specs.resources.Meaning.{Meaning, type_in}
 use Rattle.wasm_operator_validator_state.specs.State.{types_in}
 
 abbrev pub AreBelow : Meaning → List ValType → List ValType → Type 0

@@ -10,9 +10,9 @@ use Rattle.wasm_types.specs.trees.Types.{HeapOf, ValueOf, abstract, concrete, ex
 use Rattle.wasm_types.specs.trees.Each.{EachHeap, EachValue}
 use Rattle.wasm_types.specs.values.declared.value.ValType.{ValType}
 use Rattle.wasm_types.specs.values.Values.{value_of}
-use Rattle.wasm_operator_validator_rules.specs.Operands.{ValueType}
-use Rattle.wasm_operator_validator_rules.specs.Context.{IsType, IsTypeIndex, written_type}
-use Rattle.wasm_operator_validator_resources.specs.Meaning.{Meaning, named_type, type_in}
+use Rattle.wasm_operator_validator_state.specs.rules.Operands.{ValueType}
+use Rattle.wasm_operator_validator_state.specs.rules.Context.{IsType, IsTypeIndex, written_type}
+use Rattle.wasm_operator_validator_state.specs.resources.Meaning.{Meaning, named_type, type_in}
 
 same_index : (m : Meaning) (i : UnpackedIndex) → IsTypeIndex m.«module» i → written_type m.«module» i ≡ named_type m i
 same_index m (index.Module n) k = refl

@@ -14,8 +14,8 @@ use Rattle.wasm_types.specs.groups.Entries.{inner_of}
 use Rattle.wasm_types.specs.groups.declared.composite.CompositeInnerType.{CompositeInnerType}
 use Rattle.wasm_types.specs.groups.declared.composite.CompositeInnerType.TheVariants.{Func, Array, Struct, Cont}
 use Rattle.wasm_types.specs.groups.declared.sub_type.SubType.{SubType}
-use Rattle.wasm_operator_validator_rules.specs.Context.{Signature}
-use Rattle.wasm_operator_validator_resources.specs.Meaning.{Meaning, named_type, entry_in, type_in}
+use Rattle.wasm_operator_validator_state.specs.rules.Context.{Signature}
+use Rattle.wasm_operator_validator_state.specs.resources.Meaning.{Meaning, named_type, entry_in, type_in}
 use Rattle.wasm_operator_validator_state.specs.State.{types_in, signature_of_type}
 use Rattle.wasm_operator_validator_blocks.specs.Signatures.{signature_in, IsFunctionAt}
 

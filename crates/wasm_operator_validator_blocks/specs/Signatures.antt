@@ -2,9 +2,9 @@
 use Rattle.std.specs.Prelude.{◌≡◌, ℕ, [], Option, Some, None, slice_get}
 use Rattle.wasm_types.specs.trees.Trees.{TypeTree}
 use Rattle.wasm_types.specs.fields.declared.func.FuncType.{FuncType}
-use Rattle.wasm_operators_expression.specs.immediates.declared.block.BlockType.{BlockType}
-use Rattle.wasm_operator_validator_rules.specs.Context.{Signature, IsFunctionType, IsBlockType}
-use Rattle.wasm_operator_validator_resources.specs.Meaning.{Meaning}
+use Rattle.wasm_operator_validator_state.specs.expression.immediates.declared.block.BlockType.{BlockType}
+use Rattle.wasm_operator_validator_state.specs.rules.Context.{Signature, IsFunctionType, IsBlockType}
+use Rattle.wasm_operator_validator_state.specs.resources.Meaning.{Meaning}
 use Rattle.wasm_operator_validator_state.specs.State.{Given, types_in, context}
 
 -- the signature of a function type of the code

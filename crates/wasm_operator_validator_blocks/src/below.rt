@@ -1,10 +1,10 @@
 //! Types in one place of others.
 
 ghost use Rattle.std.specs.Prelude.{◌↔◌, IsTrue};
-ghost use Rattle.wasm_operator_validator_rules.specs.Operands.{AllBelow, all_known};
+ghost use Rattle.wasm_operator_validator_state.specs.rules.Operands.{AllBelow, all_known};
 ghost use Rattle.wasm_operator_validator_state.specs.State.{types_in};
 
-use wasm_operator_validator_resources::WasmModuleResources;
+use wasm_operator_validator_state::WasmModuleResources;
 use wasm_types::ValType;
 
 /// Whether operands of the first types may be taken for operands of the second, each for that in its place (WebAssembly 3.0,

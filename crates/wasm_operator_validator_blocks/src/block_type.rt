@@ -3,17 +3,15 @@
 ghost use Rattle.std.specs.Prelude.{◌≡◌, ◌↔◌, MatchResult};
 ghost use Rattle.wasm_types.specs.error.Denials.{Denies};
 ghost use Rattle.wasm_types.specs.error.declared.error.ErrorKind.TheVariants.{OutOfMemory};
-ghost use Rattle.wasm_operator_validator_rules.specs.Operands.{ValueType};
-ghost use Rattle.wasm_operator_validator_rules.specs.Context.{Signature, IsType};
-ghost use Rattle.wasm_operator_validator_resources.specs.Meaning.{type_in};
+ghost use Rattle.wasm_operator_validator_state.specs.rules.Operands.{ValueType};
+ghost use Rattle.wasm_operator_validator_state.specs.rules.Context.{Signature, IsType};
+ghost use Rattle.wasm_operator_validator_state.specs.resources.Meaning.{type_in};
 ghost use Rattle.wasm_operator_validator_state.specs.Refusals.{kind_of};
 ghost use Rattle.wasm_operator_validator_state.specs.State.{Given, signature_of};
 ghost use Rattle.wasm_operator_validator_blocks.specs.Signatures.{IsBlock};
 
 use crate::signatures::function_at;
-use wasm_operator_validator_resources::WasmModuleResources;
-use wasm_operator_validator_state::{Reason, Refusal, Space};
-use wasm_operators_expression::BlockType;
+use wasm_operator_validator_state::{BlockType, Reason, Refusal, Space, WasmModuleResources};
 use wasm_types::{Error, ErrorKind, ValType, WasmFeatures};
 
 /// A block type as code writes it, under these features, with the types in it named by their ids (WebAssembly 3.0, validation, types,

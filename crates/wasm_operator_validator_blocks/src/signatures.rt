@@ -2,13 +2,12 @@
 
 ghost use Rattle.std.specs.Prelude.{◌≡◌, option_map};
 ghost use Rattle.wasm_types.specs.groups.Kinds.{func_in};
-ghost use Rattle.wasm_operator_validator_rules.specs.Context.{label_of};
+ghost use Rattle.wasm_operator_validator_state.specs.rules.Context.{label_of};
 ghost use Rattle.wasm_operator_validator_state.specs.State.{types_in, signature_of};
 ghost use Rattle.wasm_operator_validator_blocks.specs.Signatures.{signature_in, IsFunctionAt};
 
 use std::slice;
-use wasm_operator_validator_resources::WasmModuleResources;
-use wasm_operators_expression::{BlockType, FrameKind};
+use wasm_operator_validator_state::{BlockType, FrameKind, WasmModuleResources};
 use wasm_types::{CompositeInnerType, FuncType, SubType, ValType};
 
 /// The function type that a type is, if it is one.

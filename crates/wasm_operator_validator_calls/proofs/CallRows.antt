@@ -4,20 +4,20 @@ use Rattle.std.proofs.lemmas.List.{reverse-append}
 use Rattle.wasm_types.specs.error.declared.error.ErrorKind.{ErrorKind}
 use Rattle.wasm_types.specs.error.Denials.{Denies}
 use Rattle.wasm_types.specs.error.DenialLaws.{denies_from}
-use Rattle.wasm_operators_expression.specs.info.declared.proposal.Proposal.TheVariants.{Mvp, TailCall}
-use Rattle.wasm_operators_expression.specs.control.declared.control.ControlOperator.TheVariants as control
-use Rattle.wasm_operators_expression.specs.operator.Op as op
-use Rattle.wasm_operators_expression.specs.operator.Op.{Op}
-use Rattle.wasm_operator_validator_rules.specs.Operands.{ValueType, Operand, AllBelow, known, all_known, stack}
-use Rattle.wasm_operator_validator_rules.specs.Context.{Table, Signature, address_type}
-use Rattle.wasm_operator_validator_rules.specs.Row.{Takes, GroupRow, IsIndirect}
-use Rattle.wasm_operator_validator_resources.specs.Meaning.{Meaning}
-use Rattle.wasm_operator_validator_state.specs.State.{State, initialised, context, outermost_results, Accepts}
-use Rattle.wasm_operator_validator_state.specs.Steps.{Stacks, MayPop}
-use Rattle.wasm_operator_validator_state.specs.Entering.{MayBegin}
-use Rattle.wasm_operator_validator_state.specs.laws.Rows.{some_row}
-use Rattle.wasm_operator_validator_determined.specs.Operators.{IsPlain}
-use Rattle.wasm_operator_validator_determined.specs.laws.Determined.{no_row}
+use Rattle.wasm_operator_validator_control.specs.expression.info.declared.proposal.Proposal.TheVariants.{Mvp, TailCall}
+use Rattle.wasm_operator_validator_control.specs.expression.control.declared.control.ControlOperator.TheVariants as control
+use Rattle.wasm_operator_validator_control.specs.expression.operator.Op as op
+use Rattle.wasm_operator_validator_control.specs.expression.operator.Op.{Op}
+use Rattle.wasm_operator_validator_control.specs.rules.Operands.{ValueType, Operand, AllBelow, known, all_known, stack}
+use Rattle.wasm_operator_validator_control.specs.rules.Context.{Table, Signature, address_type}
+use Rattle.wasm_operator_validator_control.specs.rules.Row.{Takes, GroupRow, IsIndirect}
+use Rattle.wasm_operator_validator_control.specs.resources.Meaning.{Meaning}
+use Rattle.wasm_operator_validator_control.specs.state.State.{State, initialised, context, outermost_results, Accepts}
+use Rattle.wasm_operator_validator_control.specs.state.Steps.{Stacks, MayPop}
+use Rattle.wasm_operator_validator_control.specs.state.Entering.{MayBegin}
+use Rattle.wasm_operator_validator_control.specs.state.laws.Rows.{some_row}
+use Rattle.wasm_operator_validator_control.specs.determined.Operators.{IsPlain}
+use Rattle.wasm_operator_validator_control.specs.determined.laws.Determined.{no_row}
 use Rattle.wasm_operator_validator_control.specs.laws.Jumping.{IsLast, pops_last}
 use Rattle.wasm_operator_validator_calls.specs.Callees.{IsFunctionIn, IsFunctionTable}
 use Rattle.wasm_operator_validator_calls.proofs.Naming.{one_function, one_table}

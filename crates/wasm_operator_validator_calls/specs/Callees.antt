@@ -4,10 +4,10 @@ use Rattle.std.specs.Prelude.{◌≡◌, ℕ, Bool, true, List, Some, slice_get}
 use Rattle.wasm_types.specs.trees.Types.{ref, abstract, func}
 use Rattle.wasm_types.specs.trees.Trees.{TypeTree}
 use Rattle.wasm_types.specs.trees.Below.{Below, is_shared}
-use Rattle.wasm_operator_validator_rules.specs.Context.{Table, Signature, IsFunctionType}
-use Rattle.wasm_operator_validator_resources.specs.Meaning.{Meaning}
-use Rattle.wasm_operator_validator_state.specs.State.{State}
-use Rattle.wasm_operator_validator_determined.specs.Operators.{MayUseIn, IsUsable}
+use Rattle.wasm_operator_validator_control.specs.rules.Context.{Table, Signature, IsFunctionType}
+use Rattle.wasm_operator_validator_control.specs.resources.Meaning.{Meaning}
+use Rattle.wasm_operator_validator_control.specs.state.State.{State}
+use Rattle.wasm_operator_validator_control.specs.determined.Operators.{MayUseIn, IsUsable}
 
 -- a type is this function type, and may be used
 abbrev pub IsUsableFunction : State → TypeTree → Signature → Type 0

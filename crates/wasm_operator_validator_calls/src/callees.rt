@@ -2,19 +2,17 @@
 
 ghost use Rattle.std.specs.Prelude.{◌≡◌, ◌↔◌, IsTrue, MatchResult};
 ghost use Rattle.wasm_types.specs.trees.Trees.{TypeTree, opened};
-ghost use Rattle.wasm_operator_validator_rules.specs.Context.{Signature};
-ghost use Rattle.wasm_operator_validator_rules.specs.Operands.{AllBelow, all_known};
-ghost use Rattle.wasm_operator_validator_resources.specs.Meaning.{Meaning, entry_in};
-ghost use Rattle.wasm_operator_validator_state.specs.State.{signature_of};
-ghost use Rattle.wasm_operator_validator_blocks.specs.Signatures.{signature_in};
+ghost use Rattle.wasm_operator_validator_control.specs.rules.Context.{Signature};
+ghost use Rattle.wasm_operator_validator_control.specs.rules.Operands.{AllBelow, all_known};
+ghost use Rattle.wasm_operator_validator_control.specs.resources.Meaning.{Meaning, entry_in};
+ghost use Rattle.wasm_operator_validator_control.specs.state.State.{signature_of};
+ghost use Rattle.wasm_operator_validator_control.specs.blocks.Signatures.{signature_in};
 ghost use Rattle.wasm_operator_validator_calls.specs.Callees.{IsUsableFunction, IsFunctionIn};
 
-use wasm_operator_validator_blocks::{are_below, block_results, function_of};
-use wasm_operator_validator_determined::may_use;
-use wasm_operator_validator_resources::WasmModuleResources;
-use wasm_operator_validator_stacks::OperatorValidator;
-use wasm_operator_validator_state::{Reason, Refusal, Space};
-use wasm_operators_expression::BlockType;
+use wasm_operator_validator_control::{
+    BlockType, OperatorValidator, Reason, Refusal, Space, WasmModuleResources, are_below,
+    block_results, function_of, may_use,
+};
 use wasm_types::{FuncType, SubType};
 
 /// The type of the function at an index, where the function that is validated may use it.

@@ -1,16 +1,13 @@
 //! Calls.
 
-ghost use Rattle.wasm_operators_expression.specs.control.declared.control.ControlOperator.{ControlOperator};
-ghost use Rattle.wasm_operators_expression.specs.operator.Op.{Op};
-ghost use Rattle.wasm_operator_validator_state.specs.Refusals.{refused};
-ghost use Rattle.wasm_operator_validator_state.specs.State.{Checks};
+ghost use Rattle.wasm_operator_validator_control.specs.expression.control.declared.control.ControlOperator.{ControlOperator};
+ghost use Rattle.wasm_operator_validator_control.specs.expression.operator.Op.{Op};
+ghost use Rattle.wasm_operator_validator_control.specs.state.Refusals.{refused};
+ghost use Rattle.wasm_operator_validator_control.specs.state.State.{Checks};
 
 use crate::callees::{callee, callee_type};
 use crate::tables::function_table;
-use wasm_operator_validator_resources::WasmModuleResources;
-use wasm_operator_validator_stacks::OperatorValidator;
-use wasm_operator_validator_state::Refusal;
-use wasm_operators_expression::Proposal;
+use wasm_operator_validator_control::{OperatorValidator, Proposal, Refusal, WasmModuleResources};
 
 /// Checks `call`.
 pub fn check_call<R: WasmModuleResources>(

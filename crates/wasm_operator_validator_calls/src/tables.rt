@@ -3,14 +3,13 @@
 ghost use Rattle.std.specs.Prelude.{◌↔◌, IsTrue, MatchResult, true};
 ghost use Rattle.wasm_types.specs.trees.Types.{ref, abstract, func};
 ghost use Rattle.wasm_types.specs.trees.Below.{Below};
-ghost use Rattle.wasm_operator_validator_rules.specs.Context.{Table};
-ghost use Rattle.wasm_operator_validator_resources.specs.Meaning.{table_in, reference_in};
+ghost use Rattle.wasm_operator_validator_control.specs.rules.Context.{Table};
+ghost use Rattle.wasm_operator_validator_control.specs.resources.Meaning.{table_in, reference_in};
 ghost use Rattle.wasm_operator_validator_calls.specs.Callees.{IsFunctionTable};
 
-use wasm_operator_validator_determined::may_use;
-use wasm_operator_validator_resources::WasmModuleResources;
-use wasm_operator_validator_stacks::OperatorValidator;
-use wasm_operator_validator_state::{Reason, Refusal, Space};
+use wasm_operator_validator_control::{
+    OperatorValidator, Reason, Refusal, Space, WasmModuleResources, may_use,
+};
 use wasm_types::{AbstractHeapType, HeapType, RefType, TableType, ValType};
 
 /// The table at an index, where it is of functions and the function that is validated may use it.

@@ -1,17 +1,15 @@
 //! Calls that take the place of their caller (the proposal on tail calls).
 
-ghost use Rattle.wasm_operators_expression.specs.control.declared.control.ControlOperator.{ControlOperator};
-ghost use Rattle.wasm_operators_expression.specs.operator.Op.{Op};
-ghost use Rattle.wasm_operator_validator_state.specs.Refusals.{refused};
-ghost use Rattle.wasm_operator_validator_state.specs.State.{Checks};
+ghost use Rattle.wasm_operator_validator_control.specs.expression.control.declared.control.ControlOperator.{ControlOperator};
+ghost use Rattle.wasm_operator_validator_control.specs.expression.operator.Op.{Op};
+ghost use Rattle.wasm_operator_validator_control.specs.state.Refusals.{refused};
+ghost use Rattle.wasm_operator_validator_control.specs.state.State.{Checks};
 
 use crate::callees::{callee, callee_type, gives_results};
 use crate::tables::function_table;
-use wasm_operator_validator_control::jump_with;
-use wasm_operator_validator_resources::WasmModuleResources;
-use wasm_operator_validator_stacks::OperatorValidator;
-use wasm_operator_validator_state::{Reason, Refusal};
-use wasm_operators_expression::Proposal;
+use wasm_operator_validator_control::{
+    OperatorValidator, Proposal, Reason, Refusal, WasmModuleResources, jump_with,
+};
 
 /// Checks `return_call`.
 pub fn check_return_call<R: WasmModuleResources>(

@@ -1,18 +1,23 @@
 -- The rows of branches and returns.
-use Rattle.std.proofs.Common.{◌≡◌, ◌↔◌, ◌∙◌, ℕ, List, [], ◌∷◌, ◌++◌, Some, None, false, refl, sym, ap, subst, append-nil, slice_get, map}
-use Rattle.wasm_operators_expression.specs.info.declared.proposal.Proposal.TheVariants.{Mvp}
-use Rattle.wasm_operators_expression.specs.control.declared.control.ControlOperator.TheVariants as control
-use Rattle.wasm_operators_expression.specs.operator.Op as op
-use Rattle.wasm_operators_expression.specs.operator.Op.{Op}
-use Rattle.wasm_operator_validator_rules.specs.Operands.{ValueType, Operand, all_known}
-use Rattle.wasm_operator_validator_rules.specs.InstructionTypes.{i32_type}
-use Rattle.wasm_operator_validator_rules.specs.Row.{Takes, GroupRow}
-use Rattle.wasm_operator_validator_resources.specs.Meaning.{Meaning}
-use Rattle.wasm_operator_validator_state.specs.State.{State, initialised, context, label, outermost_results, Accepts}
-use Rattle.wasm_operator_validator_state.specs.Entering.{MayBegin}
+use Rattle.std.proofs.Common.{◌≡◌, ◌↔◌, ◌∙◌, ℕ, List, [], ◌∷◌, ◌++◌, Some, None, false, refl, sym, ap, subst, append-nil, slice_get, map, reverse}
+use Rattle.wasm_types.specs.error.declared.error.ErrorKind.{ErrorKind}
+use Rattle.wasm_types.specs.error.Denials.{Denies}
+use Rattle.wasm_types.specs.error.DenialLaws.{denies_from}
+use Rattle.wasm_operator_validator_determined.specs.expression.info.declared.proposal.Proposal.TheVariants.{Mvp}
+use Rattle.wasm_operator_validator_determined.specs.expression.control.declared.control.ControlOperator.TheVariants as control
+use Rattle.wasm_operator_validator_determined.specs.expression.operator.Op as op
+use Rattle.wasm_operator_validator_determined.specs.expression.operator.Op.{Op}
+use Rattle.wasm_operator_validator_determined.specs.rules.Operands.{ValueType, Operand, known, all_known}
+use Rattle.wasm_operator_validator_determined.specs.rules.InstructionTypes.{i32_type}
+use Rattle.wasm_operator_validator_determined.specs.rules.Row.{Takes, GroupRow}
+use Rattle.wasm_operator_validator_determined.specs.resources.Meaning.{Meaning}
+use Rattle.wasm_operator_validator_determined.specs.state.State.{State, initialised, context, label, outermost_results, Accepts}
+use Rattle.wasm_operator_validator_determined.specs.state.Steps.{Stacks, MayPop}
+use Rattle.wasm_operator_validator_determined.specs.state.Entering.{MayBegin}
+use Rattle.wasm_operator_validator_determined.specs.state.laws.Rows.{some_row}
 use Rattle.wasm_operator_validator_determined.specs.Operators.{IsPlain}
 use Rattle.wasm_operator_validator_determined.specs.laws.Determined.{no_row}
-use Rattle.wasm_operator_validator_control.specs.laws.Jumping.{IsLast}
+use Rattle.wasm_operator_validator_control.specs.laws.Jumping.{IsLast, pops_last}
 use Rattle.wasm_operator_validator_control.specs.laws.Labels.{one_label, not_labelled}
 
 abbrev pub nop : Op
@@ -69,6 +74,13 @@ br_if_row m σ d ts e popped pushed = (
   λ (us, f, g). subst (λ (x : List ValueType). Takes (x ++ i32_type ∷ []) x popped pushed) (one_label ts us _ e f) g,
   λ g. (ts, e, g),
 )
+
+-- where it is accepted, a condition is on top
+pub no_condition : (k : ErrorKind) (m : Meaning) (σ : State) (d : ℕ) → MayBegin σ Mvp false → Denies k (MayPop m σ (known i32_type ∷ [])) → Denies k ((os : List Op) × Accepts m σ (br_if d ∷ os))
+no_condition k m σ d b =
+    denies_from k _ _ (λ (os, a). (let (popped, pushed, rest, r, c) = some_row m σ (br_if d) os refl b.framed a in
+    let (ts, f, t) = r.1 in
+    pops_last m σ i32_type ts (rest, subst (λ (x : List Operand). Stacks m σ (reverse x ++ rest)) t.0 c)))
 
 pub no_br_if : (m : Meaning) (σ : State) (d : ℕ) → MayBegin σ Mvp false → slice_get (map (label m) σ.opens) d ≡ None → (os : List Op) × Accepts m σ (br_if d ∷ os) → ⊥
 no_br_if m σ d b e = no_row m σ (br_if d) Mvp false (br_if_is d) b (λ popped pushed (us, f, g). not_labelled us _ e f)

@@ -1,29 +1,29 @@
 -- The ends of frames.
-use Rattle.std.proofs.Common.{◌≡◌, ◌↔◌, ◌∙◌, List, [], ◌∷◌, ◌++◌, Bool, false, IsTrue, Option, Some, None, refl, sym, ap, subst, append-nil, reverse}
-use Rattle.std.proofs.lemmas.List.{reverse-append, reverse-reverse}
+use Rattle.std.proofs.Common.{◌≡◌, ◌↔◌, ◌∙◌, List, [], ◌∷◌, Bool, false, IsTrue, Option, Some, None, refl, sym, ap, subst, append-nil}
 use Rattle.wasm_types.specs.error.declared.error.ErrorKind.{ErrorKind}
 use Rattle.wasm_types.specs.error.Denials.{Denies}
 use Rattle.wasm_types.specs.error.DenialLaws.{denies, denies_from}
-use Rattle.wasm_operators_expression.specs.immediates.declared.block.BlockType.{BlockType}
-use Rattle.wasm_operators_expression.specs.immediates.declared.frames.FrameKind.{FrameKind}
-use Rattle.wasm_operators_expression.specs.immediates.declared.frames.FrameKind.TheVariants as frames
-use Rattle.wasm_operators_expression.specs.info.declared.proposal.Proposal.TheVariants.{Mvp}
-use Rattle.wasm_operator_validator_rules.specs.Operands.{ValueType, Operand, AllBelow, all_known, stack}
-use Rattle.wasm_operator_validator_rules.specs.Context.{Signature}
-use Rattle.wasm_operator_validator_rules.specs.Typed.{MayClose}
-use Rattle.wasm_operator_validator_resources.specs.Meaning.{Meaning}
-use Rattle.wasm_operator_validator_state.specs.Refusals.{Does}
-use Rattle.wasm_operator_validator_state.specs.declared.frame.Frame.{Frame as OpenFrame}
-use Rattle.wasm_operator_validator_state.specs.State.{Open, State, signature_of, Accepts, Decides, Checks}
-use Rattle.wasm_operator_validator_state.specs.Steps.{Stacks, SameFrames, Popped, MayPop, Pushed, IsBare, LeavesTo, begun}
-use Rattle.wasm_operator_validator_state.specs.Entering.{MayBegin}
-use Rattle.wasm_operator_validator_state.specs.laws.Checks.{checks_going}
-use Rattle.wasm_operator_validator_state.specs.laws.Closing.{end, else}
-use Rattle.wasm_operator_validator_state.specs.laws.Accepting.{MayEnd, results_of, ends}
-use Rattle.wasm_operator_validator_state.specs.laws.Frames.{BeginsFrame, pushed_closes, IsIfTop, elses, bare, ended, turned, closes_nothing}
+use Rattle.wasm_operator_validator_determined.specs.expression.immediates.declared.block.BlockType.{BlockType}
+use Rattle.wasm_operator_validator_determined.specs.expression.immediates.declared.frames.FrameKind.{FrameKind}
+use Rattle.wasm_operator_validator_determined.specs.expression.immediates.declared.frames.FrameKind.TheVariants as frames
+use Rattle.wasm_operator_validator_determined.specs.expression.info.declared.proposal.Proposal.TheVariants.{Mvp}
+use Rattle.wasm_operator_validator_determined.specs.rules.Operands.{ValueType, Operand, AllBelow, all_known, stack}
+use Rattle.wasm_operator_validator_determined.specs.rules.Context.{Signature}
+use Rattle.wasm_operator_validator_determined.specs.rules.Typed.{MayClose}
+use Rattle.wasm_operator_validator_determined.specs.resources.Meaning.{Meaning}
+use Rattle.wasm_operator_validator_determined.specs.state.Refusals.{Does}
+use Rattle.wasm_operator_validator_determined.specs.state.declared.frame.Frame.{Frame as OpenFrame}
+use Rattle.wasm_operator_validator_determined.specs.state.State.{Open, State, signature_of, Accepts, Decides, Checks}
+use Rattle.wasm_operator_validator_determined.specs.state.Steps.{Stacks, SameFrames, Popped, MayPop, Pushed, IsBare, LeavesTo, begun}
+use Rattle.wasm_operator_validator_determined.specs.state.Entering.{MayBegin}
+use Rattle.wasm_operator_validator_determined.specs.state.laws.Checks.{checks_going}
+use Rattle.wasm_operator_validator_determined.specs.state.laws.Closing.{end, else}
+use Rattle.wasm_operator_validator_determined.specs.state.laws.Accepting.{MayEnd, results_of, ends}
+use Rattle.wasm_operator_validator_determined.specs.state.laws.Frames.{BeginsFrame, pushed_closes, IsIfTop, elses, bare, ended, turned, closes_nothing}
 use Rattle.wasm_operator_validator_determined.specs.Operators.{Stays}
 use Rattle.wasm_operator_validator_control.specs.Ending.{Finishes, MayFinish}
 use Rattle.wasm_operator_validator_control.specs.laws.Labels.{frame_at, IsFrame}
+use Rattle.wasm_operator_validator_control.specs.laws.Turned.{below_as_stacks}
 
 -- the type and the kind of the innermost frame
 abbrev pub IsTop : BlockType → FrameKind → List Open → Type 0
@@ -144,28 +144,6 @@ else_pushed r m σ κ ν τ bt k b t i x e q s =
     checks_going r m σ τ else Mvp false b (else_decided r m σ κ ν τ bt k t i x e q) s.given s.failed s.saved
 
 -- ---- an `if` without `else`
-
-reverse_cons : (t : Operand) (s : List Operand) → reverse (t ∷ s) ≡ reverse s ++ t ∷ []
-reverse_cons t s = reverse-append (t ∷ []) s
-
-below_append : (a b c d : List Operand) → AllBelow a b → AllBelow c d → AllBelow (a ++ c) (b ++ d)
-below_append [] [] c d p q = q
-below_append [] (y ∷ b) c d p q = absurd p
-below_append (x ∷ a) [] c d p q = absurd p
-below_append (x ∷ a) (y ∷ b) c d p q = (p.0, below_append a b c d p.1 q)
-
-below_reverse : (a b : List Operand) → AllBelow a b → AllBelow (reverse a) (reverse b)
-below_reverse [] [] p = tt
-below_reverse [] (y ∷ b) p = absurd p
-below_reverse (x ∷ a) [] p = absurd p
-below_reverse (x ∷ a) (y ∷ b) p = rw (reverse_cons x a, reverse_cons y b) (below_append (reverse a) (reverse b) (x ∷ []) (y ∷ []) (below_reverse a b p.1) (p.0, tt))
-
--- types against types, in order and as stacks
-pub below_as_stacks : (ts us : List ValueType) → AllBelow (all_known ts) (all_known us) ↔ AllBelow (stack ts) (stack us)
-below_as_stacks ts us = (
-  λ p. below_reverse (all_known ts) (all_known us) p,
-  λ p. (let q : AllBelow (reverse (reverse (all_known ts))) (reverse (reverse (all_known us))) = below_reverse (stack ts) (stack us) p in rw (reverse-reverse, reverse-reverse) at q),
-)
 
 pub if_closes : (b : Bool) (s : Signature) (ts us : List ValueType) → ts ≡ s.params → us ≡ s.results → IsTrue b ↔ AllBelow (all_known ts) (all_known us) → IsTrue b ↔ MayClose frames.If s
 if_closes b s ts us e f i =

@@ -6,27 +6,27 @@ use Rattle.wasm_types.specs.error.DenialLaws.{denies_from}
 use Rattle.wasm_types.specs.trees.Trees.{TypeTree}
 use Rattle.wasm_types.specs.trees.Types.{InnerOf, function}
 use Rattle.wasm_types.specs.trees.Below.{expanded}
-use Rattle.wasm_operators_expression.specs.immediates.declared.block.BlockType.{BlockType}
-use Rattle.wasm_operators_expression.specs.immediates.declared.block.BlockType.TheVariants as block
-use Rattle.wasm_operators_expression.specs.immediates.declared.frames.FrameKind.{FrameKind}
-use Rattle.wasm_operators_expression.specs.immediates.declared.frames.FrameKind.TheVariants as frames
-use Rattle.wasm_operators_expression.specs.info.declared.proposal.Proposal.TheVariants.{Mvp}
-use Rattle.wasm_operators_expression.specs.control.declared.control.ControlOperator.TheVariants as control
-use Rattle.wasm_operators_expression.specs.operator.Op as op
-use Rattle.wasm_operators_expression.specs.operator.Op.{Op}
-use Rattle.wasm_operators_expression.specs.operator.declared.role.Role.TheVariants as role
-use Rattle.wasm_operators_expression.specs.operator.Roles.{role_of}
-use Rattle.wasm_operator_validator_rules.specs.Operands.{ValueType, known, stack}
-use Rattle.wasm_operator_validator_rules.specs.Context.{Context, Signature, IsBlockType}
-use Rattle.wasm_operator_validator_rules.specs.Typed.{HasType, block_type_of, entry_of}
-use Rattle.wasm_operator_validator_rules.specs.InstructionTypes.{i32_type}
-use Rattle.wasm_operator_validator_resources.specs.Meaning.{Meaning}
-use Rattle.wasm_operator_validator_state.specs.Refusals.{Does}
-use Rattle.wasm_operator_validator_state.specs.State.{Given, Open, State, signature_of, context, Accepts, Decides, Checks}
-use Rattle.wasm_operator_validator_state.specs.Entering.{MayBegin}
-use Rattle.wasm_operator_validator_state.specs.laws.Checks.{checks_going}
-use Rattle.wasm_operator_validator_state.specs.Steps.{Stacks, IsOpen, Popped, MayPop, Pushed, begun}
-use Rattle.wasm_operator_validator_state.specs.laws.Frames.{Means, opened, may_open, pushed_closes}
+use Rattle.wasm_operator_validator_determined.specs.expression.immediates.declared.block.BlockType.{BlockType}
+use Rattle.wasm_operator_validator_determined.specs.expression.immediates.declared.block.BlockType.TheVariants as block
+use Rattle.wasm_operator_validator_determined.specs.expression.immediates.declared.frames.FrameKind.{FrameKind}
+use Rattle.wasm_operator_validator_determined.specs.expression.immediates.declared.frames.FrameKind.TheVariants as frames
+use Rattle.wasm_operator_validator_determined.specs.expression.info.declared.proposal.Proposal.TheVariants.{Mvp}
+use Rattle.wasm_operator_validator_determined.specs.expression.control.declared.control.ControlOperator.TheVariants as control
+use Rattle.wasm_operator_validator_determined.specs.expression.operator.Op as op
+use Rattle.wasm_operator_validator_determined.specs.expression.operator.Op.{Op}
+use Rattle.wasm_operator_validator_determined.specs.expression.operator.declared.role.Role.TheVariants as role
+use Rattle.wasm_operator_validator_determined.specs.expression.operator.Roles.{role_of}
+use Rattle.wasm_operator_validator_determined.specs.rules.Operands.{ValueType, known, stack}
+use Rattle.wasm_operator_validator_determined.specs.rules.Context.{Context, Signature, IsBlockType}
+use Rattle.wasm_operator_validator_determined.specs.rules.Typed.{HasType, block_type_of, entry_of}
+use Rattle.wasm_operator_validator_determined.specs.rules.InstructionTypes.{i32_type}
+use Rattle.wasm_operator_validator_determined.specs.resources.Meaning.{Meaning}
+use Rattle.wasm_operator_validator_determined.specs.state.Refusals.{Does}
+use Rattle.wasm_operator_validator_determined.specs.state.State.{Given, Open, State, signature_of, context, Accepts, Decides, Checks}
+use Rattle.wasm_operator_validator_determined.specs.state.Entering.{MayBegin}
+use Rattle.wasm_operator_validator_determined.specs.state.laws.Checks.{checks_going}
+use Rattle.wasm_operator_validator_determined.specs.state.Steps.{Stacks, IsOpen, Popped, MayPop, Pushed, begun}
+use Rattle.wasm_operator_validator_determined.specs.state.laws.Frames.{Means, opened, may_open, pushed_closes}
 use Rattle.wasm_operator_validator_blocks.specs.Signatures.{IsBlock}
 use Rattle.wasm_operator_validator_control.specs.Opening.{Opened}
 use Rattle.wasm_operator_validator_determined.specs.laws.Same.{same_trans}

@@ -1,2 +1,3 @@
 pub mod Jumping
 pub mod Labels
+pub mod Turned

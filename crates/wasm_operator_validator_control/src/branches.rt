@@ -1,16 +1,15 @@
 //! Operators that neither open nor end a frame: branches and returns.
 
-ghost use Rattle.wasm_operators_expression.specs.control.declared.control.ControlOperator.{ControlOperator};
-ghost use Rattle.wasm_operators_expression.specs.operator.Op.{Op};
-ghost use Rattle.wasm_operator_validator_state.specs.Refusals.{refused};
-ghost use Rattle.wasm_operator_validator_state.specs.State.{Checks};
+ghost use Rattle.wasm_operator_validator_determined.specs.expression.control.declared.control.ControlOperator.{ControlOperator};
+ghost use Rattle.wasm_operator_validator_determined.specs.expression.operator.Op.{Op};
+ghost use Rattle.wasm_operator_validator_determined.specs.state.Refusals.{refused};
+ghost use Rattle.wasm_operator_validator_determined.specs.state.State.{Checks};
 
 use crate::leaving::jump_with;
 use wasm_operator_validator_blocks::{block_results, label_types};
-use wasm_operator_validator_resources::WasmModuleResources;
-use wasm_operator_validator_stacks::OperatorValidator;
-use wasm_operator_validator_state::Refusal;
-use wasm_operators_expression::Proposal;
+use wasm_operator_validator_determined::{
+    OperatorValidator, Proposal, Refusal, WasmModuleResources,
+};
 use wasm_types::ValType;
 
 /// Checks `nop`.
@@ -72,13 +71,13 @@ pub fn check_br_if<R: WasmModuleResources>(
         Ok(()) => {}
         Err(refusal) => return Err(refusal),
     }
-    let Some((block_type, kind)) = validator.jump(relative_depth) else {
-        return Err(Refusal::UnknownLabel);
-    };
     match validator.pop_operand(resources, &ValType::I32) {
         Ok(()) => {}
         Err(refusal) => return Err(refusal),
     }
+    let Some((block_type, kind)) = validator.jump(relative_depth) else {
+        return Err(Refusal::UnknownLabel);
+    };
     let types = label_types(resources, &block_type, kind);
     validator.exchange(resources, types, types)
 }

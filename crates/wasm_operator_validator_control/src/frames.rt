@@ -1,22 +1,21 @@
 //! Operators that open, turn or end a frame.
 
 ghost use Rattle.std.specs.Prelude.{◌≡◌, ◌↔◌, IsTrue};
-ghost use Rattle.wasm_operators_expression.specs.immediates.declared.frames.FrameKind.TheVariants.{If};
-ghost use Rattle.wasm_operator_validator_rules.specs.Operands.{stack};
-ghost use Rattle.wasm_operator_validator_rules.specs.Typed.{MayClose};
-ghost use Rattle.wasm_operators_expression.specs.control.declared.control.ControlOperator.{ControlOperator};
-ghost use Rattle.wasm_operators_expression.specs.operator.Op.{Op};
-ghost use Rattle.wasm_operator_validator_state.specs.Refusals.{Does, refused};
-ghost use Rattle.wasm_operator_validator_state.specs.State.{Checks, signature_of};
-ghost use Rattle.wasm_operator_validator_state.specs.Steps.{IsOpen, MayPop};
+ghost use Rattle.wasm_operator_validator_determined.specs.expression.immediates.declared.frames.FrameKind.TheVariants.{If};
+ghost use Rattle.wasm_operator_validator_determined.specs.rules.Operands.{stack};
+ghost use Rattle.wasm_operator_validator_determined.specs.rules.Typed.{MayClose};
+ghost use Rattle.wasm_operator_validator_determined.specs.expression.control.declared.control.ControlOperator.{ControlOperator};
+ghost use Rattle.wasm_operator_validator_determined.specs.expression.operator.Op.{Op};
+ghost use Rattle.wasm_operator_validator_determined.specs.state.Refusals.{Does, refused};
+ghost use Rattle.wasm_operator_validator_determined.specs.state.State.{Checks, signature_of};
+ghost use Rattle.wasm_operator_validator_determined.specs.state.Steps.{IsOpen, MayPop};
 ghost use Rattle.wasm_operator_validator_control.specs.Opening.{Opened};
 ghost use Rattle.wasm_operator_validator_control.specs.Ending.{Finishes, MayFinish};
 
 use wasm_operator_validator_blocks::{are_below, block_params, block_results, check_block_type};
-use wasm_operator_validator_resources::WasmModuleResources;
-use wasm_operator_validator_stacks::OperatorValidator;
-use wasm_operator_validator_state::{Reason, Refusal};
-use wasm_operators_expression::{BlockType, FrameKind, Proposal};
+use wasm_operator_validator_determined::{
+    BlockType, FrameKind, OperatorValidator, Proposal, Reason, Refusal, WasmModuleResources,
+};
 use wasm_types::ValType;
 
 /// Checks `block`.

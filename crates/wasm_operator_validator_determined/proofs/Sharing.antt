@@ -5,7 +5,7 @@ use Rattle.wasm_types.specs.values.declared.value.ValType.{ValType}
 use Rattle.wasm_types.specs.values.declared.value.ValType.TheVariants as vals
 use Rattle.wasm_types.specs.values.Reference.{Reference}
 use Rattle.wasm_types.specs.values.ValueKinds.{reference_in}
-use Rattle.wasm_operator_validator_resources.specs.Meaning.{Meaning, type_in, heap_in}
+use Rattle.wasm_operator_validator_stacks.specs.resources.Meaning.{Meaning, type_in, heap_in}
 
 pub inside_shared : (s inside x : Bool) → s ≡ inside → s ≡ true → IsTrue x ↔ (IsTrue inside → IsTrue x)
 inside_shared s inside x e h = (λ a b. a, λ f. f (sym e ∙ h))

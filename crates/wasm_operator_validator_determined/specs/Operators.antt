@@ -2,17 +2,17 @@
 use Rattle.std.specs.Prelude.{◌≡◌, ◌↔◌, Bool, IsTrue, List, Option, Some}
 use Rattle.wasm_types.specs.error.declared.error.ErrorKind.{ErrorKind}
 use Rattle.wasm_types.specs.error.declared.error.ErrorKind.TheVariants as kinds
-use Rattle.wasm_operators_expression.specs.info.declared.proposal.Proposal.{Proposal}
-use Rattle.wasm_operators_expression.specs.operator.Op.{Op}
-use Rattle.wasm_operators_expression.specs.operator.Table.{info_of}
-use Rattle.wasm_operators_expression.specs.operator.declared.role.Role.TheVariants as role
-use Rattle.wasm_operators_expression.specs.operator.Roles.{role_of}
-use Rattle.wasm_operator_validator_rules.specs.Operands.{Operand}
-use Rattle.wasm_operator_validator_rules.specs.Context.{Context, Initialised}
-use Rattle.wasm_operator_validator_rules.specs.Row.{GroupRow, TableRow, names_float, after}
-use Rattle.wasm_operator_validator_state.specs.State.{State}
-use Rattle.wasm_operator_validator_state.specs.declared.refusal.Refusal.{Refusal}
-use Rattle.wasm_operator_validator_state.specs.declared.refusal.Refusal.TheVariants as refusals
+use Rattle.wasm_operator_validator_stacks.specs.expression.info.declared.proposal.Proposal.{Proposal}
+use Rattle.wasm_operator_validator_stacks.specs.expression.operator.Op.{Op}
+use Rattle.wasm_operator_validator_stacks.specs.expression.operator.Table.{info_of}
+use Rattle.wasm_operator_validator_stacks.specs.expression.operator.declared.role.Role.TheVariants as role
+use Rattle.wasm_operator_validator_stacks.specs.expression.operator.Roles.{role_of}
+use Rattle.wasm_operator_validator_stacks.specs.rules.Operands.{Operand}
+use Rattle.wasm_operator_validator_stacks.specs.rules.Context.{Context, Initialised}
+use Rattle.wasm_operator_validator_stacks.specs.rules.Row.{GroupRow, TableRow, names_float, after}
+use Rattle.wasm_operator_validator_stacks.specs.state.State.{State}
+use Rattle.wasm_operator_validator_stacks.specs.state.declared.refusal.Refusal.{Refusal}
+use Rattle.wasm_operator_validator_stacks.specs.state.declared.refusal.Refusal.TheVariants as refusals
 
 -- the operator is of this proposal, with a float in its name or not, and neither opens nor ends a frame
 pub record IsPlain (o : Op) (p : Proposal) (float : Bool) : Type 0 where

@@ -11,3 +11,8 @@ mod shared;
 pub use copying::copied;
 pub use refusals::refusal_of;
 pub use shared::{may_use, may_use_type};
+pub use wasm_operator_validator_stacks::{
+    BlockType, BrTable, BrTableTargets, BulkOperator, ConstOperator, Frame, FrameKind, MaybeType,
+    MemArg, MemArgTarget, MemoryOperator, OperatorValidator, Proposal, Reason, Refusal, Space,
+    WasmModuleResources, check_value_type_features, is_abstract_fit, is_fit,
+};

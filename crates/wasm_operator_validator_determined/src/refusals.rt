@@ -1,10 +1,10 @@
 //! Refusals for the errors of what a module is asked.
 
 ghost use Rattle.std.specs.Prelude.{◌≡◌};
-ghost use Rattle.wasm_operator_validator_state.specs.Refusals.{kind_of};
+ghost use Rattle.wasm_operator_validator_stacks.specs.state.Refusals.{kind_of};
 ghost use Rattle.wasm_operator_validator_determined.specs.Operators.{refusal_kind};
 
-use wasm_operator_validator_state::{Refusal, Space};
+use wasm_operator_validator_stacks::{Refusal, Space};
 use wasm_types::{Error, ErrorKind, HeapType, UnpackedIndex, ValType};
 
 /// The refusal for an error of the check of a written type.

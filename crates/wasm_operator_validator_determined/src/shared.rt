@@ -2,11 +2,10 @@
 
 ghost use Rattle.std.specs.Prelude.{◌↔◌, IsTrue};
 ghost use Rattle.wasm_types.specs.trees.Below.{value_is_shared};
-ghost use Rattle.wasm_operator_validator_resources.specs.Meaning.{type_in};
+ghost use Rattle.wasm_operator_validator_stacks.specs.resources.Meaning.{type_in};
 ghost use Rattle.wasm_operator_validator_determined.specs.Operators.{MayUseIn};
 
-use wasm_operator_validator_resources::WasmModuleResources;
-use wasm_operator_validator_stacks::OperatorValidator;
+use wasm_operator_validator_stacks::{OperatorValidator, WasmModuleResources};
 use wasm_types::ValType;
 
 /// Whether the function may use something that is shared, or not.

@@ -2,3 +2,10 @@
 pub mod Reaching
 -- What an access takes and gives: laws, with the proofs.
 pub mod laws
+-- The rules and laws of the crates below, under their names: crates above cite them here.
+pub use Rattle.wasm_operator_validator_determined.specs.expression as expression
+pub use Rattle.wasm_operator_validator_determined.specs.rules as rules
+pub use Rattle.wasm_operator_validator_determined.specs.resources as resources
+pub use Rattle.wasm_operator_validator_determined.specs.state as state
+pub use Rattle.wasm_operator_validator_determined.specs.stacks as stacks
+pub use Rattle.wasm_operator_validator_determined.specs as determined

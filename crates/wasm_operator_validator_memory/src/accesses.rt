@@ -1,16 +1,15 @@
 //! Loads and stores.
 
-ghost use Rattle.wasm_operators_expression.specs.operator.Op.{Op};
-ghost use Rattle.wasm_operator_validator_rules.specs.Accesses.{load, store};
-ghost use Rattle.wasm_operator_validator_state.specs.State.{Checks};
-ghost use Rattle.wasm_operator_validator_state.specs.Refusals.{refused};
+ghost use Rattle.wasm_operator_validator_determined.specs.expression.operator.Op.{Op};
+ghost use Rattle.wasm_operator_validator_determined.specs.rules.Accesses.{load, store};
+ghost use Rattle.wasm_operator_validator_determined.specs.state.State.{Checks};
+ghost use Rattle.wasm_operator_validator_determined.specs.state.Refusals.{refused};
 ghost use Rattle.wasm_operator_validator_memory.specs.Reaching.{IsAccess};
 
 use crate::reaching::reach;
-use wasm_operator_validator_resources::WasmModuleResources;
-use wasm_operator_validator_stacks::OperatorValidator;
-use wasm_operator_validator_state::Refusal;
-use wasm_operators_expression::{MemArg, MemoryOperator, Proposal};
+use wasm_operator_validator_determined::{
+    MemArg, MemoryOperator, OperatorValidator, Proposal, Refusal, WasmModuleResources,
+};
 use wasm_types::ValType;
 
 /// A load of this type by this argument; the type is a float or not (WebAssembly 3.0, validation, memory instructions).

@@ -14,3 +14,9 @@ pub use memories::{
     check_memory_init, check_memory_size,
 };
 pub use reaching::{has_alignment, reach};
+pub use wasm_operator_validator_determined::{
+    BlockType, BrTable, BrTableTargets, BulkOperator, ConstOperator, Frame, FrameKind, MaybeType,
+    MemArg, MemArgTarget, MemoryOperator, OperatorValidator, Proposal, Reason, Refusal, Space,
+    WasmModuleResources, check_value_type_features, copied, is_abstract_fit, is_fit, may_use,
+    may_use_type, refusal_of,
+};

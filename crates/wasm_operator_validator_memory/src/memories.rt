@@ -2,16 +2,16 @@
 
 ghost use Rattle.std.specs.Prelude.{◌≡◌, ◌&&◌, true, false, slice_get, IfErr, MatchResult};
 ghost use Rattle.wasm_types.specs.externs.Addresses.{address_type};
-ghost use Rattle.wasm_operators_expression.specs.operator.Op.{Op};
-ghost use Rattle.wasm_operator_validator_rules.specs.InstructionTypes.{names_data};
-ghost use Rattle.wasm_operator_validator_state.specs.State.{Checks};
-ghost use Rattle.wasm_operator_validator_state.specs.Refusals.{refused};
+ghost use Rattle.wasm_operator_validator_determined.specs.expression.operator.Op.{Op};
+ghost use Rattle.wasm_operator_validator_determined.specs.rules.InstructionTypes.{names_data};
+ghost use Rattle.wasm_operator_validator_determined.specs.state.State.{Checks};
+ghost use Rattle.wasm_operator_validator_determined.specs.state.Refusals.{refused};
 ghost use Rattle.wasm_operator_validator_determined.specs.Operators.{IsOfContent};
 
-use wasm_operator_validator_resources::WasmModuleResources;
-use wasm_operator_validator_stacks::OperatorValidator;
-use wasm_operator_validator_state::{Reason, Refusal, Space};
-use wasm_operators_expression::{BulkOperator, MemoryOperator, Proposal};
+use wasm_operator_validator_determined::{
+    BulkOperator, MemoryOperator, OperatorValidator, Proposal, Reason, Refusal, Space,
+    WasmModuleResources,
+};
 use wasm_types::{MemoryType, ValType};
 
 /// `memory.size` (WebAssembly 3.0, validation, memory instructions).

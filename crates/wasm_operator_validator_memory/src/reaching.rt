@@ -1,13 +1,13 @@
 //! Which accesses a memory allows.
 
 ghost use Rattle.std.specs.Prelude.{◌≡◌, ◌||◌, ◌^◌, nat_lt, slice_get, MatchResult};
-ghost use Rattle.wasm_operator_validator_rules.specs.Accesses.{is_aligned, is_in_memory};
-ghost use Rattle.wasm_operator_validator_resources.specs.Meaning.{type_in};
+ghost use Rattle.wasm_operator_validator_determined.specs.rules.Accesses.{is_aligned, is_in_memory};
+ghost use Rattle.wasm_operator_validator_determined.specs.resources.Meaning.{type_in};
 ghost use Rattle.wasm_operator_validator_memory.specs.Reaching.{reached};
 
-use wasm_operator_validator_resources::WasmModuleResources;
-use wasm_operator_validator_state::{Reason, Refusal, Space};
-use wasm_operators_expression::{MemArg, MemArgTarget};
+use wasm_operator_validator_determined::{
+    MemArg, MemArgTarget, Reason, Refusal, Space, WasmModuleResources,
+};
 use wasm_types::ValType;
 
 /// The type of addresses of the memory that an argument reaches into, where the memory allows such an access, atomic or not

@@ -1,17 +1,17 @@
 -- Operators on numbers, and constants, by their types.
 use Rattle.std.proofs.Common.{◌≡◌, List, [], ◌∷◌, Bool, Some, refl}
 use Rattle.wasm_types.specs.values.declared.value.ValType.{ValType}
-use Rattle.wasm_operators_expression.specs.info.declared.proposal.Proposal.{Proposal}
-use Rattle.wasm_operators_expression.specs.info.declared.proposal.Proposal.TheVariants.{Mvp}
-use Rattle.wasm_operators_expression.specs.memory.declared.constant.ConstOperator.{ConstOperator}
-use Rattle.wasm_operators_expression.specs.memory.declared.constant.ConstOperator.TheVariants as const
-use Rattle.wasm_operators_expression.specs.memory.Table.{const_info}
-use Rattle.wasm_operators_expression.specs.numbers.declared.numeric.NumericOperator.{NumericOperator}
-use Rattle.wasm_operators_expression.specs.operator.Op as op
-use Rattle.wasm_operator_validator_rules.specs.Numbers.{class_of, taken_by, given_by, constant_type}
-use Rattle.wasm_operator_validator_rules.specs.InstructionTypes.{◌⟶◌, instruction_type}
-use Rattle.wasm_operator_validator_resources.specs.Meaning.{Meaning}
-use Rattle.wasm_operator_validator_state.specs.State.{State, context, types_in}
+use Rattle.wasm_operator_validator_determined.specs.expression.info.declared.proposal.Proposal.{Proposal}
+use Rattle.wasm_operator_validator_determined.specs.expression.info.declared.proposal.Proposal.TheVariants.{Mvp}
+use Rattle.wasm_operator_validator_determined.specs.expression.memory.declared.constant.ConstOperator.{ConstOperator}
+use Rattle.wasm_operator_validator_determined.specs.expression.memory.declared.constant.ConstOperator.TheVariants as const
+use Rattle.wasm_operator_validator_determined.specs.expression.memory.Table.{const_info}
+use Rattle.wasm_operator_validator_determined.specs.expression.numbers.declared.numeric.NumericOperator.{NumericOperator}
+use Rattle.wasm_operator_validator_determined.specs.expression.operator.Op as op
+use Rattle.wasm_operator_validator_determined.specs.rules.Numbers.{class_of, taken_by, given_by, constant_type}
+use Rattle.wasm_operator_validator_determined.specs.rules.InstructionTypes.{◌⟶◌, instruction_type}
+use Rattle.wasm_operator_validator_determined.specs.resources.Meaning.{Meaning}
+use Rattle.wasm_operator_validator_determined.specs.state.State.{State, context, types_in}
 use Rattle.wasm_operator_validator_determined.specs.Operators.{IsInTable}
 use Rattle.wasm_operator_validator_determined.specs.laws.Types.{number_in, numbers_in}
 use Rattle.wasm_operator_validator_numbers.specs.Numbers.{IsNumeric, IsConstant}

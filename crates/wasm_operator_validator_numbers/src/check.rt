@@ -1,14 +1,13 @@
 //! Operators on numbers by their types.
 
 ghost use Rattle.wasm_operators_visit.specs.operator.Op.{Op};
-ghost use Rattle.wasm_operator_validator_state.specs.State.{Checks};
-ghost use Rattle.wasm_operator_validator_state.specs.Refusals.{refused};
+ghost use Rattle.wasm_operator_validator_determined.specs.state.State.{Checks};
+ghost use Rattle.wasm_operator_validator_determined.specs.state.Refusals.{refused};
 ghost use Rattle.wasm_operator_validator_numbers.specs.Numbers.{IsNumeric, IsConstant};
 
-use wasm_operator_validator_resources::WasmModuleResources;
-use wasm_operator_validator_stacks::OperatorValidator;
-use wasm_operator_validator_state::Refusal;
-use wasm_operators_expression::{ConstOperator, Proposal};
+use wasm_operator_validator_determined::{
+    ConstOperator, OperatorValidator, Proposal, Refusal, WasmModuleResources,
+};
 use wasm_operators_visit::NumericOperator;
 use wasm_types::ValType;
 

@@ -11,3 +11,7 @@ mod resources;
 
 pub use gates::check_value_type_features;
 pub use resources::WasmModuleResources;
+pub use wasm_operator_validator_rules::{
+    BlockType, BrTable, BrTableTargets, BulkOperator, ConstOperator, FrameKind, MemArg,
+    MemArgTarget, MemoryOperator, Proposal,
+};

@@ -2,8 +2,8 @@
 -- constants, globals, memories, tables and atomic accesses. An operator whose type is free in something has a row of its own
 -- (`Row.antt`), and none here.
 use Rattle.std.specs.Prelude.{ℕ, Bool, true, false, List, [], ◌∷◌, ◌&&◌, Option, Some, None, slice_get, nat_lt, if◌then◌else◌}
-use Rattle.wasm_types.specs.trees.Types.{i32, number}
-use Rattle.wasm_types.specs.externs.declared.memory.MemoryType.{MemoryType}
+use Rattle.wasm_operators_expression.specs.types.trees.Types.{i32, number}
+use Rattle.wasm_operators_expression.specs.types.externs.declared.memory.MemoryType.{MemoryType}
 use Rattle.wasm_operators_expression.specs.memory.declared.memory.MemoryOperator.{MemoryOperator}
 use Rattle.wasm_operators_expression.specs.memory.declared.memory.MemoryOperator.TheVariants as memory
 use Rattle.wasm_operators_expression.specs.memory.declared.bulk.BulkOperator.{BulkOperator}

@@ -2,12 +2,12 @@
 -- that is merely not supported yet has no row.
 use Rattle.std.specs.Prelude.{◌≡◌, ℕ, Bool, true, false, IsTrue, List, [], ◌∷◌, ◌++◌, Option, Some, None, slice_get, if◌then◌else◌, ◌==◌, ◌⊎◌}
 use Rattle.std.specs.Int.RustNames.{bit_and}
-use Rattle.wasm_types.specs.features.Features.{Floats, CustomDescriptors}
-use Rattle.wasm_types.specs.trees.Types.{number, ref, HeapOf, abstract, concrete, exact, func}
-use Rattle.wasm_types.specs.trees.Trees.{TypeTree}
-use Rattle.wasm_types.specs.trees.Below.{Below, is_shared, value_is_shared}
-use Rattle.wasm_types.specs.trees.Gates.{Has}
-use Rattle.wasm_types.specs.values.declared.value.ValType.TheVariants as value
+use Rattle.wasm_operators_expression.specs.types.features.Features.{Floats, CustomDescriptors}
+use Rattle.wasm_operators_expression.specs.types.trees.Types.{number, ref, HeapOf, abstract, concrete, exact, func}
+use Rattle.wasm_operators_expression.specs.types.trees.Trees.{TypeTree}
+use Rattle.wasm_operators_expression.specs.types.trees.Below.{Below, is_shared, value_is_shared}
+use Rattle.wasm_operators_expression.specs.types.trees.Gates.{Has}
+use Rattle.wasm_operators_expression.specs.types.values.declared.value.ValType.TheVariants as value
 use Rattle.wasm_operators_expression.specs.info.Info.{features_of}
 use Rattle.wasm_operators_expression.specs.control.declared.control.ControlOperator.{ControlOperator}
 use Rattle.wasm_operators_expression.specs.control.declared.control.ControlOperator.TheVariants as control

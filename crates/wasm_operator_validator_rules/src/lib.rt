@@ -7,4 +7,8 @@
 
 mod worked;
 
+pub use wasm_operators_expression::{
+    BlockType, BrTable, BrTableTargets, BulkOperator, ConstOperator, FrameKind, MemArg,
+    MemArgTarget, MemoryOperator, Proposal,
+};
 pub use worked::{code_is_worked, instruction_types_are_worked, rows_are_worked};

@@ -7,8 +7,8 @@ use Rattle.wasm_types.specs.values.declared.value.ValType.TheVariants as vals
 use Rattle.wasm_types.specs.values.Reference.{Reference}
 use Rattle.wasm_types.specs.values.ValueKinds.{is_reference}
 use Rattle.wasm_types.specs.trees.Below.{Below}
-use Rattle.wasm_operator_validator_rules.specs.Operands.{known, some_reference, OperandBelow}
-use Rattle.wasm_operator_validator_resources.specs.Meaning.{Meaning, type_in}
+use Rattle.wasm_operator_validator_state.specs.rules.Operands.{known, some_reference, OperandBelow}
+use Rattle.wasm_operator_validator_state.specs.resources.Meaning.{Meaning, type_in}
 use Rattle.wasm_operator_validator_stacks.specs.Layout.{IsAbstractFit}
 
 pub abstract_fit : (m : Meaning) (r : Reference) (s : Bool) (a : AbstractHeapType) (t : ValType) (b : Bool) → r ≡ record { nullable = false; heap = Abstract s a }

@@ -30,8 +30,8 @@ use Rattle.std.proofs.Common.{
 }
 use Rattle.std.proofs.lemmas.List.{length-reverse, length-take-le, get_or-reverse, length_push, take-append-le}
 use Rattle.std.proofs.lemmas.Option.{slice_get-get_or, slice_get_past}
-use Rattle.wasm_operators_expression.specs.immediates.declared.block.BlockType.{BlockType}
-use Rattle.wasm_operators_expression.specs.immediates.declared.frames.FrameKind.{FrameKind}
+use Rattle.wasm_operator_validator_state.specs.expression.immediates.declared.block.BlockType.{BlockType}
+use Rattle.wasm_operator_validator_state.specs.expression.immediates.declared.frames.FrameKind.{FrameKind}
 use Rattle.wasm_operator_validator_state.specs.declared.operand.MaybeType.{MaybeType}
 use Rattle.wasm_operator_validator_state.specs.declared.frame.Frame.{Frame}
 use Rattle.wasm_operator_validator_state.specs.State.{Open}
@@ -130,5 +130,5 @@ opens_set (f ∷ fs) ms inits x height l =
     let k = l.1 in rw (take-append-le f.init_height inits (x ∷ []) k) refl
 
 pub layered_set : (fs : List Frame) (inits : List ℕ) (x height : ℕ) → Layered fs height (length inits) → Layered fs height (length (inits ++ x ∷ []))
-layered_set [] inits x height l = tt
+layered_set [] inits x height l = l
 layered_set (f ∷ fs) inits x height l = let k = l.1 in let n = length_push inits x in (l.0, omega (arith, k, n), l.2)

@@ -4,3 +4,5 @@ pub mod Fits
 pub mod Leaving
 pub mod Setting
 pub mod MoreLocals
+pub mod Peeks
+pub mod Lying

@@ -5,9 +5,9 @@ use Rattle.wasm_types.specs.error.Denials.{Denies}
 use Rattle.wasm_operator_validator_state.specs.Refusals.{Does, kind_of, refused}
 use Rattle.wasm_operator_validator_state.specs.declared.refusal.Refusal.{Refusal}
 use Rattle.wasm_types.specs.values.declared.value.ValType.{ValType}
-use Rattle.wasm_operator_validator_rules.specs.Operands.{ValueType, Operand, known, AllBelow, stack}
+use Rattle.wasm_operator_validator_state.specs.rules.Operands.{ValueType, Operand, known, AllBelow, stack}
 use Rattle.wasm_operator_validator_state.specs.laws.Operands.{all_below_refl, all_below_trans, all_below_under}
-use Rattle.wasm_operator_validator_resources.specs.Meaning.{Meaning, type_in}
+use Rattle.wasm_operator_validator_state.specs.resources.Meaning.{Meaning, type_in}
 use Rattle.wasm_types.specs.error.DenialLaws.{denies_from}
 use Rattle.wasm_operator_validator_state.specs.declared.operand.MaybeType.{MaybeType}
 use Rattle.wasm_operator_validator_state.specs.declared.operand.MaybeType.TheVariants as maybe

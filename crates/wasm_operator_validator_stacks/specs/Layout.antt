@@ -5,8 +5,8 @@ use Rattle.wasm_types.specs.values.declared.heap.AbstractHeapType.{AbstractHeapT
 use Rattle.wasm_types.specs.values.declared.value.ValType.{ValType}
 use Rattle.wasm_types.specs.values.ValueKinds.{is_defaultable_type}
 use Rattle.wasm_types.specs.values.Trees.{abstract_of}
-use Rattle.wasm_operator_validator_rules.specs.Operands.{known, OperandBelow}
-use Rattle.wasm_operator_validator_resources.specs.Meaning.{Meaning, type_in}
+use Rattle.wasm_operator_validator_state.specs.rules.Operands.{known, OperandBelow}
+use Rattle.wasm_operator_validator_state.specs.resources.Meaning.{Meaning, type_in}
 use Rattle.wasm_operator_validator_state.specs.declared.operand.MaybeType.{MaybeType}
 use Rattle.wasm_operator_validator_state.specs.State.{Given, Open, Saved, State}
 use Rattle.wasm_operator_validator_state.specs.declared.frame.Frame.{Frame}
@@ -20,9 +20,9 @@ opens_of (f ∷ fs) operands inits =
     record { kind = f.kind; block = f.block_type; before = earlier; operands = take (length operands - f.height) operands; unreachable = f.unreachable }
     ∷ opens_of fs below earlier
 
--- no frame begins above what there is
+-- no frame begins above what there is, the outermost at the bottom, and without a frame there is no operand
 abbrev pub Layered : List Frame → ℕ → ℕ → Type 0
-Layered [] height inits = Unit {0}
+Layered [] height inits = height ≡ 0
 Layered (f ∷ fs) height inits = (f.height ≤ height) × (f.init_height ≤ inits) × Layered fs f.height f.init_height
 
 -- the state that frames, operands and locals that were set stand for, as they lie in memory, the last on top

@@ -1,6 +1,19 @@
 -- How the open frames lie in memory.
 pub mod Layout
+-- What lies under others in the innermost frame.
+pub mod Peeking
+-- How many operands there are, and how a frame lies over those around it.
+pub mod Heights
+pub mod Worked
+pub mod WorkedLaws
 -- Locals that a body declares.
 pub mod Defining
 -- What a type that a module writes stands for: laws, with the proofs.
 pub mod laws
+-- The rules and laws of the crates below, under their names: crates above cite them here.
+pub use Rattle.wasm_operator_validator_state.specs.expression as expression
+pub use Rattle.wasm_operator_validator_state.specs.rules as rules
+pub use Rattle.wasm_operator_validator_state.specs.resources as resources
+pub use Rattle.wasm_operator_validator_locals.specs as locals
+pub use Rattle.wasm_operator_validator_inits.specs as inits
+pub use Rattle.wasm_operator_validator_state.specs as state

@@ -4,17 +4,18 @@ ghost use Rattle.std.specs.Prelude.{◌≡◌, [], false, None};
 ghost use Rattle.wasm_operator_validator_stacks.specs.Layout.{none_saved, rolled_back, AreFirst};
 
 use crate::OperatorValidator;
-use std::alloc::Global;
 use wasm_operator_validator_inits::LocalInits;
 use wasm_operator_validator_locals::Locals;
+use wasm_operator_validator_state::{Frame, MaybeType};
 use wasm_operator_validator_tape::Tape;
 use wasm_types::WasmFeatures;
 
 impl OperatorValidator {
     /// What is known where no frame is open yet: the locals, of which the first so many are parameters, and which of them have a
-    /// value from the start. It takes no memory.
+    /// value from the start. The stacks are emptied first. It takes no memory.
     pub fn new(
-        alloc: Global,
+        operands: Tape<MaybeType>,
+        control: Tape<Frame>,
         features: WasmFeatures,
         locals: Locals,
         inits: LocalInits,
@@ -26,6 +27,10 @@ impl OperatorValidator {
         requires none_saved { inits.saved ≡ None }
         ensures { result ≡ record { given = record { bits = features.0; locals = locals; params = params; shared = shared }; inits = []; opens = []; failed = false; saved = none_saved } }
     {
+        let mut operands = operands;
+        let mut control = control;
+        operands.clear();
+        control.clear();
         OperatorValidator {
             features,
             locals,
@@ -33,8 +38,8 @@ impl OperatorValidator {
             shared,
             failed: false,
             failed_before: false,
-            operands: Tape::new(alloc),
-            control: Tape::new(alloc),
+            operands,
+            control,
             inits,
         }
     }

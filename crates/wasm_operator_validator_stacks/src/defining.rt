@@ -6,7 +6,7 @@ ghost use Rattle.wasm_operator_validator_stacks.specs.Defining.{with_locals, Has
 
 use crate::OperatorValidator;
 use wasm_operator_validator_locals::too_many_locals;
-use wasm_operator_validator_resources::WasmModuleResources;
+use wasm_operator_validator_state::WasmModuleResources;
 use wasm_types::{Error, Result, ValType};
 
 impl OperatorValidator {

@@ -1,14 +1,13 @@
 //! The test at the entry of each operator, and what a refusal leaves.
 
 ghost use Rattle.std.specs.Prelude.{◌≡◌, ◌==◌, true, bit_and, IfErr};
-ghost use Rattle.wasm_operators_expression.specs.info.Info.{features_of};
+ghost use Rattle.wasm_operator_validator_state.specs.expression.info.Info.{features_of};
 ghost use Rattle.wasm_operator_validator_state.specs.Refusals.{Does, refused};
 ghost use Rattle.wasm_operator_validator_state.specs.Entering.{MayBegin, StopsWith};
 
 use crate::OperatorValidator;
 use bitflags::Flags;
-use wasm_operator_validator_state::Refusal;
-use wasm_operators_expression::Proposal;
+use wasm_operator_validator_state::{Proposal, Refusal};
 use wasm_types::WasmFeatures;
 
 impl OperatorValidator {

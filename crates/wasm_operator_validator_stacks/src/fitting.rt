@@ -3,14 +3,13 @@
 ghost use Rattle.std.specs.Prelude.{◌≡◌, ◌↔◌, IsTrue};
 ghost use Rattle.wasm_types.specs.error.declared.error.ErrorKind.TheVariants.{Other};
 ghost use Rattle.wasm_operator_validator_state.specs.Refusals.{kind_of};
-ghost use Rattle.wasm_operator_validator_rules.specs.Operands.{known};
-ghost use Rattle.wasm_operator_validator_resources.specs.Meaning.{type_in};
+ghost use Rattle.wasm_operator_validator_state.specs.rules.Operands.{known};
+ghost use Rattle.wasm_operator_validator_state.specs.resources.Meaning.{type_in};
 ghost use Rattle.wasm_operator_validator_state.specs.State.{Stands};
 ghost use Rattle.wasm_operator_validator_state.specs.declared.operand.MaybeType.{MaybeType};
 ghost use Rattle.wasm_operator_validator_stacks.specs.Layout.{IsAbstractFit};
 
-use wasm_operator_validator_resources::WasmModuleResources;
-use wasm_operator_validator_state::{MaybeType, Refusal};
+use wasm_operator_validator_state::{MaybeType, Refusal, WasmModuleResources};
 use wasm_types::{AbstractHeapType, HeapType, RefType, ValType};
 
 /// Whether what is known of an operand may be taken for one of this type.
@@ -42,7 +41,7 @@ fn is_unknown_fit<R: WasmModuleResources>(
 }
 
 /// Whether a reference to this abstract type may be taken for one of this type.
-fn is_abstract_fit<R: WasmModuleResources>(
+pub fn is_abstract_fit<R: WasmModuleResources>(
     resources: &R,
     shared: bool,
     ty: AbstractHeapType,
@@ -54,6 +53,19 @@ fn is_abstract_fit<R: WasmModuleResources>(
         return false;
     };
     resources.is_subtype(ValType::Ref(reference), *expected)
+}
+
+/// The refusal where no operand of this type could be taken off.
+#[cold]
+pub(crate) fn not_taken(refusal: Refusal, expected: &ValType) -> Refusal
+    ensures { kind_of result ≡ kind_of refusal }
+{
+    match refusal {
+        Refusal::EmptyStackOfAny => Refusal::EmptyStack {
+            expected: *expected,
+        },
+        other => other,
+    }
 }
 
 /// The refusal of an operand that does not fit.

@@ -1,7 +1,7 @@
 //! Open frames.
 
 ghost use Rattle.std.specs.Prelude.{◌≡◌, ◌∷◌, ◌<◌, ◌-◌, not, OnOk, IfErr, MatchResult, option_map, slice_get, length};
-ghost use Rattle.wasm_operator_validator_resources.specs.Meaning.{Meaning};
+ghost use Rattle.wasm_operator_validator_state.specs.resources.Meaning.{Meaning};
 ghost use Rattle.wasm_types.specs.error.Denials.{Denies};
 ghost use Rattle.wasm_operator_validator_state.specs.Refusals.{kind_of};
 ghost use Rattle.wasm_operator_validator_state.specs.State.{Open, initialised};
@@ -9,8 +9,7 @@ ghost use Rattle.wasm_operator_validator_state.specs.Steps.{IsOpen, begun, Leave
 ghost use Rattle.wasm_operator_validator_state.specs.declared.refusal.Refusal.TheVariants.{OutOfMemory};
 
 use crate::OperatorValidator;
-use wasm_operator_validator_state::{Frame, Refusal};
-use wasm_operators_expression::{BlockType, FrameKind};
+use wasm_operator_validator_state::{BlockType, Frame, FrameKind, Refusal};
 use wasm_types::ValType;
 
 impl OperatorValidator {

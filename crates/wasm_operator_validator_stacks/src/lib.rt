@@ -4,12 +4,24 @@
 //! in one place, and a frame knows how many lay below it where it began (`specs/Layout.antt`).
 #![tactic(auto)]
 
+mod allocations;
 mod attempts;
 mod defining;
 mod entering;
 mod fitting;
 mod frames;
+mod heights;
+mod peeking;
 mod validator;
 
-pub use fitting::is_fit;
+pub use allocations::OperatorValidatorAllocations;
+pub use fitting::{is_abstract_fit, is_fit};
+pub use heights::heights_are_worked;
 pub use validator::OperatorValidator;
+pub use wasm_operator_validator_inits::LocalInits;
+pub use wasm_operator_validator_locals::Locals;
+pub use wasm_operator_validator_state::{
+    BlockType, BrTable, BrTableTargets, BulkOperator, ConstOperator, Frame, FrameKind, MaybeType,
+    MemArg, MemArgTarget, MemoryOperator, Proposal, Reason, Refusal, Space, WasmModuleResources,
+    check_value_type_features,
+};

@@ -2,19 +2,18 @@
 
 ghost use Rattle.std.specs.Prelude.{◌≡◌, ◌↔◌, ◌∷◌, [], IsTrue, MatchResult, length, true};
 ghost use Rattle.wasm_types.specs.error.Denials.{Denies};
-ghost use Rattle.wasm_operator_validator_rules.specs.Operands.{known, stack};
-ghost use Rattle.wasm_operator_validator_resources.specs.Meaning.{Meaning, type_in};
+ghost use Rattle.wasm_operator_validator_state.specs.rules.Operands.{known, stack};
+ghost use Rattle.wasm_operator_validator_state.specs.resources.Meaning.{Meaning, type_in};
 ghost use Rattle.wasm_operator_validator_state.specs.Refusals.{Does, kind_of, refused};
 ghost use Rattle.wasm_operator_validator_state.specs.State.{State, types_in};
 ghost use Rattle.wasm_operator_validator_state.specs.Steps.{IsOpen, MayPopAny, PoppedAny, PushedAny, Popped, MayPop, Pushed, Jumped, Exchanged};
 ghost use Rattle.wasm_operator_validator_stacks.specs.Layout.{state_of, IsLayered, IsSavedLayered, AreFirst};
 
-use crate::fitting::{is_fit, type_mismatch};
+use crate::fitting::{is_fit, not_taken, type_mismatch};
 use std::marker::Model;
 use wasm_operator_validator_inits::LocalInits;
 use wasm_operator_validator_locals::Locals;
-use wasm_operator_validator_resources::WasmModuleResources;
-use wasm_operator_validator_state::{Frame, MaybeType, Refusal};
+use wasm_operator_validator_state::{Frame, MaybeType, Refusal, WasmModuleResources};
 use wasm_operator_validator_tape::Tape;
 use wasm_types::{ValType, WasmFeatures};
 
@@ -132,7 +131,7 @@ impl OperatorValidator {
     {
         let found = match self.pop_any() {
             Ok(found) => found,
-            Err(refusal) => return Err(refusal),
+            Err(refusal) => return Err(not_taken(refusal, expected)),
         };
         if !is_fit(resources, &found, expected) {
             return Err(type_mismatch(&found, expected));

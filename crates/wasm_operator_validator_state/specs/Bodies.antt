@@ -1,11 +1,11 @@
 -- A body by its operators one after the other, and as a tree.
 use Rattle.std.specs.Prelude.{◌≡◌, ◌↔◌, List, [], ◌∷◌, true, false}
-use Rattle.wasm_operators_expression.specs.immediates.declared.block.BlockType.{BlockType}
-use Rattle.wasm_operators_expression.specs.immediates.declared.frames.FrameKind.TheVariants as frames
-use Rattle.wasm_operators_expression.specs.operator.Op.{Op}
-use Rattle.wasm_operators_expression.specs.Code.{Code, walk}
-use Rattle.wasm_operator_validator_rules.specs.Context.{Context}
-use Rattle.wasm_operator_validator_rules.specs.Typed.{IsBody}
+use Rattle.wasm_operator_validator_resources.specs.expression.immediates.declared.block.BlockType.{BlockType}
+use Rattle.wasm_operator_validator_resources.specs.expression.immediates.declared.frames.FrameKind.TheVariants as frames
+use Rattle.wasm_operator_validator_resources.specs.expression.operator.Op.{Op}
+use Rattle.wasm_operator_validator_resources.specs.expression.Code.{Code, walk}
+use Rattle.wasm_operator_validator_resources.specs.rules.Context.{Context}
+use Rattle.wasm_operator_validator_resources.specs.rules.Typed.{IsBody}
 use Rattle.wasm_operator_validator_resources.specs.Meaning.{Meaning}
 use Rattle.wasm_operator_validator_state.specs.State.{Given, Saved, State, signature_of, types_in, Accepts}
 use Rattle.wasm_operator_validator_state.specs.Steps.{begun}

@@ -4,8 +4,8 @@ use Rattle.std.specs.Int.RustNames.{bit_and}
 use Rattle.wasm_types.specs.features.Features.{Floats, mask}
 use Rattle.wasm_types.specs.features.declared.WasmFeatures.{WasmFeatures}
 use Rattle.wasm_types.specs.trees.Gates.{Has}
-use Rattle.wasm_operators_expression.specs.info.Info.{features_of}
-use Rattle.wasm_operators_expression.specs.info.declared.proposal.Proposal.{Proposal}
+use Rattle.wasm_operator_validator_resources.specs.expression.info.Info.{features_of}
+use Rattle.wasm_operator_validator_resources.specs.expression.info.declared.proposal.Proposal.{Proposal}
 use Rattle.wasm_operator_validator_state.specs.declared.refusal.Refusal.{Refusal}
 use Rattle.wasm_operator_validator_state.specs.declared.refusal.Refusal.TheVariants as refusals
 use Rattle.wasm_operator_validator_state.specs.State.{State}

@@ -9,3 +9,7 @@ pub mod Bodies
 pub mod worked
 -- How a visit's promise follows from its steps: laws, with the proofs.
 pub mod laws
+-- The rules and laws of the crates below, under their names: crates above cite them here.
+pub use Rattle.wasm_operator_validator_resources.specs.expression as expression
+pub use Rattle.wasm_operator_validator_resources.specs.rules as rules
+pub use Rattle.wasm_operator_validator_resources.specs as resources

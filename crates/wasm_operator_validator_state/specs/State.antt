@@ -9,15 +9,15 @@ use Rattle.wasm_types.specs.trees.Below.{expanded}
 use Rattle.wasm_types.specs.trees.ValidGroup.{type_at}
 use Rattle.wasm_types.specs.values.declared.value.ValType.{ValType}
 use Rattle.wasm_types.specs.values.Trees.{abstract_of}
-use Rattle.wasm_operators_expression.specs.immediates.declared.block.BlockType.{BlockType}
-use Rattle.wasm_operators_expression.specs.immediates.declared.block.BlockType.TheVariants as block
-use Rattle.wasm_operators_expression.specs.immediates.declared.frames.FrameKind.{FrameKind}
-use Rattle.wasm_operators_expression.specs.operator.Op.{Op}
-use Rattle.wasm_operators_expression.specs.Code.{Code, walk, IsIn}
-use Rattle.wasm_operator_validator_rules.specs.Operands.{ValueType, Operand, known, some_reference, OperandBelow, stack}
+use Rattle.wasm_operator_validator_resources.specs.expression.immediates.declared.block.BlockType.{BlockType}
+use Rattle.wasm_operator_validator_resources.specs.expression.immediates.declared.block.BlockType.TheVariants as block
+use Rattle.wasm_operator_validator_resources.specs.expression.immediates.declared.frames.FrameKind.{FrameKind}
+use Rattle.wasm_operator_validator_resources.specs.expression.operator.Op.{Op}
+use Rattle.wasm_operator_validator_resources.specs.expression.Code.{Code, walk, IsIn}
+use Rattle.wasm_operator_validator_resources.specs.rules.Operands.{ValueType, Operand, known, some_reference, OperandBelow, stack}
 use Rattle.wasm_operator_validator_resources.specs.Meaning.{Meaning, type_in}
-use Rattle.wasm_operator_validator_rules.specs.Context.{Context, Initialised, Signature, Frame, label_of, initialised_at_first}
-use Rattle.wasm_operator_validator_rules.specs.Typed.{Typed}
+use Rattle.wasm_operator_validator_resources.specs.rules.Context.{Context, Initialised, Signature, Frame, label_of, initialised_at_first}
+use Rattle.wasm_operator_validator_resources.specs.rules.Typed.{Typed}
 use Rattle.wasm_operator_validator_state.specs.Refusals.{Does}
 use Rattle.wasm_operator_validator_state.specs.declared.frame.Frame.{Frame as OpenFrame}
 use Rattle.wasm_operator_validator_state.specs.declared.operand.MaybeType.{MaybeType}

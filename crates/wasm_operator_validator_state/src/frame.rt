@@ -1,6 +1,6 @@
 //! An open frame.
 
-use wasm_operators_expression::{BlockType, FrameKind};
+use wasm_operator_validator_resources::{BlockType, FrameKind};
 
 /// An open frame, over the operands and the set locals of those around it (WebAssembly 3.0, validation algorithm).
 #[derive(Clone, Copy)]

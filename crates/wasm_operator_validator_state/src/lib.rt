@@ -16,3 +16,7 @@ pub use frame::Frame;
 pub use operand::MaybeType;
 pub use refusal::{Reason, Refusal, Space};
 pub use type_names::ty_to_str;
+pub use wasm_operator_validator_resources::{
+    BlockType, BrTable, BrTableTargets, BulkOperator, ConstOperator, FrameKind, MemArg,
+    MemArgTarget, MemoryOperator, Proposal, WasmModuleResources, check_value_type_features,
+};

@@ -108,6 +108,8 @@ pub enum Reason {
     SelectOfTypes,
     /// A choice is of no type or of several.
     SelectArity,
+    /// The operator has no rule here yet.
+    Unsupported,
 }
 
 impl Refusal {

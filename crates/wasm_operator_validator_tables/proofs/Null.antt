@@ -13,18 +13,18 @@ use Rattle.wasm_types.specs.values.declared.value.ValType.{ValType}
 use Rattle.wasm_types.specs.values.Reference.{Reference}
 use Rattle.wasm_types.specs.values.Trees.{heap_of}
 use Rattle.wasm_types.specs.values.Values.{value_of}
-use Rattle.wasm_operators_expression.specs.info.declared.proposal.Proposal.TheVariants.{ReferenceTypes}
-use Rattle.wasm_operators_expression.specs.memory.declared.bulk.BulkOperator.TheVariants as bulk
-use Rattle.wasm_operators_expression.specs.operator.Op as op
-use Rattle.wasm_operators_expression.specs.operator.Op.{Op}
-use Rattle.wasm_operator_validator_rules.specs.Operands.{ValueType, Operand}
-use Rattle.wasm_operator_validator_rules.specs.Context.{IsType, written_type}
-use Rattle.wasm_operator_validator_rules.specs.Row.{Takes, GroupRow}
-use Rattle.wasm_operator_validator_resources.specs.Meaning.{Meaning, type_in, named_type}
-use Rattle.wasm_operator_validator_resources.specs.Answers.{IsWritten, IsNamed}
-use Rattle.wasm_operator_validator_state.specs.State.{State, initialised, context, types_in, Accepts, Checks}
-use Rattle.wasm_operator_validator_state.specs.Entering.{MayBegin}
-use Rattle.wasm_operator_validator_state.specs.laws.Rows.{some_row}
+use Rattle.wasm_operator_validator_determined.specs.expression.info.declared.proposal.Proposal.TheVariants.{ReferenceTypes}
+use Rattle.wasm_operator_validator_determined.specs.expression.memory.declared.bulk.BulkOperator.TheVariants as bulk
+use Rattle.wasm_operator_validator_determined.specs.expression.operator.Op as op
+use Rattle.wasm_operator_validator_determined.specs.expression.operator.Op.{Op}
+use Rattle.wasm_operator_validator_determined.specs.rules.Operands.{ValueType, Operand}
+use Rattle.wasm_operator_validator_determined.specs.rules.Context.{IsType, written_type}
+use Rattle.wasm_operator_validator_determined.specs.rules.Row.{Takes, GroupRow}
+use Rattle.wasm_operator_validator_determined.specs.resources.Meaning.{Meaning, type_in, named_type}
+use Rattle.wasm_operator_validator_determined.specs.resources.Answers.{IsWritten, IsNamed}
+use Rattle.wasm_operator_validator_determined.specs.state.State.{State, initialised, context, types_in, Accepts, Checks}
+use Rattle.wasm_operator_validator_determined.specs.state.Entering.{MayBegin}
+use Rattle.wasm_operator_validator_determined.specs.state.laws.Rows.{some_row}
 use Rattle.wasm_operator_validator_determined.specs.Operators.{MayUseIn}
 use Rattle.wasm_operator_validator_determined.specs.laws.Types.{is_written}
 use Rattle.wasm_operator_validator_determined.specs.laws.Same.{stays_refl}

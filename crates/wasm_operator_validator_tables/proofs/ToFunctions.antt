@@ -9,22 +9,22 @@ use Rattle.wasm_types.specs.trees.Below.{HeapBelow, itself, is_shared, value_is_
 use Rattle.wasm_types.specs.trees.ValidGroup.{type_at}
 use Rattle.wasm_types.specs.values.declared.heap.HeapType.{HeapType}
 use Rattle.wasm_types.specs.values.Reference.{Reference}
-use Rattle.wasm_operators_expression.specs.info.declared.proposal.Proposal.TheVariants.{ReferenceTypes}
-use Rattle.wasm_operators_expression.specs.memory.declared.bulk.BulkOperator.TheVariants as bulk
-use Rattle.wasm_operators_expression.specs.operator.Op as op
-use Rattle.wasm_operators_expression.specs.operator.Op.{Op}
-use Rattle.wasm_operator_validator_rules.specs.Operands.{ValueType, known}
-use Rattle.wasm_operator_validator_rules.specs.Row.{IsOneOf, IsReferenceTo, of_type, of_exactly}
-use Rattle.wasm_operator_validator_resources.specs.Meaning.{Meaning, type_in, heap_in}
-use Rattle.wasm_operator_validator_resources.specs.Answers.{IsTypeOf, IsNamed}
-use Rattle.wasm_operator_validator_state.specs.Refusals.{Does}
-use Rattle.wasm_operator_validator_state.specs.State.{State, context, Accepts, Decides, Checks}
-use Rattle.wasm_operator_validator_state.specs.Steps.{Stacks, Pushed}
-use Rattle.wasm_operator_validator_state.specs.laws.Operands.{all_below_refl}
-use Rattle.wasm_operator_validator_state.specs.laws.Rows.{by_row}
-use Rattle.wasm_operator_validator_state.specs.Entering.{MayBegin}
-use Rattle.wasm_operator_validator_state.specs.laws.Entering.{enabled}
-use Rattle.wasm_operator_validator_state.specs.laws.Checks.{checks_going}
+use Rattle.wasm_operator_validator_determined.specs.expression.info.declared.proposal.Proposal.TheVariants.{ReferenceTypes}
+use Rattle.wasm_operator_validator_determined.specs.expression.memory.declared.bulk.BulkOperator.TheVariants as bulk
+use Rattle.wasm_operator_validator_determined.specs.expression.operator.Op as op
+use Rattle.wasm_operator_validator_determined.specs.expression.operator.Op.{Op}
+use Rattle.wasm_operator_validator_determined.specs.rules.Operands.{ValueType, known}
+use Rattle.wasm_operator_validator_determined.specs.rules.Row.{IsOneOf, IsReferenceTo, of_type, of_exactly}
+use Rattle.wasm_operator_validator_determined.specs.resources.Meaning.{Meaning, type_in, heap_in}
+use Rattle.wasm_operator_validator_determined.specs.resources.Answers.{IsTypeOf, IsNamed}
+use Rattle.wasm_operator_validator_determined.specs.state.Refusals.{Does}
+use Rattle.wasm_operator_validator_determined.specs.state.State.{State, context, Accepts, Decides, Checks}
+use Rattle.wasm_operator_validator_determined.specs.state.Steps.{Stacks, Pushed}
+use Rattle.wasm_operator_validator_determined.specs.state.laws.Operands.{all_below_refl}
+use Rattle.wasm_operator_validator_determined.specs.state.laws.Rows.{by_row}
+use Rattle.wasm_operator_validator_determined.specs.state.Entering.{MayBegin}
+use Rattle.wasm_operator_validator_determined.specs.state.laws.Entering.{enabled}
+use Rattle.wasm_operator_validator_determined.specs.state.laws.Checks.{checks_going}
 use Rattle.wasm_operator_validator_determined.specs.Operators.{MayUseIn, Stays}
 use Rattle.wasm_operator_validator_determined.specs.laws.Usable.{fails}
 use Rattle.wasm_operator_validator_determined.specs.laws.Determined.{no_row}

@@ -14,14 +14,14 @@ use Rattle.wasm_types.specs.values.declared.value.ValType.{ValType}
 use Rattle.wasm_types.specs.values.declared.value.ValType.TheVariants as vals
 use Rattle.wasm_types.specs.values.Reference.{Reference}
 use Rattle.wasm_types.specs.values.ValueKinds.{is_reference}
-use Rattle.wasm_operator_validator_rules.specs.Operands.{ValueType}
-use Rattle.wasm_operator_validator_rules.specs.Context.{Table}
-use Rattle.wasm_operator_validator_rules.specs.Row.{IsOneOf}
-use Rattle.wasm_operator_validator_resources.specs.Meaning.{Meaning}
-use Rattle.wasm_operator_validator_state.specs.State.{State}
+use Rattle.wasm_operator_validator_determined.specs.rules.Operands.{ValueType}
+use Rattle.wasm_operator_validator_determined.specs.rules.Context.{Table}
+use Rattle.wasm_operator_validator_determined.specs.rules.Row.{IsOneOf}
+use Rattle.wasm_operator_validator_determined.specs.resources.Meaning.{Meaning}
+use Rattle.wasm_operator_validator_determined.specs.state.State.{State}
 use Rattle.wasm_operator_validator_determined.specs.Operators.{MayUseIn}
-use Rattle.wasm_operator_validator_state.specs.declared.operand.MaybeType.{MaybeType}
-use Rattle.wasm_operator_validator_state.specs.declared.operand.MaybeType.TheVariants as maybe
+use Rattle.wasm_operator_validator_determined.specs.state.declared.operand.MaybeType.{MaybeType}
+use Rattle.wasm_operator_validator_determined.specs.state.declared.operand.MaybeType.TheVariants as maybe
 
 abbrev pub table_is_shared : Table → Bool
 table_is_shared t = t.shared

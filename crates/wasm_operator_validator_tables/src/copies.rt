@@ -1,16 +1,15 @@
 //! Copies into tables, and element segments.
 
 ghost use Rattle.std.specs.Prelude.{IfErr};
-ghost use Rattle.wasm_operators_expression.specs.operator.Op.{Op};
-ghost use Rattle.wasm_operator_validator_state.specs.State.{Checks};
-ghost use Rattle.wasm_operator_validator_state.specs.Refusals.{refused};
+ghost use Rattle.wasm_operator_validator_determined.specs.expression.operator.Op.{Op};
+ghost use Rattle.wasm_operator_validator_determined.specs.state.State.{Checks};
+ghost use Rattle.wasm_operator_validator_determined.specs.state.Refusals.{refused};
 ghost use Rattle.wasm_operator_validator_determined.specs.Operators.{IsOfContent};
 
 use crate::finding::{find_elements, length_type, usable_table};
-use wasm_operator_validator_resources::WasmModuleResources;
-use wasm_operator_validator_stacks::OperatorValidator;
-use wasm_operator_validator_state::{Reason, Refusal};
-use wasm_operators_expression::{BulkOperator, Proposal};
+use wasm_operator_validator_determined::{
+    BulkOperator, OperatorValidator, Proposal, Reason, Refusal, WasmModuleResources,
+};
 use wasm_types::ValType;
 
 /// `table.copy`, of elements that fit, and of a length that fits both tables (WebAssembly 3.0, validation, table instructions).

@@ -2,15 +2,14 @@
 
 ghost use Rattle.std.specs.Prelude.{◌≡◌, ◌&&◌, None, Some, slice_get, IfErr, MatchResult};
 ghost use Rattle.wasm_types.specs.externs.Addresses.{address_type};
-ghost use Rattle.wasm_operator_validator_rules.specs.Context.{Table};
-ghost use Rattle.wasm_operator_validator_resources.specs.Meaning.{table_in, reference_in};
+ghost use Rattle.wasm_operator_validator_determined.specs.rules.Context.{Table};
+ghost use Rattle.wasm_operator_validator_determined.specs.resources.Meaning.{table_in, reference_in};
 ghost use Rattle.wasm_operator_validator_determined.specs.Operators.{IsUsable, IsOfContent};
 ghost use Rattle.wasm_operator_validator_tables.specs.Tables.{table_is_shared};
 
-use wasm_operator_validator_determined::may_use;
-use wasm_operator_validator_resources::WasmModuleResources;
-use wasm_operator_validator_stacks::OperatorValidator;
-use wasm_operator_validator_state::{Reason, Refusal, Space};
+use wasm_operator_validator_determined::{
+    OperatorValidator, Reason, Refusal, Space, WasmModuleResources, may_use,
+};
 use wasm_types::{RefType, TableType, ValType};
 
 /// The table at an index, where the function may use it.

@@ -4,17 +4,16 @@ ghost use Rattle.std.specs.Prelude.{◌≡◌, ◌↔◌, ◌<◌, IsTrue, Match
 ghost use Rattle.wasm_types.specs.trees.Types.{ref};
 ghost use Rattle.wasm_types.specs.trees.Trees.{TypeTree};
 ghost use Rattle.wasm_types.specs.trees.ValidGroup.{type_at};
-ghost use Rattle.wasm_operators_expression.specs.operator.Op.{Op};
-ghost use Rattle.wasm_operator_validator_resources.specs.Meaning.{type_in};
-ghost use Rattle.wasm_operator_validator_state.specs.State.{Checks};
-ghost use Rattle.wasm_operator_validator_state.specs.Refusals.{refused};
+ghost use Rattle.wasm_operator_validator_determined.specs.expression.operator.Op.{Op};
+ghost use Rattle.wasm_operator_validator_determined.specs.resources.Meaning.{type_in};
+ghost use Rattle.wasm_operator_validator_determined.specs.state.State.{Checks};
+ghost use Rattle.wasm_operator_validator_determined.specs.state.Refusals.{refused};
 ghost use Rattle.wasm_operator_validator_tables.specs.Tables.{IsReferable, IsExactly, IsFunctionReference, heap_to, written_heap};
 
-use wasm_operator_validator_determined::may_use_type;
-use wasm_operator_validator_resources::WasmModuleResources;
-use wasm_operator_validator_stacks::OperatorValidator;
-use wasm_operator_validator_state::{Reason, Refusal, Space};
-use wasm_operators_expression::{BulkOperator, Proposal};
+use wasm_operator_validator_determined::{
+    BulkOperator, OperatorValidator, Proposal, Reason, Refusal, Space, WasmModuleResources,
+    may_use_type,
+};
 use wasm_types::{HeapType, RefType, UnpackedIndex, ValType};
 
 /// `ref.func`, of a function that the module names elsewhere too (WebAssembly 3.0, validation, reference instructions).

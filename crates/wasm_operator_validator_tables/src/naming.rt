@@ -2,15 +2,15 @@
 
 ghost use Rattle.std.specs.Prelude.{MatchResult};
 ghost use Rattle.wasm_types.specs.error.Denials.{Denies};
-ghost use Rattle.wasm_operator_validator_resources.specs.Meaning.{type_in};
-ghost use Rattle.wasm_operator_validator_rules.specs.Context.{IsType};
-ghost use Rattle.wasm_operator_validator_rules.specs.Operands.{ValueType};
-ghost use Rattle.wasm_operator_validator_state.specs.Refusals.{kind_of};
+ghost use Rattle.wasm_operator_validator_determined.specs.resources.Meaning.{type_in};
+ghost use Rattle.wasm_operator_validator_determined.specs.rules.Context.{IsType};
+ghost use Rattle.wasm_operator_validator_determined.specs.rules.Operands.{ValueType};
+ghost use Rattle.wasm_operator_validator_determined.specs.state.Refusals.{kind_of};
 ghost use Rattle.wasm_operator_validator_tables.specs.Tables.{null_of, reference_to};
 
-use wasm_operator_validator_determined::refusal_of;
-use wasm_operator_validator_resources::{WasmModuleResources, check_value_type_features};
-use wasm_operator_validator_state::{Reason, Refusal};
+use wasm_operator_validator_determined::{
+    Reason, Refusal, WasmModuleResources, check_value_type_features, refusal_of,
+};
 use wasm_types::{HeapType, RefType, ValType, WasmFeatures};
 
 /// The type of a null of this heap type, as a module writes it: its features are asked first, and then what it names.

@@ -1,15 +1,13 @@
 //! Nulls.
 
-ghost use Rattle.wasm_operators_expression.specs.operator.Op.{Op};
-ghost use Rattle.wasm_operator_validator_state.specs.State.{Checks};
-ghost use Rattle.wasm_operator_validator_state.specs.Refusals.{refused};
+ghost use Rattle.wasm_operator_validator_determined.specs.expression.operator.Op.{Op};
+ghost use Rattle.wasm_operator_validator_determined.specs.state.State.{Checks};
+ghost use Rattle.wasm_operator_validator_determined.specs.state.Refusals.{refused};
 
 use crate::naming::name_null;
-use wasm_operator_validator_determined::may_use_type;
-use wasm_operator_validator_resources::WasmModuleResources;
-use wasm_operator_validator_stacks::OperatorValidator;
-use wasm_operator_validator_state::{Reason, Refusal};
-use wasm_operators_expression::{BulkOperator, Proposal};
+use wasm_operator_validator_determined::{
+    BulkOperator, OperatorValidator, Proposal, Reason, Refusal, WasmModuleResources, may_use_type,
+};
 use wasm_types::HeapType;
 
 /// `ref.null` (WebAssembly 3.0, validation, reference instructions).

@@ -1,15 +1,14 @@
 //! References.
 
 ghost use Rattle.std.specs.Prelude.{◌≡◌};
-ghost use Rattle.wasm_operators_expression.specs.operator.Op.{Op};
-ghost use Rattle.wasm_operator_validator_state.specs.State.{Checks};
-ghost use Rattle.wasm_operator_validator_state.specs.Refusals.{refused};
+ghost use Rattle.wasm_operator_validator_determined.specs.expression.operator.Op.{Op};
+ghost use Rattle.wasm_operator_validator_determined.specs.state.State.{Checks};
+ghost use Rattle.wasm_operator_validator_determined.specs.state.Refusals.{refused};
 ghost use Rattle.wasm_operator_validator_tables.specs.Tables.{may_refer};
 
-use wasm_operator_validator_resources::WasmModuleResources;
-use wasm_operator_validator_stacks::OperatorValidator;
-use wasm_operator_validator_state::{MaybeType, Refusal};
-use wasm_operators_expression::{BulkOperator, Proposal};
+use wasm_operator_validator_determined::{
+    BulkOperator, MaybeType, OperatorValidator, Proposal, Refusal, WasmModuleResources,
+};
 use wasm_types::ValType;
 
 /// `ref.is_null`, of any reference (WebAssembly 3.0, validation, reference instructions).

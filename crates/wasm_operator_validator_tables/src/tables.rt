@@ -1,14 +1,13 @@
 //! Tables.
 
-ghost use Rattle.wasm_operators_expression.specs.operator.Op.{Op};
-ghost use Rattle.wasm_operator_validator_state.specs.State.{Checks};
-ghost use Rattle.wasm_operator_validator_state.specs.Refusals.{refused};
+ghost use Rattle.wasm_operator_validator_determined.specs.expression.operator.Op.{Op};
+ghost use Rattle.wasm_operator_validator_determined.specs.state.State.{Checks};
+ghost use Rattle.wasm_operator_validator_determined.specs.state.Refusals.{refused};
 
 use crate::finding::usable_table;
-use wasm_operator_validator_resources::WasmModuleResources;
-use wasm_operator_validator_stacks::OperatorValidator;
-use wasm_operator_validator_state::Refusal;
-use wasm_operators_expression::{BulkOperator, Proposal};
+use wasm_operator_validator_determined::{
+    BulkOperator, OperatorValidator, Proposal, Refusal, WasmModuleResources,
+};
 use wasm_types::ValType;
 
 /// `table.get` (WebAssembly 3.0, validation, table instructions).

@@ -6,21 +6,21 @@ use Rattle.std.proofs.lemmas.Option.{slice_get_within}
 use Rattle.wasm_types.specs.error.Denials.{Denies}
 use Rattle.wasm_types.specs.error.declared.error.ErrorKind.{ErrorKind}
 use Rattle.wasm_types.specs.error.DenialLaws.{denies_from}
-use Rattle.wasm_operators_expression.specs.info.declared.proposal.Proposal.{Proposal}
-use Rattle.wasm_operators_expression.specs.operator.Op.{Op}
-use Rattle.wasm_operator_validator_rules.specs.Operands.{ValueType, Operand, stack}
-use Rattle.wasm_operator_validator_rules.specs.Context.{Initialised}
-use Rattle.wasm_operator_validator_rules.specs.Row.{Takes, GroupRow, after}
-use Rattle.wasm_operator_validator_resources.specs.Meaning.{Meaning, type_in}
-use Rattle.wasm_operator_validator_state.specs.Refusals.{kind_of, refused}
-use Rattle.wasm_operator_validator_state.specs.State.{Given, State, initialised, context, types_in, Accepts, Decides, Checks}
-use Rattle.wasm_operator_validator_state.specs.Steps.{Stacks, MayPop, Exchanged, with_init}
-use Rattle.wasm_operator_validator_state.specs.declared.refusal.Refusal.{Refusal}
-use Rattle.wasm_operator_validator_state.specs.declared.refusal.Refusal.TheVariants as refusals
-use Rattle.wasm_operator_validator_state.specs.laws.Rows.{some_row}
-use Rattle.wasm_operator_validator_state.specs.laws.Locals.{with_init_sets}
-use Rattle.wasm_operator_validator_state.specs.Entering.{MayBegin}
-use Rattle.wasm_operator_validator_state.specs.laws.Checks.{checks_going}
+use Rattle.wasm_operator_validator_determined.specs.expression.info.declared.proposal.Proposal.{Proposal}
+use Rattle.wasm_operator_validator_determined.specs.expression.operator.Op.{Op}
+use Rattle.wasm_operator_validator_determined.specs.rules.Operands.{ValueType, Operand, stack}
+use Rattle.wasm_operator_validator_determined.specs.rules.Context.{Initialised}
+use Rattle.wasm_operator_validator_determined.specs.rules.Row.{Takes, GroupRow, after}
+use Rattle.wasm_operator_validator_determined.specs.resources.Meaning.{Meaning, type_in}
+use Rattle.wasm_operator_validator_determined.specs.state.Refusals.{kind_of, refused}
+use Rattle.wasm_operator_validator_determined.specs.state.State.{Given, State, initialised, context, types_in, Accepts, Decides, Checks}
+use Rattle.wasm_operator_validator_determined.specs.state.Steps.{Stacks, MayPop, Exchanged, with_init}
+use Rattle.wasm_operator_validator_determined.specs.state.declared.refusal.Refusal.{Refusal}
+use Rattle.wasm_operator_validator_determined.specs.state.declared.refusal.Refusal.TheVariants as refusals
+use Rattle.wasm_operator_validator_determined.specs.state.laws.Rows.{some_row}
+use Rattle.wasm_operator_validator_determined.specs.state.laws.Locals.{with_init_sets}
+use Rattle.wasm_operator_validator_determined.specs.state.Entering.{MayBegin}
+use Rattle.wasm_operator_validator_determined.specs.state.laws.Checks.{checks_going}
 use Rattle.wasm_operator_validator_determined.specs.Operators.{IsPlain, Stays}
 use Rattle.wasm_operator_validator_determined.specs.laws.Determined.{written, refused_then}
 

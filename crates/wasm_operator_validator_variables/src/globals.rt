@@ -2,19 +2,18 @@
 
 ghost use Rattle.std.specs.Prelude.{◌≡◌, slice_get, MatchResult, IfErr};
 ghost use Rattle.wasm_types.specs.error.declared.error.ErrorKind.TheVariants.{Other};
-ghost use Rattle.wasm_operators_expression.specs.operator.Op.{Op};
-ghost use Rattle.wasm_operator_validator_resources.specs.Meaning.{global_in};
-ghost use Rattle.wasm_operator_validator_rules.specs.Context.{Global};
-ghost use Rattle.wasm_operator_validator_state.specs.State.{Checks};
-ghost use Rattle.wasm_operator_validator_state.specs.Refusals.{refused, kind_of};
+ghost use Rattle.wasm_operator_validator_determined.specs.expression.operator.Op.{Op};
+ghost use Rattle.wasm_operator_validator_determined.specs.resources.Meaning.{global_in};
+ghost use Rattle.wasm_operator_validator_determined.specs.rules.Context.{Global};
+ghost use Rattle.wasm_operator_validator_determined.specs.state.State.{Checks};
+ghost use Rattle.wasm_operator_validator_determined.specs.state.Refusals.{refused, kind_of};
 ghost use Rattle.wasm_operator_validator_determined.specs.Operators.{IsUsable};
 ghost use Rattle.wasm_operator_validator_variables.specs.Variables.{global_is_shared, WantsRoom};
 
-use wasm_operator_validator_determined::may_use;
-use wasm_operator_validator_resources::WasmModuleResources;
-use wasm_operator_validator_stacks::OperatorValidator;
-use wasm_operator_validator_state::{Reason, Refusal, Space};
-use wasm_operators_expression::{MemoryOperator, Proposal};
+use wasm_operator_validator_determined::{
+    MemoryOperator, OperatorValidator, Proposal, Reason, Refusal, Space, WasmModuleResources,
+    may_use,
+};
 use wasm_types::GlobalType;
 
 /// `global.get` (WebAssembly 3.0, validation, variable instructions).

@@ -1,15 +1,14 @@
 //! Operands of any type.
 
-ghost use Rattle.wasm_operators_expression.specs.operator.Op.{Op, ParametricTree};
-ghost use Rattle.wasm_operator_validator_state.specs.State.{Checks};
-ghost use Rattle.wasm_operator_validator_state.specs.Refusals.{refused};
+ghost use Rattle.wasm_operator_validator_determined.specs.expression.operator.Op.{Op, ParametricTree};
+ghost use Rattle.wasm_operator_validator_determined.specs.state.State.{Checks};
+ghost use Rattle.wasm_operator_validator_determined.specs.state.Refusals.{refused};
 ghost use Rattle.wasm_operator_validator_variables.specs.Variables.{WantsRoom};
 
 use crate::choosing::chosen;
-use wasm_operator_validator_resources::WasmModuleResources;
-use wasm_operator_validator_stacks::OperatorValidator;
-use wasm_operator_validator_state::Refusal;
-use wasm_operators_expression::Proposal;
+use wasm_operator_validator_determined::{
+    OperatorValidator, Proposal, Refusal, WasmModuleResources,
+};
 use wasm_types::ValType;
 
 /// `drop` (WebAssembly 3.0, validation, parametric instructions).

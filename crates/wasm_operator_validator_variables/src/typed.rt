@@ -1,16 +1,15 @@
 //! Choices of a written type.
 
 ghost use Rattle.std.specs.Prelude.{IfErr};
-ghost use Rattle.wasm_operators_expression.specs.operator.Op.{Op, ParametricTree};
-ghost use Rattle.wasm_operator_validator_state.specs.State.{Checks};
-ghost use Rattle.wasm_operator_validator_state.specs.Refusals.{refused};
+ghost use Rattle.wasm_operator_validator_determined.specs.expression.operator.Op.{Op, ParametricTree};
+ghost use Rattle.wasm_operator_validator_determined.specs.state.State.{Checks};
+ghost use Rattle.wasm_operator_validator_determined.specs.state.Refusals.{refused};
 ghost use Rattle.wasm_operator_validator_determined.specs.Operators.{IsOfContent};
 
-use wasm_operator_validator_determined::{copied, may_use_type, refusal_of};
-use wasm_operator_validator_resources::WasmModuleResources;
-use wasm_operator_validator_stacks::OperatorValidator;
-use wasm_operator_validator_state::{Reason, Refusal};
-use wasm_operators_expression::Proposal;
+use wasm_operator_validator_determined::{
+    OperatorValidator, Proposal, Reason, Refusal, WasmModuleResources, copied, may_use_type,
+    refusal_of,
+};
 use wasm_types::ValType;
 
 /// `select` of a type (WebAssembly 3.0, validation, parametric instructions).

@@ -1,10 +1,9 @@
-//! Worked bytes of bodies and constants, as rows that compute; the messages of refusals, and each call once with ample memory.
+//! Worked bytes of bodies and constants, as rows that compute. The crate has no code of its own.
+//!
+//! The messages of refusals, which no contract promises, are judged by the stored run of `wasm_worked`.
 #![tactic(auto)]
 
 ghost use Rattle.wasm_operators_bodies_tests.specs.Rows.{LocalRows, BodyRows, ConstantRows};
-
-#[cfg(test)]
-mod calls;
 
 /// The decoders of locals, of bodies and of constants give these answers.
 pub const fn bodies_are_worked()

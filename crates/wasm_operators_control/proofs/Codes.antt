@@ -1,8 +1,8 @@
 -- Operators of control, exceptions and continuations are found by prefix and code, and made of their immediates.
 use Rattle.std.proofs.Common.{List, [], ◌∷◌, map, refl, ◌≡◌, true, true≢false, sym}
 use Rattle.wasm_operators_info.proofs.Codes.{Told, Made}
-use Rattle.wasm_types.specs.values.declared.value.ValType.{ValType}
-use Rattle.wasm_types.specs.values.declared.value.ValType.TheVariants.{I32}
+use Rattle.wasm_operators_immediates.specs.types.values.declared.value.ValType.{ValType}
+use Rattle.wasm_operators_immediates.specs.types.values.declared.value.ValType.TheVariants.{I32}
 use Rattle.wasm_operators_immediates.specs.declared.block.BlockType.TheVariants.{Empty}
 use Rattle.wasm_operators_immediates.specs.Immediates.{kind_of}
 use Rattle.wasm_operators_immediates.proofs.Makers.{Maker, bare, block, clauses, labels, number, one, some_clauses, some_labels, two, types, handlers, three}

@@ -2,8 +2,8 @@
 use Rattle.std.proofs.Common.{◌≡◌, ℕ, true, nat_eq, refl, sym, ap, true≢false, ◌&&◌}
 use lib.Pointwise.{pointwise}
 use denote.Signature.{static_lft}
-use Rattle.wasm_types.specs.values.Laws.{ValueEqualityIsIdentity}
-use Rattle.wasm_types.specs.values.contracts.value.ValTypePartialEq.TheImpl as value_eq
+use Rattle.wasm_operators_immediates.specs.types.values.Laws.{ValueEqualityIsIdentity}
+use Rattle.wasm_operators_immediates.specs.types.values.contracts.value.ValTypePartialEq.TheImpl as value_eq
 use Rattle.wasm_operators_immediates.specs.contracts.block.BlockTypePartialEq.TheImpl as block_eq
 use Rattle.wasm_operators_immediates.proofs.Telling.{Identity, none, one, two, variants, lists, ◌&◌, Tells, complete, first, second, both}
 use Rattle.wasm_operators_immediates.proofs.Equality.{identity, numbers, labels, blocks, try_tables, resume_tables}

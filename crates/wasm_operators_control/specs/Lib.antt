@@ -3,3 +3,10 @@ pub mod Trees
 -- their rows of the tables of opcodes and of immediates
 pub mod Table
 pub mod Immediates
+-- The rules and laws of the crates below, under their names: crates above cite them here.
+pub use Rattle.wasm_operators_info.specs as info
+pub use Rattle.wasm_operators_info.proofs.Codes as info_codes
+pub use Rattle.wasm_operators_immediates.specs as immediates
+pub use Rattle.wasm_operators_immediates.proofs.Equality as immediate_equality
+pub use Rattle.wasm_operators_immediates.proofs.Telling as telling
+pub use Rattle.wasm_operators_immediates.specs.types as types

@@ -1,7 +1,7 @@
 -- Operators that keep lists in memory, as plain trees (WebAssembly 3.0, structure, parametric and control instructions, and the
 -- proposal on stack switching).
 use Rattle.std.specs.Prelude.{ℕ, List}
-use Rattle.wasm_types.specs.values.declared.value.ValType.{ValType}
+use Rattle.wasm_operators_immediates.specs.types.values.declared.value.ValType.{ValType}
 use Rattle.wasm_operators_immediates.specs.declared.block.BlockType.{BlockType}
 use Rattle.wasm_operators_immediates.specs.Tables.{CatchTable, catch_table_of}
 use Rattle.wasm_operators_control.specs.declared.control.ParametricOperator.{ParametricOperator}

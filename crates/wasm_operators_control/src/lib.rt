@@ -13,3 +13,8 @@ mod exceptions;
 pub use continuation::ContinuationOperator;
 pub use control::{ControlOperator, ParametricOperator};
 pub use exceptions::ExceptionOperator;
+pub use wasm_operators_immediates::{
+    BlockType, BrTable, FrameKind, MemArg, Ordering, ResumeTable, TryTable, V128,
+    equality_is_identity,
+};
+pub use wasm_operators_info::{OperatorInfo, Proposal};

@@ -1,8 +1,8 @@
 -- What falls by one at each visit falls by the number of operators that are visited.
 use Rattle.std.proofs.Common.{◌≡◌, ◌+◌, ℕ, length, List, [], ◌∷◌, ap, arith}
 use Rattle.std.specs.Prelude.{Result, Ok, Err, IfOk, IfErr}
-use Rattle.wasm_operators_reader.specs.operator.Op.{Op}
-use Rattle.wasm_operators_reader.specs.expression.Code.{Code, walk}
+use Rattle.wasm_operators_visiting.specs.reader.operator.Op.{Op}
+use Rattle.wasm_operators_visiting.specs.reader.expression.Code.{Code, walk}
 use Rattle.wasm_operators_visiting.specs.Walking.{VisitsAll}
 use Rattle.wasm_operators_counter.specs.declared.Counter.{Counter}
 use Rattle.wasm_operators_counter.specs.declared.Full.{Full}

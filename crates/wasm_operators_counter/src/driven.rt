@@ -6,14 +6,14 @@
 
 ghost use Rattle.std.specs.Prelude.{◌≡◌, ◌+◌, false, Ok, Err, length, IfOk, IfErr};
 ghost use Rattle.wasm_types.specs.reader.Reading.{IsNotMemory, NeedsNoMemory};
-ghost use Rattle.wasm_operators_reader.specs.operator.Op.{Op};
-ghost use Rattle.wasm_operators_reader.specs.decode.Memory.{keeps_list_at};
-ghost use Rattle.wasm_operators_reader.specs.visit_operator.Vectors.{is_simd};
-ghost use Rattle.wasm_operators_reader.specs.Visiting.{RefusesPlain, VisitsPlain};
+ghost use Rattle.wasm_operators_visiting.specs.reader.operator.Op.{Op};
+ghost use Rattle.wasm_operators_visiting.specs.reader.decode.Memory.{keeps_list_at};
+ghost use Rattle.wasm_operators_visiting.specs.reader.visit_operator.Vectors.{is_simd};
+ghost use Rattle.wasm_operators_visiting.specs.reader.Visiting.{RefusesPlain, VisitsPlain};
 ghost use Rattle.wasm_operators_visiting.specs.InFrame.{ReadsIn, RefusesPlainIn};
-ghost use Rattle.wasm_operators_reader.specs.expression.Code.{Code, walk};
-ghost use Rattle.wasm_operators_reader.specs.expression.Spelling.{SpelledExpression};
-ghost use Rattle.wasm_operators_reader.specs.Standing.{Standing, WantsMemory, at_start};
+ghost use Rattle.wasm_operators_visiting.specs.reader.expression.Code.{Code, walk};
+ghost use Rattle.wasm_operators_visiting.specs.reader.expression.Spelling.{SpelledExpression};
+ghost use Rattle.wasm_operators_visiting.specs.reader.Standing.{Standing, WantsMemory, at_start};
 ghost use Rattle.wasm_operators_visiting.specs.Walking.{HasNoVectors, VisitsAll, WalksTo, WalksUntil, StopsPlain};
 
 use crate::{Counter, Full};

@@ -1,10 +1,10 @@
 -- Operators as bytes have them: an opcode, and immediates of the kinds that belong to it (WebAssembly 3.0, binary format,
 -- instructions).
 use Rattle.std.specs.Prelude.{◌≡◌, ◌==◌, if◌then◌else◌, ℕ, List, ◌++◌, map, Option, Some, None}
-use Rattle.wasm_types.specs.decoding.declared.Refusal.TheVariants.{Other}
-use Rattle.wasm_types.specs.decoding.Decoder.{Decoder, ◌>>=◌, pure}
-use Rattle.wasm_types.specs.decoding.Lists.{refuse_at}
-use Rattle.wasm_types.specs.limits.Settings.{Settings}
+use Rattle.wasm_operators_operator.specs.types.decoding.declared.Refusal.TheVariants.{Other}
+use Rattle.wasm_operators_operator.specs.types.decoding.Decoder.{Decoder, ◌>>=◌, pure}
+use Rattle.wasm_operators_operator.specs.types.decoding.Lists.{refuse_at}
+use Rattle.wasm_operators_operator.specs.types.limits.Settings.{Settings}
 use Rattle.wasm_operators_decode_immediates.specs.immediates.Kinds.{Kind}
 use Rattle.wasm_operators_decode_immediates.specs.immediates.Immediates.{Immediate, kind_of}
 use Rattle.wasm_operators_decode_encoding.specs.Opcodes.{Opcode, opcode, SpelledOpcode}

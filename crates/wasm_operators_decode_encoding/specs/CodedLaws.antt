@@ -1,11 +1,11 @@
 -- An opcode with its immediates is read lawfully and exactly.
 use Rattle.std.proofs.Common.{◌≡◌, ℕ, List, map, Option, Some, None, refl, sym, subst}
-use Rattle.wasm_types.specs.decoding.declared.Refusal.TheVariants.{Other}
-use Rattle.wasm_types.specs.decoding.Decoder.{Grammar, ◌>>=◌, pure, IsLawful, Decides, Then}
-use Rattle.wasm_types.specs.decoding.Laws.{lawful->>=, lawful-pure}
-use Rattle.wasm_types.specs.decoding.ListLaws.{lawful-from_place, decides-from_place, lawful-refuse_at, decides-refuse_at}
-use Rattle.wasm_types.specs.decoding.Exact.{decides->>=, decides-same, decides-map, Mapped}
-use Rattle.wasm_types.specs.limits.Settings.{Settings}
+use Rattle.wasm_operators_operator.specs.types.decoding.declared.Refusal.TheVariants.{Other}
+use Rattle.wasm_operators_operator.specs.types.decoding.Decoder.{Grammar, ◌>>=◌, pure, IsLawful, Decides, Then}
+use Rattle.wasm_operators_operator.specs.types.decoding.Laws.{lawful->>=, lawful-pure}
+use Rattle.wasm_operators_operator.specs.types.decoding.ListLaws.{lawful-from_place, decides-from_place, lawful-refuse_at, decides-refuse_at}
+use Rattle.wasm_operators_operator.specs.types.decoding.Exact.{decides->>=, decides-same, decides-map, Mapped}
+use Rattle.wasm_operators_operator.specs.types.limits.Settings.{Settings}
 use Rattle.wasm_operators_decode_immediates.specs.immediates.Kinds.{Kind}
 use Rattle.wasm_operators_decode_immediates.specs.immediates.Immediates.{kind_of}
 use Rattle.wasm_operators_decode_encoding.specs.Opcodes.{Opcode, opcode, SpelledOpcode}

@@ -24,3 +24,4 @@ pub use Rattle.wasm_operators_operator.specs.threads as threads
 pub use Rattle.wasm_operators_operator.specs.vectors as vectors
 pub use Rattle.wasm_operators_operator.specs as operator
 pub use Rattle.wasm_operators_decode_immediates.specs as decode_immediates
+pub use Rattle.wasm_operators_operator.specs.types as types

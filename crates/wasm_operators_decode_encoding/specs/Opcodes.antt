@@ -1,7 +1,7 @@
 -- Opcodes as bytes (WebAssembly 3.0, binary format, instructions).
 use Rattle.std.specs.Prelude.{◌≡◌, ◌==◌, if◌then◌else◌, ℕ, Bool, true, false, ◌||◌, List, [], ◌∷◌, Option, Some, None}
-use Rattle.wasm_types.specs.decoding.Decoder.{Decoder, Grammar, ◌>>=◌, pure, byte}
-use Rattle.wasm_types.specs.decoding.Leb.{u32, IsUnsigned}
+use Rattle.wasm_operators_operator.specs.types.decoding.Decoder.{Decoder, Grammar, ◌>>=◌, pure, byte}
+use Rattle.wasm_operators_operator.specs.types.decoding.Leb.{u32, IsUnsigned}
 
 -- a byte, or a code behind a prefix
 pub record Opcode : Type 0 where

@@ -1,6 +1,6 @@
 -- An operator is spelled by its opcode and its immediates, and no other operator has the same ones.
 use Rattle.std.proofs.Common.{◌≡◌, IsTrue, ℕ, List, ap}
-use Rattle.wasm_types.specs.limits.Settings.{Settings}
+use Rattle.wasm_operators_operator.specs.types.limits.Settings.{Settings}
 use Rattle.wasm_operators_operator.specs.Op.{Op}
 use Rattle.wasm_operators_operator.specs.Immediates.{is_canonical}
 use Rattle.wasm_operators_operator.proofs.Codes.{apart}

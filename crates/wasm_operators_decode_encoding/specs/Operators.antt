@@ -1,6 +1,6 @@
 -- Operators and the bytes that spell them (WebAssembly 3.0, binary format, instructions).
 use Rattle.std.specs.Prelude.{◌≡◌, IsTrue, ℕ, List, ◌++◌}
-use Rattle.wasm_types.specs.limits.Settings.{Settings}
+use Rattle.wasm_operators_operator.specs.types.limits.Settings.{Settings}
 use Rattle.wasm_operators_operator.specs.Op.{Op}
 use Rattle.wasm_operators_operator.specs.Table.{info_of}
 use Rattle.wasm_operators_operator.specs.Immediates.{immediates_of, is_canonical}

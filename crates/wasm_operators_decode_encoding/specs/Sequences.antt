@@ -1,7 +1,7 @@
 -- All that an operator carries behind its opcode: immediates one after the other (WebAssembly 3.0, binary format, instructions).
 use Rattle.std.specs.Prelude.{◌≡◌, ℕ, List, [], ◌∷◌, ◌++◌, map}
-use Rattle.wasm_types.specs.decoding.Decoder.{Decoder, Grammar, ◌>>=◌, pure}
-use Rattle.wasm_types.specs.limits.Settings.{Settings}
+use Rattle.wasm_operators_operator.specs.types.decoding.Decoder.{Decoder, Grammar, ◌>>=◌, pure}
+use Rattle.wasm_operators_operator.specs.types.limits.Settings.{Settings}
 use Rattle.wasm_operators_decode_immediates.specs.immediates.Kinds.{Kind}
 use Rattle.wasm_operators_decode_immediates.specs.immediates.Immediates.{Immediate, kind_of}
 use Rattle.wasm_operators_decode_immediates.specs.Immediates.{immediate, SpelledImmediate}

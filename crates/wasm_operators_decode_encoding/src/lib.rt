@@ -8,8 +8,8 @@
 #![tactic(auto)]
 
 ghost use Rattle.std.specs.Prelude.{◌≡◌, IsTrue, ℕ, List, Some};
-ghost use Rattle.wasm_types.specs.limits.Settings.{Settings};
-ghost use Rattle.wasm_types.specs.decoding.Decoder.{IsLawful, Decides};
+ghost use Rattle.wasm_operators_operator.specs.types.limits.Settings.{Settings};
+ghost use Rattle.wasm_operators_operator.specs.types.decoding.Decoder.{IsLawful, Decides};
 ghost use Rattle.wasm_operators_decode_immediates.specs.immediates.Kinds.{Kind};
 ghost use Rattle.wasm_operators_operator.specs.Op.{Op};
 ghost use Rattle.wasm_operators_operator.specs.Immediates.{is_canonical, kinds_of};

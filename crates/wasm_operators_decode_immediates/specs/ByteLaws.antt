@@ -2,18 +2,18 @@
 use Rattle.std.proofs.Common.{◌≡◌, ℕ, ◌<◌, ◌≤◌, List, [], ◌∷◌, length, refl, sym, ap, ◌∙◌, subst, arith, ltb, eqb, Bool, true, false}
 use Rattle.std.specs.Prelude.{nat_lt, ◌==◌}
 use Rattle.std.proofs.lemmas.Bool.{eqb-true, eqb-false, ltb-true, ltb-false}
-use Rattle.wasm_types.specs.decoding.declared.Refusal.TheVariants.{Other}
-use Rattle.wasm_types.specs.decoding.Decoder.{refuse, byte, bytes, choice, IsLawful, Decides}
-use Rattle.wasm_types.specs.decoding.Laws.{lawful-byte, lawful->>=, lawful-pure, lawful-refuse, lawful-if, lawful-bytes, lawful-repeated, lawful-choice}
-use Rattle.wasm_types.specs.decoding.Exact.{Exactly, Mapped, ReadsTagged, decides-same, decides-pure, decides-refuse, decides-if, decides-map}
-use Rattle.wasm_types.specs.decoding.Exact.{decides-byte, decides-bytes, decides-repeated, decides-table, sound-pure, reads-pure}
-use Rattle.wasm_types.specs.decoding.LebLaws.{lawful-unsigned, decides-u32}
-use Rattle.wasm_types.specs.decoding.ListLaws.{lawful-listed_within, decides-listed_within}
-use Rattle.wasm_types.specs.limits.Settings.{Settings}
-use Rattle.wasm_types.specs.values.DecodeValues.{value_type}
-use Rattle.wasm_types.specs.values.DecodeLaws.{lawful-value_type}
-use Rattle.wasm_types.specs.values.HeapExact.{heads, tails}
-use Rattle.wasm_types.specs.values.ValueExact.{SpelledValue, decides-value_type}
+use Rattle.wasm_operators_immediates.specs.types.decoding.declared.Refusal.TheVariants.{Other}
+use Rattle.wasm_operators_immediates.specs.types.decoding.Decoder.{refuse, byte, bytes, choice, IsLawful, Decides}
+use Rattle.wasm_operators_immediates.specs.types.decoding.Laws.{lawful-byte, lawful->>=, lawful-pure, lawful-refuse, lawful-if, lawful-bytes, lawful-repeated, lawful-choice}
+use Rattle.wasm_operators_immediates.specs.types.decoding.Exact.{Exactly, Mapped, ReadsTagged, decides-same, decides-pure, decides-refuse, decides-if, decides-map}
+use Rattle.wasm_operators_immediates.specs.types.decoding.Exact.{decides-byte, decides-bytes, decides-repeated, decides-table, sound-pure, reads-pure}
+use Rattle.wasm_operators_immediates.specs.types.decoding.LebLaws.{lawful-unsigned, decides-u32}
+use Rattle.wasm_operators_immediates.specs.types.decoding.ListLaws.{lawful-listed_within, decides-listed_within}
+use Rattle.wasm_operators_immediates.specs.types.limits.Settings.{Settings}
+use Rattle.wasm_operators_immediates.specs.types.values.DecodeValues.{value_type}
+use Rattle.wasm_operators_immediates.specs.types.values.DecodeLaws.{lawful-value_type}
+use Rattle.wasm_operators_immediates.specs.types.values.HeapExact.{heads, tails}
+use Rattle.wasm_operators_immediates.specs.types.values.ValueExact.{SpelledValue, decides-value_type}
 use Rattle.wasm_operators_immediates.specs.declared.memory.Ordering.{Ordering}
 use Rattle.wasm_operators_immediates.specs.declared.memory.Ordering.TheVariants.{AcqRel, SeqCst}
 use Rattle.wasm_operators_immediates.specs.declared.vector.V128.{V128}

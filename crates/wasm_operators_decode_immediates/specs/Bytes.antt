@@ -1,14 +1,14 @@
 -- Immediates of one byte or of a few bytes (WebAssembly 3.0, binary format, instructions; orderings by the proposal on shared
 -- everything), and how they are read.
 use Rattle.std.specs.Prelude.{◌≡◌, ℕ, ◌<◌, ◌==◌, List, [], ◌∷◌, length, Bool, true, false, nat_lt, if◌then◌else◌}
-use Rattle.wasm_types.specs.decoding.declared.Refusal.TheVariants.{Other}
-use Rattle.wasm_types.specs.decoding.Decoder.{Decoder, Grammar, ◌>>=◌, pure, refuse, byte, bytes, repeated, choice, Many}
-use Rattle.wasm_types.specs.decoding.Leb.{u32, IsUnsigned}
-use Rattle.wasm_types.specs.decoding.Lists.{listed_within, IsListedWithin}
-use Rattle.wasm_types.specs.limits.Settings.{Settings}
-use Rattle.wasm_types.specs.values.declared.value.ValType.{ValType}
-use Rattle.wasm_types.specs.values.DecodeValues.{value_type}
-use Rattle.wasm_types.specs.values.ValueExact.{SpelledValue}
+use Rattle.wasm_operators_immediates.specs.types.decoding.declared.Refusal.TheVariants.{Other}
+use Rattle.wasm_operators_immediates.specs.types.decoding.Decoder.{Decoder, Grammar, ◌>>=◌, pure, refuse, byte, bytes, repeated, choice, Many}
+use Rattle.wasm_operators_immediates.specs.types.decoding.Leb.{u32, IsUnsigned}
+use Rattle.wasm_operators_immediates.specs.types.decoding.Lists.{listed_within, IsListedWithin}
+use Rattle.wasm_operators_immediates.specs.types.limits.Settings.{Settings}
+use Rattle.wasm_operators_immediates.specs.types.values.declared.value.ValType.{ValType}
+use Rattle.wasm_operators_immediates.specs.types.values.DecodeValues.{value_type}
+use Rattle.wasm_operators_immediates.specs.types.values.ValueExact.{SpelledValue}
 use Rattle.wasm_operators_immediates.specs.declared.memory.Ordering.{Ordering}
 use Rattle.wasm_operators_immediates.specs.declared.memory.Ordering.TheVariants.{AcqRel, SeqCst}
 use Rattle.wasm_operators_immediates.specs.declared.vector.V128.{V128}

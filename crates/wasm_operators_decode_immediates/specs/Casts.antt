@@ -1,11 +1,11 @@
 -- The immediates of a branch on a cast as bytes (WebAssembly 3.0, binary format, control instructions), and how they are read.
 use Rattle.std.specs.Prelude.{◌≡◌, ℕ, ◌+◌, ◌/◌, ◌%◌, ◌==◌, List, ◌∷◌, ◌++◌, nat_lt, if◌then◌else◌}
-use Rattle.wasm_types.specs.decoding.declared.Refusal.TheVariants.{Other}
-use Rattle.wasm_types.specs.decoding.Decoder.{Decoder, ◌>>=◌, pure, refuse, byte}
-use Rattle.wasm_types.specs.decoding.Leb.{u32, IsUnsigned}
-use Rattle.wasm_types.specs.values.Reference.{Reference}
-use Rattle.wasm_types.specs.values.Decode.{long_reference}
-use Rattle.wasm_types.specs.values.HeapExact.{Spelled}
+use Rattle.wasm_operators_immediates.specs.types.decoding.declared.Refusal.TheVariants.{Other}
+use Rattle.wasm_operators_immediates.specs.types.decoding.Decoder.{Decoder, ◌>>=◌, pure, refuse, byte}
+use Rattle.wasm_operators_immediates.specs.types.decoding.Leb.{u32, IsUnsigned}
+use Rattle.wasm_operators_immediates.specs.types.values.Reference.{Reference}
+use Rattle.wasm_operators_immediates.specs.types.values.Decode.{long_reference}
+use Rattle.wasm_operators_immediates.specs.types.values.HeapExact.{Spelled}
 use Rattle.wasm_operators_decode_immediates.specs.declared.cast.CastBranch.{CastBranch}
 use Rattle.wasm_operators_decode_immediates.specs.MemoryArguments.{weight}
 

@@ -3,13 +3,13 @@ use Rattle.std.proofs.Common.{◌≡◌, ℕ, ◌+◌, ◌/◌, ◌%◌, ◌<◌
 use Rattle.std.specs.Prelude.{nat_lt, ◌==◌}
 use Rattle.std.proofs.lemmas.Bool.{eqb-true, eqb-false, ltb-true, ltb-false}
 use Rattle.std.proofs.lemmas.List.{append-nil}
-use Rattle.wasm_types.specs.decoding.declared.Refusal.TheVariants.{Other}
-use Rattle.wasm_types.specs.decoding.Decoder.{Grammar, ◌>>=◌, IsLawful, Decides, Then}
-use Rattle.wasm_types.specs.decoding.Laws.{lawful->>=, lawful-pure, lawful-if}
-use Rattle.wasm_types.specs.decoding.Exact.{decides->>=, decides-same, decides-pure, decides-if}
-use Rattle.wasm_types.specs.decoding.ListLaws.{lawful-from_place, decides-from_place, lawful-refuse_at, decides-refuse_at}
-use Rattle.wasm_types.specs.decoding.Leb.{u32, IsUnsigned}
-use Rattle.wasm_types.specs.decoding.LebLaws.{lawful-unsigned, decides-u32}
+use Rattle.wasm_operators_immediates.specs.types.decoding.declared.Refusal.TheVariants.{Other}
+use Rattle.wasm_operators_immediates.specs.types.decoding.Decoder.{Grammar, ◌>>=◌, IsLawful, Decides, Then}
+use Rattle.wasm_operators_immediates.specs.types.decoding.Laws.{lawful->>=, lawful-pure, lawful-if}
+use Rattle.wasm_operators_immediates.specs.types.decoding.Exact.{decides->>=, decides-same, decides-pure, decides-if}
+use Rattle.wasm_operators_immediates.specs.types.decoding.ListLaws.{lawful-from_place, decides-from_place, lawful-refuse_at, decides-refuse_at}
+use Rattle.wasm_operators_immediates.specs.types.decoding.Leb.{u32, IsUnsigned}
+use Rattle.wasm_operators_immediates.specs.types.decoding.LebLaws.{lawful-unsigned, decides-u32}
 use Rattle.wasm_operators_decode_immediates.specs.declared.memory_argument.Flags.{Flags}
 use Rattle.wasm_operators_decode_immediates.specs.MemoryArguments.{weight, number_of, flags_in, lacks, allowed, flags_from, flags, SpelledFlags}
 

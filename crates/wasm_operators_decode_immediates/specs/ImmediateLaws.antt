@@ -1,17 +1,17 @@
 -- Each kind of immediate is read lawfully, and exactly where bytes spell one.
 use Rattle.std.proofs.Common.{◌≡◌, ℕ, List, refl, subst}
-use Rattle.wasm_types.specs.decoding.Decoder.{Done, Decoder, Grammar, pure, IsLawful, Decides}
-use Rattle.wasm_types.specs.decoding.Laws.{lawful->>=, lawful-pure}
-use Rattle.wasm_types.specs.decoding.Exact.{Sound, Reads, sound-map, reads-map}
-use Rattle.wasm_types.specs.decoding.Leb.{u32, s32, s64, IsUnsigned, IsSigned}
-use Rattle.wasm_types.specs.decoding.LebLaws.{lawful-unsigned, decides-u32}
-use Rattle.wasm_types.specs.decoding.SignedLaws.{lawful-signed, decides-s32, decides-s64}
-use Rattle.wasm_types.specs.decoding.Text.{word, IsWord}
-use Rattle.wasm_types.specs.decoding.TextLaws.{lawful-word, decides-word}
-use Rattle.wasm_types.specs.limits.Settings.{Settings}
-use Rattle.wasm_types.specs.values.Decode.{heap_type}
-use Rattle.wasm_types.specs.values.DecodeLaws.{lawful-heap_type}
-use Rattle.wasm_types.specs.values.HeapExact.{Spelled, decides-heap_type}
+use Rattle.wasm_operators_immediates.specs.types.decoding.Decoder.{Done, Decoder, Grammar, pure, IsLawful, Decides}
+use Rattle.wasm_operators_immediates.specs.types.decoding.Laws.{lawful->>=, lawful-pure}
+use Rattle.wasm_operators_immediates.specs.types.decoding.Exact.{Sound, Reads, sound-map, reads-map}
+use Rattle.wasm_operators_immediates.specs.types.decoding.Leb.{u32, s32, s64, IsUnsigned, IsSigned}
+use Rattle.wasm_operators_immediates.specs.types.decoding.LebLaws.{lawful-unsigned, decides-u32}
+use Rattle.wasm_operators_immediates.specs.types.decoding.SignedLaws.{lawful-signed, decides-s32, decides-s64}
+use Rattle.wasm_operators_immediates.specs.types.decoding.Text.{word, IsWord}
+use Rattle.wasm_operators_immediates.specs.types.decoding.TextLaws.{lawful-word, decides-word}
+use Rattle.wasm_operators_immediates.specs.types.limits.Settings.{Settings}
+use Rattle.wasm_operators_immediates.specs.types.values.Decode.{heap_type}
+use Rattle.wasm_operators_immediates.specs.types.values.DecodeLaws.{lawful-heap_type}
+use Rattle.wasm_operators_immediates.specs.types.values.HeapExact.{Spelled, decides-heap_type}
 use Rattle.wasm_operators_immediates.specs.Kinds as kind
 use Rattle.wasm_operators_immediates.specs.Kinds.{Kind, IndexSpace}
 use Rattle.wasm_operators_immediates.specs.Labels.{labels, SpelledLabels}

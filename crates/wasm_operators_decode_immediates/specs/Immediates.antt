@@ -1,13 +1,13 @@
 -- Immediates by their kind: how each is read where some features are allowed, and the bytes that spell it (WebAssembly 3.0,
 -- binary format, instructions).
 use Rattle.std.specs.Prelude.{◌≡◌, ℕ, List, Bool, false}
-use Rattle.wasm_types.specs.decoding.Decoder.{Decoder, Grammar, ◌>>=◌, pure}
-use Rattle.wasm_types.specs.decoding.Leb.{u32, s32, s64, IsUnsigned, IsSigned}
-use Rattle.wasm_types.specs.decoding.Text.{word, IsWord}
-use Rattle.wasm_types.specs.limits.Settings.{Settings}
-use Rattle.wasm_types.specs.features.Features.{has, MultiMemory, CallIndirectOverlong}
-use Rattle.wasm_types.specs.values.Decode.{heap_type}
-use Rattle.wasm_types.specs.values.HeapExact.{Spelled}
+use Rattle.wasm_operators_immediates.specs.types.decoding.Decoder.{Decoder, Grammar, ◌>>=◌, pure}
+use Rattle.wasm_operators_immediates.specs.types.decoding.Leb.{u32, s32, s64, IsUnsigned, IsSigned}
+use Rattle.wasm_operators_immediates.specs.types.decoding.Text.{word, IsWord}
+use Rattle.wasm_operators_immediates.specs.types.limits.Settings.{Settings}
+use Rattle.wasm_operators_immediates.specs.types.features.Features.{has, MultiMemory, CallIndirectOverlong}
+use Rattle.wasm_operators_immediates.specs.types.values.Decode.{heap_type}
+use Rattle.wasm_operators_immediates.specs.types.values.HeapExact.{Spelled}
 use Rattle.wasm_operators_immediates.specs.Kinds as kind
 use Rattle.wasm_operators_immediates.specs.Kinds.{Kind, IndexSpace, Memories, Tables}
 use Rattle.wasm_operators_immediates.specs.Labels.{labels, SpelledLabels}

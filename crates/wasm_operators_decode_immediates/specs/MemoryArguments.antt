@@ -1,11 +1,11 @@
 -- Memory arguments as bytes (WebAssembly 3.0, binary format, memory instructions; orderings by the proposal on shared
 -- everything), and how they are read where some features are allowed.
 use Rattle.std.specs.Prelude.{◌≡◌, ℕ, ◌+◌, ◌/◌, ◌%◌, ◌<◌, ◌==◌, ◌&&◌, List, [], ◌++◌, Bool, true, false, Option, Some, None, nat_lt, if◌then◌else◌}
-use Rattle.wasm_types.specs.decoding.declared.Refusal.TheVariants.{Other}
-use Rattle.wasm_types.specs.decoding.Decoder.{Decoder, Grammar, ◌>>=◌, pure}
-use Rattle.wasm_types.specs.decoding.Leb.{u32, u64, IsUnsigned}
-use Rattle.wasm_types.specs.decoding.Lists.{refuse_at}
-use Rattle.wasm_types.specs.features.Features.{has, MultiMemory, Memory64, SharedEverythingThreads}
+use Rattle.wasm_operators_immediates.specs.types.decoding.declared.Refusal.TheVariants.{Other}
+use Rattle.wasm_operators_immediates.specs.types.decoding.Decoder.{Decoder, Grammar, ◌>>=◌, pure}
+use Rattle.wasm_operators_immediates.specs.types.decoding.Leb.{u32, u64, IsUnsigned}
+use Rattle.wasm_operators_immediates.specs.types.decoding.Lists.{refuse_at}
+use Rattle.wasm_operators_immediates.specs.types.features.Features.{has, MultiMemory, Memory64, SharedEverythingThreads}
 use Rattle.wasm_operators_immediates.specs.declared.memory.MemArg.{MemArg}
 use Rattle.wasm_operators_immediates.specs.declared.memory.MemArgOrdering.{MemArgOrdering}
 use Rattle.wasm_operators_immediates.specs.declared.memory.MemArgOrdering.TheVariants.{Op, Rmw}

@@ -1,12 +1,12 @@
 -- Memory arguments are read lawfully, and exactly where bytes spell them.
 use Rattle.std.proofs.Common.{◌≡◌, ℕ, List, [], ◌++◌, refl, sym, ap, ◌∙◌, subst, Bool, true, false, Option, Some, None}
-use Rattle.wasm_types.specs.decoding.declared.Refusal.TheVariants.{Other}
-use Rattle.wasm_types.specs.decoding.Decoder.{Grammar, IsLawful, Decides, Then}
-use Rattle.wasm_types.specs.decoding.Laws.{lawful->>=, lawful-pure}
-use Rattle.wasm_types.specs.decoding.Exact.{Mapped, decides->>=, decides-same, decides-pure, decides-map}
-use Rattle.wasm_types.specs.decoding.Leb.{IsUnsigned}
-use Rattle.wasm_types.specs.decoding.LebLaws.{lawful-unsigned, decides-u32, decides-u64}
-use Rattle.wasm_types.specs.features.Features.{has, MultiMemory, Memory64}
+use Rattle.wasm_operators_immediates.specs.types.decoding.declared.Refusal.TheVariants.{Other}
+use Rattle.wasm_operators_immediates.specs.types.decoding.Decoder.{Grammar, IsLawful, Decides, Then}
+use Rattle.wasm_operators_immediates.specs.types.decoding.Laws.{lawful->>=, lawful-pure}
+use Rattle.wasm_operators_immediates.specs.types.decoding.Exact.{Mapped, decides->>=, decides-same, decides-pure, decides-map}
+use Rattle.wasm_operators_immediates.specs.types.decoding.Leb.{IsUnsigned}
+use Rattle.wasm_operators_immediates.specs.types.decoding.LebLaws.{lawful-unsigned, decides-u32, decides-u64}
+use Rattle.wasm_operators_immediates.specs.types.features.Features.{has, MultiMemory, Memory64}
 use Rattle.wasm_operators_immediates.specs.declared.memory.MemArg.{MemArg}
 use Rattle.wasm_operators_immediates.specs.declared.memory.MemArgOrdering.{MemArgOrdering}
 use Rattle.wasm_operators_immediates.specs.declared.memory.MemArgOrdering.TheVariants.{Op, Rmw}

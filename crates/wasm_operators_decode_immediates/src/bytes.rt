@@ -1,18 +1,17 @@
 //! Immediates of one byte or of a few bytes.
 
 ghost use Rattle.std.specs.Prelude.{◌≡◌};
-ghost use Rattle.wasm_types.specs.decoding.Decoder.{Reaches};
-ghost use Rattle.wasm_types.specs.error.declared.error.ErrorKind.TheVariants.{Other};
-ghost use Rattle.wasm_types.specs.features.Features.{has, MultiMemory, CallIndirectOverlong};
-ghost use Rattle.wasm_types.specs.reader.Reading.{Gives, NeedsNoMemory};
+ghost use Rattle.wasm_operators_immediates.specs.types.decoding.Decoder.{Reaches};
+ghost use Rattle.wasm_operators_immediates.specs.types.error.declared.error.ErrorKind.TheVariants.{Other};
+ghost use Rattle.wasm_operators_immediates.specs.types.features.Features.{has, MultiMemory, CallIndirectOverlong};
+ghost use Rattle.wasm_operators_immediates.specs.types.reader.Reading.{Gives, NeedsNoMemory};
 ghost use Rattle.wasm_operators_decode_immediates.specs.Bytes.{zero_byte, index_or_zero, ordering_by, lane, shuffle, vector, select_types};
 
 use std::alloc::Global;
-use wasm_operators_immediates::{Ordering, V128};
-use wasm_types::{BinaryReader, Error, Result, ValType, read_list};
+use wasm_operators_immediates::{BinaryReader, Error, Ordering, Result, V128, ValType, read_list};
 
 // A byte that is zero. Another is refused with this message.
-#[tactic(auto, using(wasm_types::specs::Laws::reaches_self, wasm_types::specs::Laws::reaches_then), unfolding(crate::specs::Bytes::zero_byte))]
+#[tactic(auto, using(wasm_operators_immediates::specs::Reaching::reaches_self, wasm_operators_immediates::specs::Reaching::reaches_then), unfolding(crate::specs::Bytes::zero_byte))]
 fn read_zero<'a>(message: &str, reader: &mut BinaryReader<'a>) -> Result<()>
     ensures answer { Gives (λ u. 0) result reader.new (zero_byte reader.old) }
     ensures no_memory { NeedsNoMemory result }
@@ -36,7 +35,7 @@ pub fn read_zero_byte<'a>(reader: &mut BinaryReader<'a>) -> Result<()>
 }
 
 // An index where it is allowed, and else a byte that is zero.
-#[tactic(auto, using(wasm_types::specs::Laws::reaches_self, wasm_types::specs::Laws::reaches_then), unfolding(crate::specs::Bytes::index_or_zero))]
+#[tactic(auto, using(wasm_operators_immediates::specs::Reaching::reaches_self, wasm_operators_immediates::specs::Reaching::reaches_then), unfolding(crate::specs::Bytes::index_or_zero))]
 fn read_index_or_zero<'a>(allowed: bool, reader: &mut BinaryReader<'a>) -> Result<u32>
     ensures answer { Gives (λ n. n) result reader.new (index_or_zero allowed reader.old) }
     ensures no_memory { NeedsNoMemory result }
@@ -84,7 +83,7 @@ fn ordering_error(byte: u8, offset: u64) -> Error
 }
 
 // An ordering, where this byte stands for acquire and release, and zero for sequential consistency.
-#[tactic(auto, using(wasm_types::specs::Laws::reaches_self, wasm_types::specs::Laws::reaches_then), unfolding(crate::specs::Bytes::ordering_by))]
+#[tactic(auto, using(wasm_operators_immediates::specs::Reaching::reaches_self, wasm_operators_immediates::specs::Reaching::reaches_then), unfolding(crate::specs::Bytes::ordering_by))]
 pub(crate) fn read_ordering_by<'a>(
     acquire_release: u8,
     reader: &mut BinaryReader<'a>,
@@ -116,7 +115,7 @@ pub fn read_ordering<'a>(reader: &mut BinaryReader<'a>) -> Result<Ordering>
 
 /// The index of a lane of a vector with so many (WebAssembly 3.0, binary format, vector instructions). A larger one is
 /// refused at its offset.
-#[tactic(auto, using(wasm_types::specs::Laws::reaches_self, wasm_types::specs::Laws::reaches_then), unfolding(crate::specs::Bytes::lane))]
+#[tactic(auto, using(wasm_operators_immediates::specs::Reaching::reaches_self, wasm_operators_immediates::specs::Reaching::reaches_then), unfolding(crate::specs::Bytes::lane))]
 pub fn read_lane<'a>(lanes: u8, reader: &mut BinaryReader<'a>) -> Result<u8>
     ensures answer { Gives (λ l. l) result reader.new (lane lanes reader.old) }
     ensures no_memory { NeedsNoMemory result }
@@ -132,7 +131,7 @@ pub fn read_lane<'a>(lanes: u8, reader: &mut BinaryReader<'a>) -> Result<u8>
 
 /// The 16 lanes of `i8x16.shuffle`, each below 32 (WebAssembly 3.0, binary format, vector instructions). A larger one is
 /// refused at its offset.
-#[tactic(auto, using(wasm_types::specs::Laws::reaches_self, wasm_types::specs::Laws::reaches_then), unfolding(crate::specs::Bytes::shuffle))]
+#[tactic(auto, using(wasm_operators_immediates::specs::Reaching::reaches_self, wasm_operators_immediates::specs::Reaching::reaches_then), unfolding(crate::specs::Bytes::shuffle))]
 pub fn read_shuffle<'a>(reader: &mut BinaryReader<'a>) -> Result<[u8; 16]>
     ensures answer { Gives (λ l. l) result reader.new (shuffle reader.old) }
     ensures no_memory { NeedsNoMemory result }
@@ -147,7 +146,7 @@ pub fn read_shuffle<'a>(reader: &mut BinaryReader<'a>) -> Result<[u8; 16]>
 }
 
 /// A constant vector: 16 bytes, the lowest first (WebAssembly 3.0, binary format, vector instructions).
-#[tactic(auto, using(wasm_types::specs::Laws::reaches_self, wasm_types::specs::Laws::reaches_then), unfolding(crate::specs::Bytes::vector))]
+#[tactic(auto, using(wasm_operators_immediates::specs::Reaching::reaches_self, wasm_operators_immediates::specs::Reaching::reaches_then), unfolding(crate::specs::Bytes::vector))]
 pub fn read_vector<'a>(reader: &mut BinaryReader<'a>) -> Result<V128>
     ensures answer { Gives (λ v. v) result reader.new (vector reader.old) }
     ensures no_memory { NeedsNoMemory result }
@@ -161,7 +160,7 @@ pub fn read_vector<'a>(reader: &mut BinaryReader<'a>) -> Result<V128>
 
 /// The types that a `select` names, within their limit (WebAssembly 3.0, binary format, parametric instructions).
 /// A larger count is refused at its offset.
-#[tactic(auto, using(wasm_types::specs::Laws::reaches_self, wasm_types::specs::Laws::reaches_then), unfolding(crate::specs::Bytes::select_types))]
+#[tactic(auto, using(wasm_operators_immediates::specs::Reaching::reaches_self, wasm_operators_immediates::specs::Reaching::reaches_then), unfolding(crate::specs::Bytes::select_types))]
 pub fn read_select_types<'a>(alloc: Global, reader: &mut BinaryReader<'a>) -> Result<Vec<ValType>>
     ensures answer { Gives (λ v. v.items) result reader.new (select_types reader.old.settings reader.old) }
     ensures forward { Reaches reader.old reader.new }

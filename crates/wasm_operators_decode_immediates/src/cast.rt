@@ -1,14 +1,14 @@
 //! The immediates of branches on casts.
 
 ghost use Rattle.std.specs.Prelude.{◌≡◌, ◌<◌};
-ghost use Rattle.wasm_types.specs.decoding.Decoder.{Reaches};
-ghost use Rattle.wasm_types.specs.reader.Reading.{Gives, NeedsNoMemory};
-ghost use Rattle.wasm_types.specs.error.declared.error.ErrorKind.TheVariants.{Other};
-ghost use Rattle.wasm_types.specs.values.Decode.{long_reference};
+ghost use Rattle.wasm_operators_immediates.specs.types.decoding.Decoder.{Reaches};
+ghost use Rattle.wasm_operators_immediates.specs.types.reader.Reading.{Gives, NeedsNoMemory};
+ghost use Rattle.wasm_operators_immediates.specs.types.error.declared.error.ErrorKind.TheVariants.{Other};
+ghost use Rattle.wasm_operators_immediates.specs.types.values.Decode.{long_reference};
 ghost use Rattle.wasm_operators_decode_immediates.specs.Casts.{cast_branch};
 
 use std::alloc::Global;
-use wasm_types::{BinaryReader, Error, FromReader, HeapType, RefType, Result};
+use wasm_operators_immediates::{BinaryReader, Error, FromReader, HeapType, RefType, Result};
 
 /// What `br_on_cast` and `br_on_cast_fail` carry (WebAssembly 3.0, structure, control instructions).
 #[derive(Clone, Copy, Debug, PartialEq, Eq)]
@@ -50,7 +50,7 @@ fn flags_error(flags: u8, offset: u64) -> Error
 /// What a branch on a cast carries: a byte of flags, of which bit 0 says that the type before the cast takes null and bit
 /// 1 that the other does, a label, and the heap types of the two (WebAssembly 3.0, binary format, control instructions).
 /// Other flags are refused at their offset, and so is an index of 2^20 or more.
-#[tactic(auto, using(wasm_types::specs::Laws::reaches_self, wasm_types::specs::Laws::reaches_then), unfolding(crate::specs::Casts::cast_branch, crate::specs::Casts::cast_after))]
+#[tactic(auto, using(wasm_operators_immediates::specs::Reaching::reaches_self, wasm_operators_immediates::specs::Reaching::reaches_then), unfolding(crate::specs::Casts::cast_branch, crate::specs::Casts::cast_after))]
 pub fn read_cast_branch<'a>(alloc: Global, reader: &mut BinaryReader<'a>) -> Result<CastBranch>
     ensures answer { Gives (λ c. c) result reader.new (cast_branch reader.old) }
     ensures no_memory { NeedsNoMemory result }

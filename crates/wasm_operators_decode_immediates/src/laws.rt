@@ -1,7 +1,7 @@
 //! Laws of immediates, each the contract of a function that does nothing.
 
-ghost use Rattle.wasm_types.specs.decoding.Decoder.{IsLawful, Decides};
-ghost use Rattle.wasm_types.specs.limits.Settings.{Settings};
+ghost use Rattle.wasm_operators_immediates.specs.types.decoding.Decoder.{IsLawful, Decides};
+ghost use Rattle.wasm_operators_immediates.specs.types.limits.Settings.{Settings};
 ghost use Rattle.wasm_operators_immediates.specs.Kinds.{Kind};
 ghost use Rattle.wasm_operators_decode_immediates.specs.Immediates.{immediate, OfKind};
 

@@ -1,16 +1,17 @@
 //! The arguments of accesses to memory.
 
 ghost use Rattle.std.specs.Prelude.{◌≡◌};
-ghost use Rattle.wasm_types.specs.decoding.Decoder.{Reaches};
-ghost use Rattle.wasm_types.specs.error.declared.error.ErrorKind.TheVariants.{Other};
-ghost use Rattle.wasm_types.specs.reader.Reading.{Gives, NeedsNoMemory};
+ghost use Rattle.wasm_operators_immediates.specs.types.decoding.Decoder.{Reaches};
+ghost use Rattle.wasm_operators_immediates.specs.types.error.declared.error.ErrorKind.TheVariants.{Other};
+ghost use Rattle.wasm_operators_immediates.specs.types.reader.Reading.{Gives, NeedsNoMemory};
 ghost use Rattle.wasm_operators_decode_immediates.specs.MemoryArguments.{is_atomic, flags, named_memory, access_ordering, named_ordering};
 ghost use Rattle.wasm_operators_decode_immediates.specs.MemoryArguments.{offset as offset_decoder, after_flags, memory_argument};
 ghost use Rattle.wasm_operators_decode_immediates.specs.Accesses.{access_of};
 
 use crate::bytes::read_ordering_by;
-use wasm_operators_immediates::{MemArg, MemArgOrdering, MemArgTarget};
-use wasm_types::{BinaryReader, Error, Result, WasmFeatures};
+use wasm_operators_immediates::{
+    BinaryReader, Error, MemArg, MemArgOrdering, MemArgTarget, Result, WasmFeatures,
+};
 
 /// What ordering a memory argument may name.
 #[derive(Clone, Copy, Debug, PartialEq, Eq)]
@@ -56,7 +57,7 @@ fn flags_error(offset: u64) -> Error
 }
 
 // The flags, where an ordering and a memory may be named or not.
-#[tactic(auto, using(wasm_types::specs::Laws::reaches_self, wasm_types::specs::Laws::reaches_then), unfolding(crate::specs::MemoryArguments::flags))]
+#[tactic(auto, using(wasm_operators_immediates::specs::Reaching::reaches_self, wasm_operators_immediates::specs::Reaching::reaches_then), unfolding(crate::specs::MemoryArguments::flags))]
 fn read_flags<'a>(may_order: bool, may_name: bool, reader: &mut BinaryReader<'a>) -> Result<Flags>
     ensures answer { Gives (λ f. f) result reader.new (flags may_order may_name reader.old) }
     ensures no_memory { NeedsNoMemory result }
@@ -86,7 +87,7 @@ fn read_flags<'a>(may_order: bool, may_name: bool, reader: &mut BinaryReader<'a>
 }
 
 // The memory, which is 0 where none is named.
-#[tactic(auto, using(wasm_types::specs::Laws::reaches_self, wasm_types::specs::Laws::reaches_then), unfolding(crate::specs::MemoryArguments::named_memory))]
+#[tactic(auto, using(wasm_operators_immediates::specs::Reaching::reaches_self, wasm_operators_immediates::specs::Reaching::reaches_then), unfolding(crate::specs::MemoryArguments::named_memory))]
 fn read_memory<'a>(named: bool, reader: &mut BinaryReader<'a>) -> Result<u32>
     ensures answer { Gives (λ n. n) result reader.new (named_memory named reader.old) }
     ensures no_memory { NeedsNoMemory result }
@@ -99,7 +100,7 @@ fn read_memory<'a>(named: bool, reader: &mut BinaryReader<'a>) -> Result<u32>
 }
 
 // The ordering of an access.
-#[tactic(auto, using(wasm_types::specs::Laws::reaches_self, wasm_types::specs::Laws::reaches_then), unfolding(crate::specs::MemoryArguments::access_ordering))]
+#[tactic(auto, using(wasm_operators_immediates::specs::Reaching::reaches_self, wasm_operators_immediates::specs::Reaching::reaches_then), unfolding(crate::specs::MemoryArguments::access_ordering))]
 fn read_access_ordering<'a>(access: Access, reader: &mut BinaryReader<'a>) -> Result<MemArgOrdering>
     ensures answer { Gives (λ o. o) result reader.new (access_ordering (access_of access) reader.old) }
     ensures no_memory { NeedsNoMemory result }
@@ -119,7 +120,7 @@ fn read_access_ordering<'a>(access: Access, reader: &mut BinaryReader<'a>) -> Re
 }
 
 // The ordering, if one is named.
-#[tactic(auto, using(wasm_types::specs::Laws::reaches_self, wasm_types::specs::Laws::reaches_then), unfolding(crate::specs::MemoryArguments::named_ordering))]
+#[tactic(auto, using(wasm_operators_immediates::specs::Reaching::reaches_self, wasm_operators_immediates::specs::Reaching::reaches_then), unfolding(crate::specs::MemoryArguments::named_ordering))]
 fn read_named_ordering<'a>(
     access: Access,
     named: bool,
@@ -137,7 +138,7 @@ fn read_named_ordering<'a>(
 }
 
 // The offset, of 64 bits where wide memories are allowed.
-#[tactic(auto, using(wasm_types::specs::Laws::reaches_self, wasm_types::specs::Laws::reaches_then), unfolding(crate::specs::MemoryArguments::offset))]
+#[tactic(auto, using(wasm_operators_immediates::specs::Reaching::reaches_self, wasm_operators_immediates::specs::Reaching::reaches_then), unfolding(crate::specs::MemoryArguments::offset))]
 fn read_offset<'a>(wide: bool, reader: &mut BinaryReader<'a>) -> Result<u64>
     ensures answer { Gives (λ n. n) result reader.new (offset_decoder wide reader.old) }
     ensures no_memory { NeedsNoMemory result }
@@ -151,7 +152,7 @@ fn read_offset<'a>(wide: bool, reader: &mut BinaryReader<'a>) -> Result<u64>
 }
 
 // What follows the flags.
-#[tactic(auto, using(wasm_types::specs::Laws::reaches_self, wasm_types::specs::Laws::reaches_then), unfolding(crate::specs::MemoryArguments::after_flags))]
+#[tactic(auto, using(wasm_operators_immediates::specs::Reaching::reaches_self, wasm_operators_immediates::specs::Reaching::reaches_then), unfolding(crate::specs::MemoryArguments::after_flags))]
 fn read_after_flags<'a>(
     features: WasmFeatures,
     access: Access,
@@ -181,7 +182,7 @@ fn read_after_flags<'a>(
 /// follows, on atomic accesses where shared everything is allowed; bit 6 where the index of a memory follows, where
 /// several are allowed. Other flags are refused at their offset. Then come the index, the ordering, and an offset of 64
 /// bits where memories of 64 bits are allowed, else of 32.
-#[tactic(auto, using(wasm_types::specs::Laws::reaches_self, wasm_types::specs::Laws::reaches_then), unfolding(crate::specs::MemoryArguments::memory_argument))]
+#[tactic(auto, using(wasm_operators_immediates::specs::Reaching::reaches_self, wasm_operators_immediates::specs::Reaching::reaches_then), unfolding(crate::specs::MemoryArguments::memory_argument))]
 pub fn read_memarg<'a>(
     reader: &mut BinaryReader<'a>,
     access: Access,

@@ -1,6 +1,6 @@
 -- What is left to read where frames are open.
 use Rattle.std.specs.Prelude.{◌≡◌, ℕ, List, [], ◌∷◌, ◌++◌, Option, Some, None}
-use Rattle.wasm_types.specs.limits.Settings.{Settings}
+use Rattle.wasm_operators_decode_encoding.specs.types.limits.Settings.{Settings}
 use Rattle.wasm_operators_decode_encoding.specs.immediates.declared.frames.FrameKind.{FrameKind}
 use Rattle.wasm_operators_decode_encoding.specs.operator.Op.{Op}
 use Rattle.wasm_operators_decode_encoding.specs.operator.declared.role.Role.{Role}

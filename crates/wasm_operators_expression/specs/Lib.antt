@@ -16,3 +16,4 @@ pub use Rattle.wasm_operators_decode_encoding.specs.numbers as numbers
 pub use Rattle.wasm_operators_decode_encoding.specs.threads as threads
 pub use Rattle.wasm_operators_decode_encoding.specs.operator as operator
 pub use Rattle.wasm_operators_decode_encoding.specs as decode_encoding
+pub use Rattle.wasm_operators_decode_encoding.specs.types as types

@@ -1,6 +1,6 @@
 -- Expressions and the bytes that spell them (WebAssembly 3.0, binary format, expressions).
 use Rattle.std.specs.Prelude.{◌≡◌, ℕ, List, [], ◌∷◌, ◌++◌}
-use Rattle.wasm_types.specs.limits.Settings.{Settings}
+use Rattle.wasm_operators_decode_encoding.specs.types.limits.Settings.{Settings}
 use Rattle.wasm_operators_decode_encoding.specs.operator.Op.{Op}
 use Rattle.wasm_operators_decode_encoding.specs.Operators.{SpelledOperator}
 use Rattle.wasm_operators_expression.specs.Code.{Code, walk, IsExpression}

@@ -1,7 +1,7 @@
 -- What an operator makes of the frames, by its bytes; and bytes spell at most one tree.
 use Rattle.std.proofs.Common.{◌≡◌, ◌↔◌, ℕ, ◌+◌, List, [], ◌∷◌, ◌++◌, length, Some, None, IsTrue, refl, sym, ◌∙◌, ap, subst, append-nil}
-use Rattle.wasm_types.specs.decoding.Decoder.{State, Done, Takes}
-use Rattle.wasm_types.specs.limits.Settings.{Settings}
+use Rattle.wasm_operators_decode_encoding.specs.types.decoding.Decoder.{State, Done, Takes}
+use Rattle.wasm_operators_decode_encoding.specs.types.limits.Settings.{Settings}
 use Rattle.wasm_operators_decode_encoding.specs.immediates.declared.frames.FrameKind.{FrameKind}
 use Rattle.wasm_operators_decode_encoding.specs.immediates.declared.frames.FrameKind.TheVariants.{Block}
 use Rattle.wasm_operators_decode_encoding.specs.operator.Op.{Op}

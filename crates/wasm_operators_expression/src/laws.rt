@@ -1,10 +1,10 @@
 //! Laws of expressions and of frames, each the contract of a function that does nothing.
 
 ghost use Rattle.std.specs.Prelude.{◌≡◌, ◌↔◌, ◌+◌, ◌≤◌, ◌<◌, IsTrue, ℕ, List, [], ◌∷◌, length, Some};
-ghost use Rattle.wasm_types.specs.limits.Settings.{Settings};
+ghost use Rattle.wasm_operators_decode_encoding.specs.types.limits.Settings.{Settings};
 ghost use Rattle.wasm_operators_decode_encoding.specs.immediates.declared.frames.FrameKind.{FrameKind as Kind};
 ghost use Rattle.wasm_operators_decode_encoding.specs.immediates.declared.frames.FrameKind.TheVariants.{Block};
-ghost use Rattle.wasm_types.specs.decoding.Decoder.{State, Done};
+ghost use Rattle.wasm_operators_decode_encoding.specs.types.decoding.Decoder.{State, Done};
 ghost use Rattle.wasm_operators_decode_encoding.specs.operator.Op.{Op};
 ghost use Rattle.wasm_operators_decode_encoding.specs.operator.Immediates.{is_canonical};
 ghost use Rattle.wasm_operators_decode_encoding.specs.Coded.{Coded, operator};

@@ -1,5 +1,5 @@
 -- `==` of operators of aggregates, casts and descriptors: it holds exactly where the trees are equal.
-use Rattle.wasm_types.specs.values.Laws.{HeapEqualityIsIdentity, ReferenceEqualityIsIdentity}
+use Rattle.wasm_operators_immediates.specs.types.values.Laws.{HeapEqualityIsIdentity, ReferenceEqualityIsIdentity}
 use Rattle.wasm_operators_immediates.proofs.Telling.{Identity, none, one, two, three, variants, ◌&◌}
 use Rattle.wasm_operators_immediates.proofs.Equality.{identity, numbers}
 use Rattle.wasm_operators_gc.specs.contracts.gc.GcOperator as gc

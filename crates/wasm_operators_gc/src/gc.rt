@@ -4,8 +4,8 @@ ghost use Rattle.std.specs.Prelude.{◌≡◌, Some};
 ghost use Rattle.wasm_operators_info.specs.Info.{told, row};
 ghost use Rattle.wasm_operators_info.specs.declared.proposal.Proposal.TheVariants as Proposal;
 
+use wasm_operators_immediates::{HeapType, RefType};
 use wasm_operators_info::{OperatorInfo, Proposal};
-use wasm_types::{HeapType, RefType};
 
 // A row of the proposal, behind `fb`.
 fn gc(name: &'static str, code: u32) -> OperatorInfo

@@ -1,3 +1,4 @@
+pub use Rattle.wasm_types.proofs.Rows
 pub mod Reading
 pub mod Passing
 pub mod Bytes

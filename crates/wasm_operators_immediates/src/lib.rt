@@ -23,3 +23,7 @@ pub use frames::{FrameKind, FrameStack};
 pub use handlers::{Catch, Handle, ResumeTable, TryTable};
 pub use memory::{MemArg, MemArgOrdering, MemArgTarget, Ordering};
 pub use vector::V128;
+pub use wasm_types::{
+    BinaryReader, Error, FromReader, HeapType, Ieee32, Ieee64, RefType, Result, ValType,
+    WasmFeatures, equality_is_identity, read_list,
+};

@@ -1,7 +1,7 @@
 -- What is told of an operator: a row of the table of opcodes (WebAssembly 3.0, appendix, index of instructions).
 use Rattle.std.specs.Prelude.{ℕ, List, Option}
-use Rattle.wasm_types.specs.features.Features as feature
-use Rattle.wasm_types.specs.features.Features.{mask}
+use Rattle.wasm_types_features.specs.Features as feature
+use Rattle.wasm_types_features.specs.Features.{mask}
 use Rattle.wasm_operators_info.specs.declared.proposal.Proposal.{Proposal}
 use Rattle.wasm_operators_info.specs.declared.proposal.Proposal.TheVariants.{Mvp, SignExtension, SaturatingFloatToInt, BulkMemory, BulkMemoryOpt}
 use Rattle.wasm_operators_info.specs.declared.proposal.Proposal.TheVariants.{ReferenceTypes, TailCall, FunctionReferences, Exceptions}

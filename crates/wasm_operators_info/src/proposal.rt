@@ -4,7 +4,7 @@ ghost use Rattle.std.specs.Prelude.{◌≡◌};
 ghost use Rattle.wasm_operators_info.specs.Info.{features_of};
 
 use bitflags::Flags;
-use wasm_types::WasmFeatures;
+use wasm_types_features::WasmFeatures;
 
 /// What brought an operator: the first release of WebAssembly, or a proposal, by the feature that allows it.
 #[derive(Clone, Copy, Debug, PartialEq, Eq)]

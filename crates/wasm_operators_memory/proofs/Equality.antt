@@ -2,15 +2,15 @@
 use Rattle.std.proofs.Common.{ℕ, refl, ap}
 use Rattle.std.specs.Ordering.{int_eq}
 use Rattle.std.specs.Cmp.{signed_Decides}
-use Rattle.wasm_types.specs.reader.contracts.words.Ieee32PartialEq.TheImpl as float32_eq
-use Rattle.wasm_types.specs.reader.contracts.words.Ieee64PartialEq.TheImpl as float64_eq
+use Rattle.wasm_operators_immediates.specs.types.reader.contracts.words.Ieee32PartialEq.TheImpl as float32_eq
+use Rattle.wasm_operators_immediates.specs.types.reader.contracts.words.Ieee64PartialEq.TheImpl as float64_eq
 use Rattle.wasm_operators_immediates.proofs.Telling.{Identity, none, one, two, variants, ◌&◌}
 use Rattle.wasm_operators_immediates.proofs.Equality.{identity, numbers, arguments}
 use Rattle.wasm_operators_memory.specs.contracts.memory.MemoryOperator as memory
 use Rattle.wasm_operators_memory.specs.contracts.memory.MemoryOperatorPartialEq.TheImpl as memory_eq
 use Rattle.wasm_operators_memory.specs.contracts.constant.ConstOperator as const
 use Rattle.wasm_operators_memory.specs.contracts.constant.ConstOperatorPartialEq.TheImpl as const_eq
-use Rattle.wasm_types.specs.values.Laws.{HeapEqualityIsIdentity}
+use Rattle.wasm_operators_immediates.specs.types.values.Laws.{HeapEqualityIsIdentity}
 use Rattle.wasm_operators_memory.specs.contracts.bulk.BulkOperator as bulk
 use Rattle.wasm_operators_memory.specs.contracts.bulk.BulkOperatorPartialEq.TheImpl as bulk_eq
 

@@ -3,8 +3,8 @@
 ghost use Rattle.std.specs.Prelude.{◌≡◌};
 ghost use Rattle.wasm_operators_info.specs.Info.{told};
 
+use wasm_operators_immediates::HeapType;
 use wasm_operators_info::{OperatorInfo, Proposal};
-use wasm_types::HeapType;
 
 /// Ranges of memories and tables, tables, and references (WebAssembly 3.0, structure, memory, table and reference
 /// instructions; `memory.discard` by the proposal on memory control).

@@ -4,8 +4,8 @@ ghost use Rattle.std.specs.Prelude.{◌≡◌, None};
 ghost use Rattle.wasm_operators_info.specs.Info.{told, row};
 ghost use Rattle.wasm_operators_info.specs.declared.proposal.Proposal.TheVariants as Proposal;
 
+use wasm_operators_immediates::{Ieee32, Ieee64};
 use wasm_operators_info::{OperatorInfo, Proposal};
-use wasm_types::{Ieee32, Ieee64};
 
 // A row of the first release.
 fn mvp(name: &'static str, code: u32) -> OperatorInfo

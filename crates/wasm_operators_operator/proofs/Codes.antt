@@ -1,9 +1,9 @@
 -- Operators are found by prefix and code, and made of their immediates: by groups, which have their codes in runs.
 use Rattle.std.proofs.Common.{◌≡◌, ◌∙◌, ◌+◌, ◌*◌, ℕ, Bool, true, false, eqb, ltb, List, [], ◌∷◌, map, get_or, Option, Some, None, option_map, refl, sym, ap, subst}
-use Rattle.wasm_operators_info.specs.Info.{Info}
-use Rattle.wasm_operators_info.proofs.Codes.{key, same_key, is_eq, in_list, row_at, kinds_at, made_at}
-use Rattle.wasm_operators_immediates.specs.Kinds.{Kind}
-use Rattle.wasm_operators_immediates.specs.Immediates.{Immediate, kind_of}
+use Rattle.wasm_operators_control.specs.info.Info.{Info}
+use Rattle.wasm_operators_control.specs.info_codes.{key, same_key, is_eq, in_list, row_at, kinds_at, made_at}
+use Rattle.wasm_operators_control.specs.immediates.Kinds.{Kind}
+use Rattle.wasm_operators_control.specs.immediates.Immediates.{Immediate, kind_of}
 use Rattle.wasm_operators_control.specs.Table.{control_info, parametric_info, exception_info, continuation_info}
 use Rattle.wasm_operators_memory.specs.Table.{memory_info, const_info, bulk_info}
 use Rattle.wasm_operators_numbers.specs.Table.{numeric_info}

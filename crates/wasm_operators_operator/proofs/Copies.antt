@@ -1,11 +1,11 @@
 -- What a clone of an operator keeps: its variant and all that it carries.
 use Rattle.std.proofs.Common.{◌≡◌, refl, ap}
 use Rattle.std.specs.List.{each_same}
-use Rattle.wasm_operators_immediates.specs.declared.handlers.TryTable.{TryTable}
-use Rattle.wasm_operators_immediates.specs.declared.handlers.ResumeTable.{ResumeTable}
-use Rattle.wasm_operators_immediates.specs.contracts.handlers.TryTableClone.TheImpl as try_table
-use Rattle.wasm_operators_immediates.specs.contracts.handlers.ResumeTableClone.TheImpl as resume_table
-use Rattle.wasm_operators_immediates.specs.Tables.{catch_table_of}
+use Rattle.wasm_operators_control.specs.immediates.declared.handlers.TryTable.{TryTable}
+use Rattle.wasm_operators_control.specs.immediates.declared.handlers.ResumeTable.{ResumeTable}
+use Rattle.wasm_operators_control.specs.immediates.contracts.handlers.TryTableClone.TheImpl as try_table
+use Rattle.wasm_operators_control.specs.immediates.contracts.handlers.ResumeTableClone.TheImpl as resume_table
+use Rattle.wasm_operators_control.specs.immediates.Tables.{catch_table_of}
 use Rattle.wasm_operators_control.specs.declared.control.ControlOperator.{ControlOperator}
 use Rattle.wasm_operators_control.specs.declared.control.ControlOperator.TheVariants as control
 use Rattle.wasm_operators_control.specs.declared.control.ParametricOperator.{ParametricOperator}

@@ -1,7 +1,7 @@
 -- `==` of operators, from that of the groups.
 use Rattle.std.proofs.Common.{◌≡◌, true, sym, ap, true≢false}
-use Rattle.wasm_types.specs.values.Laws.{HeapEqualityIsIdentity, ReferenceEqualityIsIdentity, ValueEqualityIsIdentity}
-use Rattle.wasm_operators_immediates.proofs.Telling.{complete}
+use Rattle.wasm_operators_control.specs.types.values.Laws.{HeapEqualityIsIdentity, ReferenceEqualityIsIdentity, ValueEqualityIsIdentity}
+use Rattle.wasm_operators_control.specs.telling.{complete}
 use Rattle.wasm_operators_control.proofs.Equality.{controls, parametrics, exceptions, continuations}
 use Rattle.wasm_operators_memory.proofs.Equality.{memories, consts, bulks}
 use Rattle.wasm_operators_numbers.proofs.Equality.{numerics}

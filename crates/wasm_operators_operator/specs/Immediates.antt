@@ -1,8 +1,8 @@
 -- What each operator carries behind its opcode, in the order of the bytes (WebAssembly 3.0, binary format, instructions). The
 -- groups' parts are in the files of this name of the crates below.
 use Rattle.std.specs.Prelude.{Bool, true, List, map}
-use Rattle.wasm_operators_immediates.specs.Kinds.{Kind}
-use Rattle.wasm_operators_immediates.specs.Immediates.{Immediate, kind_of}
+use Rattle.wasm_operators_control.specs.immediates.Kinds.{Kind}
+use Rattle.wasm_operators_control.specs.immediates.Immediates.{Immediate, kind_of}
 use Rattle.wasm_operators_control.specs.Immediates.{control_immediates, parametric_immediates, exception_immediates}
 use Rattle.wasm_operators_control.specs.Immediates.{is_canonical as parametric_is_canonical, continuation_immediates}
 use Rattle.wasm_operators_memory.specs.Immediates.{memory_immediates, const_immediates, bulk_immediates}

@@ -1,6 +1,6 @@
 -- The table of opcodes: what is told of each operator (WebAssembly 3.0, appendix, index of instructions). The groups' parts
 -- are in the files of this name of the crates below.
-use Rattle.wasm_operators_info.specs.Info.{Info}
+use Rattle.wasm_operators_control.specs.info.Info.{Info}
 use Rattle.wasm_operators_control.specs.Table.{control_info, parametric_info, exception_info, continuation_info}
 use Rattle.wasm_operators_memory.specs.Table.{memory_info, const_info, bulk_info}
 use Rattle.wasm_operators_numbers.specs.Table.{numeric_info}

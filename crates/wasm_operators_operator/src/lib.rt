@@ -13,13 +13,10 @@ mod role;
 pub use operator::Operator;
 pub use role::{Effect, Role};
 pub use wasm_operators_control::{
-    ContinuationOperator, ControlOperator, ExceptionOperator, ParametricOperator,
+    BlockType, BrTable, ContinuationOperator, ControlOperator, ExceptionOperator, MemArg,
+    OperatorInfo, Ordering, ParametricOperator, Proposal, ResumeTable, TryTable, V128,
 };
 pub use wasm_operators_gc::{DescriptorOperator, GcOperator};
-pub use wasm_operators_immediates::{
-    BlockType, BrTable, MemArg, Ordering, ResumeTable, TryTable, V128,
-};
-pub use wasm_operators_info::{OperatorInfo, Proposal};
 pub use wasm_operators_memory::{BulkOperator, ConstOperator, MemoryOperator};
 pub use wasm_operators_numbers::NumericOperator;
 pub use wasm_operators_threads::{AtomicOperator, SharedOperator};

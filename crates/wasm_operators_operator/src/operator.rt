@@ -1,15 +1,14 @@
 //! Operators.
 
 ghost use Rattle.std.specs.Prelude.{◌≡◌};
-ghost use Rattle.wasm_operators_info.specs.Info.{told};
+ghost use Rattle.wasm_operators_control.specs.info.Info.{told};
 
 use crate::role::Role;
 use wasm_operators_control::{
-    ContinuationOperator, ControlOperator, ExceptionOperator, ParametricOperator,
+    ContinuationOperator, ControlOperator, ExceptionOperator, FrameKind, OperatorInfo,
+    ParametricOperator,
 };
 use wasm_operators_gc::{DescriptorOperator, GcOperator};
-use wasm_operators_immediates::FrameKind;
-use wasm_operators_info::OperatorInfo;
 use wasm_operators_memory::{BulkOperator, ConstOperator, MemoryOperator};
 use wasm_operators_numbers::NumericOperator;
 use wasm_operators_threads::{AtomicOperator, SharedOperator};

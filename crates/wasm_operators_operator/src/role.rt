@@ -6,8 +6,7 @@ ghost use Rattle.wasm_operators_operator.specs.Op.{op_of};
 ghost use Rattle.wasm_operators_operator.specs.Roles.{role_of, control_role, exception_role, effect, clause};
 
 use crate::operator::Operator;
-use wasm_operators_control::{ControlOperator, ExceptionOperator};
-use wasm_operators_immediates::FrameKind;
+use wasm_operators_control::{ControlOperator, ExceptionOperator, FrameKind};
 
 /// What an operator is for the nesting of instructions.
 #[derive(Clone, Copy)]

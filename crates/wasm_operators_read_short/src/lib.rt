@@ -13,4 +13,4 @@ mod numbers;
 mod short;
 
 pub use short::short_operator_at;
-pub use wasm_operators_visit_short::visit_short;
+pub use wasm_operators_visit_short::{LentVisitor, TellOperator};

@@ -1,8 +1,6 @@
 -- An operator that was visited straight from its bytes is read by a reader that stands there.
 use Rattle.std.proofs.Common.{
-  subst,
   nat_eq,
-  IsTrue,
   ◌≡◌,
   ℕ,
   ◌+◌,
@@ -39,17 +37,15 @@ use Rattle.wasm_operators_decode_codes.specs.RoleLaws.{role_of_opcode}
 use Rattle.wasm_operators_expression.specs.immediates.declared.frames.FrameKind.{FrameKind}
 use Rattle.wasm_operators_expression.specs.operator.Op.{Op}
 use Rattle.wasm_operators_expression.specs.operator.Table.{info_of}
-use Rattle.wasm_operators_expression.specs.operator.Immediates.{is_canonical}
 use Rattle.wasm_operators_expression.specs.operator.declared.role.Role.{Role}
 use Rattle.wasm_operators_expression.specs.operator.declared.role.Role.TheVariants.{Plain, Opens, End}
 use Rattle.wasm_operators_expression.specs.decode_encoding.Opcodes.{is_prefix}
 use Rattle.wasm_operators_expression.specs.decode_encoding.Coded.{Coded, operator}
 use Rattle.wasm_operators_expression.specs.decode_encoding.CodedLaws.{decides-operator}
 use Rattle.wasm_operators_expression.specs.decode_encoding.Operators.{coded_of}
-use Rattle.wasm_operators_expression.specs.Frames.{behind as frames_after, after}
+use Rattle.wasm_operators_expression.specs.Frames.{behind as frames_after}
 use Rattle.wasm_operators_expression.specs.Stack.{around}
 use Rattle.wasm_operators_read_short.specs.Short.{BeginsWith, IsTold}
-use Rattle.wasm_operators_reader.specs.Standing.{Reads}
 use Rattle.wasm_operators_reader.specs.Visiting.{Tells, VisitsPlain}
 
 -- ---- roles by the first byte
@@ -129,21 +125,6 @@ module _ {V A : Type 0} (visits : V → Op → A → V → Type 0) (s : State) (
         no_vector = found.no_vector;
         told = found.told;
       }
-
--- ---- what was read
-
-pub read_at_once : (s : State) (p features e : ℕ) (text : List ℕ) → text ≡ s.rest → features ≡ s.settings.features → (o : Op) → IsTold features text p e (λ q. q ≡ o)
-    → (ks js : List FrameKind) → after o ks ≡ Some js → Reads (record { bytes = behind p s; frames = ks }) o (record { bytes = behind e s; frames = js })
-read_at_once s p features e text bytes_are same o found ks js fits =
-    let tells = told_at_once {V = Op} {A = Unit {0}} (λ v q a w. q ≡ v) s p o o tt features e text bytes_are same found in
-    record {
-      canonical = subst (λ (q : Op). IsTrue (is_canonical q)) tells.told tells.canonical;
-      read = tells.read ∙ ap (λ (q : Op). Done (coded_of q) (behind e s)) tells.told;
-      fits = fits;
-    }
-
-pub read_inside : (s : State) (p features e : ℕ) (text : List ℕ) → text ≡ s.rest → features ≡ s.settings.features → (o : Op) → IsTold features text p e (λ q. q ≡ o) → e ≤ length text
-read_inside s p features e text bytes_are same o found = told_inside {V = Op} {A = Unit {0}} (λ v q a w. q ≡ v) s p o o tt features e text bytes_are same found
 
 -- ---- in frames
 

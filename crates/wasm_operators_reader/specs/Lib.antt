@@ -2,11 +2,13 @@
 pub mod Standing
 pub mod Iterating
 pub mod Visiting
+pub mod Walking
 -- What is proved of it.
 pub mod StandingLaws
 pub mod RunLaws
 pub mod MeetLaws
 pub mod VisitingLaws
+pub mod WalkingLaws
 -- The rules and laws of the crates below, under their names: crates above cite them here.
 pub use Rattle.wasm_operators_expression.specs.immediates as immediates
 pub use Rattle.wasm_operators_expression.specs.operator as operator

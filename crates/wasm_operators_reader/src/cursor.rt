@@ -44,6 +44,18 @@ impl<'a> Cursor<'a> {
         }
     }
 
+    /// The same once more.
+    #[inline]
+    pub(crate) fn copy(&self) -> Cursor<'a>
+        ensures { result ≡ self.now }
+    {
+        Cursor {
+            start: self.start.clone(),
+            bytes: self.bytes,
+            position: self.position,
+        }
+    }
+
     /// A reader that stands there.
     #[inline]
     pub(crate) fn reader(&self) -> BinaryReader<'a>
@@ -70,7 +82,7 @@ impl<'a> Cursor<'a> {
     pub(crate) fn eof(&self) -> bool
         ensures { result ≡ (length self.now.rest == 0) }
     {
-        self.position == self.bytes.len()
+        self.position >= self.bytes.len()
     }
 
     /// The next byte, which stays.

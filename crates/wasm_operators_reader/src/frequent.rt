@@ -1,20 +1,21 @@
-//! The frequent operators, visited straight from their bytes.
+//! The frequent operators, told to a visitor straight from their bytes.
 
-ghost use Rattle.std.specs.Prelude.{◌≡◌, get_or, IfSome, IfNone};
+ghost use Rattle.std.specs.Prelude.{◌≡◌, Ok, Err, get_or, IfSome, IfNone};
 ghost use Rattle.wasm_operators_decode_codes.specs.OpcodeRoles.{plain_role};
 ghost use Rattle.wasm_operators_expression.specs.operator.declared.role.Role.TheVariants.{Plain, Opens, End};
 ghost use Rattle.wasm_operators_expression.specs.operator.Op.{op_of};
 ghost use Rattle.wasm_operators_reader.specs.Standing.{Reads};
 ghost use Rattle.wasm_operators_reader.specs.Visiting.{Tells, VisitsPlain};
+ghost use Rattle.wasm_operators_reader.specs.Walking.{WalksTo, WalksUntilAt};
 
 use crate::cursor::Cursor;
+use crate::taker::Taker;
 use wasm_operators_expression::{ControlStack, FrameKind, Operator, Role};
-use wasm_operators_read_short::{short_operator_at, visit_short};
-use wasm_operators_visit_simd_operator::VisitOperator;
+use wasm_operators_read_short::TellOperator;
 
-/// The next operator, read and visited, and the role of its first byte.
+/// The next operator, read and told to the visitor, and the role of its first byte.
 #[inline(always)]
-fn visit_next<'a, V: VisitOperator<'a>>(
+fn visit_next<'a, V: TellOperator<'a>>(
     reader: &mut Cursor<'a>,
     visitor: &mut V,
 ) -> Option<V::Output>
@@ -23,7 +24,7 @@ fn visit_next<'a, V: VisitOperator<'a>>(
     ensures told { IfNone result (visitor.new ≡ visitor.old) }
 {
     let features = reader.features();
-    let Some((answer, end)) = visit_short(reader.bytes, reader.position, features, visitor) else {
+    let Some((answer, end)) = visitor.tell_short(reader.bytes, reader.position, features) else {
         return None;
     };
     reader.position = end;
@@ -32,7 +33,7 @@ fn visit_next<'a, V: VisitOperator<'a>>(
 
 /// The same of an operator that leaves the frames.
 #[inline(always)]
-fn visit_inside<'a, V: VisitOperator<'a>>(
+fn visit_inside<'a, V: TellOperator<'a>>(
     reader: &mut Cursor<'a>,
     control: &ControlStack,
     visitor: &mut V,
@@ -53,7 +54,7 @@ fn visit_inside<'a, V: VisitOperator<'a>>(
 
 /// The same of one that opens a frame.
 #[inline]
-fn visit_opening<'a, V: VisitOperator<'a>>(
+fn visit_opening<'a, V: TellOperator<'a>>(
     frame: FrameKind,
     reader: &mut Cursor<'a>,
     control: &mut ControlStack,
@@ -79,7 +80,7 @@ fn visit_opening<'a, V: VisitOperator<'a>>(
 
 /// The same of `end`.
 #[inline(always)]
-fn visit_closing<'a, V: VisitOperator<'a>>(
+fn visit_closing<'a, V: TellOperator<'a>>(
     reader: &mut Cursor<'a>,
     control: &mut ControlStack,
     visitor: &mut V,
@@ -99,10 +100,10 @@ fn visit_closing<'a, V: VisitOperator<'a>>(
     Some(answer)
 }
 
-/// Reads the next operator and calls the visit that belongs to it, where it is a frequent one in a frequent form. None
+/// Reads the next operator and tells the visitor of it, where it is a frequent one in a frequent form. None
 /// where it is another, and where none is read: then nothing changes.
 #[inline(always)]
-pub(crate) fn visit_frequent<'a, V: VisitOperator<'a>>(
+pub(crate) fn visit_frequent<'a, V: TellOperator<'a>>(
     reader: &mut Cursor<'a>,
     control: &mut ControlStack,
     visitor: &mut V,
@@ -128,6 +129,29 @@ pub(crate) fn visit_frequent<'a, V: VisitOperator<'a>>(
     }
 }
 
+/// Reads frequent operators and tells the visitor of them, one after the other, up to one that is another, or that is not read; or to
+/// one that the visitor answers by an `Err`: that is given back with the operator's offset in the input.
+#[inline(always)]
+pub(crate) fn visit_run<'a, E: Drop, V: TellOperator<'a, Output = Result<(), E>>>(
+    reader: &mut Cursor<'a>,
+    control: &mut ControlStack,
+    visitor: &mut V,
+) -> Option<(E, u64)>
+    ensures ended { IfSome result (λ last. WalksUntilAt V.visits (Ok tt) (record { bytes = reader.old; frames = control.old.frames }) visitor.old (Err last.0) visitor.new last.1) }
+    ensures told { IfNone result (WalksTo V.visits (Ok tt) (record { bytes = reader.old; frames = control.old.frames }) visitor.old (record { bytes = reader.new; frames = control.new.frames }) visitor.new) }
+{
+    while !reader.eof() {
+        let place = reader.original_position();
+        let Some(answer) = visit_frequent(reader, control, visitor) else {
+            return None;
+        };
+        if let Err(last) = answer {
+            return Some((last, place));
+        }
+    }
+    None
+}
+
 /// Reads the next operator, where it is a frequent one in a frequent form that may come next. None where it is another, and
 /// where none is read, or memory for a frame is refused: then nothing changes.
 #[inline(always)]
@@ -138,17 +162,10 @@ pub(crate) fn read_frequent<'a>(
     ensures read { IfSome result (λ op. Reads (record { bytes = reader.old; frames = control.old.frames }) (op_of op) (record { bytes = reader.new; frames = control.new.frames })) }
     ensures stays { IfNone result ((reader.new ≡ reader.old) × (control.new.frames ≡ control.old.frames)) }
 {
-    let features = reader.features();
-    let Some((op, end)) = short_operator_at(reader.bytes, reader.position, features) else {
+    let mut taker = Taker;
+    let Some(op) = visit_frequent(reader, control, &mut taker) else {
         return None;
     };
-    let Ok(fits) = control.advance(&op) else {
-        return None;
-    };
-    if !fits {
-        return None;
-    }
-    reader.position = end;
     Some(op)
 }
 

@@ -12,6 +12,7 @@ mod frequent;
 mod iterators;
 pub mod laws;
 mod operators_reader;
+mod taker;
 mod visiting;
 
 pub use expression::read_expression;
@@ -28,6 +29,7 @@ pub use wasm_operators_expression::{
     GcOperator, Handle, MemArg, MemArgOrdering, MemArgTarget, MemoryOperator, Operator,
     OperatorInfo, Ordering, ParametricOperator, Proposal, ResumeTable, Role, TryTable, V128,
 };
+pub use wasm_operators_read_short::{LentVisitor, TellOperator};
 pub use wasm_operators_visit_simd_operator::{
     VisitAtomic, VisitControl, VisitFloats, VisitGc, VisitIntegers, VisitMemory, VisitOperator,
     VisitShared, VisitSimd, VisitSimdFloats, VisitSimdNarrow, VisitSimdOperator, VisitSimdWide,

@@ -1,19 +1,20 @@
 //! The reader of operators in frames.
 
-ghost use Rattle.std.specs.Prelude.{◌≡◌, ◌↔◌, ◌==◌, ◌+◌, ◌<◌, [], ◌∷◌, IsTrue, IfOk, IfErr, IfSome, IfNone, length};
+ghost use Rattle.std.specs.Prelude.{◌≡◌, ◌↔◌, ◌==◌, ◌+◌, ◌<◌, [], ◌∷◌, IsTrue, Ok, Err, IfOk, IfErr, IfSome, IfNone, length};
 ghost use Rattle.wasm_types.specs.error.declared.error.ErrorKind.TheVariants.{Other};
 ghost use Rattle.wasm_types.specs.reader.Reading.{NeedsNoMemory};
 ghost use Rattle.wasm_operators_expression.specs.operator.Op.{op_of};
 ghost use Rattle.wasm_operators_reader.specs.Standing.{at_start, IsFinished, Reads, Refuses, WantsMemory};
 ghost use Rattle.wasm_operators_reader.specs.Visiting.{VisitsPlain};
+ghost use Rattle.wasm_operators_reader.specs.Walking.{WalksTo, WalksUntilAt};
 
 use crate::cursor::Cursor;
-use crate::frequent::{read_frequent, visit_frequent};
+use crate::frequent::{read_frequent, visit_frequent, visit_run};
 use std::alloc::Global;
 use std::marker::Model;
 use wasm_operators_decode::read_operator;
 use wasm_operators_expression::{ControlStack, FrameKind, FrameStack, Operator, Role};
-use wasm_operators_visit_simd_operator::VisitOperator;
+use wasm_operators_read_short::TellOperator;
 use wasm_types::{BinaryReader, Error, Result};
 
 /// The memory of a reader's frames.
@@ -126,6 +127,7 @@ impl<'a> OperatorsReader<'a> {
     ///
     /// No frame is open; the bytes spell no operator that the features of the reader allow; the operator may not come next in
     /// the innermost frame; or there is no memory for a list that it keeps, or for a frame. The reader stays as it was.
+    #[inline(always)]
     pub fn read(&mut self) -> Result<Operator<'a>>
         ensures read { IfOk result (λ op. Reads self.old (op_of op) self.new) }
         ensures refused { IfErr result (λ e. Refuses self.old e × (self.new ≡ self.old)) }
@@ -134,7 +136,21 @@ impl<'a> OperatorsReader<'a> {
         if let Some(op) = self.read_frequent() {
             return Ok(op);
         }
-        self.read_complete()
+        self.read_other()
+    }
+
+    /// The next operator, whichever it is: `read_complete`, with a place of its own for the answer, so that none is made ready before.
+    #[inline(always)]
+    fn read_other(&mut self) -> Result<Operator<'a>>
+        ensures read { IfOk result (λ op. Reads self.old (op_of op) self.new) }
+        ensures refused { IfErr result (λ e. Refuses self.old e × (self.new ≡ self.old)) }
+        ensures no_memory { (WantsMemory self.old → ⊥) → NeedsNoMemory result }
+    {
+        let op = match self.read_complete() {
+            Ok(op) => op,
+            Err(error) => return Err(error),
+        };
+        Ok(op)
     }
 
     /// The next operator, where it is a frequent one in a frequent form that may come next.
@@ -192,11 +208,12 @@ impl<'a> OperatorsReader<'a> {
         Ok((op, place))
     }
 
-    /// Reads the next operator, as `read` does, and calls the visit that belongs to it, where it is a frequent one in a frequent
-    /// form: no operator is built, and no error made. None where it is another, where it is one on vectors, and where `read`
-    /// would refuse it. The reader stays as it was then, and the visitor is told nothing.
+    /// Reads the next operator, as `read` does, and tells the visitor of it, where it is a frequent one in a frequent form: no operator
+    /// is built, and no error made. None where it is another, where it is one on vectors, and where `read` would refuse it. The
+    /// reader stays as it was then, and the visitor is told nothing. A visitor with a visit for each operator is lent
+    /// (`LentVisitor`).
     #[inline(always)]
-    pub fn visit_frequent<V: VisitOperator<'a>>(&mut self, visitor: &mut V) -> Option<V::Output>
+    pub fn tell_frequent<V: TellOperator<'a>>(&mut self, visitor: &mut V) -> Option<V::Output>
         ensures visited { IfSome result (λ answer. VisitsPlain V.visits self.old visitor.old answer self.new visitor.new) }
         ensures stays { IfNone result (self.new ≡ self.old) }
         ensures told { IfNone result (visitor.new ≡ visitor.old) }
@@ -205,6 +222,22 @@ impl<'a> OperatorsReader<'a> {
             return None;
         };
         Some(answer)
+    }
+
+    /// Reads operators, as `read` does, and tells the visitor of them, one after the other, as long as they are frequent ones in frequent
+    /// forms and the visitor answers `Ok`. Its first `Err` is given back, with the offset in the input of the operator that it
+    /// answers. None where another operator follows, or none that `read` reads: the reader stands there then.
+    pub fn tell_run<E: Drop, V: TellOperator<'a, Output = std::result::Result<(), E>>>(
+        &mut self,
+        visitor: &mut V,
+    ) -> Option<(E, u64)>
+        ensures ended { IfSome result (λ last. WalksUntilAt V.visits (Ok tt) self.old visitor.old (Err last.0) visitor.new last.1) }
+        ensures told { IfNone result (WalksTo V.visits (Ok tt) self.old visitor.old self.new visitor.new) }
+    {
+        let mut ahead = self.reader.copy();
+        let end = visit_run(&mut ahead, &mut self.control, visitor);
+        self.reader = ahead;
+        end
     }
 
     /// Lets it stand at other bytes, with the same frames.

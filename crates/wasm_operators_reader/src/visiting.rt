@@ -10,6 +10,7 @@ ghost use Rattle.wasm_operators_reader.specs.Visiting.{Visits, VisitsPlain, Refu
 
 use crate::OperatorsReader;
 use wasm_operators_expression::Operator;
+use wasm_operators_read_short::TellOperator;
 use wasm_operators_visit_simd_operator::{VisitOperator, VisitSimdOperator, is_simd};
 use wasm_types::{Error, Result};
 
@@ -31,6 +32,25 @@ impl<'a> OperatorsReader<'a> {
             Err(error) => return Err(error),
         };
         Ok(visitor.visit_owned(op))
+    }
+
+    /// Reads the next operator, as `read` does, and tells the visitor of it.
+    ///
+    /// # Errors
+    ///
+    /// As `visit_operator`. The reader stays as it was, and the visitor is told nothing.
+    #[inline(never)]
+    pub fn tell_operator<V: TellOperator<'a>>(&mut self, visitor: &mut V) -> Result<V::Output>
+        ensures visited { IfOk result (λ answer. VisitsPlain V.visits self.old visitor.old answer self.new visitor.new) }
+        ensures refused { IfErr result (λ e. RefusesPlain self.old e × (self.new ≡ self.old)) }
+        ensures told { IfErr result (λ _. visitor.new ≡ visitor.old) }
+        ensures no_memory { (WantsMemory self.old → ⊥) → NeedsNoMemory result }
+    {
+        let op = match self.read_plain() {
+            Ok(op) => op,
+            Err(error) => return Err(error),
+        };
+        Ok(visitor.tell(op))
     }
 
     /// Reads the next operator, as `read` does, and calls the visit that belongs to it, also where it is one on vectors.

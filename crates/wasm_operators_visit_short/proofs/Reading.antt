@@ -203,3 +203,7 @@ opcode_is o n p e = λ i. record { prefix = p i; code = e i }
 
 pub prefixed_is : (o : Op) (p n : ℕ) → (info_of o).prefix ≡ Some p → (info_of o).code ≡ n → opcode_of o ≡ prefixed p n
 prefixed_is o p n f e = λ i. record { prefix = f i; code = e i }
+
+-- what is told so is told otherwise, where the one implies the other
+pub told_so : (features : ℕ) (text : List ℕ) (i e : ℕ) (Told Other : Op → Type 0) → ((o : Op) → Told o → Other o) → IsTold features text i e Told → IsTold features text i e Other
+told_so features text i e Told Other so t = record { op = t.op; canonical = t.canonical; begins = t.begins; no_vector = t.no_vector; reads = t.reads; told = so t.op t.told }

@@ -5,6 +5,10 @@
 //! reader moves, and no error is made. Where it answers none, nothing was visited; `read_operator` then reads whatever
 //! stands there, or says why it is refused.
 //!
+//! [`TellOperator`] is what reading asks of a visitor, two methods in place of a visit for each operator; a [`LentVisitor`] has
+//! them by the visits of the visitor that is lent. A type that has all visits has them group by group: [`short_control`],
+//! [`short_memory`] and [`short_numeric`] are the parts of [`visit_short`].
+//!
 //! `specs/Short.antt` defines what was told: that the decoder of operators gives this operator for these bytes, wherever
 //! they stand, and that the visitor's relation holds of it.
 #![tactic(auto)]
@@ -15,6 +19,8 @@ mod immediates;
 mod memory;
 mod numbers;
 mod short;
+mod tell;
 
 pub use immediates::{block_type_at, f32_at, f64_at, memarg_at, zero_at};
-pub use short::visit_short;
+pub use short::{short_control, short_memory, short_numeric, visit_short};
+pub use tell::{LentVisitor, TellOperator};

@@ -1,6 +1,8 @@
 -- The rules, in reading order.
 pub mod InFrame
-pub mod Walking
 -- What is proved of it.
 pub mod InFrameLaws
-pub mod WalkingLaws
+pub mod LendingLaws
+-- The rules and laws of the crates below, under their names: crates above cite them here.
+pub use Rattle.wasm_operators_reader.specs as reader
+pub use Rattle.wasm_operators_reader.specs.Walking as Walking

@@ -2,24 +2,26 @@
 //!
 //! [`ReadOperators`] looks at one operator where the innermost open frame is known; what keeps frames tells it
 //! (`FrameStack`). By [`ReadToVisitor`] and [`ReadToSimdVisitor`] one is read and visited. [`visit_expression`] visits the operators of an expression, exactly where all the bytes spell one
-//! without vectors. `specs/InFrame.antt` defines what is read in a frame and why it is refused, and
+//! without vectors, and [`tell_expression_with_offset`] tells whoever can be told of any operator (`TellOperator`). `specs/InFrame.antt` defines what is read in a frame and why it is refused, and
 //! `specs/Walking.antt` what a visitor is told on the way.
 #![tactic(auto)]
 
 pub mod laws;
 mod read_operators;
+mod telling;
 mod walking;
 
 pub use read_operators::{ReadOperators, ReadToSimdVisitor, ReadToVisitor};
-pub use walking::visit_expression;
+pub use telling::{TellSimdOperator, tell_operator_in_frame_simd, tell_operator_simd};
+pub use walking::{tell_expression_with_offset, visit_expression, visit_expression_with_offset};
 pub use wasm_operators_reader::{
     AtomicOperator, BlockType, BrTable, BrTableTargets, BulkOperator, Catch, ConstOperator,
     ContinuationOperator, ControlOperator, ControlStack, DescriptorOperator, ExceptionOperator,
-    FrameKind, FrameStack, GcOperator, Handle, MemArg, MemArgOrdering, MemArgTarget,
+    FrameKind, FrameStack, GcOperator, Handle, LentVisitor, MemArg, MemArgOrdering, MemArgTarget,
     MemoryOperator, NumericOperator, Operator, OperatorInfo, OperatorsIterator,
     OperatorsIteratorWithOffsets, OperatorsReader, OperatorsReaderAllocations, Ordering,
     ParametricOperator, Proposal, ResumeTable, SharedOperator, SimdNumericOperator, SimdOperator,
-    TryTable, V128, VisitAtomic, VisitControl, VisitFloats, VisitGc, VisitIntegers, VisitMemory,
-    VisitOperator, VisitShared, VisitSimd, VisitSimdFloats, VisitSimdNarrow, VisitSimdOperator,
-    VisitSimdWide, Visitor, is_simd, read_expression,
+    TellOperator, TryTable, V128, VisitAtomic, VisitControl, VisitFloats, VisitGc, VisitIntegers,
+    VisitMemory, VisitOperator, VisitShared, VisitSimd, VisitSimdFloats, VisitSimdNarrow,
+    VisitSimdOperator, VisitSimdWide, Visitor, is_simd, read_expression,
 };

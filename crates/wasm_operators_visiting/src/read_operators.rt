@@ -136,7 +136,7 @@ impl<'a, V: VisitSimdOperator<'a> + FrameStack> ReadToSimdVisitor<'a, V> for Bin
 }
 
 /// The next operator, where this frame is the innermost.
-fn read_in_frame<'a>(
+pub(crate) fn read_in_frame<'a>(
     alloc: Global,
     frame: Option<FrameKind>,
     reader: &mut BinaryReader<'a>,

@@ -5,10 +5,10 @@ ghost use Rattle.wasm_types.specs.reader.Reading.{IsNotMemory};
 ghost use Rattle.wasm_operators_reader.specs.expression.Code.{Code, walk};
 ghost use Rattle.wasm_operators_reader.specs.expression.Spelling.{SpelledExpression};
 ghost use Rattle.wasm_operators_reader.specs.Standing.{Standing, at_start};
-ghost use Rattle.wasm_operators_visiting.specs.Walking.{HasNoVectors, VisitsAll, WalksTo, WalksUntil, StopsPlain};
+ghost use Rattle.wasm_operators_reader.specs.Walking.{HasNoVectors, VisitsAll, WalksTo, WalksUntil, WalksUntilAt, StopsPlain};
 
 use std::alloc::Global;
-use wasm_operators_reader::{OperatorsReader, VisitOperator};
+use wasm_operators_reader::{LentVisitor, OperatorsReader, TellOperator, VisitOperator};
 use wasm_types::{BinaryReader, Result};
 
 /// Visits the operators of an expression in their order, to the end of the bytes. The visitor answers whether to go on: the walk
@@ -30,13 +30,82 @@ pub fn visit_expression<'a, E: Drop, V: VisitOperator<'a, Output = std::result::
     ensures refused { IfErr result (λ e. IsNotMemory e.kind → (c : Code) → SpelledExpression reader.entry.settings c reader.entry.rest → HasNoVectors (walk c) → ⊥) }
     ensures stops { IfErr result (λ e. (t : Standing) × WalksTo V.visits (Ok tt) (at_start reader.entry) visitor.old t visitor.new × StopsPlain t e) }
 {
+    let end = match visit_expression_with_offset(alloc, reader, visitor) {
+        Ok(end) => end,
+        Err(error) => return Err(error),
+    };
+    if let Err(last) = end {
+        return Ok(Err(last.0));
+    }
+    Ok(Ok(()))
+}
+
+/// The same, and where the visitor ends the walk the offset of the operator that it answered so.
+///
+/// # Errors
+///
+/// As [`visit_expression`].
+pub fn visit_expression_with_offset<
+    'a,
+    E: Drop,
+    V: VisitOperator<'a, Output = std::result::Result<(), E>>,
+>(
+    alloc: Global,
+    reader: BinaryReader<'a>,
+    visitor: &mut V,
+) -> Result<std::result::Result<(), (E, u64)>>
+    ensures whole { IfOk result (λ end. IfOk end (λ _. (c : Code) × SpelledExpression reader.entry.settings c reader.entry.rest × HasNoVectors (walk c) × VisitsAll V.visits (Ok tt) visitor.old (walk c) visitor.new)) }
+    ensures ended { IfOk result (λ end. IfErr end (λ x. WalksUntilAt V.visits (Ok tt) (at_start reader.entry) visitor.old (Err x.0) visitor.new x.1)) }
+    ensures refused { IfErr result (λ e. IsNotMemory e.kind → (c : Code) → SpelledExpression reader.entry.settings c reader.entry.rest → HasNoVectors (walk c) → ⊥) }
+    ensures stops { IfErr result (λ e. (t : Standing) × WalksTo V.visits (Ok tt) (at_start reader.entry) visitor.old t visitor.new × StopsPlain t e) }
+{
+    let mut lent = LentVisitor { visitor };
+    tell_lent(alloc, reader, &mut lent)
+}
+
+// The same, by the visits of the visitor that is lent; it stays the one that is lent.
+#[inline]
+fn tell_lent<'a, E: Drop, V: VisitOperator<'a, Output = std::result::Result<(), E>>>(
+    alloc: Global,
+    reader: BinaryReader<'a>,
+    lent: &mut LentVisitor<'_, V>,
+) -> Result<std::result::Result<(), (E, u64)>>
+    ensures whole { IfOk result (λ end. IfOk end (λ _. (c : Code) × SpelledExpression reader.entry.settings c reader.entry.rest × HasNoVectors (walk c) × VisitsAll V.visits (Ok tt) lent.old.visitor.now (walk c) lent.new.visitor.now)) }
+    ensures ended { IfOk result (λ end. IfErr end (λ x. WalksUntilAt V.visits (Ok tt) (at_start reader.entry) lent.old.visitor.now (Err x.0) lent.new.visitor.now x.1)) }
+    ensures refused { IfErr result (λ e. IsNotMemory e.kind → (c : Code) → SpelledExpression reader.entry.settings c reader.entry.rest → HasNoVectors (walk c) → ⊥) }
+    ensures stops { IfErr result (λ e. (t : Standing) × WalksTo V.visits (Ok tt) (at_start reader.entry) lent.old.visitor.now t lent.new.visitor.now × StopsPlain t e) }
+    ensures same { lent.new.visitor.ghost_name ≡ lent.old.visitor.ghost_name }
+{
+    tell_expression_with_offset(alloc, reader, lent)
+}
+
+/// The same of whoever can be told any operator but those on vectors.
+///
+/// # Errors
+///
+/// As [`visit_expression`].
+#[tactic(none)]
+pub fn tell_expression_with_offset<
+    'a,
+    E: Drop,
+    V: TellOperator<'a, Output = std::result::Result<(), E>>,
+>(
+    alloc: Global,
+    reader: BinaryReader<'a>,
+    visitor: &mut V,
+) -> Result<std::result::Result<(), (E, u64)>>
+    ensures whole { IfOk result (λ end. IfOk end (λ _. (c : Code) × SpelledExpression reader.entry.settings c reader.entry.rest × HasNoVectors (walk c) × VisitsAll V.visits (Ok tt) visitor.old (walk c) visitor.new)) }
+    ensures ended { IfOk result (λ end. IfErr end (λ x. WalksUntilAt V.visits (Ok tt) (at_start reader.entry) visitor.old (Err x.0) visitor.new x.1)) }
+    ensures refused { IfErr result (λ e. IsNotMemory e.kind → (c : Code) → SpelledExpression reader.entry.settings c reader.entry.rest → HasNoVectors (walk c) → ⊥) }
+    ensures stops { IfErr result (λ e. (t : Standing) × WalksTo V.visits (Ok tt) (at_start reader.entry) visitor.old t visitor.new × StopsPlain t e) }
+{
     let mut operators = OperatorsReader::new(alloc, reader);
     let end = match visit_all(&mut operators, visitor) {
         Ok(end) => end,
         Err(error) => return Err(error),
     };
-    if let Err(answer) = end {
-        return Ok(Err(answer));
+    if let Err(last) = end {
+        return Ok(Err(last));
     }
     match operators.finish() {
         Ok(()) => Ok(Ok(())),
@@ -44,28 +113,30 @@ pub fn visit_expression<'a, E: Drop, V: VisitOperator<'a, Output = std::result::
     }
 }
 
-// Visits operators until no byte is left, or the visitor answers an `Err`.
-fn visit_all<'a, E: Drop, V: VisitOperator<'a, Output = std::result::Result<(), E>>>(
+// Tells a visitor of operators until no byte is left, or it answers an `Err`, which is given back with the operator's offset.
+fn visit_all<'a, E: Drop, V: TellOperator<'a, Output = std::result::Result<(), E>>>(
     operators: &mut OperatorsReader<'a>,
     visitor: &mut V,
-) -> Result<std::result::Result<(), E>>
+) -> Result<std::result::Result<(), (E, u64)>>
     ensures whole { IfOk result (λ end. IfOk end (λ _. WalksTo V.visits (Ok tt) operators.old visitor.old operators.new visitor.new × (operators.new.bytes.rest ≡ []))) }
-    ensures ended { IfOk result (λ end. IfErr end (λ x. WalksUntil V.visits (Ok tt) operators.old visitor.old (Err x) visitor.new)) }
+    ensures ended { IfOk result (λ end. IfErr end (λ x. WalksUntilAt V.visits (Ok tt) operators.old visitor.old (Err x.0) visitor.new x.1)) }
     ensures refused { IfErr result (λ e. WalksTo V.visits (Ok tt) operators.old visitor.old operators.new visitor.new × StopsPlain operators.new e) }
 {
     while !operators.eof() {
-        let Some(answer) = operators.visit_frequent(visitor) else {
-            let complete = match operators.visit_operator(visitor) {
-                Ok(answer) => answer,
-                Err(error) => return Err(error),
-            };
-            if let Err(last) = complete {
-                return Ok(Err(last));
-            }
-            continue;
+        if let Some(ended) = operators.tell_run(visitor) {
+            return Ok(Err(ended));
+        }
+        let at_end = operators.eof();
+        if at_end {
+            return Ok(Ok(()));
+        }
+        let place = operators.original_position();
+        let answer = match operators.tell_operator(visitor) {
+            Ok(answer) => answer,
+            Err(error) => return Err(error),
         };
         if let Err(last) = answer {
-            return Ok(Err(last));
+            return Ok(Err((last, place)));
         }
     }
     Ok(Ok(()))

@@ -7,6 +7,7 @@ pub use Rattle.wasm_sections_elements.specs as elements
 pub use Rattle.wasm_sections_parser.specs as parser
 pub use Rattle.wasm_sections_parser_steps.specs as steps
 pub use Rattle.wasm_sections_parser_hints.specs as hints
+pub use Rattle.wasm_sections_parser_calls.specs as calls
 pub use Rattle.wasm_sections_parser_laws.specs as runs
 pub use Rattle.wasm_sections_payloads.specs as payloads
 pub use Rattle.wasm_sections_payloads.specs.bodies as bodies

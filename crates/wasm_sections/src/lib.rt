@@ -8,7 +8,8 @@
 //! - `wasm_sections_segments`: globals, tables and data segments, over any constant expressions;
 //! - `wasm_sections_elements`: element segments, over any constant expressions;
 //! - `wasm_sections_parser`: a module as its frames, one at a time, from pieces; `wasm_sections_parser_steps` says what single frames
-//!   are, `wasm_sections_parser_laws` what runs give, `wasm_sections_parser_hints` how many bytes are asked for;
+//!   are, `wasm_sections_parser_calls` what calls take and leave, `wasm_sections_parser_laws` what runs give,
+//!   `wasm_sections_parser_hints` how many bytes are asked for;
 //! - `wasm_sections_payloads`: the parser of payloads: frames as payloads, each section with a reader of its items, from pieces or
 //!   all of a module.
 //!

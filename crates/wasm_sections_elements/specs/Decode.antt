@@ -46,3 +46,7 @@ flag_after e f = if nat_lt 7 f then refuse Other 1 else (if nat_lt f 4 then (mod
 -- an element segment
 unfoldable pub element : {C : Type 0} → Decoder C → Decoder (ElementTree C)
 element e = u32 >>= flag_after e
+
+-- the same, where it is there
+unfoldable pub segment : {C : Type 0} → Decoder C → Decoder (Option (ElementTree C))
+segment e = element e >>= λ x. pure (Some x)

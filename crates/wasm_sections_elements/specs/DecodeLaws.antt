@@ -15,8 +15,26 @@ use Rattle.wasm_types.specs.values.ReferenceExact.{SpelledReference}
 use Rattle.wasm_types.specs.values.Decode.{reference_type}
 use Rattle.wasm_types.specs.values.DecodeLaws.{lawful-reference_type}
 use Rattle.wasm_types.specs.values.ReferenceExact.{decides-reference_type}
-use Rattle.wasm_sections_elements.specs.Spells.{ElementMode, passive, active, declared, ElementItems, functions, expressions, ElementTree, any_function, use_bits, kind_bits, SpelledMode, SpelledKind, SpelledType, SpelledItems, SpelledElement}
-use Rattle.wasm_sections_elements.specs.Decode.{element_of, placed_in, mode_by, zero_byte, kind_by, type_by, functions_by, expressions_by, flag_after, element}
+use Rattle.wasm_sections_elements.specs.Spells.{
+  ElementMode,
+  passive,
+  active,
+  declared,
+  ElementItems,
+  functions,
+  expressions,
+  ElementTree,
+  any_function,
+  use_bits,
+  kind_bits,
+  SpelledMode,
+  SpelledKind,
+  SpelledType,
+  SpelledItems,
+  SpelledElement,
+  SpelledSegment,
+}
+use Rattle.wasm_sections_elements.specs.Decode.{element_of, placed_in, mode_by, zero_byte, kind_by, type_by, functions_by, expressions_by, flag_after, element, segment}
 
 -- ---- a kind and a type
 
@@ -154,7 +172,10 @@ module _ {C : Type 0} (e : Decoder C) where
     InTable = Then (IsUnsigned 32) (λ t. Mapped (placed (Some t)) g)
 
     table_to : (n : ℕ) → n ≡ 2 → (m : ElementMode C) (text : List ℕ) → InTable m text → ModeOf n m text
-    table_to n i m text h = subst (λ (k : ElementMode C). ModeOf n k text) (sym h.second.2) (sym i, record { table_text = h.front; offset_text = h.back; named = h.first; placed = h.second.1; whole = h.whole })
+    table_to n i m text h = subst (λ (k : ElementMode C). ModeOf n k text) (sym h.second.2) (
+      sym i,
+      record { table_text = h.front; offset_text = h.back; named = h.first; placed = h.second.1; whole = h.whole },
+    )
 
     table_from : (n : ℕ) → n ≡ 2 → (m : ElementMode C) (text : List ℕ) → ModeOf n m text → InTable m text
     table_from n i (active (Some t) x) text h = record { value = t; front = h.1.table_text; back = h.1.offset_text; first = h.1.named; second = (x, h.1.placed, refl); whole = h.1.whole }
@@ -175,7 +196,9 @@ module _ {C : Type 0} (e : Decoder C) where
         let not_three : n ≡ 3 → ⊥ = eqb-false _ _ j in
         let not_none : n ≡ 0 → ⊥ = eqb-false _ _ k in
         let q : n ≡ 2 = omega (arith, lt, not_one, not_three, not_none) in
-        decides-same (u32 >>= λ t. placed_in e (Some t)) InTable (ModeOf n) (decides->>= u32 (λ t. placed_in e (Some t)) (IsUnsigned 32) (λ t. Mapped (placed (Some t)) g) decides-u32 (λ t. decides-map e (placed (Some t)) g exact)) (table_to n q) (table_from n q))))
+        decides-same (u32 >>= λ t. placed_in e (Some t)) InTable (ModeOf n)
+        (decides->>= u32 (λ t. placed_in e (Some t)) (IsUnsigned 32) (λ t. Mapped (placed (Some t)) g) decides-u32 (λ t. decides-map e (placed (Some t)) g exact))
+        (table_to n q) (table_from n q))))
 
     -- ---- items
 
@@ -190,14 +213,16 @@ module _ {C : Type 0} (e : Decoder C) where
 
     decides-functions_by : (n : ℕ) (m : ElementMode C) → Decides (functions_by n m) (FunctionsOf n m)
     unfolding functions_by
-    decides-functions_by n m = decides->>= (kind_by n) (λ u. listed u32 >>= λ ys. pure (with_functions m ys)) (KindOf n) (λ u. Mapped (with_functions m) (IsListed (IsUnsigned 32))) (decides-kind_by n) (λ u. decides-map (listed u32) (with_functions m) (IsListed (IsUnsigned 32)) (decides-listed (IsUnsigned 32) u32 decides-u32))
+    decides-functions_by n m = decides->>= (kind_by n) (λ u. listed u32 >>= λ ys. pure (with_functions m ys)) (KindOf n) (λ u. Mapped (with_functions m) (IsListed (IsUnsigned 32)))
+        (decides-kind_by n) (λ u. decides-map (listed u32) (with_functions m) (IsListed (IsUnsigned 32)) (decides-listed (IsUnsigned 32) u32 decides-u32))
 
     abbrev ExpressionsOf : ℕ → ElementMode C → Grammar (ElementTree C)
     ExpressionsOf n m = Then (SpelledType n) (λ r. Mapped (with_expressions m r) (IsListed g))
 
     decides-expressions_by : (n : ℕ) (m : ElementMode C) → Decides (expressions_by e n m) (ExpressionsOf n m)
     unfolding expressions_by
-    decides-expressions_by n m = decides->>= (type_by n) (λ r. listed e >>= λ xs. pure (with_expressions m r xs)) (SpelledType n) (λ r. Mapped (with_expressions m r) (IsListed g)) (decides-type_by n) (λ r. decides-map (listed e) (with_expressions m r) (IsListed g) (decides-listed g e exact))
+    decides-expressions_by n m = decides->>= (type_by n) (λ r. listed e >>= λ xs. pure (with_expressions m r xs)) (SpelledType n) (λ r. Mapped (with_expressions m r) (IsListed g))
+        (decides-type_by n) (λ r. decides-map (listed e) (with_expressions m r) (IsListed g) (decides-listed g e exact))
 
     -- ---- flags
 
@@ -243,7 +268,15 @@ module _ {C : Type 0} (e : Decoder C) where
           front = h.mode_text;
           back = h.items_text;
           first = (bits, h.used);
-          second = record { value = tt; front = h.filled.0; back = h.filled.1; first = subst (λ (n : ℕ). SpelledKind n h.filled.0) bits h.filled.2; second = (ys, h.filled.3, refl); whole = h.filled.4 };
+          second = record {
+            value = tt;
+            front = h.filled.0;
+            back = h.filled.1;
+            first = subst (λ (n : ℕ). SpelledKind n h.filled.0) bits h.filled.2;
+            second =
+                (ys, h.filled.3, refl);
+            whole = h.filled.4;
+          };
           whole = h.whole;
         }
     functions_from f lt m (expressions r xs) text h = absurd (omega (arith, lt, h.flag))
@@ -269,7 +302,15 @@ module _ {C : Type 0} (e : Decoder C) where
           front = h.mode_text;
           back = h.items_text;
           first = (bits, h.used);
-          second = record { value = r; front = h.filled.0; back = h.filled.1; first = subst (λ (n : ℕ). SpelledType n r h.filled.0) bits h.filled.2; second = (xs, h.filled.3, refl); whole = h.filled.4 };
+          second = record {
+            value = r;
+            front = h.filled.0;
+            back = h.filled.1;
+            first = subst (λ (n : ℕ). SpelledType n r h.filled.0) bits h.filled.2;
+            second =
+                (xs, h.filled.3, refl);
+            whole = h.filled.4;
+          };
           whole = h.whole;
         }
 
@@ -278,9 +319,14 @@ module _ {C : Type 0} (e : Decoder C) where
         (λ t. decides-refuse Other 1 (Behind f) (no_flag f (ltb-true _ _ t)))
         (λ i. let le : f ≤ 7 = ltb-false _ _ i in decides-if (ltb f 4) _ _ _
         (λ t. let lt : f < 4 = ltb-true _ _ t in
-        decides-same _ (Then (ModeOf f) (FunctionsOf f)) (Behind f) (decides->>= (mode_by e f) (functions_by f) (ModeOf f) (FunctionsOf f) (decides-mode_by f lt) (decides-functions_by f)) (functions_to f) (λ x. functions_from f lt x.mode x.items))
+        decides-same _ (Then (ModeOf f) (FunctionsOf f)) (Behind f)
+        (decides->>= (mode_by e f) (functions_by f) (ModeOf f) (FunctionsOf f) (decides-mode_by f lt) (decides-functions_by f)) (functions_to f) (λ x. functions_from f lt x.mode x.items))
         (λ j. let more : 4 ≤ f = ltb-false _ _ j in
-        decides-same _ (Then (ModeOf (f - 4)) (ExpressionsOf (f - 4))) (Behind f) (decides->>= (mode_by e (f - 4)) (expressions_by e (f - 4)) (ModeOf (f - 4)) (ExpressionsOf (f - 4)) (decides-mode_by (f - 4) (omega (arith, le))) (decides-expressions_by (f - 4))) (expressions_to f more) (λ x. expressions_from f more x.mode x.items)))
+        decides-same _ (Then (ModeOf (f - 4)) (ExpressionsOf (f - 4))) (Behind f)
+        (decides->>= (mode_by e (f - 4)) (expressions_by e (f - 4)) (ModeOf (f - 4)) (ExpressionsOf (f - 4)) (decides-mode_by (f - 4) (omega (
+          arith,
+          le,
+        ))) (decides-expressions_by (f - 4))) (expressions_to f more) (λ x. expressions_from f more x.mode x.items)))
 
     element_to : (x : ElementTree C) (text : List ℕ) → Then (IsUnsigned 32) Behind x text → SpelledElement g x text
     element_to x text h = record {
@@ -306,3 +352,23 @@ module _ {C : Type 0} (e : Decoder C) where
     pub decides-element : Decides (element e) (SpelledElement g)
     unfolding element
     decides-element = decides-same _ (Then (IsUnsigned 32) Behind) (SpelledElement g) (decides->>= u32 (flag_after e) (IsUnsigned 32) Behind decides-u32 decides-flag_after) element_to element_from
+
+    -- ---- a segment that is there
+
+    abbrev there : ElementTree C → Option (ElementTree C)
+    there x = Some x
+
+    segment_to : (x : Option (ElementTree C)) (text : List ℕ) → Mapped there (SpelledElement g) x text → SpelledSegment g x text
+    segment_to x text h = subst (λ (y : Option (ElementTree C)). SpelledSegment g y text) (sym h.2) h.1
+
+    segment_from : (x : Option (ElementTree C)) (text : List ℕ) → SpelledSegment g x text → Mapped there (SpelledElement g) x text
+    segment_from (Some x) text h = (x, h, refl)
+    segment_from None text h = absurd h
+
+    pub decides-segment : Decides (segment e) (SpelledSegment g)
+    unfolding segment
+    decides-segment = decides-same _ (Mapped there (SpelledElement g)) (SpelledSegment g) (decides-map (element e) there (SpelledElement g) decides-element) segment_to segment_from
+
+  pub lawful-segment : IsLawful e → IsLawful (segment e)
+  unfolding segment
+  lawful-segment l = lawful->>= (element e) _ (lawful-element l) (λ x. lawful-pure (Some x))

@@ -7,5 +7,6 @@ pub mod Passing
 -- Laws.
 pub mod DecodeLaws
 pub mod PassingLaws
+pub mod WholeLaws
 -- Worked rows.
 pub mod Worked

@@ -123,7 +123,8 @@ module _ {A : Type 0} (d : Decoder A) where
         let reader : State = behind part spelled.count spelled.values in
         let end : State = behind reader spelled.values [] in
         let count : u32 part ≡ Done (length r.0) reader = decides-u32.complete part reader (length r.0) spelled.count (taken part spelled.count spelled.values spelled.whole) spelled.counted in
-        let values : repeated (length r.0) d reader ≡ Done r.0 end = (decides-repeated d g exact (length r.0)).complete reader end r.0 spelled.values (taken reader spelled.values [] (sym (append-nil spelled.values))) spelled.each in
+        let values : repeated (length r.0) d reader ≡ Done r.0 end =
+        (decides-repeated d g exact (length r.0)).complete reader end r.0 spelled.values (taken reader spelled.values [] (sym (append-nil spelled.values))) spelled.each in
         (length r.0, reader, record { text = front.0; items = r.0; end = end; taken = front.1; counted = count; read = values; none_left = refl }, rw values r.1, refl)
 
 module _ {A : Type 0} (d : Settings → Decoder A) (g : Settings → Grammar A) (exact : (z : Settings) → Decides (d z) (g z)) where
@@ -151,7 +152,8 @@ module _ {A : Type 0} (d : Settings → Decoder A) (g : Settings → Grammar A) 
       let number : n ≡ count x = value_is n (count x) r (reader x) counts in
       let state : r ≡ reader x = state_is n (count x) r (reader x) counts in (
         over.3 ∙ ap (λ (z : Settings). read_as (items_at (d z) n r) t) (sym over.4) ∙ (λ i. read_as (items_at (d (state i).settings) (number i) (state i)) (ends_at i)),
-        subst (λ (v : State). Holds (d s.settings) s v (count x) (reader x)) ends_at (subst (λ (v : State). Holds (d s.settings) s t (count x) v) state (subst (λ (k : ℕ). Holds (d s.settings) s t k r) number over.2)),
+        subst (λ (v : State). Holds (d s.settings) s v (count x) (reader x)) ends_at
+            (subst (λ (v : State). Holds (d s.settings) s t (count x) v) state (subst (λ (k : ℕ). Holds (d s.settings) s t k r) number over.2)),
       )
   section_answers count reader (Err e) s t u part front passing taken same given memory =
       let over = section_over (d s.settings) (g s.settings) (exact s.settings) s t passing in

@@ -87,3 +87,8 @@ pub record SpelledElement {C : Type 0} (g : Grammar C) (x : ElementTree C) (text
   pub used : SpelledMode g x.mode mode_text
   pub filled : SpelledItems g (use_bits x.mode) x.items items_text
   pub whole : text ≡ flag_text ++ (mode_text ++ items_text)
+
+-- the bytes of a segment, if there is one
+abbrev pub SpelledSegment : {C : Type 0} → Grammar C → Option (ElementTree C) → List ℕ → Type 0
+SpelledSegment g (Some x) text = SpelledElement g x text
+SpelledSegment g None text = ⊥

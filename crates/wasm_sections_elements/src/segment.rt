@@ -3,8 +3,8 @@
 ghost use Rattle.std.specs.Prelude.{◌≡◌, ◌<◌, IfOk};
 ghost use Rattle.wasm_types.specs.decoding.Decoder.{Reaches};
 ghost use Rattle.wasm_types.specs.reader.Reading.{Gives, MemoryOnlyIf, NeedsNoMemory};
-ghost use Rattle.wasm_sections_elements.specs.Decode.{mode_by, kind_by, type_by, functions_by, expressions_by, element};
-ghost use Rattle.wasm_sections_elements.specs.Elements.{mode_of, items_of, HoldsItems};
+ghost use Rattle.wasm_sections_elements.specs.Decode.{mode_by, kind_by, type_by, functions_by, expressions_by, element, segment};
+ghost use Rattle.wasm_sections_elements.specs.Elements.{mode_of, items_of, HoldsItems, tree_of};
 
 use crate::items::read_section;
 use crate::{ElementItemsOf, ElementKindOf, ElementOf};
@@ -115,7 +115,11 @@ fn read_expressions<'a, E: FromReader<'a>>(
     alloc: Global,
     reader: &mut BinaryReader<'a>,
 ) -> Result<ElementOf<'a, E>>
-    ensures answer { Gives (λ x. record { mode = mode_of E.view x.kind; items = items_of E.decoder x.items }) result reader.new (expressions_by (E.decoder reader.old.settings) bits (mode_of E.view kind) reader.old) }
+    ensures answer { Gives (λ x. record {
+      mode = mode_of E.view x.kind;
+      items =
+          items_of E.decoder x.items;
+    }) result reader.new (expressions_by (E.decoder reader.old.settings) bits (mode_of E.view kind) reader.old) }
     ensures range { IfOk result (λ x. x.range ≡ record { start = start; end = reader.new.place }) }
     ensures items { IfOk result (λ x. HoldsItems E.decoder reader.new x.items) }
     ensures memory { MemoryOnlyIf E.takes_memory result }
@@ -134,45 +138,61 @@ fn read_expressions<'a, E: FromReader<'a>>(
     })
 }
 
+// A flag and what follows it.
+#[tactic(auto, using(wasm_types::specs::Laws::reaches_self, wasm_types::specs::Laws::reaches_then), unfolding(crate::specs::Decode::element))]
+fn read_element<'a, E: FromReader<'a>>(
+    alloc: Global,
+    reader: &mut BinaryReader<'a>,
+) -> Result<ElementOf<'a, E>>
+    ensures answer { Gives (λ x. record { mode = mode_of E.view x.kind; items = items_of E.decoder x.items }) result reader.new (element (E.decoder reader.old.settings) reader.old) }
+    ensures memory { MemoryOnlyIf E.takes_memory result }
+    ensures forward { Reaches reader.old reader.new }
+    ensures range { IfOk result (λ x. x.range ≡ record { start = reader.old.place; end = reader.new.place }) }
+    ensures items { IfOk result (λ x. HoldsItems E.decoder reader.new x.items) }
+{
+    let start = reader.original_position();
+    let flag = reader.read_var_u32()?;
+    if flag > 7 {
+        let place = reader.original_position().saturating_sub(1);
+        return Err(Error::new("invalid flags byte in element segment", place));
+    }
+    if flag < 4 {
+        let kind = read_kind(flag, alloc, reader)?;
+        return read_functions(flag, kind, start, alloc, reader);
+    }
+    let kind = read_kind(flag - 4, alloc, reader)?;
+    read_expressions(flag - 4, kind, start, alloc, reader)
+}
+
 /// A flag; for 0, 2, 4 and 6 an offset, behind the index of a table for 2 and 6; but for 0 and 4 the kind of the elements, or
-/// for 5 to 7 their type; the elements, which are expressions for 4 to 7. A flag above 7 is refused at its last byte.
+/// for 5 to 7 their type; the elements, which are expressions for 4 to 7. A flag above 7 is refused at its last byte. A walk over
+/// the elements of a segment that was read gives them, and no error (`laws::elements_are_whole`).
 impl<'a, E: FromReader<'a>> FromReader<'a> for ElementOf<'a, E> {
-    ghost use Rattle.wasm_sections_elements.specs.Spells.{ElementTree, SpelledElement};
-    ghost use Rattle.wasm_sections_elements.specs.DecodeLaws.{lawful-element, decides-element};
+    ghost use Rattle.std.specs.Prelude.{Option};
+    ghost use Rattle.wasm_sections_elements.specs.Spells.{ElementTree, SpelledSegment};
+    ghost use Rattle.wasm_sections_elements.specs.DecodeLaws.{lawful-segment, decides-segment};
 
-    ghost Value = { ElementTree E.Value };
+    ghost Value = { Option (ElementTree E.Value) };
 
-    ghost view = { λ x. record { mode = mode_of E.view x.kind; items = items_of E.decoder x.items } };
+    ghost view = { tree_of E.view E.decoder };
 
-    ghost decoder = { λ z. element (E.decoder z) };
+    ghost decoder = { λ z. segment (E.decoder z) };
 
-    ghost grammar = { λ z. SpelledElement (E.grammar z) };
+    ghost grammar = { λ z. SpelledSegment (E.grammar z) };
 
     ghost takes_memory = { E.takes_memory };
 
-    ghost lawful = { λ z. lawful-element (E.decoder z) (E.lawful z) };
+    ghost lawful = { λ z. lawful-segment (E.decoder z) (E.lawful z) };
 
-    ghost exact = { λ z. decides-element (E.decoder z) (E.grammar z) (E.exact z) };
+    ghost exact = { λ z. decides-segment (E.decoder z) (E.grammar z) (E.exact z) };
 
-    #[tactic(auto, using(wasm_types::specs::Laws::reaches_self, wasm_types::specs::Laws::reaches_then), unfolding(crate::specs::Decode::element))]
     fn from_reader(alloc: Global, reader: &mut BinaryReader<'a>) -> Result<ElementOf<'a, E>>
-        ensures answer { Gives (λ x. record { mode = mode_of E.view x.kind; items = items_of E.decoder x.items }) result reader.new (element (E.decoder reader.old.settings) reader.old) }
+        ensures answer { Gives (tree_of E.view E.decoder) result reader.new (segment (E.decoder reader.old.settings) reader.old) }
         ensures memory { MemoryOnlyIf E.takes_memory result }
         ensures forward { Reaches reader.old reader.new }
         ensures range { IfOk result (λ x. x.range ≡ record { start = reader.old.place; end = reader.new.place }) }
         ensures items { IfOk result (λ x. HoldsItems E.decoder reader.new x.items) }
     {
-        let start = reader.original_position();
-        let flag = reader.read_var_u32()?;
-        if flag > 7 {
-            let place = reader.original_position().saturating_sub(1);
-            return Err(Error::new("invalid flags byte in element segment", place));
-        }
-        if flag < 4 {
-            let kind = read_kind(flag, alloc, reader)?;
-            return read_functions(flag, kind, start, alloc, reader);
-        }
-        let kind = read_kind(flag - 4, alloc, reader)?;
-        read_expressions(flag - 4, kind, start, alloc, reader)
+        read_element(alloc, reader)
     }
 }

@@ -46,7 +46,8 @@ named_rest z = name z.limits.string_bytes >>= rest_after
 
 -- what follows an id
 abbrev pub part_after : Settings → ℕ → Decoder Part
-part_after z id = if id == 0 then (sized Other Other (named_rest z) >>= λ c. pure (custom c.0 c.1)) else (if id == 10 then (sized Other Other (listed counted_bytes) >>= λ es. pure (code es)) else (counted_bytes >>= λ c. pure (section id c)))
+part_after z id = if id == 0 then (sized Other Other (named_rest z) >>= λ c. pure (custom c.0 c.1)) else
+    (if id == 10 then (sized Other Other (listed counted_bytes) >>= λ es. pure (code es)) else (counted_bytes >>= λ c. pure (section id c)))
 
 -- a section
 unfoldable pub part : Settings → Decoder Part

@@ -51,5 +51,6 @@ module _ {A : Type 0} (d : Decoder A) (g : Grammar A) (dg : Decides d g) where
 pub one_outer : (z : Settings) (m n : Outer) (text : List ℕ) → SpelledOuter z m text → SpelledOuter z n text → m ≡ n
 one_outer z m n text h k =
     let heads = one header SpelledHeader decides-header m.header n.header text h.header_text h.parts_text k.header_text k.parts_text h.whole h.headed k.whole k.headed in
-    let parts = many_one (part z) (SpelledPart z) (decides-part z) (part_some z) (length m.parts) (length n.parts) m.parts n.parts k.parts_text (subst (Many (SpelledPart z) (length m.parts) m.parts) heads.1 h.each) k.each in
+    let parts = many_one (part z) (SpelledPart z) (decides-part z) (part_some z) (length m.parts) (length n.parts) m.parts n.parts k.parts_text
+    (subst (Many (SpelledPart z) (length m.parts) m.parts) heads.1 h.each) k.each in
     λ i. record { header = heads.0 i; parts = parts i }

@@ -8,7 +8,21 @@ use Rattle.wasm_types.specs.decoding.declared.Refusal.{Refusal}
 use Rattle.wasm_types.specs.decoding.declared.Refusal.TheVariants.{Other}
 use Rattle.wasm_types.specs.decoding.Decoder.{State, Outcome, Done, Short, Fault, Decoder, Grammar, byte, bytes, ended, inside, within, Takes, IsLawful, Decides, Then}
 use Rattle.wasm_types.specs.decoding.Laws.{lawful-byte, lawful->>=, lawful-pure, lawful-refuse, lawful-if, lawful-bytes}
-use Rattle.wasm_types.specs.decoding.Exact.{Exactly, Mapped, value_is, state_is, done_then, decides->>=, decides-same, decides-pure, decides-refuse, decides-if, decides-map, decides-byte, decides-bytes}
+use Rattle.wasm_types.specs.decoding.Exact.{
+  Exactly,
+  Mapped,
+  value_is,
+  state_is,
+  done_then,
+  decides->>=,
+  decides-same,
+  decides-pure,
+  decides-refuse,
+  decides-if,
+  decides-map,
+  decides-byte,
+  decides-bytes,
+}
 use Rattle.wasm_types.specs.decoding.Leb.{u32, listed, IsUnsigned, IsListed}
 use Rattle.wasm_types.specs.decoding.LebLaws.{lawful-unsigned, decides-u32, decides-listed}
 use Rattle.wasm_types.specs.decoding.Text.{little_endian, name, sized, Within, IsSized}
@@ -103,7 +117,12 @@ header_from h text q =
           front = fields;
           back = [];
           first = (omega (arith, length-append q.version_text q.layer_text, q.version_bytes, q.layer_bytes), refl);
-          second = (same_header h _ _ (q.version ∙ ap little_endian (sym (take_at q.version_text q.layer_text 2 q.version_bytes))) (q.layer ∙ ap little_endian (sym (drop_at q.version_text q.layer_text 2 q.version_bytes))), q.known, refl);
+          second = (
+            same_header h _ _ (q.version ∙ ap little_endian (sym (take_at q.version_text q.layer_text 2 q.version_bytes))) (q.layer
+                ∙ ap little_endian (sym (drop_at q.version_text q.layer_text 2 q.version_bytes))),
+            q.known,
+            refl,
+          );
           whole = sym (append-nil fields);
         },
       );
@@ -157,7 +176,8 @@ module _ {A : Type 0} (early late : Refusal) where
   ended_done t (Fault k p) x u e = absurd cc
 
   -- d reads all that is left exactly where that spells a value
-  module _ (d : Decoder A) (g : Grammar A) (sound : (s t : State) (x : A) → d s ≡ Done x t → t.rest ≡ [] → g x s.rest) (complete : (s : State) (x : A) → g x s.rest → (t : State) × (d s ≡ Done x t) × (t.rest ≡ [])) where
+  module _ (d : Decoder A) (g : Grammar A) (sound : (s t : State) (x : A) → d s ≡ Done x t → t.rest ≡ [] → g x s.rest) (complete : (s : State) (x : A) → g x s.rest → (t : State)
+      × (d s ≡ Done x t) × (t.rest ≡ [])) where
     abbrev inner : ℕ → List ℕ → State → State
     inner n text t = record { rest = text; place = t.place - n; settings = t.settings; start = t.place - n }
 
@@ -277,10 +297,13 @@ module _ (z : Settings) where
   decides-part_after : (b : ℕ) → Decides ((part_after z) b) (λ p text. (SpelledPart z) p (b ∷ text))
   decides-part_after b =
       decides-if (eqb b 0) _ _ _ (λ t. let e : b ≡ 0 = eqb-true _ _ t in
-      decides-same _ (Mapped custom_of (IsSized (SpelledNamed z))) (λ p text. (SpelledPart z) p (b ∷ text)) (decides-map (sized Other Other (named_rest z)) custom_of (IsSized (SpelledNamed z)) decides-custom) (custom_to b e) (custom_from b e))
+      decides-same _ (Mapped custom_of (IsSized (SpelledNamed z))) (λ p text. (SpelledPart z) p (b ∷ text))
+      (decides-map (sized Other Other (named_rest z)) custom_of (IsSized (SpelledNamed z)) decides-custom) (custom_to b e) (custom_from b e))
       (λ i. decides-if (eqb b 10) _ _ _ (λ t. let e : b ≡ 10 = eqb-true _ _ t in
-      decides-same _ (Mapped code_of (IsSized (IsListed SpelledEntry))) (λ p text. (SpelledPart z) p (b ∷ text)) (decides-map (sized Other Other (listed counted_bytes)) code_of (IsSized (IsListed SpelledEntry)) decides-entries) (code_to b e) (code_from b e))
-      (λ j. decides-same _ (Mapped (section_of b) (IsSized IsBytes)) (λ p text. (SpelledPart z) p (b ∷ text)) (decides-map counted_bytes (section_of b) (IsSized IsBytes) decides-counted_bytes) (section_to b (eqb-false _ _ i) (eqb-false _ _ j)) (section_from b (eqb-false _ _ i) (eqb-false _ _ j))))
+      decides-same _ (Mapped code_of (IsSized (IsListed SpelledEntry))) (λ p text. (SpelledPart z) p (b ∷ text))
+      (decides-map (sized Other Other (listed counted_bytes)) code_of (IsSized (IsListed SpelledEntry)) decides-entries) (code_to b e) (code_from b e))
+      (λ j. decides-same _ (Mapped (section_of b) (IsSized IsBytes)) (λ p text. (SpelledPart z) p (b ∷ text))
+      (decides-map counted_bytes (section_of b) (IsSized IsBytes) decides-counted_bytes) (section_to b (eqb-false _ _ i) (eqb-false _ _ j)) (section_from b (eqb-false _ _ i) (eqb-false _ _ j))))
 
   pub decides-part : Decides (part z) (SpelledPart z)
   unfolding part

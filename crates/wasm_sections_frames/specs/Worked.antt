@@ -9,7 +9,25 @@ use Rattle.wasm_types.specs.decoding.Leb.{u32, unsigned, listed, IsUnsigned, las
 use Rattle.wasm_types.specs.decoding.LebLaws.{decides-u32}
 use Rattle.wasm_types.specs.decoding.Text.{text_of, counted_within, sized}
 use Rattle.wasm_types.specs.values.WorkedTypeLaws.{start_of, behind}
-use Rattle.wasm_sections_frames.specs.Outer.{Header, SpelledHeader, Part, custom, code, section, custom_id, rank, id_of, IsOrdered, Counts, Declares, DeclaresOrAbsent, CountsAgree, Outer, SpelledOuter, IsCoreModule}
+use Rattle.wasm_sections_frames.specs.Outer.{
+  Header,
+  SpelledHeader,
+  Part,
+  custom,
+  code,
+  section,
+  custom_id,
+  rank,
+  id_of,
+  IsOrdered,
+  Counts,
+  Declares,
+  DeclaresOrAbsent,
+  CountsAgree,
+  Outer,
+  SpelledOuter,
+  IsCoreModule,
+}
 use Rattle.wasm_sections_frames.specs.Decode.{header, counted_bytes, named_rest, part}
 use Rattle.wasm_sections_frames.specs.OuterLaws.{one, one_outer}
 
@@ -34,7 +52,20 @@ pub record HeaderRows : Type 0 where
 
 pub header_rows : HeaderRows
 unfolding header
-header_rows = record { first_version = refl; second_version = refl; high_byte = refl; component = refl; second_layer = refl; high_layer = refl; other_magic = refl; nothing = refl; three = refl; five = refl; seven = refl }
+header_rows = record {
+  first_version = refl;
+  second_version = refl;
+  high_byte = refl;
+  component = refl;
+  second_layer = refl;
+  high_layer = refl;
+  other_magic = refl;
+  nothing =
+      refl;
+  three = refl;
+  five = refl;
+  seven = refl;
+}
 
 -- ---- sections
 
@@ -57,7 +88,22 @@ pub record PartRows : Type 0 where
 
 pub part_rows : PartRows
 unfolding default_limits part counted_bytes named_rest sized within unsigned listed repeated counted_within text_of
-part_rows = record { types = refl; padded = refl; unknown = refl; empty = refl; cut_short = refl; no_size = refl; named = λ e. rw e refl; name_past_the_end = refl; no_name = refl; malformed_name = λ e. rw e refl; entries = refl; entry_past_the_end = refl; byte_too_many = refl }
+part_rows = record {
+  types = refl;
+  padded = refl;
+  unknown = refl;
+  empty = refl;
+  cut_short = refl;
+  no_size = refl;
+  named = λ e. rw e refl;
+  name_past_the_end = refl;
+  no_name =
+      refl;
+  malformed_name = λ e. rw e refl;
+  entries = refl;
+  entry_past_the_end = refl;
+  byte_too_many = refl;
+}
 
 -- ---- order
 
@@ -78,7 +124,19 @@ pub record OrderRows : Type 0 where
 
 pub order_rows : OrderRows
 order_rows = record {
-  all = (omega arith, (omega arith, (omega arith, (omega arith, (omega arith, (omega arith, (omega arith, (omega arith, (omega arith, (omega arith, (omega arith, (omega arith, (omega arith, tt)))))))))))));
+  all = (
+    omega arith,
+    (
+      omega arith,
+      (
+        omega arith,
+        (
+          omega arith,
+          (omega arith, (omega arith, (omega arith, (omega arith, (omega arith, (omega arith, (omega arith, (omega arith, (omega arith, tt))))))))),
+        ),
+      ),
+    ),
+  );
   none = tt;
   customs = (omega arith, (omega arith, tt));
   exchanged = λ h. omega (arith, h.1.0);
@@ -184,7 +242,17 @@ types_spelled = record {
   header_text = first_eight;
   parts_text = 0x01 ∷ 0x01 ∷ 0x00 ∷ [];
   headed = headed;
-  each = (0x01 ∷ 0x01 ∷ 0x00 ∷ [], [], (λ e. omega (arith, e), λ e. omega (arith, e), (0x01 ∷ 0x00 ∷ [], refl, record { size = 0x01 ∷ []; content = 0x00 ∷ []; counted = last 32 1 1 (omega arith) (lit< tt) refl; spelled = refl; whole = refl })), refl, refl);
+  each = (
+    0x01 ∷ 0x01 ∷ 0x00 ∷ [],
+    [],
+    (
+      λ e. omega (arith, e),
+      λ e. omega (arith, e),
+      (0x01 ∷ 0x00 ∷ [], refl, record { size = 0x01 ∷ []; content = 0x00 ∷ []; counted = last 32 1 1 (omega arith) (lit< tt) refl; spelled = refl; whole = refl }),
+    ),
+    refl,
+    refl,
+  );
   whole = refl;
 }
 

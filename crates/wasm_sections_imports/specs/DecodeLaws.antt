@@ -11,7 +11,16 @@ use Rattle.wasm_types.specs.decoding.Text.{name, IsName}
 use Rattle.wasm_types.specs.decoding.TextLaws.{lawful-name, decides-name}
 use Rattle.wasm_types.specs.externs.Decode.{memory_type, table_type, global_type, tag_type}
 use Rattle.wasm_types.specs.externs.Spells.{SpelledMemory, SpelledTable, SpelledGlobal, SpelledTag}
-use Rattle.wasm_types.specs.externs.DecodeLaws.{lawful-memory_type, decides-memory_type, lawful-table_type, decides-table_type, lawful-global_type, decides-global_type, lawful-tag_type, decides-tag_type}
+use Rattle.wasm_types.specs.externs.DecodeLaws.{
+  lawful-memory_type,
+  decides-memory_type,
+  lawful-table_type,
+  decides-table_type,
+  lawful-global_type,
+  decides-global_type,
+  lawful-tag_type,
+  decides-tag_type,
+}
 use Rattle.wasm_types.specs.externs.declared.table.TableType.{TableType}
 use Rattle.wasm_types.specs.externs.declared.memory.MemoryType.{MemoryType}
 use Rattle.wasm_types.specs.externs.declared.global.GlobalType.{GlobalType}
@@ -27,7 +36,10 @@ use Rattle.wasm_sections_imports.specs.Decode.{kinds, external_kind, content_of,
 
 pub lawful-external_kind : IsLawful external_kind
 unfolding external_kind
-lawful-external_kind = lawful->>= byte _ lawful-byte (λ b. lawful-choice kinds _ b (lawful-pure kind.Func, (lawful-pure kind.Table, (lawful-pure kind.Memory, (lawful-pure kind.Global, (lawful-pure kind.Tag, (lawful-pure kind.FuncExact, tt)))))) (lawful-refuse Other 1))
+lawful-external_kind = lawful->>= byte _ lawful-byte (λ b. lawful-choice kinds _ b (
+  lawful-pure kind.Func,
+  (lawful-pure kind.Table, (lawful-pure kind.Memory, (lawful-pure kind.Global, (lawful-pure kind.Tag, (lawful-pure kind.FuncExact, tt))))),
+) (lawful-refuse Other 1))
 
 kind_reads : (k : ExternalKind) (text : List ℕ) → SpelledKind k text → ReadsTagged (choice kinds (refuse Other 1)) k text
 kind_reads kind.Func text h = subst (ReadsTagged (choice kinds (refuse Other 1)) kind.Func) (sym h) (reads-pure kind.Func)
@@ -39,7 +51,10 @@ kind_reads kind.FuncExact text h = subst (ReadsTagged (choice kinds (refuse Othe
 
 pub decides-external_kind : Decides external_kind SpelledKind
 unfolding external_kind
-decides-external_kind = decides-table Other SpelledKind kinds (sound-pure kind.Func _ refl, (sound-pure kind.Table _ refl, (sound-pure kind.Memory _ refl, (sound-pure kind.Global _ refl, (sound-pure kind.Tag _ refl, (sound-pure kind.FuncExact _ refl, tt)))))) kind_reads
+decides-external_kind = decides-table Other SpelledKind kinds (
+  sound-pure kind.Func _ refl,
+  (sound-pure kind.Table _ refl, (sound-pure kind.Memory _ refl, (sound-pure kind.Global _ refl, (sound-pure kind.Tag _ refl, (sound-pure kind.FuncExact _ refl, tt))))),
+) kind_reads
 
 -- ---- types
 
@@ -126,12 +141,18 @@ exact_from (ref.Tag x) text h = absurd (let no : kind.Tag ≡ kind.FuncExact = h
 exact_from (ref.FuncExact x) text h = (x, h.1, refl)
 
 decides-content_of : (k : ExternalKind) → Decides (content_of k) (OfKind k)
-decides-content_of kind.Func = decides-same _ (Mapped func_ref (IsUnsigned 32)) (OfKind kind.Func) (decides-map u32 func_ref (IsUnsigned 32) decides-u32) (λ t text h. subst (λ (r : TypeRef). OfKind kind.Func r text) (sym h.2) (refl, h.1)) func_from
-decides-content_of kind.Table = decides-same _ (Mapped table_ref SpelledTable) (OfKind kind.Table) (decides-map table_type table_ref SpelledTable decides-table_type) (λ t text h. subst (λ (r : TypeRef). OfKind kind.Table r text) (sym h.2) (refl, h.1)) table_from
-decides-content_of kind.Memory = decides-same _ (Mapped memory_ref SpelledMemory) (OfKind kind.Memory) (decides-map memory_type memory_ref SpelledMemory decides-memory_type) (λ t text h. subst (λ (r : TypeRef). OfKind kind.Memory r text) (sym h.2) (refl, h.1)) memory_from
-decides-content_of kind.Global = decides-same _ (Mapped global_ref SpelledGlobal) (OfKind kind.Global) (decides-map global_type global_ref SpelledGlobal decides-global_type) (λ t text h. subst (λ (r : TypeRef). OfKind kind.Global r text) (sym h.2) (refl, h.1)) global_from
-decides-content_of kind.Tag = decides-same _ (Mapped tag_ref SpelledTag) (OfKind kind.Tag) (decides-map tag_type tag_ref SpelledTag decides-tag_type) (λ t text h. subst (λ (r : TypeRef). OfKind kind.Tag r text) (sym h.2) (refl, h.1)) tag_from
-decides-content_of kind.FuncExact = decides-same _ (Mapped exact_ref (IsUnsigned 32)) (OfKind kind.FuncExact) (decides-map u32 exact_ref (IsUnsigned 32) decides-u32) (λ t text h. subst (λ (r : TypeRef). OfKind kind.FuncExact r text) (sym h.2) (refl, h.1)) exact_from
+decides-content_of kind.Func = decides-same _ (Mapped func_ref (IsUnsigned 32)) (OfKind kind.Func) (decides-map u32 func_ref (IsUnsigned 32) decides-u32)
+    (λ t text h. subst (λ (r : TypeRef). OfKind kind.Func r text) (sym h.2) (refl, h.1)) func_from
+decides-content_of kind.Table = decides-same _ (Mapped table_ref SpelledTable) (OfKind kind.Table) (decides-map table_type table_ref SpelledTable decides-table_type)
+    (λ t text h. subst (λ (r : TypeRef). OfKind kind.Table r text) (sym h.2) (refl, h.1)) table_from
+decides-content_of kind.Memory = decides-same _ (Mapped memory_ref SpelledMemory) (OfKind kind.Memory) (decides-map memory_type memory_ref SpelledMemory decides-memory_type)
+    (λ t text h. subst (λ (r : TypeRef). OfKind kind.Memory r text) (sym h.2) (refl, h.1)) memory_from
+decides-content_of kind.Global = decides-same _ (Mapped global_ref SpelledGlobal) (OfKind kind.Global) (decides-map global_type global_ref SpelledGlobal decides-global_type)
+    (λ t text h. subst (λ (r : TypeRef). OfKind kind.Global r text) (sym h.2) (refl, h.1)) global_from
+decides-content_of kind.Tag = decides-same _ (Mapped tag_ref SpelledTag) (OfKind kind.Tag) (decides-map tag_type tag_ref SpelledTag decides-tag_type)
+    (λ t text h. subst (λ (r : TypeRef). OfKind kind.Tag r text) (sym h.2) (refl, h.1)) tag_from
+decides-content_of kind.FuncExact = decides-same _ (Mapped exact_ref (IsUnsigned 32)) (OfKind kind.FuncExact) (decides-map u32 exact_ref (IsUnsigned 32) decides-u32)
+    (λ t text h. subst (λ (r : TypeRef). OfKind kind.FuncExact r text) (sym h.2) (refl, h.1)) exact_from
 
 type_to : (t : TypeRef) (text : List ℕ) → Then SpelledKind OfKind t text → SpelledTypeRef t text
 type_to t text h = record {

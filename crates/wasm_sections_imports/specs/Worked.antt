@@ -47,7 +47,21 @@ pub record KindRows : Type 0 where
 
 pub kind_rows : KindRows
 unfolding external_kind
-kind_rows = record { function = refl; table = refl; memory = refl; global = refl; tag = refl; exact = refl; fifth = refl; below_exact = refl; above_exact = refl; compact = refl; compact_kind = refl; nothing = refl }
+kind_rows = record {
+  function = refl;
+  table = refl;
+  memory = refl;
+  global = refl;
+  tag = refl;
+  exact = refl;
+  fifth = refl;
+  below_exact = refl;
+  above_exact = refl;
+  compact =
+      refl;
+  compact_kind = refl;
+  nothing = refl;
+}
 
 -- ---- types
 
@@ -72,7 +86,8 @@ type_rows = record { function = refl; table = refl; memory = refl; global = refl
 -- ---- imports and exports
 
 pub record ImportRows : Type 0 where
-  pub function : is_utf8 (0x61 ∷ []) ≡ true → is_utf8 (0x62 ∷ 0x63 ∷ []) ≡ true → import no_features (start_of (0x01 ∷ 0x61 ∷ 0x02 ∷ 0x62 ∷ 0x63 ∷ 0x00 ∷ 0x05 ∷ [])) ≡ Done (import_of (0x61 ∷ []) (0x62 ∷ 0x63 ∷ []) (ref.Func 5)) (behind 7)
+  pub function : is_utf8 (0x61 ∷ []) ≡ true → is_utf8 (0x62 ∷ 0x63 ∷ []) ≡ true
+      → import no_features (start_of (0x01 ∷ 0x61 ∷ 0x02 ∷ 0x62 ∷ 0x63 ∷ 0x00 ∷ 0x05 ∷ [])) ≡ Done (import_of (0x61 ∷ []) (0x62 ∷ 0x63 ∷ []) (ref.Func 5)) (behind 7)
   pub malformed_module : is_utf8 (0x80 ∷ []) ≡ false → import no_features (start_of (0x01 ∷ 0x80 ∷ 0x00 ∷ 0x00 ∷ 0x05 ∷ [])) ≡ Fault Other 1
   pub malformed_name : is_utf8 (0x61 ∷ []) ≡ true → is_utf8 (0x80 ∷ []) ≡ false → import no_features (start_of (0x01 ∷ 0x61 ∷ 0x01 ∷ 0x80 ∷ 0x00 ∷ 0x05 ∷ [])) ≡ Fault Other 3
   pub module_too_long : import no_features (start_of (0xa1 ∷ 0x8d ∷ 0x06 ∷ [])) ≡ Fault Other 2
@@ -82,7 +97,16 @@ pub record ImportRows : Type 0 where
 
 pub import_rows : ImportRows
 unfolding default_limits import type_ref external_kind unsigned counted_within text_of
-import_rows = record { function = λ e f. rw (e, f) refl; malformed_module = λ e. rw e refl; malformed_name = λ e f. rw (e, f) refl; module_too_long = refl; longest_module = refl; no_type = λ e. rw (e, e) refl; another_kind = λ e. rw (e, e) refl }
+import_rows = record {
+  function = λ e f. rw (e, f) refl;
+  malformed_module = λ e. rw e refl;
+  malformed_name = λ e f. rw (e, f) refl;
+  module_too_long = refl;
+  longest_module =
+      refl;
+  no_type = λ e. rw (e, e) refl;
+  another_kind = λ e. rw (e, e) refl;
+}
 
 pub record ExportRows : Type 0 where
   pub memory : is_utf8 (0x61 ∷ []) ≡ true → export no_features (start_of (0x01 ∷ 0x61 ∷ 0x02 ∷ 0x05 ∷ [])) ≡ Done (export_of (0x61 ∷ []) kind.Memory 5) (behind 4)

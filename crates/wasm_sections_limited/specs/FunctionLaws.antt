@@ -18,7 +18,22 @@ use Rattle.wasm_types.specs.groups.declared.rec_group.RecGroup.{RecGroup}
 use Rattle.wasm_types.specs.groups.SpellsTypes.{InnerValue, function, array_of, struct_of, continuation, CompositeValue, SubValue, sub_with, GroupValue, group_value, SpelledGroup}
 use Rattle.wasm_types.specs.groups.DecodeTypes.{rec_group}
 use Rattle.wasm_types.specs.groups.TypeLaws.{lawful-rec_group, decides-rec_group}
-use Rattle.wasm_sections_limited.specs.Functions.{alone, group_of, SpelledAlone, inner_function, without_index, only_if, only_unless, composite_function, below_none, sub_function, only_function, or_refuse, function_alone, signature_of}
+use Rattle.wasm_sections_limited.specs.Functions.{
+  alone,
+  group_of,
+  SpelledAlone,
+  inner_function,
+  without_index,
+  only_if,
+  only_unless,
+  composite_function,
+  below_none,
+  sub_function,
+  only_function,
+  or_refuse,
+  function_alone,
+  signature_of,
+}
 use Rattle.wasm_sections_limited.specs.Walking.{Walk, NextIn}
 use Rattle.wasm_sections_limited.specs.Runs.{plain, with_offset}
 
@@ -96,7 +111,8 @@ module _ (z : Settings) where
   unfolding function_alone
   decides-function_alone = decides-from_place (λ p. rec_group z >>= λ g. or_refuse p (only_function g.types)) (SpelledAlone z)
       (λ p. decides-same _ Parts (SpelledAlone z)
-      (decides->>= (rec_group z) (λ g. or_refuse p (only_function g.types)) (SpelledGroup z) (λ g. Given (only_function g.types)) (decides-rec_group z) (λ g. decides-or_refuse p (only_function g.types)))
+      (decides->>= (rec_group z) (λ g. or_refuse p (only_function g.types)) (SpelledGroup z) (λ g. Given (only_function g.types)) (decides-rec_group z)
+      (λ g. decides-or_refuse p (only_function g.types)))
       alone_to alone_from)
 
 -- ---- what the reading of a group tells

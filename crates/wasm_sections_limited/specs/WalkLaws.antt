@@ -67,7 +67,8 @@ module _ {A : Type 0} (d : Decoder A) (g : Grammar A) (exact : Decides d g) wher
   taken : (s : State) (front back : List ℕ) → s.rest ≡ front ++ back → Takes s front (behind s front back)
   taken s front back e = record { parts = e; place = refl; settings = refl; start = refl }
 
-  values_complete : (w : Walk) (n : ℕ) (xs : List A) → w.over ≡ false → w.left ≡ n → Many g n xs w.reader.rest → (items : List (Result A ErrorValue)) → Drains (plainly d) w items → NeverLacksMemory items → items ≡ map ok xs
+  pub values_complete : (w : Walk) (n : ℕ) (xs : List A) → w.over ≡ false → w.left ≡ n → Many g n xs w.reader.rest → (items : List (Result A ErrorValue)) → Drains (plainly d) w items
+      → NeverLacksMemory items → items ≡ map ok xs
   values_complete w zero [] going left h [] run memory = refl
   values_complete w zero [] going left h (Ok x ∷ items) (u, (t, (j, (o, p, one, read), run), last)) memory = absurd (omega (arith, left, one))
   values_complete w zero [] going left h (Err e ∷ items) (u, (t, (j, (o, p, inl trailing), run), last)) memory = absurd (none_left 0 w.reader.rest h trailing.1)
@@ -89,10 +90,14 @@ module _ {A : Type 0} (d : Decoder A) (g : Grammar A) (exact : Decides d g) wher
       let here : d w.reader ≡ Done x (behind w.reader h.0 h.1) = exact.complete w.reader (behind w.reader h.0 h.1) x h.0 (taken w.reader h.0 h.1 h.4) h.2 in
       absurd (not_refused e.kind e.offset x (behind w.reader h.0 h.1) (d w.reader) here refused.1 memory.0)
 
-  pub walk_complete : (s : State) (xs : List A) → IsListed g xs s.rest → (t : State) × (u32 s ≡ Done (length xs) t) × ((items : List (Result A ErrorValue)) → Drains (plainly d) (fresh (length xs) t) items → NeverLacksMemory items → items ≡ map ok xs)
+  pub walk_complete : (s : State) (xs : List A) → IsListed g xs s.rest → (t : State) × (u32 s ≡ Done (length xs) t)
+      × ((items : List (Result A ErrorValue)) → Drains (plainly d) (fresh (length xs) t) items → NeverLacksMemory items → items ≡ map ok xs)
   walk_complete s xs h =
-      let t : State = behind s h.count h.values in
-      (t, decides-u32.complete s t (length xs) h.count (taken s h.count h.values h.whole) h.counted, λ items run memory. values_complete (fresh (length xs) t) (length xs) xs refl refl h.each items run memory)
+      let t : State = behind s h.count h.values in (
+        t,
+        decides-u32.complete s t (length xs) h.count (taken s h.count h.values h.whole) h.counted,
+        λ items run memory. values_complete (fresh (length xs) t) (length xs) xs refl refl h.each items run memory,
+      )
 
 -- ---- runs of the code's iterators
 
@@ -112,7 +117,12 @@ module _ {X A S : Type 0} (v : X → A) (d : Settings → Decoder A) (walk : S �
   Told = Steps d walk told R
 
   one_step : (z : Settings) (s t : S) (item : Result X ErrorValue) → (walk s).reader.settings ≡ z → Told s (Some item) t → plainly (d z) (walk s) (Some (seen v item)) (walk t)
-  one_step z s t (Ok x) e ((o, p, l, read), m, k) = (o, p, l, subst (λ (y : Settings). d y (walk s).reader ≡ Done (v x) (walk t).reader) e (reads (walk s).reader.settings (walk s).reader x (walk t).reader read))
+  one_step z s t (Ok x) e ((o, p, l, read), m, k) = (
+    o,
+    p,
+    l,
+    subst (λ (y : Settings). d y (walk s).reader ≡ Done (v x) (walk t).reader) e (reads (walk s).reader.settings (walk s).reader x (walk t).reader read),
+  )
   one_step z s t (Err f) e ((o, p, inl trailing), m, k) = (o, p, inl trailing)
   one_step z s t (Err f) e ((o, p, inr refused), m, k) = (o, p, inr (refused.0, subst (λ (y : Settings). Fails f (d y (walk s).reader)) e refused.1))
 
@@ -134,7 +144,8 @@ module _ {X A S : Type 0} (v : X → A) (d : Settings → Decoder A) (walk : S �
     abbrev number : ℕ → State → Outcome ℕ
     number n t = Done n t
 
-    pub run_complete : (b t : State) (n : ℕ) (s : S) (xs : List A) (items : List (Result X ErrorValue)) → u32 b ≡ Done n t → walk s ≡ fresh n t → IsListed (g t.settings) xs b.rest → Drains Told s items → NeverLacksMemory items → map (seen v) items ≡ map ok xs
+    pub run_complete : (b t : State) (n : ℕ) (s : S) (xs : List A) (items : List (Result X ErrorValue)) → u32 b ≡ Done n t → walk s ≡ fresh n t → IsListed (g t.settings) xs b.rest
+        → Drains Told s items → NeverLacksMemory items → map (seen v) items ≡ map ok xs
     run_complete b t n s xs items counted new spelled run memory =
         let walked = run_walks t.settings s items (ap (λ (w : Walk). w.reader.settings) new) run in
         let there = walk_complete (d t.settings) (g t.settings) (exact t.settings) b xs spelled in

@@ -15,7 +15,21 @@ use Rattle.wasm_types.specs.values.Decode.{reference_after}
 use Rattle.wasm_types.specs.fields.Spells.{Signature}
 use Rattle.wasm_types.specs.fields.Decode.{mutability, field_type, fields, signature, module_index}
 use Rattle.wasm_types.specs.groups.SpellsTypes.{InnerValue, function, array_of, struct_of, continuation, CompositeValue, sub_with}
-use Rattle.wasm_types.specs.groups.DecodeTypes.{inner_after, last_after, descriptor_after, describes_after, composite_after, composite, supertypes, declared_sub, sub_after, sub_type, explicit_group, group_after, rec_group}
+use Rattle.wasm_types.specs.groups.DecodeTypes.{
+  inner_after,
+  last_after,
+  descriptor_after,
+  describes_after,
+  composite_after,
+  composite,
+  supertypes,
+  declared_sub,
+  sub_after,
+  sub_type,
+  explicit_group,
+  group_after,
+  rec_group,
+}
 use Rattle.wasm_types.specs.error.declared.error.ErrorKind.TheVariants.{EndOfData, Other}
 use Rattle.wasm_types.specs.error.ErrorValue.{ErrorValue}
 use Rattle.wasm_sections_limited.specs.Walking.{Walk, plainly}

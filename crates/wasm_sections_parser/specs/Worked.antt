@@ -127,7 +127,13 @@ late_is place h = sym (ap (λ (u : State). u.place) (state_is 2 h.size (record {
 
 early_is : (place : ℕ) → HasContentsAt (start_of (0x00 ∷ 0x82 ∷ 0x00 ∷ 0x01 ∷ 0x61 ∷ [])) place → place ≡ 3
 unfolding unsigned
-early_is place h = sym (ap (λ (u : State). u.place) (state_is 2 h.size (record { rest = 0x01 ∷ 0x61 ∷ []; place = 3; settings = no_features; start = 0 }) _ (size_is (0x82 ∷ 0x00 ∷ 0x01 ∷ 0x61 ∷ []) place h)))
+early_is place h = sym (ap (λ (u : State). u.place) (state_is 2 h.size (record {
+  rest = 0x01 ∷ 0x61 ∷ [];
+  place = 3;
+  settings = no_features;
+  start =
+      0;
+}) _ (size_is (0x82 ∷ 0x00 ∷ 0x01 ∷ 0x61 ∷ []) place h)))
 
 pub place_rows : PlaceRows
 place_rows = record {

@@ -92,7 +92,8 @@ fn read_counted<'a>(
     _reader: &BinaryReader<'a>,
 ) -> Result<Read<'a>>
     ensures answer { Gives (λ x. (shape_of x.frame, x.progress)) result _reader.now (in_part u32_decoder (section_next progress id part.entry.rest) part.entry _reader.now) }
-    ensures placed { IfOk result (λ x. part.entry.start ≡ part.entry.place → IsPlacedBy (λ n. n ≡ part.entry.start) part.entry.settings x.frame x.progress (part.entry.place + length part.entry.rest)) }
+    ensures placed { IfOk result (λ x. part.entry.start ≡ part.entry.place
+        → IsPlacedBy (λ n. n ≡ part.entry.start) part.entry.settings x.frame x.progress (part.entry.place + length part.entry.rest)) }
     ensures no_memory { NeedsNoMemory result }
 {
     let mut ahead = part.clone();

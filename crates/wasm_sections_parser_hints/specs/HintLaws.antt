@@ -593,7 +593,20 @@ need_least p q text n h = over (is_over p.progress) refl h
         (g.2, subst (λ (x : List ℕ). IsLeast p x n) (sym k.0) (subst (λ (m : ℕ). IsLeast p [] m) (sym g.1) (end_least p going k.1)))
     ends going false e g = (g.2, there_least p going text g.1.0 n e g.1.1)
 
-    over : (v : Bool) → is_over p.progress ≡ v → one_of v (IsOver p (Ok (NeedMoreData n)) q) (one_of (at_end p text) (Ends p false (Ok (NeedMoreData n)) q) (Comes p text false (Ok (NeedMoreData n)) q))
+    over : (v : Bool) → is_over p.progress ≡ v → one_of v (IsOver p (Ok (NeedMoreData n)) q)
+        (one_of (at_end p text) (Ends p false (Ok (NeedMoreData n)) q) (Comes p text false (Ok (NeedMoreData n)) q))
         → (q ≡ p) × IsLeast p text n
     over true e g = absurd g
     over false e g = ends e (at_end p text) refl g
+
+-- where none follow, no more bytes are asked for
+pub nothing_asked : (p : Parser) (text : List ℕ) (n : ℕ) (q : Parser) → Parses p text true (Ok (NeedMoreData n)) q → ⊥
+nothing_asked p text n q h = over (is_over p.progress) h
+  where
+    between : (b : Bool) → one_of b (Ends p true (Ok (NeedMoreData n)) q) (Comes p text true (Ok (NeedMoreData n)) q) → ⊥
+    between true g = let k = g.0 in cc
+    between false g = let k = g.0 in cc
+
+    over : (b : Bool) → one_of b (IsOver p (Ok (NeedMoreData n)) q) (one_of (at_end p text) (Ends p true (Ok (NeedMoreData n)) q) (Comes p text true (Ok (NeedMoreData n)) q)) → ⊥
+    over true g = g
+    over false g = between (at_end p text) g

@@ -14,7 +14,7 @@ use Rattle.wasm_sections_parser.specs.Parsing.{between}
 use Rattle.wasm_sections_parser_steps.specs.StepCases.{step_between}
 use Rattle.wasm_sections_parser_steps.specs.StepsComplete.{start_next_is}
 use Rattle.wasm_sections_parser_steps.specs.OrderLaws.{in_order, order_gives}
-use Rattle.wasm_sections_parser_laws.specs.Runs.{fresh, Run, entries, Frames, AreNoted, Opened, IsBetween, IsOpen}
+use Rattle.wasm_sections_parser_calls.specs.Runs.{fresh, Run, entries, Frames, AreNoted, Opened, IsBetween, IsOpen}
 use Rattle.wasm_sections_parser_laws.specs.Modules.{Begun, IsFront, IsClosed, IsCut, IsSpelledFront, IsStart}
 use Rattle.wasm_sections_parser_laws.specs.RunsComplete.{entries_run, run_then, noted_last, module_run}
 use Rattle.wasm_sections_parser_laws.specs.ModuleLaws.{noted_counted}
@@ -90,7 +90,8 @@ front_run z text xs long s t h taken room = go h.tail
         (last.0, subst (λ (y : List Shape). Run z fresh s y last.0 t) (sym h.frames) (run_then z h.whole_frames h.last_frames fresh run.0 last.0 s u t run.1 last.1))
 
     split : Ascends 0 (ranks h.outer.parts)
-        → ((u : State) → u.place ≡ s.place + length h.front → Takes u h.back t → (p : Progress) → AreNoted (begun fresh) h.outer.parts p → between p.stage u.place ≡ true → (q : Progress) × Run z p u h.last_frames q t)
+        → ((u : State) → u.place ≡ s.place + length h.front → Takes u h.back t → (p : Progress) → AreNoted (begun fresh) h.outer.parts p → between p.stage u.place ≡ true
+        → (q : Progress) × Run z p u h.last_frames q t)
         → (q : Progress) × Run z fresh s xs q t
     split order next =
         let u : State = record { rest = h.back ++ t.rest; place = s.place + length h.front; settings = s.settings; start = s.start } in

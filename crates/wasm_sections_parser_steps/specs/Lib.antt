@@ -9,5 +9,3 @@ pub mod StepCases
 pub mod StepsComplete
 pub mod OrderLaws
 pub mod NoteLaws
-pub mod PlainLaws
-pub mod Advance

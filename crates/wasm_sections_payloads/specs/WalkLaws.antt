@@ -74,11 +74,13 @@ walk_going (p ∷ ps) s u first h going =
     walk_over ps h.0 u (parsed_is_over s.parser s.rest true given.0 h.1.1.0 h.0.parser given.1 ∙ sym h.1.1.3) h.2 ∙ going
 
 -- a whole module is refused only at a frame that is no payload
-pub walk_accepted : (ps : List Payload) (e : ErrorValue) (ys : List Shape) (s u t : Standing) → s.parser.progress ≡ fresh → s.parser.offset + length s.rest < 2 ^ 64 → IsModule (settings_of s.parser) s.rest ys
+pub walk_accepted : (ps : List Payload) (e : ErrorValue) (ys : List Shape) (s u t : Standing) → s.parser.progress ≡ fresh → s.parser.offset + length s.rest < 2 ^ 64
+    → IsModule (settings_of s.parser) s.rest ys
     → Walks s ps u → NextPayload u (Some (Err e)) t → (f : Frame) × IsFrameOf u.parser u.rest f t.parser t.rest × IsRefusedAs f e
 walk_accepted ps e ys s u t first room m walk next = go next.3
   where
-    go : IsFaultOf u.parser u.rest e t.parser ⊎ ((f : Frame) × IsFrameOf u.parser u.rest f t.parser t.rest × IsRefusedAs f e) → (f : Frame) × IsFrameOf u.parser u.rest f t.parser t.rest × IsRefusedAs f e
+    go : IsFaultOf u.parser u.rest e t.parser ⊎ ((f : Frame) × IsFrameOf u.parser u.rest f t.parser t.rest × IsRefusedAs f e) → (f : Frame)
+        × IsFrameOf u.parser u.rest f t.parser t.rest × IsRefusedAs f e
     go (inr h) = h
     go (inl h) =
         let calls = walk_calls ps s u walk in

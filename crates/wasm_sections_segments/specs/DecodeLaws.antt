@@ -47,14 +47,22 @@ module _ {C : Type 0} (e : Decoder C) where
     init_behind t = Mapped (global_of t) g
 
     global_to : (x : GlobalTree C) (text : List ℕ) → Then SpelledGlobal init_behind x text → SpelledGlobalItem g x text
-    global_to x text h = subst (λ (k : GlobalTree C). SpelledGlobalItem g k text) (sym h.second.2) (record { type_text = h.front; init_text = h.back; typed = h.first; initialised = h.second.1; whole = h.whole })
+    global_to x text h = subst (λ (k : GlobalTree C). SpelledGlobalItem g k text) (sym h.second.2) (record {
+      type_text = h.front;
+      init_text = h.back;
+      typed = h.first;
+      initialised =
+          h.second.1;
+      whole = h.whole;
+    })
 
     global_from : (x : GlobalTree C) (text : List ℕ) → SpelledGlobalItem g x text → Then SpelledGlobal init_behind x text
     global_from x text h = record { value = x.ty; front = h.type_text; back = h.init_text; first = h.typed; second = (x.init, h.initialised, refl); whole = h.whole }
 
     pub decides-global : Decides (global e) (SpelledGlobalItem g)
     unfolding global
-    decides-global = decides-same _ (Then SpelledGlobal init_behind) (SpelledGlobalItem g) (decides->>= global_type _ SpelledGlobal init_behind decides-global_type (λ t. decides-map e (global_of t) g exact)) global_to global_from
+    decides-global = decides-same _ (Then SpelledGlobal init_behind) (SpelledGlobalItem g)
+        (decides->>= global_type _ SpelledGlobal init_behind decides-global_type (λ t. decides-map e (global_of t) g exact)) global_to global_from
 
     -- ---- data segments
 
@@ -83,10 +91,21 @@ module _ {C : Type 0} (e : Decoder C) where
     passive_from f i x text (inr (inr h)) = absurd (omega (arith, i, h.0))
 
     plain_to : (f : ℕ) → f ≡ 0 → (x : DataTree C) (text : List ℕ) → PlacedIn 0 x text → AfterFlag g f x text
-    plain_to f i x text h = subst (λ (k : DataTree C). AfterFlag g f k text) (sym h.second.2) (inl (i, record { offset = h.value; offset_text = h.front; content_text = h.back; mode = refl; placed = h.first; filled = h.second.1; whole = h.whole }))
+    plain_to f i x text h = subst (λ (k : DataTree C). AfterFlag g f k text) (sym h.second.2) (inl (
+      i,
+      record { offset = h.value; offset_text = h.front; content_text = h.back; mode = refl; placed = h.first; filled = h.second.1; whole = h.whole },
+    ))
 
     plain_from : (f : ℕ) → f ≡ 0 → (x : DataTree C) (text : List ℕ) → AfterFlag g f x text → PlacedIn 0 x text
-    plain_from f i x text (inl (z, h)) = record { value = h.offset; front = h.offset_text; back = h.content_text; first = h.placed; second = (x.content, h.filled, same_data x (active 0 h.offset) h.mode); whole = h.whole }
+    plain_from f i x text (inl (z, h)) = record {
+      value = h.offset;
+      front = h.offset_text;
+      back = h.content_text;
+      first = h.placed;
+      second =
+          (x.content, h.filled, same_data x (active 0 h.offset) h.mode);
+      whole = h.whole;
+    }
     plain_from f i x text (inr (inl h)) = absurd (omega (arith, i, h.0))
     plain_from f i x text (inr (inr h)) = absurd (omega (arith, i, h.0))
 
@@ -133,7 +152,8 @@ module _ {C : Type 0} (e : Decoder C) where
     decides-after_flag p f =
         decides-if (eqb f 1) _ _ _ (λ t. let q : f ≡ 1 = eqb-true _ _ t in decides-same _ (ContentOf passive) (AfterFlag g f) (decides-content passive) (passive_to f q) (passive_from f q))
         (λ i. decides-if (eqb f 0) _ _ _ (λ t. let q : f ≡ 0 = eqb-true _ _ t in decides-same _ (PlacedIn 0) (AfterFlag g f) (decides-placed_in 0) (plain_to f q) (plain_from f q))
-        (λ j. decides-if (eqb f 2) _ _ _ (λ t. let q : f ≡ 2 = eqb-true _ _ t in decides-same _ ActiveIn (AfterFlag g f) (decides->>= u32 (placed_in e) (IsUnsigned 32) PlacedIn decides-u32 decides-placed_in) (active_to f q) (active_from f q))
+        (λ j. decides-if (eqb f 2) _ _ _ (λ t. let q : f ≡ 2 = eqb-true _ _ t in
+        decides-same _ ActiveIn (AfterFlag g f) (decides->>= u32 (placed_in e) (IsUnsigned 32) PlacedIn decides-u32 decides-placed_in) (active_to f q) (active_from f q))
         (λ k. decides-refuse_at Other p (AfterFlag g f) (no_flag f i j k))))
 
     data_to : (x : DataTree C) (text : List ℕ) → Then (IsUnsigned 32) (AfterFlag g) x text → SpelledData g x text

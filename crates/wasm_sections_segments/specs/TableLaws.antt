@@ -78,7 +78,8 @@ module _ {C : Type 0} (e : Decoder C) where
 
   lawful-behind_mark : IsLawful e → IsLawful (behind_mark e)
   unfolding behind_mark
-  lawful-behind_mark l = lawful->>= byte (zero_after e) lawful-byte (λ b. lawful-if (b == 0) _ _ (lawful->>= table_type _ lawful-table_type (λ t. lawful->>= e _ l (λ x. lawful-pure (some t x)))) (lawful-refuse Other 1))
+  lawful-behind_mark l = lawful->>= byte (zero_after e) lawful-byte
+      (λ b. lawful-if (b == 0) _ _ (lawful->>= table_type _ lawful-table_type (λ t. lawful->>= e _ l (λ x. lawful-pure (some t x)))) (lawful-refuse Other 1))
 
   lawful-mark_after : IsLawful e → (b : ℕ) → IsLawful (mark_after e b)
   lawful-mark_after l b = lawful-if (b == 0x40) _ _ (lawful-behind_mark l) (lawful-refuse Other 1)
@@ -127,7 +128,15 @@ module _ {C : Type 0} (e : Decoder C) where
 
     behind_from : (b z : ℕ) (t : TableType) (o : Option C) (text : List ℕ) → WithInit t o (b ∷ z ∷ text) → Behind (table_of t o) text
     behind_from b z t None text h = absurd h
-    behind_from b z t (Some x) text h = record { value = t; front = h.type_text; back = h.init_text; first = h.typed; second = (x, h.initialised, refl); whole = tails z 0x00 text _ (tails b 0x40 _ _ h.whole) }
+    behind_from b z t (Some x) text h = record {
+      value = t;
+      front = h.type_text;
+      back = h.init_text;
+      first = h.typed;
+      second = (x, h.initialised, refl);
+      whole =
+          tails z 0x00 text _ (tails b 0x40 _ _ h.whole);
+    }
 
     marks : (t : TableType) (o : Option C) (b : ℕ) (text : List ℕ) → WithInit t o (b ∷ text) → b ≡ 0x40
     marks t None b text h = absurd h
@@ -150,7 +159,8 @@ module _ {C : Type 0} (e : Decoder C) where
     decides-behind_mark b i = decides-byte (zero_after e) (λ x text. Initialised x (b ∷ text)) (λ x. no_zero x.ty x.init b) (λ z.
         decides-if (eqb z 0) _ _ _
         (λ y. let j : z ≡ 0 = eqb-true _ _ y in
-        decides-same _ Behind (λ x text. Initialised x (b ∷ z ∷ text)) (decides->>= table_type _ SpelledTable (λ t. Mapped (some t) g) decides-table_type (λ t. decides-map e (some t) g exact)) (behind_to b z i j) (λ x text. behind_from b z x.ty x.init text))
+        decides-same _ Behind (λ x text. Initialised x (b ∷ z ∷ text))
+        (decides->>= table_type _ SpelledTable (λ t. Mapped (some t) g) decides-table_type (λ t. decides-map e (some t) g exact)) (behind_to b z i j) (λ x text. behind_from b z x.ty x.init text))
         (λ n. decides-refuse Other 1 (λ x text. Initialised x (b ∷ z ∷ text)) (λ x text h. eqb-false _ _ n (zeros x.ty x.init b z text h))))
 
     decides-initialised : Decides (initialised e) Initialised

@@ -15,3 +15,5 @@ pub mod SignedLaws
 pub mod ListLaws
 pub mod TextLaws
 pub mod RowLaws
+-- the rules of limits, under their name: crates above cite them here
+pub use Rattle.wasm_types_limits.specs as limits

@@ -8,6 +8,8 @@
 
 ghost use Rattle.wasm_types_decoding.specs.Rows.{UnsignedRows, SignedRows, ByteRows, WordRows, ListRows, NameRows, PartRows};
 
+pub use wasm_types_limits::Limits;
+
 /// What is wrong with bytes, where no further byte mends it.
 #[derive(Clone, Copy, Debug, PartialEq, Eq)]
 pub enum Refusal {

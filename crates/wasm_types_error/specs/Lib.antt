@@ -7,3 +7,5 @@ pub mod Rows
 -- what is proved of them
 pub mod DenialLaws
 pub mod RowLaws
+-- the rules of features, under their name: crates above cite them here
+pub use Rattle.wasm_types_features.specs as features

@@ -12,6 +12,7 @@ mod error;
 mod message;
 
 pub use error::{BinaryReaderError, Error, ErrorKind, Result};
+pub use wasm_types_features::{WasmFeatures, WasmFeaturesInflated};
 
 /// Errors that were worked by hand: kinds by their numbers, messages cut to their room, and texts.
 #[tactic(auto, using(crate::specs::RowLaws::kind_rows, crate::specs::RowLaws::text_rows))]

@@ -1,2 +1,3 @@
+pub use Rattle.wasm_types_values.proofs.Rows
 pub mod Telling
 pub mod Remapping

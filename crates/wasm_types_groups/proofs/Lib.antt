@@ -1,4 +1,4 @@
-pub use Rattle.wasm_types_reader.proofs.Rows
+pub use Rattle.wasm_types_fields.proofs.Rows
 pub mod Equality
 pub mod Copies
 pub mod Counts

@@ -68,7 +68,7 @@ impl<'a> FromReader<'a> for RecGroup {
 
     ghost exact = { decides-rec_group };
 
-    #[tactic(auto, using(wasm_types_fields::specs::Laws::reaches_self, wasm_types_fields::specs::Laws::reaches_then, wasm_types_values::proofs::Places::beyond_0), unfolding(crate::specs::DecodeTypes::rec_group, crate::specs::DecodeTypes::group_after, crate::specs::Places::group_places))]
+    #[tactic(auto, using(wasm_types_fields::specs::Laws::reaches_self, wasm_types_fields::specs::Laws::reaches_then, wasm_types_fields::specs::Laws::beyond_0), unfolding(crate::specs::DecodeTypes::rec_group, crate::specs::DecodeTypes::group_after, crate::specs::Places::group_places))]
     fn from_reader(alloc: Global, reader: &mut BinaryReader<'a>) -> Result<RecGroup>
         ensures answer { Gives group_value result reader.new (rec_group reader.old.settings reader.old) }
         ensures forward { Reaches reader.old reader.new }

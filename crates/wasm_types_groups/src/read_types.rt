@@ -87,7 +87,7 @@ fn last_after_byte<'a>(
 }
 
 // Its descriptor, if one is named.
-#[tactic(auto, using(wasm_types_fields::specs::Laws::reaches_self, wasm_types_fields::specs::Laws::reaches_then, wasm_types_values::proofs::Places::beyond_0), unfolding(crate::specs::DecodeTypes::descriptor_after))]
+#[tactic(auto, using(wasm_types_fields::specs::Laws::reaches_self, wasm_types_fields::specs::Laws::reaches_then, wasm_types_fields::specs::Laws::beyond_0), unfolding(crate::specs::DecodeTypes::descriptor_after))]
 fn descriptor_after_byte<'a>(
     shared: bool,
     describes_idx: Option<PackedIndex>,
@@ -108,7 +108,7 @@ fn descriptor_after_byte<'a>(
 }
 
 // The type that it describes, if one is named.
-#[tactic(auto, using(wasm_types_fields::specs::Laws::reaches_self, wasm_types_fields::specs::Laws::reaches_then, wasm_types_values::proofs::Places::beyond_0), unfolding(crate::specs::DecodeTypes::describes_after))]
+#[tactic(auto, using(wasm_types_fields::specs::Laws::reaches_self, wasm_types_fields::specs::Laws::reaches_then, wasm_types_fields::specs::Laws::beyond_0), unfolding(crate::specs::DecodeTypes::describes_after))]
 fn describes_after_byte<'a>(
     shared: bool,
     byte: u8,
@@ -128,7 +128,7 @@ fn describes_after_byte<'a>(
 }
 
 // Whether it is shared.
-#[tactic(auto, using(wasm_types_fields::specs::Laws::reaches_self, wasm_types_fields::specs::Laws::reaches_then, wasm_types_values::proofs::Places::beyond_0), unfolding(crate::specs::DecodeTypes::composite_after))]
+#[tactic(auto, using(wasm_types_fields::specs::Laws::reaches_self, wasm_types_fields::specs::Laws::reaches_then, wasm_types_fields::specs::Laws::beyond_0), unfolding(crate::specs::DecodeTypes::composite_after))]
 fn composite_after_byte<'a>(
     byte: u8,
     alloc: Global,
@@ -165,7 +165,7 @@ impl<'a> FromReader<'a> for CompositeType {
 
     ghost exact = { decides-composite };
 
-    #[tactic(auto, using(wasm_types_fields::specs::Laws::reaches_self, wasm_types_fields::specs::Laws::reaches_then, wasm_types_values::proofs::Places::beyond_0), unfolding(crate::specs::DecodeTypes::composite))]
+    #[tactic(auto, using(wasm_types_fields::specs::Laws::reaches_self, wasm_types_fields::specs::Laws::reaches_then, wasm_types_fields::specs::Laws::beyond_0), unfolding(crate::specs::DecodeTypes::composite))]
     fn from_reader(alloc: Global, reader: &mut BinaryReader<'a>) -> Result<CompositeType> {
         let byte = reader.read_u8()?;
         composite_after_byte(byte, alloc, reader)
@@ -261,7 +261,7 @@ impl<'a> FromReader<'a> for SubType {
 
     ghost exact = { decides-sub_type };
 
-    #[tactic(auto, using(wasm_types_fields::specs::Laws::reaches_self, wasm_types_fields::specs::Laws::reaches_then, wasm_types_values::proofs::Places::beyond_0), unfolding(crate::specs::DecodeTypes::sub_type))]
+    #[tactic(auto, using(wasm_types_fields::specs::Laws::reaches_self, wasm_types_fields::specs::Laws::reaches_then, wasm_types_fields::specs::Laws::beyond_0), unfolding(crate::specs::DecodeTypes::sub_type))]
     fn from_reader(alloc: Global, reader: &mut BinaryReader<'a>) -> Result<SubType> {
         let byte = reader.read_u8()?;
         sub_after_byte(byte, alloc, reader)

@@ -17,3 +17,4 @@ pub use long::{Flaw, long_i32_at, long_i64_at, long_s33_at, long_u32_at, long_u6
 pub use short::{
     short_i32_at, short_i64_at, short_s33_at, short_u8_at, short_u32_at, short_u64_at,
 };
+pub use wasm_types_decoding::Limits;

@@ -16,9 +16,9 @@ pub mod PartLaws
 pub mod WordLaws
 pub mod RowLaws
 -- The rules and laws of the crates below, under their names: crates above cite them here.
-pub use Rattle.wasm_types_limits.specs as limits
-pub use Rattle.wasm_types_decoding.specs as decoding
-pub use Rattle.wasm_types_features.specs as features
+pub use Rattle.wasm_types_numbers.specs.limits as limits
+pub use Rattle.wasm_types_numbers.specs.decoding as decoding
+pub use Rattle.wasm_types_error.specs.features as features
 pub use Rattle.wasm_types_error.specs as error
 pub use Rattle.wasm_types_numbers.specs as numbers
 -- Those that attributes of readers cite, which take a file's own names alone.

@@ -4,8 +4,8 @@
 //! `wasm_types_numbers` reads them from the bytes at hand, so a reader moves only behind a number that it has.
 
 ghost use Rattle.std.specs.Prelude.{◌≡◌, ℕ, ◌+◌, ◌*◌, ◌<◌, ◌≤◌, ◌^◌};
-ghost use Rattle.wasm_types_decoding.specs.Decoder.{Reaches, IsLawful, Decides};
-ghost use Rattle.wasm_types_decoding.specs.Leb.{IsUnsigned, IsSigned, unsigned, signed, u32 as u32_decoder, u64 as u64_decoder, s32, s33, s64};
+ghost use Rattle.wasm_types_numbers.specs.decoding.Decoder.{Reaches, IsLawful, Decides};
+ghost use Rattle.wasm_types_numbers.specs.decoding.Leb.{IsUnsigned, IsSigned, unsigned, signed, u32 as u32_decoder, u64 as u64_decoder, s32, s33, s64};
 ghost use Rattle.wasm_types_numbers.specs.Numbers.{flaw_offset};
 ghost use Rattle.wasm_types_reader.specs.Flaws.{flaw_kind};
 ghost use Rattle.wasm_types_reader.specs.Reading.{Answers, NeedsNoMemory};

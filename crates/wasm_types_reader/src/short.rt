@@ -2,8 +2,8 @@
 //! where it was, and the public readers give the reason.
 
 ghost use Rattle.std.specs.Prelude.{◌≡◌, IfSome, IfNone};
-ghost use Rattle.wasm_types_decoding.specs.Decoder.{Done, Reaches, byte as byte_decoder};
-ghost use Rattle.wasm_types_decoding.specs.Leb.{u32 as u32_decoder, u64 as u64_decoder, s32, s33, s64};
+ghost use Rattle.wasm_types_numbers.specs.decoding.Decoder.{Done, Reaches, byte as byte_decoder};
+ghost use Rattle.wasm_types_numbers.specs.decoding.Leb.{u32 as u32_decoder, u64 as u64_decoder, s32, s33, s64};
 ghost use Rattle.wasm_types_numbers.specs.Numbers.{IsRefused};
 
 use crate::BinaryReader;

@@ -1,21 +1,7 @@
-//! Tests of texts of types and of their refusals, of worked values from outside, and of each generic function of
-//! readers once.
+//! Numbers in LEB128 at the edges of their widths, as rows that compute. The crate has no code of its own.
 //!
-//! The crate has no code of its own: its laws are rows that compute.
+//! The rows of all else that types are stand with their definitions (`worked_` and `_are_worked` laws of the crates of this layer).
+//! What no contract promises of reading them, the messages of refusals, is judged by the stored run of `wasm_worked`.
 #![tactic(auto)]
 
-#[cfg(test)]
-mod expect;
-#[cfg(test)]
-mod features;
 pub mod laws;
-#[cfg(test)]
-mod limits;
-#[cfg(test)]
-mod numbers;
-#[cfg(test)]
-mod reader;
-#[cfg(test)]
-mod types;
-#[cfg(test)]
-mod values;

@@ -5,23 +5,23 @@ use Rattle.wasm_types.specs.error.declared.error.ErrorKind.{ErrorKind}
 use Rattle.wasm_types.specs.error.DenialLaws.{denies_from}
 use Rattle.wasm_types.specs.trees.Types.{ref, abstract}
 use Rattle.wasm_types.specs.values.Trees.{abstract_of}
-use Rattle.wasm_operators_expression.specs.info.declared.proposal.Proposal.{Proposal}
-use Rattle.wasm_operators_expression.specs.operator.Op.{Op}
-use Rattle.wasm_operator_validator_rules.specs.Operands.{ValueType, Operand, bottom, some_reference, known, all_known, stack}
-use Rattle.wasm_operator_validator_rules.specs.Context.{Initialised}
-use Rattle.wasm_operator_validator_rules.specs.Row.{GroupRow, after}
-use Rattle.wasm_operator_validator_resources.specs.Meaning.{Meaning, type_in}
-use Rattle.wasm_operator_validator_state.specs.declared.operand.MaybeType.{MaybeType}
-use Rattle.wasm_operator_validator_state.specs.declared.operand.MaybeType.TheVariants as maybe
-use Rattle.wasm_operator_validator_state.specs.Refusals.{Does}
-use Rattle.wasm_operator_validator_state.specs.State.{Open, State, Stands, Covers, initialised, context, Decides, Checks}
-use Rattle.wasm_operator_validator_state.specs.Steps.{StacksOf, Stacks, IsOpen, Popped, MayPop, Jumped, Exchanged}
-use Rattle.wasm_operator_validator_state.specs.Entering.{MayBegin}
-use Rattle.wasm_operator_validator_state.specs.laws.Operands.{operand_refl, all_below_refl}
-use Rattle.wasm_operator_validator_state.specs.laws.Accepting.{same_open}
-use Rattle.wasm_operator_validator_state.specs.laws.Rows.{by_row, some_row}
-use Rattle.wasm_operator_validator_state.specs.laws.Entering.{enabled}
-use Rattle.wasm_operator_validator_state.specs.laws.Checks.{checks_going}
+use Rattle.wasm_operator_validator_determined.specs.expression.info.declared.proposal.Proposal.{Proposal}
+use Rattle.wasm_operator_validator_determined.specs.expression.operator.Op.{Op}
+use Rattle.wasm_operator_validator_determined.specs.rules.Operands.{ValueType, Operand, bottom, some_reference, known, all_known, stack}
+use Rattle.wasm_operator_validator_determined.specs.rules.Context.{Initialised}
+use Rattle.wasm_operator_validator_determined.specs.rules.Row.{GroupRow, after}
+use Rattle.wasm_operator_validator_determined.specs.resources.Meaning.{Meaning, type_in}
+use Rattle.wasm_operator_validator_determined.specs.state.declared.operand.MaybeType.{MaybeType}
+use Rattle.wasm_operator_validator_determined.specs.state.declared.operand.MaybeType.TheVariants as maybe
+use Rattle.wasm_operator_validator_determined.specs.state.Refusals.{Does}
+use Rattle.wasm_operator_validator_determined.specs.state.State.{Open, State, Stands, Covers, initialised, context, Decides, Checks}
+use Rattle.wasm_operator_validator_determined.specs.state.Steps.{StacksOf, Stacks, IsOpen, Popped, MayPop, Jumped, Exchanged}
+use Rattle.wasm_operator_validator_determined.specs.state.Entering.{MayBegin}
+use Rattle.wasm_operator_validator_determined.specs.state.laws.Operands.{operand_refl, all_below_refl}
+use Rattle.wasm_operator_validator_determined.specs.state.laws.Accepting.{same_open}
+use Rattle.wasm_operator_validator_determined.specs.state.laws.Rows.{by_row, some_row}
+use Rattle.wasm_operator_validator_determined.specs.state.laws.Entering.{enabled}
+use Rattle.wasm_operator_validator_determined.specs.state.laws.Checks.{checks_going}
 use Rattle.wasm_operator_validator_determined.specs.Operators.{IsPlain, Stays}
 use Rattle.wasm_operator_validator_determined.specs.laws.Same.{same_trans}
 use Rattle.wasm_operator_validator_control.specs.Jumps.{Jumps}

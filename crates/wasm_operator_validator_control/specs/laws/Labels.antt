@@ -1,12 +1,12 @@
 -- What a label names, as the code looks it up.
 use Rattle.std.proofs.Common.{◌≡◌, ◌∙◌, ℕ, zero, suc, List, [], ◌∷◌, Option, Some, None, refl, sym, ap, slice_get, option_map, map, length, ◌-◌, arith}
-use Rattle.wasm_operators_expression.specs.immediates.declared.block.BlockType.{BlockType}
-use Rattle.wasm_operators_expression.specs.immediates.declared.frames.FrameKind.{FrameKind}
-use Rattle.wasm_operator_validator_rules.specs.Operands.{ValueType}
-use Rattle.wasm_operator_validator_rules.specs.Context.{label_of}
-use Rattle.wasm_operator_validator_resources.specs.Meaning.{Meaning}
-use Rattle.wasm_operator_validator_state.specs.State.{Open, signature_of, label, outermost_results}
-use Rattle.wasm_operator_validator_state.specs.Steps.{IsOpen}
+use Rattle.wasm_operator_validator_determined.specs.expression.immediates.declared.block.BlockType.{BlockType}
+use Rattle.wasm_operator_validator_determined.specs.expression.immediates.declared.frames.FrameKind.{FrameKind}
+use Rattle.wasm_operator_validator_determined.specs.rules.Operands.{ValueType}
+use Rattle.wasm_operator_validator_determined.specs.rules.Context.{label_of}
+use Rattle.wasm_operator_validator_determined.specs.resources.Meaning.{Meaning}
+use Rattle.wasm_operator_validator_determined.specs.state.State.{Open, signature_of, label, outermost_results}
+use Rattle.wasm_operator_validator_determined.specs.state.Steps.{IsOpen, SameFrames}
 
 -- the type and the kind of the frame that a label names
 abbrev pub frame_at : List Open → ℕ → Option (BlockType × FrameKind)
@@ -35,6 +35,12 @@ pub no_label_at : (m : Meaning) (opens : List Open) (d : ℕ) → IsNoFrame (fra
 no_label_at m [] d e = refl
 no_label_at m (o ∷ outer) zero e = cc
 no_label_at m (o ∷ outer) (suc d) e = no_label_at m outer d e
+
+-- operands that were taken off are no labels
+pub same_labels : (m : Meaning) (os ps : List Open) → SameFrames os ps → map (label m) ps ≡ map (label m) os
+same_labels m [] ps b = absurd b
+same_labels m (o ∷ outer) [] b = absurd b
+same_labels m (o ∷ outer) (p ∷ others) (k, bl, be, e) = rw (k, bl, e) refl
 
 -- the same label
 pub one_label : (ts us : List ValueType) (o : Option (List ValueType)) → o ≡ Some ts → o ≡ Some us → us ≡ ts

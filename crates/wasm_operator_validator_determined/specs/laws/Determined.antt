@@ -4,24 +4,24 @@ use Rattle.wasm_types.specs.error.declared.error.ErrorKind.{ErrorKind}
 use Rattle.wasm_types.specs.error.Denials.{Denies}
 use Rattle.wasm_types.specs.error.DenialLaws.{denies, denies_from}
 use Rattle.wasm_types.specs.values.declared.value.ValType.{ValType}
-use Rattle.wasm_operators_expression.specs.info.declared.proposal.Proposal.{Proposal}
-use Rattle.wasm_operators_expression.specs.operator.Op.{Op}
-use Rattle.wasm_operator_validator_rules.specs.Operands.{ValueType, Operand, AllBelow, all_known, stack}
-use Rattle.wasm_operator_validator_rules.specs.Context.{Initialised}
-use Rattle.wasm_operator_validator_rules.specs.InstructionTypes.{InstructionType, ◌⟶◌, instruction_type}
-use Rattle.wasm_operator_validator_rules.specs.Row.{Takes, GroupRow, after}
-use Rattle.wasm_operator_validator_resources.specs.Meaning.{Meaning}
-use Rattle.wasm_operator_validator_state.specs.Refusals.{Does, kind_of}
-use Rattle.wasm_operator_validator_state.specs.declared.refusal.Refusal.{Refusal}
-use Rattle.wasm_operator_validator_state.specs.declared.refusal.Refusal.TheVariants as refusals
-use Rattle.wasm_operator_validator_state.specs.State.{State, initialised, context, types_in, Accepts, Decides, Checks}
-use Rattle.wasm_operator_validator_state.specs.Steps.{Stacks, IsOpen, SameFrames, MayPop, Popped, Pushed, Exchanged}
-use Rattle.wasm_operator_validator_state.specs.Entering.{MayBegin, StopsWith}
-use Rattle.wasm_operator_validator_state.specs.laws.Operands.{all_below_refl}
-use Rattle.wasm_operator_validator_state.specs.laws.Accepting.{advanced, stacks_below}
-use Rattle.wasm_operator_validator_state.specs.laws.Rows.{row_image, ordinary, by_no_row}
-use Rattle.wasm_operator_validator_state.specs.laws.Entering.{enabled}
-use Rattle.wasm_operator_validator_state.specs.laws.Checks.{checks_stopped, checks_going}
+use Rattle.wasm_operator_validator_stacks.specs.expression.info.declared.proposal.Proposal.{Proposal}
+use Rattle.wasm_operator_validator_stacks.specs.expression.operator.Op.{Op}
+use Rattle.wasm_operator_validator_stacks.specs.rules.Operands.{ValueType, Operand, AllBelow, all_known, stack}
+use Rattle.wasm_operator_validator_stacks.specs.rules.Context.{Initialised}
+use Rattle.wasm_operator_validator_stacks.specs.rules.InstructionTypes.{InstructionType, ◌⟶◌, instruction_type}
+use Rattle.wasm_operator_validator_stacks.specs.rules.Row.{Takes, GroupRow, after}
+use Rattle.wasm_operator_validator_stacks.specs.resources.Meaning.{Meaning}
+use Rattle.wasm_operator_validator_stacks.specs.state.Refusals.{Does, kind_of}
+use Rattle.wasm_operator_validator_stacks.specs.state.declared.refusal.Refusal.{Refusal}
+use Rattle.wasm_operator_validator_stacks.specs.state.declared.refusal.Refusal.TheVariants as refusals
+use Rattle.wasm_operator_validator_stacks.specs.state.State.{State, initialised, context, types_in, Accepts, Decides, Checks}
+use Rattle.wasm_operator_validator_stacks.specs.state.Steps.{Stacks, IsOpen, SameFrames, MayPop, Popped, Pushed, Exchanged}
+use Rattle.wasm_operator_validator_stacks.specs.state.Entering.{MayBegin, StopsWith}
+use Rattle.wasm_operator_validator_stacks.specs.state.laws.Operands.{all_below_refl}
+use Rattle.wasm_operator_validator_stacks.specs.state.laws.Accepting.{advanced, stacks_below}
+use Rattle.wasm_operator_validator_stacks.specs.state.laws.Rows.{row_image, ordinary, by_no_row}
+use Rattle.wasm_operator_validator_stacks.specs.state.laws.Entering.{enabled}
+use Rattle.wasm_operator_validator_stacks.specs.state.laws.Checks.{checks_stopped, checks_going}
 use Rattle.wasm_operator_validator_determined.specs.Operators.{IsPlain, IsInTable, Stays, IsOfContent}
 use Rattle.wasm_operator_validator_determined.specs.laws.Same.{same_refl, stays_refl}
 

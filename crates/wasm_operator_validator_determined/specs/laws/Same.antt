@@ -1,7 +1,7 @@
 -- Steps of a check one after the other change the operands of the innermost frame alone.
 use Rattle.std.proofs.Common.{◌∙◌, List, [], ◌∷◌, refl}
-use Rattle.wasm_operator_validator_state.specs.State.{Open, State}
-use Rattle.wasm_operator_validator_state.specs.Steps.{IsOpen, SameFrames, Same}
+use Rattle.wasm_operator_validator_stacks.specs.state.State.{Open, State}
+use Rattle.wasm_operator_validator_stacks.specs.state.Steps.{IsOpen, SameFrames, Same}
 use Rattle.wasm_operator_validator_determined.specs.Operators.{Stays}
 
 frames_refl : (os : List Open) → IsOpen os → SameFrames os os

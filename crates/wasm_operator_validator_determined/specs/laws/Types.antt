@@ -13,11 +13,11 @@ use Rattle.wasm_types.specs.values.declared.value.ValType.TheVariants as vals
 use Rattle.wasm_types.specs.values.Reference.{Reference}
 use Rattle.wasm_types.specs.values.Trees.{heap_of}
 use Rattle.wasm_types.specs.values.Values.{value_of}
-use Rattle.wasm_operator_validator_rules.specs.Numbers.{numbers}
-use Rattle.wasm_operator_validator_rules.specs.Operands.{ValueType}
-use Rattle.wasm_operator_validator_rules.specs.Context.{IsTypeIndex, IsType, written_type, address_type}
-use Rattle.wasm_operator_validator_resources.specs.Meaning.{Meaning, type_in, named_type, reference_in}
-use Rattle.wasm_operator_validator_state.specs.State.{types_in}
+use Rattle.wasm_operator_validator_stacks.specs.rules.Numbers.{numbers}
+use Rattle.wasm_operator_validator_stacks.specs.rules.Operands.{ValueType}
+use Rattle.wasm_operator_validator_stacks.specs.rules.Context.{IsTypeIndex, IsType, written_type, address_type}
+use Rattle.wasm_operator_validator_stacks.specs.resources.Meaning.{Meaning, type_in, named_type, reference_in}
+use Rattle.wasm_operator_validator_stacks.specs.state.State.{types_in}
 
 pub number_in : (m : Meaning) (t : ValType) (n : Number) → value_of t ≡ number n → type_in m t ≡ number n
 unfolding type_in

@@ -4,9 +4,9 @@ use Rattle.std.specs.Prelude.{if◌then◌else◌}
 use Rattle.wasm_types.specs.error.declared.error.ErrorKind.{ErrorKind}
 use Rattle.wasm_types.specs.error.declared.error.ErrorKind.TheVariants as kinds
 use Rattle.wasm_types.specs.error.Denials.{Denies}
-use Rattle.wasm_operator_validator_rules.specs.Context.{Context, MayUse}
-use Rattle.wasm_operator_validator_rules.specs.InstructionTypes.{InstructionType, named, may_use}
-use Rattle.wasm_operator_validator_state.specs.State.{State}
+use Rattle.wasm_operator_validator_stacks.specs.rules.Context.{Context, MayUse}
+use Rattle.wasm_operator_validator_stacks.specs.rules.InstructionTypes.{InstructionType, named, may_use}
+use Rattle.wasm_operator_validator_stacks.specs.state.State.{State}
 use Rattle.wasm_operator_validator_determined.specs.Operators.{MayUseIn, IsUsable, refusal_kind}
 
 -- a test that fails

@@ -1,7 +1,7 @@
 -- Code that is typed and code that is not.
 use Rattle.std.specs.Prelude.{ℕ, ℤ, [], ◌∷◌}
-use Rattle.wasm_types.specs.trees.Types.{i32, number}
-use Rattle.wasm_types.specs.values.declared.value.ValType.TheVariants as value
+use Rattle.wasm_operators_expression.specs.types.trees.Types.{i32, number}
+use Rattle.wasm_operators_expression.specs.types.values.declared.value.ValType.TheVariants as value
 use Rattle.wasm_operators_expression.specs.immediates.declared.block.BlockType.TheVariants as block
 use Rattle.wasm_operators_expression.specs.immediates.declared.frames.FrameKind.TheVariants as frames
 use Rattle.wasm_operators_expression.specs.control.declared.control.ControlOperator.TheVariants as control

@@ -1,9 +1,9 @@
 -- The contexts that the worked rows speak of.
 use Rattle.std.specs.Prelude.{ℕ, Bool, true, false, List, [], ◌∷◌, Some, None}
-use Rattle.wasm_types.specs.trees.Types.{i32, i64, number, ref, abstract, func, extern, function}
-use Rattle.wasm_types.specs.trees.Trees.{TypeTree}
-use Rattle.wasm_types.specs.trees.worked.Types.{alone, declared_entry}
-use Rattle.wasm_types.specs.externs.declared.memory.MemoryType.{MemoryType}
+use Rattle.wasm_operators_expression.specs.types.trees.Types.{i32, i64, number, ref, abstract, func, extern, function}
+use Rattle.wasm_operators_expression.specs.types.trees.Trees.{TypeTree}
+use Rattle.wasm_operators_expression.specs.types.trees.worked.Types.{alone, declared_entry}
+use Rattle.wasm_operators_expression.specs.types.externs.declared.memory.MemoryType.{MemoryType}
 use Rattle.wasm_operators_expression.specs.immediates.declared.memory.MemArg.{MemArg}
 use Rattle.wasm_operators_expression.specs.immediates.declared.memory.MemArgTarget.TheVariants as target
 use Rattle.wasm_operator_validator_rules.specs.Operands.{ValueType}

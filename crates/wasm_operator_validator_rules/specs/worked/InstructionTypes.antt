@@ -1,6 +1,6 @@
 -- Instruction types by the table, and operators for which it has none.
 use Rattle.std.specs.Prelude.{◌≡◌, ℤ, List, [], ◌∷◌, Some, None}
-use Rattle.wasm_types.specs.trees.Types.{Number, i32, i64, f32, f64, number}
+use Rattle.wasm_operators_expression.specs.types.trees.Types.{Number, i32, i64, f32, f64, number}
 use Rattle.wasm_operators_expression.specs.control.declared.control.ControlOperator.TheVariants as control
 use Rattle.wasm_operators_expression.specs.memory.declared.memory.MemoryOperator.TheVariants as memory
 use Rattle.wasm_operators_expression.specs.memory.declared.constant.ConstOperator.TheVariants as const

@@ -1,7 +1,7 @@
 -- Rows that hold and rows that do not.
 use Rattle.std.specs.Prelude.{true, false, List, [], ◌∷◌}
-use Rattle.wasm_types.specs.trees.Types.{i32, i64, f32, number, ref, concrete}
-use Rattle.wasm_types.specs.values.declared.value.ValType.TheVariants as value
+use Rattle.wasm_operators_expression.specs.types.trees.Types.{i32, i64, f32, number, ref, concrete}
+use Rattle.wasm_operators_expression.specs.types.values.declared.value.ValType.TheVariants as value
 use Rattle.wasm_operators_expression.specs.control.declared.control.ControlOperator.TheVariants as control
 use Rattle.wasm_operators_expression.specs.memory.declared.memory.MemoryOperator.TheVariants as memory
 use Rattle.wasm_operators_expression.specs.memory.declared.bulk.BulkOperator.TheVariants as bulk

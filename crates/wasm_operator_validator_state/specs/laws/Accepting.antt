@@ -1,18 +1,18 @@
 -- What each kind of operator does to what a state accepts.
 use Rattle.std.proofs.Common.{◌≡◌, ◌↔◌, ◌∙◌, ℕ, List, [], ◌∷◌, ◌++◌, Bool, true, false, Some, None, refl, sym, map}
-use Rattle.wasm_operators_expression.specs.immediates.declared.block.BlockType.{BlockType}
-use Rattle.wasm_operators_expression.specs.immediates.declared.frames.FrameKind.{FrameKind}
-use Rattle.wasm_operators_expression.specs.operator.Op.{Op}
-use Rattle.wasm_operators_expression.specs.operator.declared.role.Role.TheVariants as role
-use Rattle.wasm_operators_expression.specs.operator.Roles.{role_of}
+use Rattle.wasm_operator_validator_resources.specs.expression.immediates.declared.block.BlockType.{BlockType}
+use Rattle.wasm_operator_validator_resources.specs.expression.immediates.declared.frames.FrameKind.{FrameKind}
+use Rattle.wasm_operator_validator_resources.specs.expression.operator.Op.{Op}
+use Rattle.wasm_operator_validator_resources.specs.expression.operator.declared.role.Role.TheVariants as role
+use Rattle.wasm_operator_validator_resources.specs.expression.operator.Roles.{role_of}
 use Rattle.wasm_types.specs.trees.Types.{ref, abstract}
 use Rattle.wasm_types.specs.values.Trees.{abstract_of}
-use Rattle.wasm_operator_validator_rules.specs.Operands.{Operand, some_reference, known, OperandBelow, AllBelow, stack}
+use Rattle.wasm_operator_validator_resources.specs.rules.Operands.{Operand, some_reference, known, OperandBelow, AllBelow, stack}
 use Rattle.wasm_operator_validator_state.specs.laws.Operands.{operand_trans, all_below_refl}
 use Rattle.wasm_operator_validator_resources.specs.Meaning.{Meaning, type_in}
-use Rattle.wasm_operator_validator_rules.specs.Context.{Initialised, label_of}
-use Rattle.wasm_operator_validator_rules.specs.Row.{after}
-use Rattle.wasm_operator_validator_rules.specs.Typed.{Steps, MayClose}
+use Rattle.wasm_operator_validator_resources.specs.rules.Context.{Initialised, label_of}
+use Rattle.wasm_operator_validator_resources.specs.rules.Row.{after}
+use Rattle.wasm_operator_validator_resources.specs.rules.Typed.{Steps, MayClose}
 use Rattle.wasm_operator_validator_state.specs.declared.operand.MaybeType.{MaybeType}
 use Rattle.wasm_operator_validator_state.specs.declared.operand.MaybeType.TheVariants as maybe
 use Rattle.wasm_operator_validator_state.specs.State.{Given, Open, State, Stands, Covers, signature_of, initialised, results, context, frame_of, types_in, label, last_of, InFrame, ClosesAll, Accepts}

@@ -1,16 +1,16 @@
 -- A body's operators are accepted exactly where they are those of a well-typed body.
 use Rattle.std.proofs.Common.{◌≡◌, ◌∙◌, List, [], ◌∷◌, ◌++◌, false, Some, refl, sym, subst, append-nil}
-use Rattle.wasm_operators_expression.specs.immediates.declared.frames.FrameKind.{FrameKind}
-use Rattle.wasm_operators_expression.specs.immediates.declared.frames.FrameKind.TheVariants as frames
-use Rattle.wasm_operators_expression.specs.operator.declared.role.Role.{Role}
-use Rattle.wasm_operators_expression.specs.operator.declared.role.Role.TheVariants as role
-use Rattle.wasm_operators_expression.specs.operator.declared.role.Effect.TheVariants as effects
-use Rattle.wasm_operators_expression.specs.operator.Roles.{role_of, effect}
-use Rattle.wasm_operators_expression.specs.Code.{Code, close, plain, nested, turn, walk, IsIn}
-use Rattle.wasm_operator_validator_rules.specs.Operands.{ValueType, Operand, stack}
-use Rattle.wasm_operator_validator_rules.specs.Context.{Context, Initialised, Frame, inside}
-use Rattle.wasm_operator_validator_rules.specs.Row.{after}
-use Rattle.wasm_operator_validator_rules.specs.Typed.{Typed, IsBody}
+use Rattle.wasm_operator_validator_resources.specs.expression.immediates.declared.frames.FrameKind.{FrameKind}
+use Rattle.wasm_operator_validator_resources.specs.expression.immediates.declared.frames.FrameKind.TheVariants as frames
+use Rattle.wasm_operator_validator_resources.specs.expression.operator.declared.role.Role.{Role}
+use Rattle.wasm_operator_validator_resources.specs.expression.operator.declared.role.Role.TheVariants as role
+use Rattle.wasm_operator_validator_resources.specs.expression.operator.declared.role.Effect.TheVariants as effects
+use Rattle.wasm_operator_validator_resources.specs.expression.operator.Roles.{role_of, effect}
+use Rattle.wasm_operator_validator_resources.specs.expression.Code.{Code, close, plain, nested, turn, walk, IsIn}
+use Rattle.wasm_operator_validator_resources.specs.rules.Operands.{ValueType, Operand, stack}
+use Rattle.wasm_operator_validator_resources.specs.rules.Context.{Context, Initialised, Frame, inside}
+use Rattle.wasm_operator_validator_resources.specs.rules.Row.{after}
+use Rattle.wasm_operator_validator_resources.specs.rules.Typed.{Typed, IsBody}
 use Rattle.wasm_operator_validator_resources.specs.Meaning.{Meaning}
 use Rattle.wasm_operator_validator_state.specs.State.{Covers, signature_of, initialised, Accepts}
 use Rattle.wasm_operator_validator_state.specs.Bodies.{fresh, body_context, BodiesAreAccepted}

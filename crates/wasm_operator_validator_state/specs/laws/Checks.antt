@@ -3,11 +3,11 @@ use Rattle.std.proofs.Common.{◌≡◌, ◌∙◌, Bool, true, false, List, ◌
 use Rattle.wasm_types.specs.error.declared.error.ErrorKind.{ErrorKind}
 use Rattle.wasm_types.specs.error.declared.error.ErrorKind.TheVariants as kinds
 use Rattle.wasm_types.specs.error.Denials.{Denies}
-use Rattle.wasm_operators_expression.specs.info.declared.proposal.Proposal.{Proposal}
-use Rattle.wasm_operators_expression.specs.info.declared.proposal.Proposal.TheVariants as proposals
-use Rattle.wasm_operators_expression.specs.operator.Op.{Op}
-use Rattle.wasm_operators_expression.specs.operator.declared.role.Role.TheVariants as role
-use Rattle.wasm_operators_expression.specs.operator.Roles.{role_of}
+use Rattle.wasm_operator_validator_resources.specs.expression.info.declared.proposal.Proposal.{Proposal}
+use Rattle.wasm_operator_validator_resources.specs.expression.info.declared.proposal.Proposal.TheVariants as proposals
+use Rattle.wasm_operator_validator_resources.specs.expression.operator.Op.{Op}
+use Rattle.wasm_operator_validator_resources.specs.expression.operator.declared.role.Role.TheVariants as role
+use Rattle.wasm_operator_validator_resources.specs.expression.operator.Roles.{role_of}
 use Rattle.wasm_operator_validator_resources.specs.Meaning.{Meaning}
 use Rattle.wasm_operator_validator_state.specs.Refusals.{kind_of}
 use Rattle.wasm_operator_validator_state.specs.declared.refusal.Refusal.{Refusal}

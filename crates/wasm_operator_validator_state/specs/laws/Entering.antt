@@ -7,14 +7,14 @@ use Rattle.wasm_types.specs.features.Features.{Floats, has}
 use Rattle.wasm_types.specs.trees.Gates.{Has}
 use Rattle.wasm_types.specs.error.Denials.{Denies}
 use Rattle.wasm_types.specs.error.DenialLaws.{denies_from}
-use Rattle.wasm_operators_expression.specs.info.Info.{features_of}
-use Rattle.wasm_operators_expression.specs.info.declared.proposal.Proposal.{Proposal}
-use Rattle.wasm_operators_expression.specs.info.declared.proposal.Proposal.TheVariants as proposals
-use Rattle.wasm_operators_expression.specs.operator.Op.{Op}
-use Rattle.wasm_operators_expression.specs.operator.Table.{info_of}
-use Rattle.wasm_operators_expression.specs.operator.declared.role.Role.TheVariants as role
-use Rattle.wasm_operators_expression.specs.operator.Roles.{role_of}
-use Rattle.wasm_operator_validator_rules.specs.Row.{IsEnabled, names_float}
+use Rattle.wasm_operator_validator_resources.specs.expression.info.Info.{features_of}
+use Rattle.wasm_operator_validator_resources.specs.expression.info.declared.proposal.Proposal.{Proposal}
+use Rattle.wasm_operator_validator_resources.specs.expression.info.declared.proposal.Proposal.TheVariants as proposals
+use Rattle.wasm_operator_validator_resources.specs.expression.operator.Op.{Op}
+use Rattle.wasm_operator_validator_resources.specs.expression.operator.Table.{info_of}
+use Rattle.wasm_operator_validator_resources.specs.expression.operator.declared.role.Role.TheVariants as role
+use Rattle.wasm_operator_validator_resources.specs.expression.operator.Roles.{role_of}
+use Rattle.wasm_operator_validator_resources.specs.rules.Row.{IsEnabled, names_float}
 use Rattle.wasm_operator_validator_resources.specs.Meaning.{Meaning}
 use Rattle.wasm_operator_validator_state.specs.State.{Given, Open, State, initialised, ClosesAll, Accepts}
 use Rattle.wasm_operator_validator_state.specs.Steps.{IsOpen}

@@ -1,10 +1,10 @@
 use Rattle.std.proofs.Common.{[], ◌∷◌, false}
 use Rattle.wasm_types.specs.values.declared.value.ValType.TheVariants as vals
-use Rattle.wasm_operators_expression.specs.info.declared.proposal.Proposal.TheVariants.{Threads}
-use Rattle.wasm_operators_expression.specs.operator.Op as op
-use Rattle.wasm_operator_validator_rules.specs.Accesses.{wait}
-use Rattle.wasm_operator_validator_state.specs.Refusals.{refused}
-use Rattle.wasm_operator_validator_determined.specs.laws.Determined.{not_begun, refused_here, undetermined, determined}
+use Rattle.wasm_operator_validator_memory.specs.expression.info.declared.proposal.Proposal.TheVariants.{Threads}
+use Rattle.wasm_operator_validator_memory.specs.expression.operator.Op as op
+use Rattle.wasm_operator_validator_memory.specs.rules.Accesses.{wait}
+use Rattle.wasm_operator_validator_memory.specs.state.Refusals.{refused}
+use Rattle.wasm_operator_validator_memory.specs.determined.laws.Determined.{not_begun, refused_here, undetermined, determined}
 use Rattle.wasm_operator_validator_atomics.proofs.Atomic.{in_table, wait_type, no_access}
 use Rattle.wasm_operator_validator_atomics.proofs.waiting.check_atomic_wait.Goals as goal
 

@@ -1,6 +1,6 @@
 use Rattle.std.proofs.Common.{◌≡◌, false, true, refl, sym, ◌∙◌, arith}
 use Rattle.wasm_types.specs.trees.Below.{Below}
-use Rattle.wasm_operator_validator_resources.specs.Meaning.{type_in}
+use Rattle.wasm_operator_validator_state.specs.resources.Meaning.{type_in}
 use Rattle.wasm_operator_validator_blocks.proofs.Each.{as_long, all_below, below_at}
 use Rattle.wasm_operator_validator_blocks.proofs.below.are_below.Goals as goal
 

@@ -1,5 +1,5 @@
 use Rattle.std.proofs.Common.{sym, ap}
-use Rattle.wasm_operator_validator_rules.specs.Context.{Signature}
+use Rattle.wasm_operator_validator_state.specs.rules.Context.{Signature}
 use Rattle.wasm_operator_validator_blocks.proofs.Signing.{signature_none}
 use Rattle.wasm_operator_validator_blocks.proofs.signatures.block_params.Goals as goal
 

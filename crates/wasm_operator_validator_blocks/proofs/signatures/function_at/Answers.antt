@@ -1,5 +1,5 @@
 use Rattle.std.proofs.Common.{◌∙◌, ap, sym, subst, option_map, Option}
-use Rattle.wasm_operator_validator_rules.specs.Context.{Signature}
+use Rattle.wasm_operator_validator_state.specs.rules.Context.{Signature}
 use Rattle.wasm_operator_validator_blocks.specs.Signatures.{signature_in, IsFunctionAt}
 use Rattle.wasm_operator_validator_blocks.proofs.Signing.{map_twice, some_at}
 use Rattle.wasm_operator_validator_blocks.proofs.signatures.function_at.Goals as goal

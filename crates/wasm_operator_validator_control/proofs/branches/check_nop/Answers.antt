@@ -1,6 +1,6 @@
 use Rattle.std.proofs.Common.{[], false, refl}
-use Rattle.wasm_operators_expression.specs.info.declared.proposal.Proposal.TheVariants.{Mvp}
-use Rattle.wasm_operator_validator_state.specs.Refusals.{refused}
+use Rattle.wasm_operator_validator_determined.specs.expression.info.declared.proposal.Proposal.TheVariants.{Mvp}
+use Rattle.wasm_operator_validator_determined.specs.state.Refusals.{refused}
 use Rattle.wasm_operator_validator_determined.specs.laws.Determined.{by_types}
 use Rattle.wasm_operator_validator_control.proofs.BranchRows.{nop, nop_is}
 use Rattle.wasm_operator_validator_control.proofs.branches.check_nop.Goals as goal

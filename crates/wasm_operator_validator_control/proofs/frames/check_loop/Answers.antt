@@ -1,10 +1,10 @@
 use Rattle.std.proofs.Common.{false, refl, sym}
-use Rattle.wasm_operators_expression.specs.info.declared.proposal.Proposal.TheVariants.{Mvp}
-use Rattle.wasm_operators_expression.specs.immediates.declared.frames.FrameKind.TheVariants as frames
-use Rattle.wasm_operators_expression.specs.control.declared.control.ControlOperator.TheVariants as control
-use Rattle.wasm_operators_expression.specs.operator.Op as op
-use Rattle.wasm_operator_validator_state.specs.Refusals.{kind_of, refused}
-use Rattle.wasm_operator_validator_state.specs.laws.Checks.{checks_going}
+use Rattle.wasm_operator_validator_determined.specs.expression.info.declared.proposal.Proposal.TheVariants.{Mvp}
+use Rattle.wasm_operator_validator_determined.specs.expression.immediates.declared.frames.FrameKind.TheVariants as frames
+use Rattle.wasm_operator_validator_determined.specs.expression.control.declared.control.ControlOperator.TheVariants as control
+use Rattle.wasm_operator_validator_determined.specs.expression.operator.Op as op
+use Rattle.wasm_operator_validator_determined.specs.state.Refusals.{kind_of, refused}
+use Rattle.wasm_operator_validator_determined.specs.state.laws.Checks.{checks_going}
 use Rattle.wasm_operator_validator_control.proofs.Opening.{opener, no_opener}
 use Rattle.wasm_operator_validator_control.proofs.frames.check_loop.Goals as goal
 

@@ -1,8 +1,8 @@
 use Rattle.std.proofs.Common.{[], ◌∷◌, false}
-use Rattle.wasm_operators_expression.specs.info.declared.proposal.Proposal.TheVariants.{Mvp}
-use Rattle.wasm_operators_expression.specs.memory.declared.memory.MemoryOperator.TheVariants as memory
-use Rattle.wasm_operators_expression.specs.operator.Op as op
-use Rattle.wasm_operator_validator_state.specs.Refusals.{refused}
+use Rattle.wasm_operator_validator_determined.specs.expression.info.declared.proposal.Proposal.TheVariants.{Mvp}
+use Rattle.wasm_operator_validator_determined.specs.expression.memory.declared.memory.MemoryOperator.TheVariants as memory
+use Rattle.wasm_operator_validator_determined.specs.expression.operator.Op as op
+use Rattle.wasm_operator_validator_determined.specs.state.Refusals.{refused}
 use Rattle.wasm_operator_validator_determined.specs.laws.Determined.{not_begun, refused_here, undetermined, determined}
 use Rattle.wasm_operator_validator_memory.proofs.Spaces.{grow_in_table, grow_type, grow_none}
 use Rattle.wasm_operator_validator_memory.proofs.memories.check_memory_grow.Goals as goal

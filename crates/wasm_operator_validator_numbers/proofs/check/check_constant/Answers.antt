@@ -1,8 +1,8 @@
 use Rattle.std.proofs.Common.{[], ◌∷◌}
-use Rattle.wasm_operators_expression.specs.info.declared.proposal.Proposal.TheVariants.{Mvp}
-use Rattle.wasm_operators_expression.specs.operator.Op as op
-use Rattle.wasm_operator_validator_resources.specs.Meaning.{type_in}
-use Rattle.wasm_operator_validator_state.specs.Refusals.{refused}
+use Rattle.wasm_operator_validator_determined.specs.expression.info.declared.proposal.Proposal.TheVariants.{Mvp}
+use Rattle.wasm_operator_validator_determined.specs.expression.operator.Op as op
+use Rattle.wasm_operator_validator_determined.specs.resources.Meaning.{type_in}
+use Rattle.wasm_operator_validator_determined.specs.state.Refusals.{refused}
 use Rattle.wasm_operator_validator_determined.specs.laws.Determined.{not_begun, given_only, determined}
 use Rattle.wasm_operator_validator_numbers.proofs.NumberTypes.{constant_in_table, constant_type_is}
 use Rattle.wasm_operator_validator_numbers.proofs.check.check_constant.Goals as goal

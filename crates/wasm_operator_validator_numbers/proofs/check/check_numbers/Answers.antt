@@ -1,5 +1,5 @@
-use Rattle.wasm_operators_expression.specs.operator.Op as op
-use Rattle.wasm_operator_validator_state.specs.Refusals.{refused}
+use Rattle.wasm_operator_validator_determined.specs.expression.operator.Op as op
+use Rattle.wasm_operator_validator_determined.specs.state.Refusals.{refused}
 use Rattle.wasm_operator_validator_determined.specs.laws.Determined.{not_begun, determined}
 use Rattle.wasm_operator_validator_numbers.proofs.NumberTypes.{numeric_in_table, numeric_type}
 use Rattle.wasm_operator_validator_numbers.proofs.check.check_numbers.Goals as goal

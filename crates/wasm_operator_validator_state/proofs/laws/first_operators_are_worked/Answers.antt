@@ -1,10 +1,10 @@
 use Rattle.std.proofs.Common.{◌≡◌, List, [], ◌∷◌, false, true, refl}
 use Rattle.wasm_types.specs.trees.Types.{i32, number}
 use Rattle.wasm_types.specs.values.declared.value.ValType.TheVariants.{I32}
-use Rattle.wasm_operators_expression.specs.immediates.declared.block.BlockType.TheVariants as block
-use Rattle.wasm_operators_expression.specs.operator.Op.{Op}
-use Rattle.wasm_operators_expression.specs.Code.{plain, close}
-use Rattle.wasm_operator_validator_rules.specs.Operands.{known}
+use Rattle.wasm_operator_validator_resources.specs.expression.immediates.declared.block.BlockType.TheVariants as block
+use Rattle.wasm_operator_validator_resources.specs.expression.operator.Op.{Op}
+use Rattle.wasm_operator_validator_resources.specs.expression.Code.{plain, close}
+use Rattle.wasm_operator_validator_resources.specs.rules.Operands.{known}
 use Rattle.wasm_operator_validator_resources.specs.Meaning.{type_in}
 use Rattle.wasm_operator_validator_state.specs.laws.Accepting.{accepts_nothing, ends}
 use Rattle.wasm_operator_validator_state.specs.laws.Closing.{in_else}

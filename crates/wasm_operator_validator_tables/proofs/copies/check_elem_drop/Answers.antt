@@ -1,8 +1,8 @@
 use Rattle.std.proofs.Common.{[], None, false}
-use Rattle.wasm_operators_expression.specs.info.declared.proposal.Proposal.TheVariants.{BulkMemory}
-use Rattle.wasm_operators_expression.specs.memory.declared.bulk.BulkOperator.TheVariants as bulk
-use Rattle.wasm_operators_expression.specs.operator.Op as op
-use Rattle.wasm_operator_validator_resources.specs.Meaning.{reference_in}
+use Rattle.wasm_operator_validator_determined.specs.expression.info.declared.proposal.Proposal.TheVariants.{BulkMemory}
+use Rattle.wasm_operator_validator_determined.specs.expression.memory.declared.bulk.BulkOperator.TheVariants as bulk
+use Rattle.wasm_operator_validator_determined.specs.expression.operator.Op as op
+use Rattle.wasm_operator_validator_determined.specs.resources.Meaning.{reference_in}
 use Rattle.wasm_operator_validator_determined.specs.laws.Same.{stays_refl}
 use Rattle.wasm_operator_validator_determined.specs.laws.Determined.{not_begun, stopped_by_content, refused_here, undetermined, unchanged, determined}
 use Rattle.wasm_operator_validator_tables.proofs.Indexing.{drop_in_table}

@@ -1,10 +1,10 @@
 use Rattle.std.proofs.Common.{[], ◌∷◌, false, refl}
 use Rattle.wasm_types.specs.values.declared.value.ValType.TheVariants as vals
-use Rattle.wasm_operators_expression.specs.info.declared.proposal.Proposal.TheVariants.{BulkMemory}
-use Rattle.wasm_operators_expression.specs.memory.declared.bulk.BulkOperator.TheVariants as bulk
-use Rattle.wasm_operators_expression.specs.operator.Op as op
-use Rattle.wasm_operator_validator_state.specs.Refusals.{refused}
-use Rattle.wasm_operator_validator_state.specs.State.{types_in}
+use Rattle.wasm_operator_validator_determined.specs.expression.info.declared.proposal.Proposal.TheVariants.{BulkMemory}
+use Rattle.wasm_operator_validator_determined.specs.expression.memory.declared.bulk.BulkOperator.TheVariants as bulk
+use Rattle.wasm_operator_validator_determined.specs.expression.operator.Op as op
+use Rattle.wasm_operator_validator_determined.specs.state.Refusals.{refused}
+use Rattle.wasm_operator_validator_determined.specs.state.State.{types_in}
 use Rattle.wasm_operator_validator_determined.specs.laws.Determined.{not_begun, refused_here, no_row, taken_only, by_types}
 use Rattle.wasm_operator_validator_tables.proofs.Indexing.{is_bulk}
 use Rattle.wasm_operator_validator_tables.proofs.Copying.{init_row, init_nowhere, init_from_nothing, init_unfit}

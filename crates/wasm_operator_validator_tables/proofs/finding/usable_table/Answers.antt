@@ -1,5 +1,5 @@
 use Rattle.std.proofs.Common.{slice_get}
-use Rattle.wasm_operator_validator_resources.specs.Meaning.{table_in}
+use Rattle.wasm_operator_validator_determined.specs.resources.Meaning.{table_in}
 use Rattle.wasm_operator_validator_determined.specs.laws.Usable.{none_usable, not_usable, usable}
 use Rattle.wasm_operator_validator_tables.specs.Tables.{table_is_shared}
 use Rattle.wasm_operator_validator_tables.proofs.finding.usable_table.Goals as goal

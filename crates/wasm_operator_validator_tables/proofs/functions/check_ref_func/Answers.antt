@@ -1,8 +1,8 @@
 use Rattle.std.proofs.Common.{false}
-use Rattle.wasm_operators_expression.specs.info.declared.proposal.Proposal.TheVariants.{ReferenceTypes}
-use Rattle.wasm_operators_expression.specs.memory.declared.bulk.BulkOperator.TheVariants as bulk
-use Rattle.wasm_operator_validator_resources.specs.Meaning.{type_in}
-use Rattle.wasm_operator_validator_state.specs.Refusals.{refused}
+use Rattle.wasm_operator_validator_determined.specs.expression.info.declared.proposal.Proposal.TheVariants.{ReferenceTypes}
+use Rattle.wasm_operator_validator_determined.specs.expression.memory.declared.bulk.BulkOperator.TheVariants as bulk
+use Rattle.wasm_operator_validator_determined.specs.resources.Meaning.{type_in}
+use Rattle.wasm_operator_validator_determined.specs.state.Refusals.{refused}
 use Rattle.wasm_operator_validator_determined.specs.laws.Determined.{not_begun, refused_here}
 use Rattle.wasm_operator_validator_tables.proofs.Indexing.{is_bulk}
 use Rattle.wasm_operator_validator_tables.proofs.ToFunctions.{func_op, not_referable, function_pushed}

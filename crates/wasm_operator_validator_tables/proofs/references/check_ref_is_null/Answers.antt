@@ -1,8 +1,8 @@
 use Rattle.std.proofs.Common.{◌∙◌, sym, false}
-use Rattle.wasm_operators_expression.specs.info.declared.proposal.Proposal.TheVariants.{ReferenceTypes}
-use Rattle.wasm_operators_expression.specs.memory.declared.bulk.BulkOperator.TheVariants as bulk
-use Rattle.wasm_operator_validator_state.specs.Refusals.{kind_of, refused}
-use Rattle.wasm_operator_validator_state.specs.laws.Accepting.{same_open}
+use Rattle.wasm_operator_validator_determined.specs.expression.info.declared.proposal.Proposal.TheVariants.{ReferenceTypes}
+use Rattle.wasm_operator_validator_determined.specs.expression.memory.declared.bulk.BulkOperator.TheVariants as bulk
+use Rattle.wasm_operator_validator_determined.specs.state.Refusals.{kind_of, refused}
+use Rattle.wasm_operator_validator_determined.specs.state.laws.Accepting.{same_open}
 use Rattle.wasm_operator_validator_determined.specs.laws.Determined.{not_begun}
 use Rattle.wasm_operator_validator_tables.proofs.Indexing.{is_bulk}
 use Rattle.wasm_operator_validator_tables.proofs.Referring.{is_null, tested, nothing_tested, no_reference}

@@ -1,5 +1,5 @@
 use Rattle.std.proofs.Common.{slice_get}
-use Rattle.wasm_operator_validator_resources.specs.Meaning.{global_in}
+use Rattle.wasm_operator_validator_determined.specs.resources.Meaning.{global_in}
 use Rattle.wasm_operator_validator_determined.specs.laws.Usable.{none_usable, not_usable, usable}
 use Rattle.wasm_operator_validator_variables.specs.Variables.{global_is_shared}
 use Rattle.wasm_operator_validator_variables.proofs.globals.usable_global.Goals as goal

@@ -1,9 +1,9 @@
 use Rattle.std.proofs.Common.{[], ◌∷◌, false, refl}
-use Rattle.wasm_operators_expression.specs.info.declared.proposal.Proposal.TheVariants.{Mvp}
-use Rattle.wasm_operators_expression.specs.memory.declared.memory.MemoryOperator.TheVariants as memory
-use Rattle.wasm_operators_expression.specs.operator.Op as op
-use Rattle.wasm_operator_validator_resources.specs.Meaning.{type_in}
-use Rattle.wasm_operator_validator_state.specs.Refusals.{kind_of}
+use Rattle.wasm_operator_validator_determined.specs.expression.info.declared.proposal.Proposal.TheVariants.{Mvp}
+use Rattle.wasm_operator_validator_determined.specs.expression.memory.declared.memory.MemoryOperator.TheVariants as memory
+use Rattle.wasm_operator_validator_determined.specs.expression.operator.Op as op
+use Rattle.wasm_operator_validator_determined.specs.resources.Meaning.{type_in}
+use Rattle.wasm_operator_validator_determined.specs.state.Refusals.{kind_of}
 use Rattle.wasm_operator_validator_determined.specs.laws.Determined.{not_begun, refused_here, no_row}
 use Rattle.wasm_operator_validator_variables.proofs.Operators.{local_tee_is, local_tee_row, local_tee_none}
 use Rattle.wasm_operator_validator_variables.proofs.Setting.{set_in_the_end, not_exchanged, set_within}

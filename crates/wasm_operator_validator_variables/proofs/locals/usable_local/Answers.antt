@@ -1,7 +1,7 @@
 use Rattle.std.proofs.Common.{slice_get}
 use Rattle.wasm_types.specs.trees.Below.{value_is_shared}
-use Rattle.wasm_operator_validator_resources.specs.Meaning.{type_in}
-use Rattle.wasm_operator_validator_state.specs.State.{types_in}
+use Rattle.wasm_operator_validator_determined.specs.resources.Meaning.{type_in}
+use Rattle.wasm_operator_validator_determined.specs.state.State.{types_in}
 use Rattle.wasm_operator_validator_determined.specs.laws.Usable.{none_usable, not_usable, usable}
 use Rattle.wasm_operator_validator_variables.proofs.Operators.{local_known, local_unknown}
 use Rattle.wasm_operator_validator_variables.proofs.locals.usable_local.Goals as goal

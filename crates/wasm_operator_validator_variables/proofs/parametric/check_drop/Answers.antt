@@ -1,6 +1,6 @@
 use Rattle.std.proofs.Common.{false}
-use Rattle.wasm_operators_expression.specs.info.declared.proposal.Proposal.TheVariants.{Mvp}
-use Rattle.wasm_operator_validator_state.specs.Refusals.{kind_of}
+use Rattle.wasm_operator_validator_determined.specs.expression.info.declared.proposal.Proposal.TheVariants.{Mvp}
+use Rattle.wasm_operator_validator_determined.specs.state.Refusals.{kind_of}
 use Rattle.wasm_operator_validator_determined.specs.laws.Determined.{not_begun}
 use Rattle.wasm_operator_validator_variables.proofs.Selecting.{drop_op, drop_is, dropped, not_dropped}
 use Rattle.wasm_operator_validator_variables.proofs.Room.{by_entry, drop_has_types}

@@ -1,7 +1,7 @@
 use Rattle.std.proofs.Common.{false}
-use Rattle.wasm_operators_expression.specs.info.declared.proposal.Proposal.TheVariants.{Mvp}
-use Rattle.wasm_operator_validator_state.specs.Refusals.{kind_of, refused}
-use Rattle.wasm_operator_validator_state.specs.laws.Accepting.{same_open}
+use Rattle.wasm_operator_validator_determined.specs.expression.info.declared.proposal.Proposal.TheVariants.{Mvp}
+use Rattle.wasm_operator_validator_determined.specs.state.Refusals.{kind_of, refused}
+use Rattle.wasm_operator_validator_determined.specs.state.laws.Accepting.{same_open}
 use Rattle.wasm_operator_validator_determined.specs.laws.Determined.{not_begun}
 use Rattle.wasm_operator_validator_variables.proofs.Selecting.{select_op, select_is, no_choice, no_second, no_first, not_chosen, put_on}
 use Rattle.wasm_operator_validator_variables.proofs.parametric.check_select.Goals as goal

@@ -1,6 +1,6 @@
 use Rattle.std.proofs.Common.{false}
-use Rattle.wasm_operators_expression.specs.info.declared.proposal.Proposal.TheVariants.{ReferenceTypes}
-use Rattle.wasm_operators_expression.specs.operator.Op as op
+use Rattle.wasm_operator_validator_determined.specs.expression.info.declared.proposal.Proposal.TheVariants.{ReferenceTypes}
+use Rattle.wasm_operator_validator_determined.specs.expression.operator.Op as op
 use Rattle.wasm_operator_validator_determined.specs.laws.Determined.{not_begun, stopped_by_content, refused_here}
 use Rattle.wasm_operator_validator_variables.proofs.WrittenTypes.{multi_is, not_multi}
 use Rattle.wasm_operator_validator_variables.proofs.typed.check_typed_select_multi.Goals as goal

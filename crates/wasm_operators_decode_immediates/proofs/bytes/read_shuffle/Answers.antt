@@ -2,9 +2,9 @@
 use Rattle.std.proofs.Common.{◌≡◌, ◌<◌, ◌∙◌, ap, List, ℕ, length, take, arith}
 use Rattle.std.proofs.lemmas.List.{take_more_set, length-set, take_all}
 use Rattle.std.proofs.lemmas.Result.{err_from_is_err_and}
-use Rattle.wasm_types.specs.decoding.Decoder.{Done}
-use Rattle.wasm_types.specs.decoding.Laws.{reaches_then}
-use Rattle.wasm_types.proofs.Rows.{goes_on, ends, is_done}
+use Rattle.wasm_operators_immediates.specs.types.decoding.Decoder.{Done}
+use Rattle.wasm_operators_immediates.specs.types.decoding.Laws.{reaches_then}
+use Rattle.wasm_operators_immediates.proofs.Rows.{goes_on, ends, is_done}
 use Rattle.wasm_operators_decode_immediates.specs.Bytes.{lane, shuffle}
 use Rattle.wasm_operators_decode_immediates.proofs.bytes.read_shuffle.Goals as goal
 

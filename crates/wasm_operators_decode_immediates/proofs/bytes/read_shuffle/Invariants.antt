@@ -1,6 +1,6 @@
 use Rattle.std.proofs.Common.{◌≡◌, ◌-◌, length, take}
-use Rattle.wasm_types.specs.decoding.Decoder.{repeated, Reaches}
-use Rattle.wasm_types.proofs.Rows.{with_front}
+use Rattle.wasm_operators_immediates.specs.types.decoding.Decoder.{repeated, Reaches}
+use Rattle.wasm_operators_immediates.proofs.Rows.{with_front}
 use Rattle.wasm_operators_decode_immediates.specs.Bytes.{lane}
 use Rattle.wasm_operators_decode_immediates.proofs.bytes.read_shuffle.Given as goal
 

@@ -1,4 +1,4 @@
-use Rattle.wasm_operators_immediates.proofs.Equality.{law, tree_law}
+use Rattle.wasm_operators_control.specs.immediate_equality.{law, tree_law}
 use Rattle.wasm_operators_control.proofs.Equality.{controls, parametrics, exceptions, continuations}
 use Rattle.wasm_operators_memory.proofs.Equality.{memories, consts, bulks}
 use Rattle.wasm_operators_numbers.proofs.Equality.{numerics}

@@ -1,5 +1,5 @@
 use Rattle.std.proofs.Common.{length, Ok}
-use Rattle.wasm_operators_visiting.specs.Walking.{WalksTo}
+use Rattle.wasm_operators_reader.specs.Walking.{WalksTo}
 use Rattle.wasm_operators_visiting.proofs.walking.visit_all.Given as goal
 
 -- the visitor was told of what was read so far

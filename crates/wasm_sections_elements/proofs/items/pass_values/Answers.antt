@@ -10,12 +10,14 @@ use Rattle.wasm_sections_elements.proofs.items.pass_values.Goals as goal
 pub returns-in_err-read-clause-answer : goal.returns-in_err-read-clause-answer
 returns-in_err-read-clause-answer g c =
     let p = err_from_is_err_and c.from_residual.result c.from_residual.ensures.1 in
-    rw (p.1, p.2) (ends (g.T.FromReader.decoder c.args.reader.now.settings) c.args.count c.loop.counter c.loop.reader _ _ _ c.loop.invariant.read c.loop-test.true (subst (λ (z : Settings). Fails c.in_err-read.field-0.0 (g.T.FromReader.decoder z c.loop.reader)) c.loop.invariant.forward.taken.settings c.in_err-read.ensures.answer.0))
+    rw (p.1, p.2) (ends (g.T.FromReader.decoder c.args.reader.now.settings) c.args.count c.loop.counter c.loop.reader _ _ _ c.loop.invariant.read c.loop-test.true
+    (subst (λ (z : Settings). Fails c.in_err-read.field-0.0 (g.T.FromReader.decoder z c.loop.reader)) c.loop.invariant.forward.taken.settings c.in_err-read.ensures.answer.0))
 
 pub loop-preserved : goal.loop-preserved
 loop-preserved g c = record {
   forward = reaches_then _ _ _ c.loop.invariant.forward c.in_ok-read.ensures.forward;
-  read = goes_on (g.T.FromReader.decoder c.args.reader.now.settings) c.args.count c.loop.counter c.loop.reader _ _ _ c.loop.invariant.read c.loop-test.true (sym (ap (λ (z : Settings). g.T.FromReader.decoder z c.loop.reader) c.loop.invariant.forward.taken.settings) ∙ c.in_ok-read.ensures.answer);
+  read = goes_on (g.T.FromReader.decoder c.args.reader.now.settings) c.args.count c.loop.counter c.loop.reader _ _ _ c.loop.invariant.read c.loop-test.true
+      (sym (ap (λ (z : Settings). g.T.FromReader.decoder z c.loop.reader) c.loop.invariant.forward.taken.settings) ∙ c.in_ok-read.ensures.answer);
 }
 
 pub returns-clause-answer : goal.returns-clause-answer

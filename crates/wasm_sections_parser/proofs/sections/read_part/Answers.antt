@@ -4,4 +4,9 @@ use Rattle.wasm_sections_parser.specs.Settled.{bytes_span}
 use Rattle.wasm_sections_parser.proofs.sections.read_part.Goals as goal
 
 pub part_between-requires : goal.part_between-requires
-part_between-requires c = omega (arith, bytes_span c.args.size c.args.reader.now c.read_bytes.new.self c.in_ok-text.text.now c.in_ok-text.ensures.answer, c.original_position-place.ensures, c.original_position-end.ensures)
+part_between-requires c = omega (
+  arith,
+  bytes_span c.args.size c.args.reader.now c.read_bytes.new.self c.in_ok-text.text.now c.in_ok-text.ensures.answer,
+  c.original_position-place.ensures,
+  c.original_position-end.ensures,
+)

@@ -1,6 +1,5 @@
 -- By the laws of what is asked for.
-use Rattle.wasm_sections_parser_steps.specs.Advance.{nothing_asked}
-use Rattle.wasm_sections_parser_hints.specs.HintLaws.{need_least}
+use Rattle.wasm_sections_parser_hints.specs.HintLaws.{need_least, nothing_asked}
 use Rattle.wasm_sections_parser_hints.proofs.laws.hints_are_least.Goals as goal
 
 pub returns-clause-least : goal.returns-clause-least

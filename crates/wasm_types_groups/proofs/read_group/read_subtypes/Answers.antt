@@ -5,7 +5,7 @@ use Rattle.std.proofs.lemmas.List.{map-append}
 use Rattle.wasm_types_fields.specs.decoding.Laws.{reaches_then}
 use Rattle.wasm_types_fields.specs.limits.Settings.{Settings}
 use Rattle.wasm_types_fields.specs.reader.Reading.{Fails}
-use Rattle.wasm_types_reader.proofs.Rows.{goes_on, ends, is_done}
+use Rattle.wasm_types_fields.proofs.Rows.{goes_on, ends, is_done}
 use Rattle.wasm_types_groups.specs.SpellsTypes.{sub_value}
 use Rattle.wasm_types_groups.specs.DecodeTypes.{sub_type}
 use Rattle.wasm_types_groups.specs.Places.{place_of}

@@ -1,6 +1,6 @@
 use Rattle.std.proofs.Common.{◌≡◌, ◌-◌, length, map}
 use Rattle.wasm_types_fields.specs.decoding.Decoder.{repeated, Reaches}
-use Rattle.wasm_types_reader.proofs.Rows.{with_front}
+use Rattle.wasm_types_fields.proofs.Rows.{with_front}
 use Rattle.wasm_types_groups.specs.SpellsTypes.{sub_value}
 use Rattle.wasm_types_groups.specs.DecodeTypes.{sub_type}
 use Rattle.wasm_types_groups.specs.Places.{place_of}

@@ -1,6 +1,6 @@
 use Rattle.wasm_types.specs.error.DenialLaws.{denies_from}
-use Rattle.wasm_operator_validator_rules.specs.Operands.{known}
-use Rattle.wasm_operator_validator_resources.specs.Meaning.{type_in}
+use Rattle.wasm_operator_validator_state.specs.rules.Operands.{known}
+use Rattle.wasm_operator_validator_state.specs.resources.Meaning.{type_in}
 use Rattle.wasm_operator_validator_state.specs.Refusals.{kind_of}
 use Rattle.wasm_operator_validator_stacks.proofs.Popping.{popped_known, not_popped}
 use Rattle.wasm_operator_validator_stacks.proofs.validator.OperatorValidator.pop_operand.Goals as goal
@@ -8,7 +8,7 @@ use Rattle.wasm_operator_validator_stacks.proofs.validator.OperatorValidator.pop
 pub returns-in-Err-clause-does : goal.returns-in-Err-clause-does
 returns-in-Err-clause-does g c =
     let m = g.R.WasmModuleResources.meaning c.args.resources.now in
-    denies_from (kind_of c.in-Err.refusal) _ _ (λ (s, p). (known (type_in m c.args.expected.now), s, p)) (c.in-Err.ensures.does m)
+    rw c.not_taken.ensures (denies_from (kind_of c.in-Err.refusal) _ _ (λ (s, p). (known (type_in m c.args.expected.now), s, p)) (c.in-Err.ensures.does m))
 
 pub returns-then-not-is_fit-clause-does : goal.returns-then-not-is_fit-clause-does
 returns-then-not-is_fit-clause-does g c =

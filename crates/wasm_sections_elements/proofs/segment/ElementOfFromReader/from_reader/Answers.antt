@@ -1,13 +1,7 @@
--- A flag, the mode and the elements, one behind the other.
-use Rattle.wasm_types.specs.decoding.Laws.{reaches_then}
+-- What was read holds its elements.
+use Rattle.wasm_sections_elements.specs.WholeLaws.{segment_answers}
 use Rattle.wasm_sections_elements.proofs.segment.ElementOfFromReader.from_reader.Goals as goal
 
-pub returns-then-flag-lt4-clause-forward : goal.returns-then-flag-lt4-clause-forward
-returns-then-flag-lt4-clause-forward g c =
-    reaches_then _ _ _ c.in_ok-flag.ensures.forward
-    (reaches_then _ _ _ c.in_ok-kind.ensures.forward c.read_functions.ensures.forward)
-
-pub returns-clause-forward : goal.returns-clause-forward
-returns-clause-forward g c =
-    reaches_then _ _ _ c.in_ok-flag.ensures.forward
-    (reaches_then _ _ _ c.in_ok-kind-2.ensures.forward c.read_expressions.ensures.forward)
+pub returns-clause-answer : goal.returns-clause-answer
+returns-clause-answer g c =
+    segment_answers g.E.FromReader.view g.E.FromReader.decoder c.read_element.result c.args.reader.now c.read_element.new.reader c.read_element.ensures.answer c.read_element.ensures.items

@@ -1,0 +1,3 @@
+pub mod Remapped
+pub mod Fitting
+pub mod WorkedProofs

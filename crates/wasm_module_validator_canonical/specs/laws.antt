@@ -1,0 +1,8 @@
+-- What the functions of src/laws.rt promise.
+pub mod Statements
+-- The proofs, for the crates above: nobody needs them to understand a rule.
+pub mod Each
+pub mod Written
+pub mod Unfolding
+pub mod Formed
+pub mod Spelled

@@ -1,0 +1,4 @@
+-- Valid composite types over ids.
+pub mod Composites
+-- Their laws, with the proofs.
+pub mod laws

@@ -1,0 +1,12 @@
+pub mod Plain
+pub mod PlainById
+pub mod AsWritten
+pub mod Stands
+pub mod Outcome
+pub mod Adding
+pub mod Ranges
+pub mod Verdict
+pub mod Steps
+pub mod Runs
+pub mod Empty
+pub mod WorkedProofs

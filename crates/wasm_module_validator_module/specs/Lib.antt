@@ -1,0 +1,2 @@
+-- What a contract sees of a module that is being read.
+pub mod Spaces

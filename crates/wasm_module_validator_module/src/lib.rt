@@ -1,0 +1,12 @@
+//! A module as far as it was read: its index spaces, by the indices and ids of its types (WebAssembly 3.0, structure, modules,
+//! indices).
+//!
+//! What is added was checked before; here it is held against its limit alone. `specs/Spaces.antt` says what a contract sees of a
+//! module: one space grows, and all else stays.
+#![tactic(auto)]
+
+mod adding;
+mod lookups;
+mod module;
+
+pub use module::{Function, Module};

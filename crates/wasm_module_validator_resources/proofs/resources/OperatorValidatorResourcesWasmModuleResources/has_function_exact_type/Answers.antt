@@ -1,0 +1,11 @@
+use Rattle.wasm_module_validator_module.specs.declared.module.Function.{Function}
+use Rattle.wasm_module_validator_resources.proofs.Finding.{so_at, none_at}
+use Rattle.wasm_module_validator_resources.proofs.resources.OperatorValidatorResourcesWasmModuleResources.has_function_exact_type.Goals as goal
+
+pub returns-in-Some : goal.returns-in-Some
+returns-in-Some c =
+    so_at (λ (f : Function). f.is_exact) (c.args.self.now.«module».now.functions) c.args.function_index c.in-Some.function c.in-Some.ensures.value
+
+pub returns-in-None : goal.returns-in-None
+returns-in-None c =
+    none_at (λ (f : Function). f.is_exact) (c.args.self.now.«module».now.functions) c.args.function_index c.in-None.ensures.value

@@ -1,0 +1,14 @@
+//! What operators ask of a module, answered by the module as it was read so far and the list that its types stand in.
+//!
+//! `specs/Reading.antt` says what a module means: the context of the rules, over the types that its ids stand for. Each answer is
+//! what `WasmModuleResources` promises of that meaning.
+#![tactic(auto)]
+
+mod named;
+mod resources;
+mod subtypes;
+mod types;
+
+pub use resources::OperatorValidatorResources;
+pub use wasm_module_validator_module::{Function, Module};
+pub use wasm_operator_validator_resources::WasmModuleResources;

@@ -1,0 +1,3 @@
+pub mod WorkedParts
+pub mod WorkedModules
+pub mod WorkedBytes

@@ -1,0 +1,299 @@
+-- The worked bytes: which modules they spell, and so whether they are accepted.
+use Rattle.std.specs.Prelude.{pos}
+use Rattle.std.proofs.Common.{◌≡◌, ℕ, suc, true, false, List, [], ◌∷◌, ◌++◌, length, None, refl, sym, ap, subst, inl, inr, arith, lit<, lit≤}
+use Rattle.wasm_types.specs.decoding.Leb.{u32, IsUnsigned, IsListed, last}
+use Rattle.wasm_types.specs.decoding.Lists.{IsListedWithin}
+use Rattle.wasm_types.specs.decoding.LebLaws.{decides-u32}
+use Rattle.wasm_types.specs.decoding.Decoder.{Grammar, Many}
+use Rattle.wasm_types.specs.limits.Limits.{default_limits}
+use Rattle.wasm_types.specs.indices.declared.index.UnpackedIndex.{UnpackedIndex}
+use Rattle.wasm_types.specs.trees.Types.{ValueOf, i32, number, function}
+use Rattle.wasm_types.specs.limits.Settings.{Settings}
+use Rattle.wasm_types.specs.features.Features.{Exceptions, has}
+use Rattle.wasm_types.specs.trees.Gates.{Has}
+use Rattle.wasm_types.specs.trees.worked.Gates.{all_but}
+use Rattle.wasm_types.specs.trees.ValidGroup.{Written}
+use Rattle.wasm_types.specs.values.Spells.{SpellsValue}
+use Rattle.wasm_types.specs.groups.Entries.{Declared}
+use Rattle.wasm_types.specs.groups.Spells.{SpellsGroup}
+use Rattle.wasm_sections_frames.specs.Outer.{Part, code, section, Outer, SpelledOuter, SpelledPart, SpelledHeader, Counts, Declares, DeclaresOrAbsent, IsCoreModule}
+use Rattle.wasm_sections_frames.specs.OuterLaws.{one_outer}
+use Rattle.wasm_module_validator_rules.specs.Syntax.{ModuleTree}
+use Rattle.wasm_module_validator_rules.specs.Binary.{SpelledGroup, SpelledFunction, SpelledSections, SpelledModule}
+use Rattle.wasm_module_validator_rules.specs.Valid.{IsValid}
+use Rattle.wasm_module_validator_rules.specs.UniqueLaws.{decided}
+use Rattle.wasm_module_validator_rules.specs.ModuleLaws.{one_module}
+use Rattle.wasm_module_validator_rules.specs.worked.Trees.{everything, without, empty, one_function, procedure, takes_i32, end, does}
+use Rattle.wasm_module_validator_rules.specs.worked.Modules.{starting}
+use Rattle.wasm_module_validator_rules.specs.worked.Bytes.{BytesWorked, header, takes_i32_section, function_section, start_section, code_section, count_section, tag_section}
+use Rattle.wasm_module_validator_rules.proofs.WorkedModules.{functions_worked}
+
+-- ---- numbers and lists
+
+zero_is : IsUnsigned 32 0 (0 ∷ [])
+zero_is = last 32 0 0 (omega arith) (lit< tt) refl
+
+one_is : IsUnsigned 32 1 (1 ∷ [])
+one_is = last 32 1 1 (omega arith) (lit< tt) refl
+
+none : {A : Type 0} (g : Grammar A) → IsListed g [] (0 ∷ [])
+none g = record { count = 0 ∷ []; values = []; counted = zero_is; each = refl; whole = refl }
+
+single_of : {A : Type 0} (g : Grammar A) (x : A) (a : ℕ) (text : List ℕ) → g x (a ∷ text) → IsListed g (x ∷ []) (1 ∷ a ∷ text)
+single_of g x a text h = record { count = 1 ∷ []; values = a ∷ text; counted = one_is; each = (a ∷ text, [], h, refl, end_of (a ∷ text)); whole = refl }
+  where
+    end_of : (xs : List ℕ) → xs ≡ xs ++ []
+    end_of [] = refl
+    end_of (x ∷ xs) = ap (λ (ys : List ℕ). x ∷ ys) (end_of xs)
+
+-- ---- frames
+
+head : SpelledHeader (record { version = 1; layer = 0 }) header
+head = record { version_text = 0x01 ∷ 0x00 ∷ []; layer_text = 0x00 ∷ 0x00 ∷ []; version_bytes = refl; layer_bytes = refl; version = refl; layer = refl; known = omega arith; whole = refl }
+
+-- a section other than code, with few bytes
+few : (z : Settings) (id : ℕ) (contents : List ℕ) → (id ≡ 0 → ⊥) → (id ≡ 10 → ⊥) → IsUnsigned 32 (length contents) (length contents ∷ []) → SpelledPart z (section id contents) (id ∷ length contents ∷ contents)
+few z id contents p q n = (p, q, (length contents ∷ contents, refl, record { size = length contents ∷ []; content = contents; counted = n; spelled = refl; whole = refl }))
+
+abbrev module_with : List Part → Outer
+module_with ps = record { header = record { version = 1; layer = 0 }; parts = ps }
+
+-- ---- a module with a start function of one type
+
+body_part : SpelledPart everything (code ((0x00 ∷ 0x0b ∷ []) ∷ [])) code_section
+body_part = (
+  0x04 ∷ 0x01 ∷ 0x02 ∷ 0x00 ∷ 0x0b ∷ [],
+  refl,
+  record {
+    size = 4 ∷ [];
+    content = 0x01 ∷ 0x02 ∷ 0x00 ∷ 0x0b ∷ [];
+    counted = last 32 4 4 (omega arith) (lit< tt) refl;
+    spelled = single_of _ _ 2 (0x00 ∷ 0x0b ∷ []) (record { size = 2 ∷ []; content = 0x00 ∷ 0x0b ∷ []; counted = last 32 2 2 (omega arith) (lit< tt) refl; spelled = refl; whole = refl });
+    whole = refl;
+  },
+)
+
+body_spelled : SpelledFunction everything (does [] end) (0x00 ∷ 0x0b ∷ [])
+unfolding default_limits
+body_spelled = record {
+  locals_text = 0x00 ∷ [];
+  body_text = 0x0b ∷ [];
+  within = lit≤ tt;
+  locals = record { listed = none _; within = lit≤ tt };
+  body = record { expression = refl; spelled = (0x0b ∷ [], [], record { canonical = refl; front = 0x0b ∷ []; back = []; opcode = (refl, refl); carried = refl; whole = refl }, refl, refl) };
+  whole = refl;
+}
+
+module _ (t : Written) (group : List ℕ) (small : IsUnsigned 32 (suc (suc (length group))) (suc (suc (length group)) ∷ [])) (spelled : SpelledGroup everything t (0x60 ∷ group)) where
+  abbrev parts : List Part
+  parts = section 1 (1 ∷ 0x60 ∷ group) ∷ section 3 (1 ∷ 0 ∷ []) ∷ section 8 (0 ∷ []) ∷ code ((0x00 ∷ 0x0b ∷ []) ∷ []) ∷ []
+
+  abbrev bytes : List ℕ
+  bytes = header ++ ((1 ∷ suc (suc (length group)) ∷ 1 ∷ 0x60 ∷ group) ++ (function_section ++ start_section ++ code_section))
+
+  abbrev group_section : List ℕ
+  group_section = 1 ∷ suc (suc (length group)) ∷ 1 ∷ 0x60 ∷ group
+
+  framed : SpelledOuter everything (module_with parts) bytes
+  framed = record {
+    header_text = header;
+    parts_text = group_section ++ (function_section ++ start_section ++ code_section);
+    headed = head;
+    each = (group_section, function_section ++ start_section ++ code_section, few everything 1 (1 ∷ 0x60 ∷ group) (λ e. omega (arith, e)) (λ e. omega (arith, e)) small, functions_behind, refl);
+    whole = refl;
+  }
+    where
+      code_behind : Many (SpelledPart everything) 1 (code ((0x00 ∷ 0x0b ∷ []) ∷ []) ∷ []) code_section
+      code_behind = (code_section, [], body_part, refl, refl)
+
+      start_behind : Many (SpelledPart everything) 2 (section 8 (0 ∷ []) ∷ code ((0x00 ∷ 0x0b ∷ []) ∷ []) ∷ []) (start_section ++ code_section)
+      start_behind = (start_section, code_section, few everything 8 (0 ∷ []) (λ e. omega (arith, e)) (λ e. omega (arith, e)) one_is, code_behind, refl)
+
+      functions_behind : Many (SpelledPart everything) 3 (section 3 (1 ∷ 0 ∷ []) ∷ section 8 (0 ∷ []) ∷ code ((0x00 ∷ 0x0b ∷ []) ∷ []) ∷ []) (function_section ++ start_section ++ code_section)
+      functions_behind = (function_section, start_section ++ code_section, few everything 3 (1 ∷ 0 ∷ []) (λ e. omega (arith, e)) (λ e. omega (arith, e)) (last 32 2 2 (omega arith) (lit< tt) refl), start_behind, refl)
+
+  started : SpelledModule everything (starting (one_function t end)) bytes
+  started = record {
+    outer = module_with parts;
+    framed = framed;
+    core = record {
+      version = refl;
+      layer = refl;
+      known = (inr (1, refl), (inr (3, refl), (inr (9, refl), (inr (12, refl), tt))));
+      ordered = (omega arith, (omega arith, (omega arith, (omega arith, tt))));
+      counts = record {
+        functions = 1;
+        declared = inl (inr (inl (refl, record { count = 1 ∷ []; items = 0 ∷ []; counted = one_is; whole = refl })));
+        defined = refl;
+        segments = uncounted;
+      };
+    };
+    sections = record {
+      types = single_of _ t 0x60 group spelled;
+      imports = refl;
+      functions = single_of _ 0 0 [] zero_is;
+      tables = refl;
+      memories = refl;
+      tags = refl;
+      tags_allowed = tt;
+      globals = refl;
+      exports = refl;
+      start = zero_is;
+      element_segments = refl;
+      data_count = tt;
+      code = (body_spelled, tt);
+      data_segments = refl;
+    };
+  }
+    where
+      uncounted : (n : ℕ) → Declares 12 n parts → DeclaresOrAbsent 11 n parts
+      uncounted n (inl h) = absurd (omega (arith, h.0))
+      uncounted n (inr (inl h)) = absurd (omega (arith, h.0))
+      uncounted n (inr (inr (inl h))) = absurd (omega (arith, h.0))
+      uncounted n (inr (inr (inr h))) = absurd h
+
+-- ---- function types
+
+-- a function type, and nothing else, as a subtype
+abbrev declared : List (ValueOf UnpackedIndex) → List (ValueOf UnpackedIndex) → Declared
+declared ps rs = record { supertypes = []; entry = record { is_final = true; supertype = None; shared = false; descriptor = None; describes = None; inner = function ps rs } }
+
+-- a group of one function type, by its parameters and results
+function_group : (ps rs : List (ValueOf UnpackedIndex)) (params results : List ℕ) → IsListedWithin everything.limits.params SpellsValue ps params
+    → IsListedWithin everything.limits.results SpellsValue rs results → SpellsGroup everything false (declared ps rs ∷ []) (0x60 ∷ (params ++ results))
+function_group ps rs params results p r = (
+  _,
+  refl,
+  inl (record {
+    is_final = refl;
+    alone = refl;
+    none = refl;
+    itself = record {
+      shared = [];
+      describes = [];
+      descriptor = [];
+      inner = 0x60 ∷ (params ++ results);
+      marked = refl;
+      describing = refl;
+      described = refl;
+      itself = (params ++ results, refl, record { params = params; results = results; taken = p; given = r; whole = refl });
+      whole = refl;
+    };
+  }),
+)
+
+procedure_group : SpelledGroup everything procedure (0x60 ∷ 0x00 ∷ 0x00 ∷ [])
+unfolding default_limits
+procedure_group = function_group [] [] (0x00 ∷ []) (0x00 ∷ []) (record { listed = none _; within = lit≤ tt }) (record { listed = none _; within = lit≤ tt })
+
+takes_group : SpelledGroup everything takes_i32 (0x60 ∷ 0x01 ∷ 0x7f ∷ 0x00 ∷ [])
+unfolding default_limits
+takes_group = function_group (number i32 ∷ []) [] (0x01 ∷ 0x7f ∷ []) (0x00 ∷ []) (record { listed = single_of _ _ 0x7f [] refl; within = lit≤ tt }) (record { listed = none _; within = lit≤ tt })
+
+takes_started : SpelledModule everything (starting (one_function takes_i32 end)) (header ++ takes_i32_section ++ function_section ++ start_section ++ code_section)
+takes_started = started takes_i32 (0x01 ∷ 0x7f ∷ 0x00 ∷ []) (last 32 5 5 (omega arith) (lit< tt) refl) takes_group
+
+-- ---- frames that are no module
+
+-- a section of functions without code
+function_framed : SpelledOuter everything (module_with (section 3 (1 ∷ 0 ∷ []) ∷ [])) (header ++ function_section)
+function_framed = record {
+  header_text = header;
+  parts_text = function_section;
+  headed = head;
+  each = (function_section, [], few everything 3 (1 ∷ 0 ∷ []) (λ e. omega (arith, e)) (λ e. omega (arith, e)) (last 32 2 2 (omega arith) (lit< tt) refl), refl, refl);
+  whole = refl;
+}
+
+count_framed : SpelledOuter everything (module_with (section 12 (1 ∷ []) ∷ [])) (header ++ count_section)
+count_framed = record {
+  header_text = header;
+  parts_text = count_section;
+  headed = head;
+  each = (count_section, [], few everything 12 (1 ∷ []) (λ e. omega (arith, e)) (λ e. omega (arith, e)) one_is, refl, refl);
+  whole = refl;
+}
+
+-- a tag section without tags, by whatever settings
+tags_framed : (z : Settings) → SpelledOuter z (module_with (section 13 (0 ∷ []) ∷ [])) (header ++ tag_section)
+tags_framed z = record {
+  header_text = header;
+  parts_text = tag_section;
+  headed = head;
+  each = (tag_section, [], few z 13 (0 ∷ []) (λ e. omega (arith, e)) (λ e. omega (arith, e)) one_is, refl, refl);
+  whole = refl;
+}
+
+no_exceptions : Has (all_but Exceptions) Exceptions → ⊥
+unfolding has
+no_exceptions h = absurd cc
+
+-- the count of one item is 1
+counts_one : (n : ℕ) (rest : List ℕ) → Counts n (1 ∷ rest) → n ≡ 1
+counts_one n rest h = (decided u32 (IsUnsigned 32) decides-u32 n 1 (1 ∷ rest) h.count h.items (1 ∷ []) rest h.whole h.counted refl one_is).0
+
+no_code : IsCoreModule (module_with (section 3 (1 ∷ 0 ∷ []) ∷ [])) → ⊥
+no_code h = go h.counts.functions h.counts.declared h.counts.defined
+  where
+    go : (n : ℕ) → DeclaresOrAbsent 3 n (section 3 (1 ∷ 0 ∷ []) ∷ []) → n ≡ 0 → ⊥
+    go n (inl (inl d)) e = let f = counts_one n (0 ∷ []) d.1 in omega (arith, e, f)
+    go n (inl (inr d)) e = absurd d
+    go n (inr a) e = a.1.0 refl
+
+no_segment : IsCoreModule (module_with (section 12 (1 ∷ []) ∷ [])) → ⊥
+no_segment h = go (h.counts.segments 1 (inl (refl, record { count = 1 ∷ []; items = []; counted = one_is; whole = refl })))
+  where
+    go : DeclaresOrAbsent 11 1 (section 12 (1 ∷ []) ∷ []) → ⊥
+    go (inl (inl d)) = omega (arith, d.0)
+    go (inl (inr d)) = d
+    go (inr a) = omega (arith, a.0)
+
+-- ---- the rows
+
+pub bytes_worked : BytesWorked
+bytes_worked = record {
+  header_alone = (
+    empty,
+    record {
+      spelled = record {
+        outer = module_with [];
+        framed = record { header_text = header; parts_text = []; headed = head; each = refl; whole = refl };
+        core = record {
+          version = refl;
+          layer = refl;
+          known = tt;
+          ordered = tt;
+          counts = record { functions = 0; declared = inr (refl, tt); defined = refl; segments = λ n d. absurd d };
+        };
+        sections = record {
+          types = refl;
+          imports = refl;
+          functions = refl;
+          tables = refl;
+          memories = refl;
+          tags = refl;
+          tags_allowed = tt;
+          globals = refl;
+          exports = refl;
+          start = tt;
+          element_segments = refl;
+          data_count = tt;
+          code = tt;
+          data_segments = refl;
+        };
+      };
+      valid = (functions_worked (pos 0)).nothing;
+    },
+  );
+  start = (
+    starting (one_function procedure end),
+    record { spelled = started procedure (0x00 ∷ 0x00 ∷ []) (last 32 4 4 (omega arith) (lit< tt) refl) procedure_group; valid = (functions_worked (pos 0)).start },
+  );
+  start_takes = λ a. (functions_worked (pos 0)).start_takes (subst (IsValid everything) (one_module everything a.0 _ _ a.1.spelled takes_started) a.1.valid);
+  code_missing = λ a. no_code (subst IsCoreModule (one_outer everything _ _ _ a.1.spelled.framed function_framed) a.1.spelled.core);
+  count_differs = λ a. no_segment (subst IsCoreModule (one_outer everything _ _ _ a.1.spelled.framed count_framed) a.1.spelled.core);
+  tag_section_needs = λ a. no_exceptions (tags_allowed a.0 a.1.spelled.outer (one_outer (without Exceptions) _ _ _ (tags_framed (without Exceptions)) a.1.spelled.framed) a.1.spelled.sections);
+}
+  where
+    tags_allowed : (m : ModuleTree) (o : Outer) → module_with (section 13 (0 ∷ []) ∷ []) ≡ o → SpelledSections (without Exceptions) m o.parts → Has (all_but Exceptions) Exceptions
+    tags_allowed m o e h = (subst (λ (k : Outer). SpelledSections (without Exceptions) m k.parts) (sym e) h).tags_allowed

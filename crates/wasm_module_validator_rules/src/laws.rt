@@ -1,0 +1,11 @@
+//! Laws of the rules, each on the contract of a function that does nothing.
+
+ghost use Rattle.std.specs.Prelude.{◌≡◌, ℕ, List};
+ghost use Rattle.wasm_types.specs.limits.Settings.{Settings};
+ghost use Rattle.wasm_module_validator_rules.specs.Syntax.{ModuleTree};
+ghost use Rattle.wasm_module_validator_rules.specs.Binary.{SpelledModule};
+
+/// Bytes fully spell at most one module, custom sections aside.
+pub fn modules_are_spelled_once()
+    ensures { (z : Settings) (m n : ModuleTree) (text : List ℕ) → SpelledModule z m text → SpelledModule z n text → m ≡ n }
+{}

@@ -1,0 +1,12 @@
+//! The rules of modules: which bytes spell a module, and which modules are valid (WebAssembly 3.0, structure, binary format and
+//! validation, modules).
+//!
+//! There is no code here but laws and worked modules, each on the contract of a function that does nothing. `specs/` is read in the order of its `Lib.antt`: the module as a tree, the bytes that spell it, its
+//! index spaces, constant expressions, valid modules, and what is accepted.
+#![tactic(auto)]
+
+mod laws;
+mod worked;
+
+pub use laws::modules_are_spelled_once;
+pub use worked::{bytes_are_worked, modules_are_worked};

@@ -1,0 +1,31 @@
+//! The validator of operators: whether the operators of an expression may come, one after the other.
+//!
+//! An [`OperatorValidator`] knows what may lie on the stack of operands at a place in a body, which frames are open, and which
+//! locals hold a value. What it asks of the module, as the type of a global, is a [`WasmModuleResources`]: a trait, so that a module
+//! may be validated while it is still read. [`new_func`] makes the validator of a function, [`OperatorValidator::define_locals`] adds
+//! its locals, and [`validate_expression`] tells it of each operator of the body. It answers `Ok` exactly where the bytes
+//! spell a body that is well typed, out of memory aside (WebAssembly 3.0, validation, instructions); a refusal has the offset of the
+//! operator that may not come.
+//!
+//! ```text
+//! let allocs = OperatorValidatorAllocations::new(alloc);
+//! let mut validator = new_func(type_index, body.start, &features, &module, allocs)?;
+//! validator.define_locals(offset, 2, ValType::I32, &module)?;
+//! validate_expression(alloc, operators, &mut validator, &module)?;
+//! let allocs = validator.into_allocations();
+//! ```
+//!
+//! An operator may be tried and taken back: between `begin_try_op` and `rollback` the validator keeps what it undoes, and `commit`
+//! lets it stand.
+//!
+//! This crate has no code of its own. The rules stand in the crates below: what each operator takes and gives, and the typing of
+//! code, in `wasm_operator_validator_rules`; what a validator knows, and which operators it accepts, in
+//! `wasm_operator_validator_state`; which bytes it accepts, in `wasm_operator_validator_expression`. That what is
+//! accepted is never stuck is a law of `wasm_operator_validator_accepted`.
+#![tactic(auto)]
+
+pub use wasm_operator_validator_functions::new_func;
+pub use wasm_operator_validator_walk::{
+    BlockType, Frame, FrameKind, LocalInits, Locals, MaybeType, OperatorValidator,
+    OperatorValidatorAllocations, WasmModuleResources, validate_expression,
+};

@@ -1,0 +1,2 @@
+-- The soundness of bodies that a validator accepts.
+pub mod Accepted

@@ -1,0 +1,118 @@
+-- Constant expressions (WebAssembly 3.0, validation, instructions, constant expressions).
+--
+-- An expression is constant where each of its operators is, and where it has the required type as a body without locals would,
+-- in the context of what stands before it. Which globals it sees is the caller's to say; of these it may read the immutable ones,
+-- and those of the module itself by the features of garbage collection alone.
+use Rattle.std.specs.Prelude.{◌≡◌, ℕ, ◌≤◌, false, List, [], ◌∷◌, Some, slice_get, take}
+use Rattle.wasm_operator_validator_rules.specs.expression.types.features.Features.{ExtendedConst, Gc, SharedEverythingThreads}
+use Rattle.wasm_operator_validator_rules.specs.expression.types.trees.Gates.{Has}
+use Rattle.wasm_operator_validator_rules.specs.expression.control.declared.control.ControlOperator.{ControlOperator}
+use Rattle.wasm_operator_validator_rules.specs.expression.control.declared.control.ControlOperator.TheVariants as control
+use Rattle.wasm_operator_validator_rules.specs.expression.memory.declared.memory.MemoryOperator.{MemoryOperator}
+use Rattle.wasm_operator_validator_rules.specs.expression.memory.declared.memory.MemoryOperator.TheVariants as memory
+use Rattle.wasm_operator_validator_rules.specs.expression.memory.declared.bulk.BulkOperator.{BulkOperator}
+use Rattle.wasm_operator_validator_rules.specs.expression.memory.declared.bulk.BulkOperator.TheVariants as bulk
+use Rattle.wasm_operator_validator_rules.specs.expression.numbers.declared.numeric.NumericOperator.{NumericOperator}
+use Rattle.wasm_operator_validator_rules.specs.expression.numbers.declared.numeric.NumericOperator.TheVariants as numeric
+use Rattle.wasm_operator_validator_rules.specs.expression.threads.declared.atomic.SharedOperator.{SharedOperator}
+use Rattle.wasm_operator_validator_rules.specs.expression.threads.declared.atomic.SharedOperator.TheVariants as shared
+use Rattle.wasm_operator_validator_rules.specs.expression.operator.gc.declared.gc.GcOperator.{GcOperator}
+use Rattle.wasm_operator_validator_rules.specs.expression.operator.gc.declared.gc.GcOperator.TheVariants as gc
+use Rattle.wasm_operator_validator_rules.specs.expression.operator.gc.declared.gc.DescriptorOperator.{DescriptorOperator}
+use Rattle.wasm_operator_validator_rules.specs.expression.operator.gc.declared.gc.DescriptorOperator.TheVariants as descriptor
+use Rattle.wasm_operator_validator_rules.specs.expression.operator.Op as op
+use Rattle.wasm_operator_validator_rules.specs.expression.operator.Op.{Op}
+use Rattle.wasm_operator_validator_rules.specs.expression.Code.{Code, walk}
+use Rattle.wasm_operator_validator_rules.specs.Operands.{ValueType}
+use Rattle.wasm_operator_validator_rules.specs.Context.{Module, Global, Context}
+use Rattle.wasm_operator_validator_rules.specs.Typed.{IsBody}
+
+-- ---- constant operators
+
+-- sums, differences and products (validation, constant expressions)
+abbrev pub IsConstantNumber : ℕ → NumericOperator → Type 0
+IsConstantNumber bits numeric.I32Add = Has bits ExtendedConst
+IsConstantNumber bits numeric.I32Sub = Has bits ExtendedConst
+IsConstantNumber bits numeric.I32Mul = Has bits ExtendedConst
+IsConstantNumber bits numeric.I64Add = Has bits ExtendedConst
+IsConstantNumber bits numeric.I64Sub = Has bits ExtendedConst
+IsConstantNumber bits numeric.I64Mul = Has bits ExtendedConst
+IsConstantNumber bits o = ⊥
+
+-- new structs and arrays, and references made of other values
+abbrev pub IsConstantObject : ℕ → GcOperator → Type 0
+IsConstantObject bits (gc.StructNew x) = Has bits Gc
+IsConstantObject bits (gc.StructNewDefault x) = Has bits Gc
+IsConstantObject bits (gc.ArrayNew x) = Has bits Gc
+IsConstantObject bits (gc.ArrayNewDefault x) = Has bits Gc
+IsConstantObject bits (gc.ArrayNewFixed x n) = Has bits Gc
+IsConstantObject bits gc.RefI31 = Has bits Gc
+IsConstantObject bits gc.AnyConvertExtern = Has bits Gc
+IsConstantObject bits gc.ExternConvertAny = Has bits Gc
+IsConstantObject bits o = ⊥
+
+-- new structs with descriptors (the proposal on custom descriptors)
+abbrev pub IsConstantDescribed : ℕ → DescriptorOperator → Type 0
+IsConstantDescribed bits (descriptor.StructNewDesc x) = Has bits Gc
+IsConstantDescribed bits (descriptor.StructNewDefaultDesc x) = Has bits Gc
+IsConstantDescribed bits o = ⊥
+
+-- a global that a constant may read, where the first so many are imported
+abbrev pub IsConstantGlobal : ℕ → Module → ℕ → ℕ → Type 0
+IsConstantGlobal bits g count x = (v : Global) × (slice_get g.globals x ≡ Some v) × (v.mutable ≡ false) × (count ≤ x → Has bits Gc)
+
+abbrev pub IsConstantMemory : ℕ → Module → ℕ → MemoryOperator → Type 0
+IsConstantMemory bits g count (memory.GlobalGet x) = IsConstantGlobal bits g count x
+IsConstantMemory bits g count o = ⊥
+
+abbrev pub IsConstantReference : BulkOperator → Type 0
+IsConstantReference (bulk.RefNull h) = Unit {0}
+IsConstantReference (bulk.RefFunc x) = Unit {0}
+IsConstantReference o = ⊥
+
+abbrev pub IsEnd : ControlOperator → Type 0
+IsEnd control.End = Unit {0}
+IsEnd o = ⊥
+
+-- a shared reference to a number (the proposal on shared everything)
+abbrev pub IsConstantShared : ℕ → SharedOperator → Type 0
+IsConstantShared bits shared.RefI31Shared = Has bits SharedEverythingThreads
+IsConstantShared bits o = ⊥
+
+-- a constant operator, by these features, in this module, of whose globals the first so many are imported
+abbrev pub IsConstantOperator : ℕ → Module → ℕ → Op → Type 0
+IsConstantOperator bits g count (op.Const o) = Unit {0}
+IsConstantOperator bits g count (op.Numeric o) = IsConstantNumber bits o
+IsConstantOperator bits g count (op.Memory o) = IsConstantMemory bits g count o
+IsConstantOperator bits g count (op.Bulk o) = IsConstantReference o
+IsConstantOperator bits g count (op.Gc o) = IsConstantObject bits o
+IsConstantOperator bits g count (op.Descriptor o) = IsConstantDescribed bits o
+IsConstantOperator bits g count (op.Shared o) = IsConstantShared bits o
+IsConstantOperator bits g count (op.Control o) = IsEnd o
+IsConstantOperator bits g count o = ⊥
+
+abbrev pub AreConstantOperators : ℕ → Module → ℕ → List Op → Type 0
+AreConstantOperators bits g count [] = Unit {0}
+AreConstantOperators bits g count (o ∷ os) = IsConstantOperator bits g count o × AreConstantOperators bits g count os
+
+-- ---- constant expressions
+
+-- the context of a constant: no locals, and one result
+abbrev pub constant_context : ℕ → Module → ValueType → Context
+constant_context bits g t = record {
+  bits = bits;
+  «module» = g;
+  locals = [];
+  labels = [];
+  results = t ∷ [];
+  shared = false;
+}
+
+-- the module with so many of its globals, from the first on
+abbrev pub seeing : ℕ → Module → Module
+seeing n g = record g { globals = take n g.globals }
+
+-- a constant expression of this type
+pub record IsConstant (bits : ℕ) (g : Module) (count : ℕ) (t : ValueType) (c : Code) : Type 0 where
+  pub operators : AreConstantOperators bits g count (walk c)
+  pub typed : IsBody (constant_context bits g t) 0 c

@@ -1,0 +1,14 @@
+use Rattle.std.proofs.Common.{refl}
+use Rattle.wasm_operators_visiting.specs.reader.operator.Op.{op_of}
+use Rattle.wasm_operator_validator_constants.specs.Checked.{Surroundings}
+use Rattle.wasm_operator_validator_constants.specs.laws.Driven.{refused_visit}
+use Rattle.wasm_operator_validator_constants.proofs.walk.ConstantWalkTellOperator.tell.Goals as goal
+
+pub returns-in-Err : goal.returns-in-Err
+returns-in-Err g c =
+    let w : Surroundings = record {
+      bits = c.args.self.now.features.0;
+      meaning = g.R.WasmModuleResources.meaning c.args.self.now.walk.visitor.resources.now;
+      imported = c.args.self.now.imported_globals;
+    } in
+    (refused_visit w c.args.self.now.walk.visitor.inner.now c.fail.new.self (op_of c.args.op) c.in-Err.refusal c.in-Err.ensures.why c.fail.ensures, refl, refl, refl, refl)

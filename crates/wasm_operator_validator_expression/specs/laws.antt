@@ -1,0 +1,4 @@
+pub mod Vectors
+pub mod Walked
+pub mod Ways
+pub mod Driven

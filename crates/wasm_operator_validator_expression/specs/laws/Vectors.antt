@@ -1,0 +1,93 @@
+-- Typed code has no operators on vectors: these have no rows.
+use Rattle.std.proofs.Common.{◌≡◌, List, [], ◌∷◌, ◌++◌, Option, Some, false, refl, sym, subst}
+use Rattle.wasm_operators_visiting.specs.reader.immediates.declared.frames.FrameKind.{FrameKind}
+use Rattle.wasm_operators_visiting.specs.reader.operator.Op as op
+use Rattle.wasm_operators_visiting.specs.reader.operator.Op.{Op}
+use Rattle.wasm_operators_visiting.specs.reader.operator.declared.role.Role.{Role}
+use Rattle.wasm_operators_visiting.specs.reader.operator.declared.role.Role.TheVariants as role
+use Rattle.wasm_operators_visiting.specs.reader.operator.declared.role.Effect.{Effect}
+use Rattle.wasm_operators_visiting.specs.reader.operator.declared.role.Effect.TheVariants as effects
+use Rattle.wasm_operators_visiting.specs.reader.operator.Roles.{role_of, effect}
+use Rattle.wasm_operators_visiting.specs.reader.visit_operator.Vectors.{is_simd}
+use Rattle.wasm_operators_visiting.specs.reader.expression.Code.{Code, close, plain, nested, turn, walk, IsIn}
+use Rattle.wasm_operators_visiting.specs.Walking.{HasNoVectors}
+use Rattle.wasm_operator_validator_state.specs.rules.Operands.{Operand, stack}
+use Rattle.wasm_operator_validator_state.specs.rules.Context.{Context, Initialised, Frame, inside, label_of}
+use Rattle.wasm_operator_validator_state.specs.rules.Row.{Row, after}
+use Rattle.wasm_operator_validator_state.specs.rules.Typed.{Typed, other_part}
+use Rattle.wasm_operator_validator_state.specs.resources.Meaning.{Meaning}
+use Rattle.wasm_operator_validator_state.specs.State.{Given, Open, State, ClosesAll, Accepts, results, initialised, context, frame_of}
+
+row_of_no_vector : (g : Context) (set : Initialised) (o : Op) (popped pushed : List Operand) → Row g set o popped pushed → is_simd o ≡ false
+row_of_no_vector g set (op.Control o) popped pushed r = refl
+row_of_no_vector g set (op.Parametric o) popped pushed r = refl
+row_of_no_vector g set (op.Exception o) popped pushed r = refl
+row_of_no_vector g set (op.Memory o) popped pushed r = refl
+row_of_no_vector g set (op.Const o) popped pushed r = refl
+row_of_no_vector g set (op.Numeric o) popped pushed r = refl
+row_of_no_vector g set (op.Bulk o) popped pushed r = refl
+row_of_no_vector g set (op.Gc o) popped pushed r = refl
+row_of_no_vector g set (op.Descriptor o) popped pushed r = refl
+row_of_no_vector g set (op.Simd o) popped pushed (enabled, (t, e, takes)) = absurd cc
+row_of_no_vector g set (op.SimdNumeric o) popped pushed (enabled, (t, e, takes)) = absurd cc
+row_of_no_vector g set (op.Atomic o) popped pushed r = refl
+row_of_no_vector g set (op.Shared o) popped pushed r = refl
+row_of_no_vector g set (op.Continuation o) popped pushed r = refl
+
+-- no operator on vectors has a role of its own
+no_vector : (o : Op) → (role_of o ≡ role.Plain → ⊥) → is_simd o ≡ false
+no_vector (op.Control o) n = refl
+no_vector (op.Parametric o) n = refl
+no_vector (op.Exception o) n = refl
+no_vector (op.Memory o) n = refl
+no_vector (op.Const o) n = refl
+no_vector (op.Numeric o) n = refl
+no_vector (op.Bulk o) n = refl
+no_vector (op.Gc o) n = refl
+no_vector (op.Descriptor o) n = refl
+no_vector (op.Simd o) n = absurd (n refl)
+no_vector (op.SimdNumeric o) n = absurd (n refl)
+no_vector (op.Atomic o) n = refl
+no_vector (op.Shared o) n = refl
+no_vector (op.Continuation o) n = refl
+
+-- what does something else than to stay has a role of its own
+module _ (o : Op) (k : FrameKind) where
+  staying : (e : Option Effect) → effect (role_of o) k ≡ e → role_of o ≡ role.Plain → Some effects.Stays ≡ e
+  staying e f p = subst (λ (r : Role). effect r k ≡ e) p f
+
+  closes_no_vector : effect (role_of o) k ≡ Some effects.Closes → is_simd o ≡ false
+  closes_no_vector f = no_vector o (λ p. let x : Some effects.Stays ≡ Some effects.Closes = staying (Some effects.Closes) f p in cc)
+
+  nests_no_vector : (j : FrameKind) → effect (role_of o) k ≡ Some (effects.Nests j) → is_simd o ≡ false
+  nests_no_vector j f = no_vector o (λ p. let x : Some effects.Stays ≡ Some (effects.Nests j) = staying (Some (effects.Nests j)) f p in cc)
+
+  turns_no_vector : (j : FrameKind) → effect (role_of o) k ≡ Some (effects.Turns j) → is_simd o ≡ false
+  turns_no_vector j f = no_vector o (λ p. let x : Some effects.Stays ≡ Some (effects.Turns j) = staying (Some (effects.Turns j)) f p in cc)
+
+none_in_both : (os ps : List Op) → HasNoVectors os → HasNoVectors ps → HasNoVectors (os ++ ps)
+none_in_both [] ps h g = g
+none_in_both (o ∷ os) ps h g = (h.0, none_in_both os ps h.1 g)
+
+typed_no_vectors : (g : Context) (f : Frame) (set : Initialised) (k : FrameKind) (c : Code) (s : List Operand) → IsIn k c → Typed g f set c s → HasNoVectors (walk c)
+typed_no_vectors g f set k (close o) s i t = (closes_no_vector o k i, tt)
+typed_no_vectors g f set k (plain o more) s i (m, (popped, pushed, rest, row, below, is), t) =
+    (row_of_no_vector g set o popped pushed row, typed_no_vectors g f (after o set) k more m i.1 t)
+typed_no_vectors g f set k (nested o body more) s (j, e, i, v) (l, b, rest, op, below, inner, t) = (
+  nests_no_vector o k j e,
+  none_in_both (walk body) (walk more)
+      (typed_no_vectors (inside (label_of l b) g) (record { kind = l; block = b; before = set }) set j body (stack b.params) i inner)
+      (typed_no_vectors g f set k more (stack b.results ++ rest) v t),
+)
+typed_no_vectors g f set k (turn o more) s (j, e, i) (below, t) = (turns_no_vector o k j e, typed_no_vectors g (other_part f) f.before j more (stack f.block.params) i t)
+
+closing_no_vectors : (m : Meaning) (w : Given) (pushed : List Operand) (opens : List Open) (set : Initialised) (os : List Op) → ClosesAll m w pushed opens set os → HasNoVectors os
+closing_no_vectors m w pushed [] set os e = subst HasNoVectors (sym e) tt
+closing_no_vectors m w pushed (o ∷ outer) set os (s, covers, (c, rest, i, e, t, next)) =
+    let inner = typed_no_vectors (context m w (o ∷ outer)) (frame_of m w o) set o.kind c (pushed ++ s) i t in
+    let others = closing_no_vectors m w (stack (results m o)) outer (initialised m w o.before) rest next in
+    subst HasNoVectors (sym e) (none_in_both (walk c) rest inner others)
+
+-- what may come has none
+pub accepted_no_vectors : (m : Meaning) (σ : State) (os : List Op) → Accepts m σ os → HasNoVectors os
+accepted_no_vectors m σ os (f, x) = closing_no_vectors m σ.given [] σ.opens (initialised m σ.given σ.inits) os x

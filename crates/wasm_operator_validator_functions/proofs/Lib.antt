@@ -1,0 +1,2 @@
+-- The parameters of a function as its locals.
+pub mod Params

@@ -1,0 +1,2 @@
+-- Where the body of a function begins.
+pub mod Functions

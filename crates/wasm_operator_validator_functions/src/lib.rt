@@ -1,0 +1,9 @@
+//! The validator of a function, as its body begins: [`new_func`].
+//!
+//! `specs/Functions.antt` says what it knows then. From there exactly the operators of well-typed bodies may come
+//! (`bodies_are_accepted` of `wasm_operator_validator_state`).
+#![tactic(auto)]
+
+mod functions;
+
+pub use functions::new_func;

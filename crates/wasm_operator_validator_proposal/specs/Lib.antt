@@ -1,0 +1,2 @@
+-- What a visit that answers an error promises.
+pub mod Told

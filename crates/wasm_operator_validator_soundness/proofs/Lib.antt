@@ -1,0 +1,9 @@
+pub mod Fitting
+pub mod Invariant
+pub mod Steps
+pub mod Beginning
+pub mod Answering
+pub mod WorkedValues
+pub mod WorkedRuns
+pub mod WorkedBodies
+pub mod WorkedStuck

@@ -1,0 +1,7 @@
+-- One activation is sound: definitions, in the order in which they are read.
+pub mod Values
+pub mod Machine
+pub mod Soundness
+pub mod Beginning
+-- Worked values, runs and stuck configurations: rows that hold and rows that do not.
+pub mod worked

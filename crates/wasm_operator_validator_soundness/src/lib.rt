@@ -1,0 +1,27 @@
+//! Typed code is never stuck (WebAssembly 3.0, appendix, soundness), as far as one activation goes.
+//!
+//! There is no code here but the laws, each on the contract of a function that does nothing. `specs/` is read in the order of
+//! its `Lib.antt`: values and their types, how instructions run, and what it means that they are never stuck.
+#![tactic(auto)]
+
+mod worked;
+
+ghost use Rattle.wasm_operator_validator_soundness.specs.Beginning.{CallsMayBegin, NullsAreGiven, NullsAreOne, AnswersExist};
+ghost use Rattle.wasm_operator_validator_soundness.specs.Soundness.{ActivationsAreSound};
+
+pub use worked::{runs_are_worked, stuck_configurations_are_worked, values_are_worked};
+
+/// A well-typed body, begun with locals of their types and answered by values of theirs, is never stuck within its
+/// activation, and what it returns, or hands to a call in its place, is of the types that were promised.
+pub fn activations_are_sound()
+    ensures { ActivationsAreSound }
+{}
+
+/// Where types are of valid groups, a call by arguments of its function's parameters begins with such locals, some answer fits
+/// wherever it comes to, and `ref.null` is answered by one null.
+pub fn calls_may_begin()
+    ensures begin { CallsMayBegin }
+    ensures null { NullsAreGiven }
+    ensures one_null { NullsAreOne }
+    ensures answered { AnswersExist }
+{}

@@ -1,0 +1,2 @@
+-- Operators without a rule.
+pub mod WithoutRule

@@ -1,0 +1,11 @@
+use Rattle.std.proofs.Common.{sym, ap}
+use Rattle.wasm_operator_validator_br_table.specs.expression.info.Info.{Info}
+use Rattle.wasm_operators_visit.specs.operator.Op as op
+use Rattle.wasm_operators_visit.specs.operator.Op.{continuation_of}
+use Rattle.wasm_operator_validator_visits.proofs.WithoutRule.{continuation_without}
+use Rattle.wasm_operator_validator_visits.proofs.visitor.ValidatingVisitor.continuation.Goals as goal
+
+pub returns-clause-visits : goal.returns-clause-visits
+returns-clause-visits g c =
+    c.without_rule.ensures.visits (op.Continuation (continuation_of c.args.op))
+    (continuation_without _ _ (continuation_of c.args.op) c.info.result.proposal (sym (ap (λ (i : Info). i.proposal) c.info.ensures)))

@@ -1,0 +1,176 @@
+//! Visits of accesses to memories, by what they do.
+
+ghost use Rattle.std.specs.Prelude.{◌≡◌};
+ghost use Rattle.wasm_operators_visit.specs.operator.Op.{Op};
+ghost use Rattle.wasm_operator_validator_br_table.specs.rules.Accesses.{load, store, modify, compare_exchange, wait};
+ghost use Rattle.wasm_operator_validator_br_table.specs.state.State.{Visits};
+ghost use Rattle.wasm_operator_validator_br_table.specs.state.Refusals.{refused};
+ghost use Rattle.wasm_operator_validator_atomics.specs.memory.Reaching.{IsAccess};
+ghost use Rattle.wasm_operator_validator_atomics.specs.Atomics.{IsAtomic};
+
+use crate::ValidatingVisitor;
+use wasm_operator_validator_atomics::{
+    check_atomic_compare_exchange, check_atomic_load, check_atomic_modify, check_atomic_store,
+    check_atomic_wait, check_load, check_store,
+};
+use wasm_operator_validator_br_table::{MemArg, MemoryOperator, Refusal, WasmModuleResources};
+use wasm_operators_visit::AtomicOperator;
+use wasm_types::ValType;
+
+impl<'v, 'r, R: WasmModuleResources> ValidatingVisitor<'v, 'r, R> {
+    /// A load of this type by this argument; the type is a float or not.
+    #[inline]
+    pub(crate) fn load(
+        &mut self,
+        op: MemoryOperator,
+        memarg: &MemArg,
+        floats: bool,
+        ty: &ValType,
+    ) -> Result<(), Refusal>
+        requires { IsAccess load op memarg.now floats ty.now }
+        ensures visits { Visits (R.meaning self.old.resources.now) self.old.inner.now (Op.Memory op) (refused result) self.new.inner.now }
+        ensures lent { self.new.inner.ghost_name ≡ self.old.inner.ghost_name }
+        ensures resources { self.new.resources.now ≡ self.old.resources.now }
+    {
+        match check_load(self.inner, self.resources, op, memarg, floats, ty) {
+            Ok(()) => Ok(()),
+            Err(refusal) => {
+                self.inner.fail();
+                Err(refusal)
+            }
+        }
+    }
+
+    /// A store of this type by this argument; the type is a float or not.
+    #[inline]
+    pub(crate) fn store(
+        &mut self,
+        op: MemoryOperator,
+        memarg: &MemArg,
+        floats: bool,
+        ty: &ValType,
+    ) -> Result<(), Refusal>
+        requires { IsAccess store op memarg.now floats ty.now }
+        ensures visits { Visits (R.meaning self.old.resources.now) self.old.inner.now (Op.Memory op) (refused result) self.new.inner.now }
+        ensures lent { self.new.inner.ghost_name ≡ self.old.inner.ghost_name }
+        ensures resources { self.new.resources.now ≡ self.old.resources.now }
+    {
+        match check_store(self.inner, self.resources, op, memarg, floats, ty) {
+            Ok(()) => Ok(()),
+            Err(refusal) => {
+                self.inner.fail();
+                Err(refusal)
+            }
+        }
+    }
+
+    /// An atomic load of this type by this argument.
+    #[inline]
+    pub(crate) fn atomic_load(
+        &mut self,
+        op: AtomicOperator,
+        memarg: &MemArg,
+        ty: &ValType,
+    ) -> Result<(), Refusal>
+        requires { IsAtomic load op memarg.now ty.now }
+        ensures visits { Visits (R.meaning self.old.resources.now) self.old.inner.now (Op.Atomic op) (refused result) self.new.inner.now }
+        ensures lent { self.new.inner.ghost_name ≡ self.old.inner.ghost_name }
+        ensures resources { self.new.resources.now ≡ self.old.resources.now }
+    {
+        match check_atomic_load(self.inner, self.resources, op, memarg, ty) {
+            Ok(()) => Ok(()),
+            Err(refusal) => {
+                self.inner.fail();
+                Err(refusal)
+            }
+        }
+    }
+
+    /// An atomic store of this type by this argument.
+    #[inline]
+    pub(crate) fn atomic_store(
+        &mut self,
+        op: AtomicOperator,
+        memarg: &MemArg,
+        ty: &ValType,
+    ) -> Result<(), Refusal>
+        requires { IsAtomic store op memarg.now ty.now }
+        ensures visits { Visits (R.meaning self.old.resources.now) self.old.inner.now (Op.Atomic op) (refused result) self.new.inner.now }
+        ensures lent { self.new.inner.ghost_name ≡ self.old.inner.ghost_name }
+        ensures resources { self.new.resources.now ≡ self.old.resources.now }
+    {
+        match check_atomic_store(self.inner, self.resources, op, memarg, ty) {
+            Ok(()) => Ok(()),
+            Err(refusal) => {
+                self.inner.fail();
+                Err(refusal)
+            }
+        }
+    }
+
+    /// An atomic change of a number of this type by another.
+    #[inline]
+    pub(crate) fn atomic_modify(
+        &mut self,
+        op: AtomicOperator,
+        memarg: &MemArg,
+        ty: &ValType,
+    ) -> Result<(), Refusal>
+        requires { IsAtomic modify op memarg.now ty.now }
+        ensures visits { Visits (R.meaning self.old.resources.now) self.old.inner.now (Op.Atomic op) (refused result) self.new.inner.now }
+        ensures lent { self.new.inner.ghost_name ≡ self.old.inner.ghost_name }
+        ensures resources { self.new.resources.now ≡ self.old.resources.now }
+    {
+        match check_atomic_modify(self.inner, self.resources, op, memarg, ty) {
+            Ok(()) => Ok(()),
+            Err(refusal) => {
+                self.inner.fail();
+                Err(refusal)
+            }
+        }
+    }
+
+    /// An atomic exchange of a number of this type where it is as expected.
+    #[inline]
+    pub(crate) fn atomic_compare_exchange(
+        &mut self,
+        op: AtomicOperator,
+        memarg: &MemArg,
+        ty: &ValType,
+    ) -> Result<(), Refusal>
+        requires { IsAtomic compare_exchange op memarg.now ty.now }
+        ensures visits { Visits (R.meaning self.old.resources.now) self.old.inner.now (Op.Atomic op) (refused result) self.new.inner.now }
+        ensures lent { self.new.inner.ghost_name ≡ self.old.inner.ghost_name }
+        ensures resources { self.new.resources.now ≡ self.old.resources.now }
+    {
+        match check_atomic_compare_exchange(self.inner, self.resources, op, memarg, ty) {
+            Ok(()) => Ok(()),
+            Err(refusal) => {
+                self.inner.fail();
+                Err(refusal)
+            }
+        }
+    }
+
+    /// A thread waits while a number of this type is as expected.
+    #[inline]
+    pub(crate) fn atomic_wait(
+        &mut self,
+        op: AtomicOperator,
+        memarg: &MemArg,
+        ty: &ValType,
+    ) -> Result<(), Refusal>
+        requires { IsAtomic wait op memarg.now ty.now }
+        ensures visits { Visits (R.meaning self.old.resources.now) self.old.inner.now (Op.Atomic op) (refused result) self.new.inner.now }
+        ensures lent { self.new.inner.ghost_name ≡ self.old.inner.ghost_name }
+        ensures resources { self.new.resources.now ≡ self.old.resources.now }
+    {
+        match check_atomic_wait(self.inner, self.resources, op, memarg, ty) {
+            Ok(()) => Ok(()),
+            Err(refusal) => {
+                self.inner.fail();
+                Err(refusal)
+            }
+        }
+    }
+}

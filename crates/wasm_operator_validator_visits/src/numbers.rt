@@ -1,0 +1,124 @@
+//! Visits of operators on numbers, by what they take and give.
+
+ghost use Rattle.std.specs.Prelude.{◌≡◌, ◌∷◌, [], true, false};
+ghost use Rattle.wasm_operator_validator_br_table.specs.expression.info.declared.proposal.Proposal.TheVariants.{Mvp};
+ghost use Rattle.wasm_operators_visit.specs.operator.Op.{Op};
+ghost use Rattle.wasm_operator_validator_br_table.specs.state.State.{Visits};
+ghost use Rattle.wasm_operator_validator_br_table.specs.state.Refusals.{refused};
+ghost use Rattle.wasm_operator_validator_numbers.specs.Numbers.{IsNumeric};
+
+use crate::ValidatingVisitor;
+use wasm_operator_validator_br_table::{Proposal, Refusal, WasmModuleResources, copied};
+use wasm_operator_validator_numbers::check_numbers;
+use wasm_operators_visit::NumericOperator;
+use wasm_types::ValType;
+
+impl<'v, 'r, R: WasmModuleResources> ValidatingVisitor<'v, 'r, R> {
+    /// An operator of this proposal on numbers that takes and gives these types, with a float among them or not.
+    #[inline]
+    pub(crate) fn numbers(
+        &mut self,
+        proposal: Proposal,
+        floats: bool,
+        op: NumericOperator,
+        takes: &[ValType],
+        gives: &[ValType],
+    ) -> Result<(), Refusal>
+        requires { IsNumeric op proposal floats takes.now gives.now }
+        ensures visits { Visits (R.meaning self.old.resources.now) self.old.inner.now (Op.Numeric op) (refused result) self.new.inner.now }
+        ensures lent { self.new.inner.ghost_name ≡ self.old.inner.ghost_name }
+        ensures resources { self.new.resources.now ≡ self.old.resources.now }
+    {
+        match check_numbers(
+            self.inner,
+            self.resources,
+            op,
+            proposal,
+            floats,
+            takes,
+            gives,
+        ) {
+            Ok(()) => Ok(()),
+            Err(refusal) => {
+                self.inner.fail();
+                Err(refusal)
+            }
+        }
+    }
+
+    /// One that makes a number of another, both integers.
+    #[inline]
+    pub(crate) fn of_one(
+        &mut self,
+        op: NumericOperator,
+        takes: &ValType,
+        gives: &ValType,
+    ) -> Result<(), Refusal>
+        requires { IsNumeric op Mvp false (takes.now ∷ []) (gives.now ∷ []) }
+        ensures visits { Visits (R.meaning self.old.resources.now) self.old.inner.now (Op.Numeric op) (refused result) self.new.inner.now }
+        ensures lent { self.new.inner.ghost_name ≡ self.old.inner.ghost_name }
+        ensures resources { self.new.resources.now ≡ self.old.resources.now }
+    {
+        self.numbers(Proposal::Mvp, false, op, &[copied(takes)], &[copied(gives)])
+    }
+
+    /// One that makes a number of two of one type, all integers.
+    #[inline]
+    pub(crate) fn of_two(
+        &mut self,
+        op: NumericOperator,
+        takes: &ValType,
+        gives: &ValType,
+    ) -> Result<(), Refusal>
+        requires { IsNumeric op Mvp false (takes.now ∷ takes.now ∷ []) (gives.now ∷ []) }
+        ensures visits { Visits (R.meaning self.old.resources.now) self.old.inner.now (Op.Numeric op) (refused result) self.new.inner.now }
+        ensures lent { self.new.inner.ghost_name ≡ self.old.inner.ghost_name }
+        ensures resources { self.new.resources.now ≡ self.old.resources.now }
+    {
+        self.numbers(
+            Proposal::Mvp,
+            false,
+            op,
+            &[copied(takes), copied(takes)],
+            &[copied(gives)],
+        )
+    }
+
+    /// One that makes a number of another, where one of them is a float.
+    #[inline]
+    pub(crate) fn float_of_one(
+        &mut self,
+        op: NumericOperator,
+        takes: &ValType,
+        gives: &ValType,
+    ) -> Result<(), Refusal>
+        requires { IsNumeric op Mvp true (takes.now ∷ []) (gives.now ∷ []) }
+        ensures visits { Visits (R.meaning self.old.resources.now) self.old.inner.now (Op.Numeric op) (refused result) self.new.inner.now }
+        ensures lent { self.new.inner.ghost_name ≡ self.old.inner.ghost_name }
+        ensures resources { self.new.resources.now ≡ self.old.resources.now }
+    {
+        self.numbers(Proposal::Mvp, true, op, &[copied(takes)], &[copied(gives)])
+    }
+
+    /// One that makes a number of two floats of one type.
+    #[inline]
+    pub(crate) fn float_of_two(
+        &mut self,
+        op: NumericOperator,
+        takes: &ValType,
+        gives: &ValType,
+    ) -> Result<(), Refusal>
+        requires { IsNumeric op Mvp true (takes.now ∷ takes.now ∷ []) (gives.now ∷ []) }
+        ensures visits { Visits (R.meaning self.old.resources.now) self.old.inner.now (Op.Numeric op) (refused result) self.new.inner.now }
+        ensures lent { self.new.inner.ghost_name ≡ self.old.inner.ghost_name }
+        ensures resources { self.new.resources.now ≡ self.old.resources.now }
+    {
+        self.numbers(
+            Proposal::Mvp,
+            true,
+            op,
+            &[copied(takes), copied(takes)],
+            &[copied(gives)],
+        )
+    }
+}

@@ -1,0 +1,154 @@
+//! What the walk drives, and the call.
+
+ghost use Rattle.std.proofs.Common.{◌≡◌, ◌∙◌, ap, refl};
+ghost use Rattle.wasm_operator_validator_expression.specs.state.State.{Visits};
+ghost use Rattle.wasm_operator_validator_expression.specs.state.Refusals.{refused};
+ghost use Rattle.wasm_operator_validator_expression.specs.Validating.{Validates};
+
+use crate::operators::{
+    tell_atomic, tell_bulk, tell_const, tell_continuation, tell_control, tell_descriptor,
+    tell_exception, tell_gc, tell_memory, tell_numeric, tell_parametric, tell_shared,
+};
+use crate::short::{tell_short_control, tell_short_memory, tell_short_numeric};
+use std::alloc::Global;
+use wasm_operator_validator_expression::{TellOperator, Validating, validate_operators};
+use wasm_operator_validator_stacks::{OperatorValidator, Refusal, WasmModuleResources};
+use wasm_operator_validator_visits::ValidatingVisitor;
+use wasm_operators_visit::{Operator, Visitor};
+use wasm_types::{BinaryReader, WasmFeatures};
+
+/// The visitor that validates, as a walk tells it of operators: group by group.
+pub struct ValidatingWalk<'v, 'r, R: WasmModuleResources> {
+    /// The visitor.
+    pub visitor: ValidatingVisitor<'v, 'r, R>,
+}
+
+impl<'a, 'v, 'r, R: WasmModuleResources> Visitor<'a> for ValidatingWalk<'v, 'r, R> {
+    type Output = Result<(), Refusal>;
+
+    ghost visits = { λ before op answer after. Visits (R.meaning before.visitor.resources.now) before.visitor.inner.now op (refused answer) after.visitor.inner.now × (after.visitor.inner.ghost_name ≡ before.visitor.inner.ghost_name) × (after.visitor.resources.now ≡ before.visitor.resources.now) };
+}
+
+impl<'a, 'v, 'r, R: WasmModuleResources> TellOperator<'a> for ValidatingWalk<'v, 'r, R> {
+    fn tell(&mut self, op: Operator<'a>) -> Result<(), Refusal> {
+        match op {
+            Operator::Control(op) => tell_control(&mut self.visitor, op),
+            Operator::Parametric(op) => tell_parametric(&mut self.visitor, op),
+            Operator::Exception(op) => tell_exception(&mut self.visitor, op),
+            Operator::Memory(op) => tell_memory(&mut self.visitor, op),
+            Operator::Const(op) => tell_const(&mut self.visitor, op),
+            Operator::Numeric(op) => tell_numeric(&mut self.visitor, op),
+            Operator::Bulk(op) => tell_bulk(&mut self.visitor, op),
+            Operator::Gc(op) => tell_gc(&mut self.visitor, op),
+            Operator::Descriptor(op) => tell_descriptor(&mut self.visitor, op),
+            Operator::Simd(_) => unreachable!(),
+            Operator::SimdNumeric(_) => unreachable!(),
+            Operator::Atomic(op) => tell_atomic(&mut self.visitor, op),
+            Operator::Shared(op) => tell_shared(&mut self.visitor, op),
+            Operator::Continuation(op) => tell_continuation(&mut self.visitor, op),
+        }
+    }
+
+    #[inline(always)]
+    fn tell_short(
+        &mut self,
+        bytes: &'a [u8],
+        at: usize,
+        features: WasmFeatures,
+    ) -> Option<(Result<(), Refusal>, usize)> {
+        if at >= bytes.len() {
+            return None;
+        }
+        let code = bytes[at];
+        match code {
+            0x00..=0x1b => tell_short_control(&mut self.visitor, bytes, at, code, features),
+            0x20..=0x44 => tell_short_memory(&mut self.visitor, bytes, at, code, features),
+            0x45..=0xc4 => tell_short_numeric(&mut self.visitor, bytes, at, code, features),
+            _ => None,
+        }
+    }
+}
+
+impl<'a, 'v, 'r, R: WasmModuleResources> Validating<'a> for ValidatingWalk<'v, 'r, R> {
+    ghost meaning = { λ w. R.meaning w.visitor.resources.now };
+
+    ghost state = { λ w. w.visitor.inner.now };
+
+    ghost keeps = { λ v w. (w.visitor.inner.ghost_name ≡ v.visitor.inner.ghost_name) × (w.visitor.resources.now ≡ v.visitor.resources.now) };
+
+    fn has_failed(&self) -> bool {
+        self.visitor.inner.has_failed()
+    }
+
+    fn is_done(&self) -> bool {
+        self.visitor.inner.is_done()
+    }
+
+    fn fail(&mut self) {
+        self.visitor.inner.fail();
+    }
+
+    ghost visited = { λ v o a w h. (h.0, (h.1, h.2)) };
+
+    ghost kept = { λ v w k. ap R.meaning k.1 };
+
+    ghost stays = { λ v. (refl, refl) };
+
+    ghost through = { λ u v w a b. (b.0 ∙ a.0, b.1 ∙ a.1) };
+}
+
+/// Validates the operators of an expression, to the end of the bytes, and asks that every frame of the validator has ended then. It is
+/// Ok exactly where the bytes spell one expression whose operators may come, out of memory aside; behind the locals of a function,
+/// where they spell its body and that is well typed (`laws::bodies_are_expressions` of `wasm_operator_validator_expression`). What was
+/// given of the body, and what an attempt has saved, stay (WebAssembly 3.0, validation, expressions).
+///
+/// # Errors
+///
+/// An operator was refused before; the bytes spell no expression without vectors; an operator is refused, at its offset; a frame
+/// is still open at the end; or there is no memory. The validator has failed then.
+pub fn validate_expression<R: WasmModuleResources>(
+    alloc: Global,
+    reader: BinaryReader<'_>,
+    validator: &mut OperatorValidator,
+    resources: &R,
+) -> wasm_types::Result<()>
+    ensures validates { Validates (R.meaning resources.now) validator.old reader.entry result validator.new }
+{
+    let mut walk = ValidatingWalk {
+        visitor: ValidatingVisitor {
+            inner: validator,
+            resources,
+        },
+    };
+    let answer = validate_walk(alloc, reader, &mut walk);
+    let _validator = lent_validator(walk);
+    answer
+}
+
+/// The same, at a walk: it keeps the validator that it was lent, and the module.
+fn validate_walk<R: WasmModuleResources>(
+    alloc: Global,
+    reader: BinaryReader<'_>,
+    walk: &mut ValidatingWalk<'_, '_, R>,
+) -> wasm_types::Result<()>
+    ensures validates { Validates (R.meaning walk.old.visitor.resources.now) walk.old.visitor.inner.now reader.entry result walk.new.visitor.inner.now }
+    ensures lent { walk.new.visitor.inner.ghost_name ≡ walk.old.visitor.inner.ghost_name }
+    ensures resources { walk.new.visitor.resources.now ≡ walk.old.visitor.resources.now }
+{
+    validate_operators(alloc, reader, walk)
+}
+
+/// The validator that a walk was lent. A walk ends here: taken apart in the function that made it, it would not tell the proof what the
+/// validator is now.
+fn lent_validator<'v, 'r, R: WasmModuleResources>(
+    walk: ValidatingWalk<'v, 'r, R>,
+) -> &'v mut OperatorValidator
+    ensures same { result ≡ walk.entry.visitor.inner }
+{
+    let ValidatingWalk { visitor } = walk;
+    let ValidatingVisitor {
+        inner,
+        resources: _resources,
+    } = visitor;
+    inner
+}
