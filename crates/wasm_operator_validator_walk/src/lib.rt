@@ -8,8 +8,9 @@ mod operators;
 mod short;
 mod walk;
 
-pub use walk::validate_expression;
+pub use walk::{ValidatingWalk, validate_expression};
 pub use wasm_operator_validator_stacks::{
     BlockType, Frame, FrameKind, LocalInits, Locals, MaybeType, OperatorValidator,
     OperatorValidatorAllocations, WasmModuleResources,
 };
+pub use wasm_operator_validator_visits::ValidatingVisitor;
