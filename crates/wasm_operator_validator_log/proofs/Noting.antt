@@ -1,10 +1,9 @@
 -- What notes of a log leave.
-use Rattle.std.proofs.Common.{◌≡◌, ◌≤◌, ◌<◌, ◌+◌, ◌-◌, ◌^◌, ◌⊎◌, ℕ, zero, suc, Bool, true, false, List, [], ◌∷◌, ◌++◌, length, take, drop, reverse, min, refl, sym, ap, ◌∙◌, subst, arith, append_assoc, ⊎_elim}
+use Rattle.std.proofs.Common.{◌≡◌, ◌≤◌, ◌<◌, ◌+◌, ◌-◌, ◌^◌, ℕ, zero, suc, Bool, false, List, [], ◌∷◌, ◌++◌, length, take, drop, min, refl, sym, ap, ◌∙◌, arith, append_assoc, ⊎_elim}
 use Rattle.std.proofs.lemmas.Bool.{cases_lt}
 use Rattle.std.proofs.lemmas.List.{drop_all, take_min}
-use Rattle.wasm_operator_validator_state.specs.declared.operand.MaybeType.{MaybeType}
 use Rattle.wasm_operator_validator_state.specs.declared.frame.Frame.{Frame}
-use Rattle.wasm_operator_validator_log.specs.Log.{Stacks, Log, undone, lost, reached, innermost_reached, AreCounted, with_operand, with_frame, with_set}
+use Rattle.wasm_operator_validator_log.specs.Log.{Stacks, Log, undone, lost, reached, innermost_reached, with_frame, with_set}
 
 -- ---- counts
 
@@ -15,9 +14,9 @@ drop_one_more x xs p = let e : p + 1 ≡ suc p = omega arith in rw e refl
 pub counted : {X : Type 0} (x : X) (xs : List X) (p q : ℕ) → q ≡ min (p + 1) (2 ^ 64 - 1) → length (x ∷ xs) < 2 ^ 64 → drop q (x ∷ xs) ≡ drop p xs
 counted x xs p q e few =
     ⊎_elim
-      (λ lt. let k : q ≡ p + 1 = omega (arith, e, few, lt) in rw k (drop_one_more x xs p))
-      (λ le. let k : length (x ∷ xs) ≤ q = omega (arith, e, few, le) in drop_all q (x ∷ xs) k ∙ sym (drop_all p xs le))
-      (cases_lt p (length xs))
+    (λ lt. let k : q ≡ p + 1 = omega (arith, e, few, lt) in rw k (drop_one_more x xs p))
+    (λ le. let k : length (x ∷ xs) ≤ q = omega (arith, e, few, le) in drop_all q (x ∷ xs) k ∙ sym (drop_all p xs le))
+    (cases_lt p (length xs))
 
 -- one that is left out fewer, where one was taken off
 pub uncounted : {X : Type 0} (x : X) (xs : List X) (p : ℕ) → 0 < p → drop p (x ∷ xs) ≡ drop (p - 1) xs

@@ -2,3 +2,6 @@
 pub mod Log
 -- Whether an attempt is under way.
 pub mod Transactions
+-- Worked logs, and that locals need no note.
+pub mod Worked
+pub mod WorkedLaws

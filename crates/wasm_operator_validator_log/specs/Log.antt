@@ -1,5 +1,5 @@
 -- What a log of an attempt keeps, and what it takes back.
-use Rattle.std.specs.Prelude.{◌≡◌, ◌≤◌, ◌<◌, ◌^◌, ◌-◌, ℕ, Bool, true, false, List, [], ◌∷◌, ◌++◌, length, take, drop, reverse}
+use Rattle.std.specs.Prelude.{◌≡◌, ◌<◌, ◌^◌, ◌-◌, ℕ, Bool, true, false, List, [], ◌∷◌, ◌++◌, length, take, drop}
 use Rattle.wasm_operator_validator_state.specs.declared.operand.MaybeType.{MaybeType}
 use Rattle.wasm_operator_validator_state.specs.declared.frame.Frame.{Frame}
 

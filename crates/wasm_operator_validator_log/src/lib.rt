@@ -6,10 +6,9 @@
 //! themselves what stood where an attempt began.
 #![tactic(auto)]
 
+pub mod laws;
 mod log;
 mod transaction;
 
-
 pub use log::{RollbackLog, RollbackLogAllocations};
 pub use transaction::Transaction;
-

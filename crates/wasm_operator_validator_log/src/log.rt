@@ -1,6 +1,6 @@
 //! The log of an attempt.
 
-ghost use Rattle.std.specs.Prelude.{◌≡◌, ◌++◌, false, length, min, reverse, take, OnOk, IfErr};
+ghost use Rattle.std.specs.Prelude.{◌≡◌, ◌++◌, ◌∷◌, [], false, length, min, reverse, take, OnOk, IfErr};
 ghost use Rattle.wasm_operator_validator_log.specs.Log.{Stacks, begun, undone, Notes, reached, unreached, with_operand, with_frame, with_set, lost};
 ghost use Rattle.wasm_operator_validator_state.specs.declared.frame.Frame.{Frame as TheFrame};
 ghost use Rattle.wasm_operator_validator_state.specs.declared.operand.MaybeType.{MaybeType as TheOperand};
@@ -9,7 +9,7 @@ use std::alloc::{AllocError, Global};
 use std::marker::Model;
 use wasm_operator_validator_state::{Frame, MaybeType};
 
-/// The memory of a log that is done, for another to use. It is empty.
+/// The memory of a log that is done, for another to use.
 #[derive(Drop)]
 pub struct RollbackLogAllocations {
     operands: Vec<MaybeType>,
@@ -97,8 +97,7 @@ impl RollbackLog {
             self.pushed -= 1;
             return Ok(());
         }
-        self.popped.push(ty)?;
-        Ok(())
+        put(&mut self.popped, ty)
     }
 
     /// Notes that a frame was opened. It takes no memory.
@@ -114,18 +113,22 @@ impl RollbackLog {
         ensures refused { IfErr result (λ _. self.new ≡ self.old) }
     {
         let held = self.unset.as_slice().len();
-        put_below(&mut self.unset, lost(self.kept, frame.init_height, inits))?;
+        let height = frame.init_height;
+        let kept = self.kept;
+        put_below(&mut self.unset, lost(kept, height, inits))?;
         if self.opened > 0 {
             self.opened -= 1;
-            self.kept = least(self.kept, frame.init_height);
+            self.kept = least(kept, height);
             return Ok(());
         }
-        if let Err(_) = self.closed.push(reached(self.marked, frame)) {
+        let marked = self.marked;
+        let stood = reached(marked, frame);
+        if let Err(refused) = put(&mut self.closed, stood) {
             self.unset.truncate(held);
-            return Err(AllocError);
+            return Err(refused);
         }
         self.marked = false;
-        self.kept = least(self.kept, frame.init_height);
+        self.kept = least(kept, height);
         Ok(())
     }
 
@@ -160,6 +163,15 @@ impl RollbackLog {
             inits,
         }
     }
+}
+
+/// Puts an item at the end.
+fn put<T: Copy + Drop>(items: &mut Vec<T>, item: T) -> Result<(), AllocError>
+    ensures done { OnOk result (items.new.items ≡ items.old.items ++ item ∷ []) }
+    ensures refused { IfErr result (λ _. items.new.items ≡ items.old.items) }
+{
+    items.push(item)?;
+    Ok(())
 }
 
 /// The frame as it was where the attempt began.

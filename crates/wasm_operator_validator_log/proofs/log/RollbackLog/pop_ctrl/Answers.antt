@@ -16,6 +16,6 @@ pub returns-clause-noted : goal.returns-clause-noted
 returns-clause-noted c = λ s is few.
     let l = the_view c.self.inside in
     let now = reverse c.put_below.new.unset.items in
-    leaves_standing l s c.args.frame c.reached.result c.push.new.self.items c.args.inits.now now c.least-self-inside-2.result (omega (arith, c.if-self-gt0.false)) c.reached.ensures c.in_default.ensures.items
+    leaves_standing l s c.args.frame c.reached-stood.result c.put.new.items.items c.args.inits.now now c.least-self-inside-2.result (omega (arith, c.if-self-gt0.false)) c.reached-stood.ensures c.in_default.ensures.done
     (unset_some l.kept c.args.frame.init_height c.least-self-inside-2.result s.set c.args.inits.now c.lost.result.now l.unset now is c.least-self-inside-2.ensures c.lost.ensures c.in_ok-put_below.ensures.done)
     ∙ ap (λ (x : Log). undone x (with_frame c.args.frame (with_set c.args.inits.now s))) c.self.view_is
