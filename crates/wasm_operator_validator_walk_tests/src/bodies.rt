@@ -1,13 +1,14 @@
 //! Bodies of functions without locals, in a module in which nothing is declared.
-use crate::module::Empty;
 use bitflags::Flags;
 use std::process::Abort;
 use std::test::Fail;
+use wasm_module_validator_resources::{Module, OperatorValidatorResources};
+use wasm_module_validator_types::TypeList;
 use wasm_operator_validator_stacks::{
     BlockType, FrameKind, OperatorValidator, OperatorValidatorAllocations,
 };
 use wasm_operator_validator_walk::validate_expression;
-use wasm_types::{BinaryReader, Result, ValType, WasmFeatures};
+use wasm_types::{BinaryReader, Limits, Result, ValType, WasmFeatures};
 
 // What the validation of these bytes, which stand at offset 0x20, answers for a body that gives an i32, under all features.
 fn validated(rt: &(impl Abort + AllocGlobal), text: &[u8]) -> Result<()> {
@@ -34,7 +35,9 @@ fn validated_under(
         panic!(rt; "no memory for a frame");
     };
     let reader = BinaryReader::new_features(text, 0x20, features);
-    let resources = Empty { rt };
+    let types = TypeList::new(rt.alloc());
+    let module = Module::new(rt.alloc(), features, Limits::default());
+    let resources = OperatorValidatorResources::new(&module, &types);
     validate_expression(rt.alloc(), reader, &mut validator, &resources)
 }
 

@@ -4,5 +4,3 @@
 
 #[cfg(test)]
 mod bodies;
-#[cfg(test)]
-mod module;
