@@ -109,7 +109,7 @@ constant_global bits g count o x e = let f : ◌≡◌ {A = Option ℕ} None (So
 pub global_denied : (bits : ℕ) (g : Module) (count x : ℕ) (r : ConstantRefusal) → RefusesGlobal bits g count x r → IsConstantGlobal bits g count x → ⊥
 global_denied bits g count x (refusals.Invalid r) (k, none) (v, some, fixed, needs) = let e : ◌≡◌ {A = Option Global} None (Some v) = sym none ∙ some in cc
 global_denied bits g count x (refusals.LocalGlobal f) (own, off, missing) (v, some, fixed, needs) = let e : has Gc bits ≡ true = needs own in let z : false ≡ true = sym off ∙ e in cc
-global_denied bits g count x refusals.MutableGlobal (u, found, mutable) (v, some, fixed, needs) =
+global_denied bits g count x refusals.MutableGlobal (u, found, mutable, own) (v, some, fixed, needs) =
     let e : ◌≡◌ {A = Option Global} (Some u) (Some v) = sym found ∙ some in
     let f : u ≡ v = cc in
     let z : true ≡ false = sym (subst (λ (w : Global). w.mutable ≡ true) f mutable) ∙ fixed in
