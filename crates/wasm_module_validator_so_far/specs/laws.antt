@@ -1,0 +1,4 @@
+pub mod Context
+pub mod Adding
+pub mod Importing
+pub mod Written
