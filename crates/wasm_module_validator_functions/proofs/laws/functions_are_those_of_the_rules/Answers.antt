@@ -1,0 +1,6 @@
+use Rattle.wasm_module_validator_functions.specs.laws.Functions.{functions_are}
+use Rattle.wasm_module_validator_functions.specs.laws.Reading.{read_before}
+use Rattle.wasm_module_validator_functions.proofs.laws.functions_are_those_of_the_rules.Goals as goal
+
+pub returns : goal.returns
+returns c = functions_are

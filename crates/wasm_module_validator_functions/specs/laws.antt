@@ -1,0 +1,3 @@
+pub mod Locals
+pub mod Reading
+pub mod Functions
