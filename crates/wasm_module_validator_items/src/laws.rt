@@ -1,0 +1,1 @@
+//! Laws of a module and its context with an item more, on the contract of a function that does nothing.
