@@ -1,0 +1,4 @@
+mod Walks
+mod Trees
+mod Parts
+mod Worked
