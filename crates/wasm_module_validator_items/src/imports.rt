@@ -1,0 +1,126 @@
+//! Imports.
+
+ghost use Rattle.std.specs.Prelude.{◌≡◌, ◌+◌, ◌<◌, IfErr, IfOk, OnOk, OnErr};
+ghost use Rattle.wasm_types.specs.error.Denials.{Tells, UnlessMemory};
+ghost use Rattle.wasm_types.specs.error.declared.error.ErrorKind.TheVariants.{Other, OutOfMemory};
+ghost use Rattle.wasm_module_validator_externs.specs.rules.Valid.{IsValidImport, import_size};
+ghost use Rattle.wasm_module_validator_externs.specs.Refusals.{IsRefusal, allowing};
+ghost use Rattle.wasm_module_validator_exports.specs.Imports.{IsNamedImport};
+ghost use Rattle.wasm_module_validator_resources.specs.Named.{IsReadOver};
+ghost use Rattle.wasm_module_validator_resources.specs.Reading.{context_of, meaning_of};
+ghost use Rattle.wasm_module_validator_items.specs.Adding.{importing};
+ghost use Rattle.wasm_module_validator_items.specs.Items.{HasItsType, HasRoomFor, IsImportable, IsImported, IsRefusedBy};
+
+use crate::ModuleState;
+use wasm_module_validator_exports::{check_import, combine_import_size};
+use wasm_module_validator_types::TypeList;
+use wasm_sections_imports::TypeRef;
+use wasm_types::Result;
+
+impl ModuleState {
+    // The type of an import, which becomes one over ids.
+    fn check_import_type(&self, ty: &mut TypeRef, types: &TypeList, offset: u64) -> Result<()>
+        requires { IsReadOver types.now.groups self.now.spaces }
+        ensures answer { Tells result (IsValidImport self.now.spaces.settings (context_of types.now.groups self.now.spaces) ty.old) }
+        ensures named { OnOk result (IsNamedImport (meaning_of types.now.groups self.now.spaces) ty.old ty.new) }
+        ensures refused { IfErr result (λ e. IsRefusal self.now.spaces.settings.features (λ b. IsValidImport (allowing b self.now.spaces.settings) (context_of types.now.groups self.now.spaces) ty.old) e.kind) }
+        ensures at { IfErr result (λ e. e.offset ≡ offset) }
+    {
+        check_import(&self.resources(types), ty, &self.settings(), offset)
+    }
+
+    // Whether there is room for one more.
+    fn check_import_room(&self, ty: &TypeRef, offset: u64) -> Result<()>
+        ensures answer { Tells result (HasRoomFor ty.now self.now.spaces) }
+        ensures refused { IfErr result (λ e. (e.kind ≡ Other) × (e.offset ≡ offset)) }
+    {
+        match ty {
+            TypeRef::Func(_) => self.check_function_count(1, offset),
+            TypeRef::FuncExact(_) => self.check_function_count(1, offset),
+            TypeRef::Table(_) => self.check_table_count(1, offset),
+            TypeRef::Memory(_) => self.check_memory_count(1, offset),
+            TypeRef::Global(_) => self.check_global_count(1, offset),
+            TypeRef::Tag(_) => self.check_tag_count(1, offset),
+        }
+    }
+
+    // The sum of sizes with that of an import's type.
+    fn combine_import(&self, ty: &TypeRef, types: &TypeList, offset: u64) -> Result<u32>
+        requires { IsReadOver types.now.groups self.now.spaces }
+        ensures answer { Tells result (self.now.type_size + import_size (context_of types.now.groups self.now.spaces) ty.now < self.now.spaces.settings.limits.type_size) }
+        ensures sum { IfOk result (λ all. all ≡ self.now.type_size + import_size (context_of types.now.groups self.now.spaces) ty.now) }
+        ensures refused { IfErr result (λ e. (e.kind ≡ Other) × (e.offset ≡ offset)) }
+    {
+        combine_import_size(
+            &self.resources(types),
+            self.type_size,
+            ty,
+            &self.settings(),
+            offset,
+        )
+    }
+
+    // Adds an import that was checked, its type over ids.
+    fn push_import(&mut self, ty: &TypeRef, offset: u64) -> Result<()>
+        requires typed { HasItsType ty.now self.old.spaces }
+        requires room { HasRoomFor ty.now self.old.spaces }
+        ensures added { OnOk result (self.new ≡ record self.old { spaces = importing ty.now self.old.spaces }) }
+        ensures stays { OnErr result (self.new ≡ self.old) }
+        ensures refused { IfErr result (λ e. e.kind ≡ OutOfMemory) }
+    {
+        match ty {
+            TypeRef::Func(type_index) => self.module.import_function(*type_index, false, offset),
+            TypeRef::FuncExact(type_index) => {
+                self.module.import_function(*type_index, true, offset)
+            }
+            TypeRef::Table(ty) => {
+                let most = self.settings().max_tables();
+                self.module.add_table(*ty, most, offset)
+            }
+            TypeRef::Memory(ty) => {
+                let most = self.settings().max_memories();
+                self.module.add_memory(*ty, most, offset)
+            }
+            TypeRef::Global(ty) => self.module.import_global(*ty, offset),
+            TypeRef::Tag(ty) => self.module.add_tag(ty.func_type_idx, offset),
+        }
+    }
+
+    /// Adds an import, by its type as the module writes it.
+    ///
+    /// # Errors
+    ///
+    /// The type is not valid; there is no room for one more of what is imported; or the sizes of types pass their limit: the first of
+    /// these in that order, at `offset`. The last two are of kind `Other`. The state stays then.
+    pub fn add_import(&mut self, ty: TypeRef, types: &TypeList, offset: u64) -> Result<()>
+        requires { IsReadOver types.now.groups self.old.spaces }
+        ensures answer { Tells result (IsImportable types.now.groups self.old ty) }
+        ensures imported { OnOk result (IsImported types.now.groups ty self.old self.new) }
+        ensures read { IsReadOver types.now.groups self.new.spaces }
+        ensures stays { OnErr result (self.new ≡ self.old) }
+        ensures refused { IfErr result (λ e. UnlessMemory e.kind (e.offset ≡ offset)) }
+        ensures kind { IfErr result (λ e. UnlessMemory e.kind (IsRefusedBy self.old.spaces.settings.features
+            (λ b. IsValidImport (allowing b self.old.spaces.settings) (context_of types.now.groups self.old.spaces) ty)
+            (IsValidImport self.old.spaces.settings (context_of types.now.groups self.old.spaces) ty) e.kind)) }
+    {
+        let mut named = ty;
+        match self.check_import_type(&mut named, types, offset) {
+            Ok(()) => (),
+            Err(error) => return Err(error),
+        }
+        match self.check_import_room(&named, offset) {
+            Ok(()) => (),
+            Err(error) => return Err(error),
+        }
+        let type_size = match self.combine_import(&ty, types, offset) {
+            Ok(type_size) => type_size,
+            Err(error) => return Err(error),
+        };
+        match self.push_import(&named, offset) {
+            Ok(()) => (),
+            Err(error) => return Err(error),
+        }
+        self.type_size = type_size;
+        Ok(())
+    }
+}
