@@ -2,13 +2,13 @@
 -- of the tree, each type by what its name means.
 use Rattle.std.specs.Prelude.{◌≡◌, List, [], length, map}
 use Rattle.wasm_types.specs.externs.declared.tag.TagType.{TagType}
-use Rattle.wasm_sections_elements.specs.Spells.{ElementTree}
+use Rattle.wasm_module_validator_contexts.specs.elements.Spells.{ElementTree}
 use Rattle.wasm_types.specs.trees.ValidGroup.{type_at}
 use Rattle.wasm_operator_validator_resources.specs.Meaning.{table_in, global_in, reference_in}
-use Rattle.wasm_module_validator_rules.specs.constant_rules.expression.Code.{Code}
-use Rattle.wasm_module_validator_rules.specs.Syntax.{ModuleTree}
-use Rattle.wasm_module_validator_rules.specs.Spaces as tree
-use Rattle.wasm_module_validator_rules.specs.Spaces.{FunctionEntry, function_of, imported, function_space, table_space, memory_space, tag_space, global_space, imported_globals, element_type, types_behind}
+use Rattle.wasm_module_validator_contexts.specs.rules.constant_rules.expression.Code.{Code}
+use Rattle.wasm_module_validator_contexts.specs.rules.Syntax.{ModuleTree}
+use Rattle.wasm_module_validator_contexts.specs.rules.Spaces as tree
+use Rattle.wasm_module_validator_contexts.specs.rules.Spaces.{FunctionEntry, function_of, imported, function_space, table_space, memory_space, tag_space, global_space, imported_globals, element_type, types_behind}
 use Rattle.wasm_module_validator_type_trees.specs.Groups.{Group}
 use Rattle.wasm_module_validator_interning.specs.Interned.{space_of}
 use Rattle.wasm_module_validator_module.specs.declared.module.Function.{Function}

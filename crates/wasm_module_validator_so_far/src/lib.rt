@@ -1,1 +1,12 @@
+//! A module that is being read stands for the tree of what was read (WebAssembly 3.0, structure, modules, indices).
+//!
+//! `specs/SoFar.antt` says when the spaces of a module are those of a tree. Its context then is the tree's, but for the functions that
+//! code may refer to, and each item that is added is added to both. There is no code here: each law is the contract of a function that
+//! does nothing.
 #![tactic(auto)]
+
+mod laws;
+
+pub use laws::{
+    contexts_are_of_trees, imports_are_added, items_are_added, types_are_kept_as_written,
+};

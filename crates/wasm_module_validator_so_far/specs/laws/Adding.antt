@@ -10,18 +10,18 @@ use Rattle.wasm_types.specs.externs.declared.table.TableType.{TableType}
 use Rattle.wasm_types.specs.externs.declared.memory.MemoryType.{MemoryType}
 use Rattle.wasm_types.specs.externs.declared.global.GlobalType.{GlobalType}
 use Rattle.wasm_types.specs.externs.declared.tag.TagType.{TagType}
-use Rattle.wasm_sections_imports.specs.declared.type_ref.TypeRef.{TypeRef}
-use Rattle.wasm_sections_imports.specs.declared.type_ref.TypeRef.TheVariants as import
-use Rattle.wasm_sections_imports.specs.Spells.{ImportTree}
-use Rattle.wasm_sections_segments.specs.Spells.{GlobalTree}
-use Rattle.wasm_sections_segments.specs.Tables.{TableTree}
-use Rattle.wasm_sections_elements.specs.Spells.{ElementTree}
-use Rattle.wasm_module_validator_rules.specs.constant_rules.expression.Code.{Code}
-use Rattle.wasm_module_validator_rules.specs.constant_rules.rules.Context.{Table, Global}
-use Rattle.wasm_module_validator_rules.specs.constant_rules.rules.Operands.{ValueType}
-use Rattle.wasm_module_validator_rules.specs.Syntax.{ModuleTree}
-use Rattle.wasm_module_validator_rules.specs.Spaces as tree
-use Rattle.wasm_module_validator_rules.specs.Spaces.{types_behind, function_with, function_of, table_of, memory_of, global_of, tag_of, imported, function_space, table_space, memory_space, global_space, tag_space, element_type}
+use Rattle.wasm_module_validator_contexts.specs.imports.declared.type_ref.TypeRef.{TypeRef}
+use Rattle.wasm_module_validator_contexts.specs.imports.declared.type_ref.TypeRef.TheVariants as import
+use Rattle.wasm_module_validator_contexts.specs.imports.Spells.{ImportTree}
+use Rattle.wasm_module_validator_contexts.specs.segments.Spells.{GlobalTree}
+use Rattle.wasm_module_validator_contexts.specs.segments.Tables.{TableTree}
+use Rattle.wasm_module_validator_contexts.specs.elements.Spells.{ElementTree}
+use Rattle.wasm_module_validator_contexts.specs.rules.constant_rules.expression.Code.{Code}
+use Rattle.wasm_module_validator_contexts.specs.rules.constant_rules.rules.Context.{Table, Global}
+use Rattle.wasm_module_validator_contexts.specs.rules.constant_rules.rules.Operands.{ValueType}
+use Rattle.wasm_module_validator_contexts.specs.rules.Syntax.{ModuleTree}
+use Rattle.wasm_module_validator_contexts.specs.rules.Spaces as tree
+use Rattle.wasm_module_validator_contexts.specs.rules.Spaces.{types_behind, function_with, function_of, table_of, memory_of, global_of, tag_of, imported, function_space, table_space, memory_space, global_space, tag_space, element_type}
 use Rattle.wasm_module_validator_contexts.specs.InOrder.{no_items}
 use Rattle.wasm_operator_validator_resources.specs.Meaning.{table_in, global_in, reference_in}
 use Rattle.wasm_module_validator_type_trees.specs.Groups.{Group, tree_of}
@@ -117,7 +117,7 @@ module _ (groups : List Group) (s : Spaces) (m : ModuleTree) (r : IsReadAs group
     types = r.types;
     functions = r.functions;
     tables = one_more (table_in (names_in groups s.types)) (tree.table_in space) s.tables (table_space m) kept x.ty r.tables e
-      ∙ ap (map (tree.table_in space)) (sym (behind_mapped (λ (t : TableTree Code). t.ty) (imported table_of m) m.tables x));
+        ∙ ap (map (tree.table_in space)) (sym (behind_mapped (λ (t : TableTree Code). t.ty) (imported table_of m) m.tables x));
     memories = r.memories;
     globals = r.globals;
     tags = r.tags;
@@ -154,8 +154,8 @@ module _ (groups : List Group) (s : Spaces) (m : ModuleTree) (r : IsReadAs group
     memories = r.memories;
     globals = r.globals;
     tags = one_more (λ (i : CoreTypeId). tree_of groups i.0) (λ (t : TagType). type_at space t.func_type_idx) s.tags (tag_space m) (id_at s.types x.func_type_idx) x r.tags
-      (tag_means x.func_type_idx l)
-      ∙ ap (map (λ (t : TagType). type_at space t.func_type_idx)) (sym (behind (imported tag_of m) m.tags x));
+        (tag_means x.func_type_idx l)
+        ∙ ap (map (λ (t : TagType). type_at space t.func_type_idx)) (sym (behind (imported tag_of m) m.tags x));
     elements = r.elements;
     data_count = r.data_count;
     imported_functions = r.imported_functions;
@@ -170,7 +170,7 @@ module _ (groups : List Group) (s : Spaces) (m : ModuleTree) (r : IsReadAs group
     tables = r.tables;
     memories = r.memories;
     globals = one_more (global_in (names_in groups s.types)) (tree.global_in space) s.globals (global_space m) kept x.ty r.globals e
-      ∙ ap (map (tree.global_in space)) (sym (behind_mapped (λ (t : GlobalTree Code). t.ty) (imported global_of m) m.globals x));
+        ∙ ap (map (tree.global_in space)) (sym (behind_mapped (λ (t : GlobalTree Code). t.ty) (imported global_of m) m.globals x));
     tags = r.tags;
     elements = r.elements;
     data_count = r.data_count;

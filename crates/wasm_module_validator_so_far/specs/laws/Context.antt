@@ -2,9 +2,9 @@
 use Rattle.std.proofs.Common.{◌≡◌, ◌∙◌, ℕ, suc, Bool, true, false, List, [], ◌∷◌, map, ap, refl, if◌then◌else◌}
 use Rattle.wasm_types.specs.trees.Trees.{TypeTree}
 use Rattle.wasm_types.specs.trees.ValidGroup.{type_at}
-use Rattle.wasm_module_validator_rules.specs.Syntax.{ModuleTree}
-use Rattle.wasm_module_validator_rules.specs.Spaces.{FunctionEntry, exact_from, types_behind, module_of}
-use Rattle.wasm_module_validator_rules.specs.constant_rules.rules.Context.{Module}
+use Rattle.wasm_module_validator_contexts.specs.rules.Syntax.{ModuleTree}
+use Rattle.wasm_module_validator_contexts.specs.rules.Spaces.{FunctionEntry, exact_from, types_behind, module_of}
+use Rattle.wasm_module_validator_contexts.specs.rules.constant_rules.rules.Context.{Module}
 use Rattle.wasm_module_validator_type_trees.specs.Groups.{Group}
 use Rattle.wasm_module_validator_interning.specs.Interned.{space_of}
 use Rattle.wasm_module_validator_module.specs.declared.module.Function.{Function}
@@ -24,8 +24,8 @@ pub context_is : (groups : List Group) (s : Spaces) (m : ModuleTree) → IsReadA
     → context_of groups s ≡ record (module_of m) { referenced = places (λ (f : Function). f.is_referenced) 0 s.functions }
 context_is groups s m r =
     let functions : (context_of groups s).functions ≡ (module_of m).functions =
-      ap (λ ts. map (λ (f : Function). type_at ts f.type_index) s.functions) r.types
-      ∙ (types_by_entries (types_behind [] m.types) s.functions ∙ ap (map (λ (e : FunctionEntry). type_at (types_behind [] m.types) e.type)) r.functions) in
+    ap (λ ts. map (λ (f : Function). type_at ts f.type_index) s.functions) r.types
+    ∙ (types_by_entries (types_behind [] m.types) s.functions ∙ ap (map (λ (e : FunctionEntry). type_at (types_behind [] m.types) e.type)) r.functions) in
     let exact : (context_of groups s).exact_functions ≡ (module_of m).exact_functions = exact_by_entries 0 s.functions ∙ ap (exact_from 0) r.functions in
     λ i. record {
       types = r.types i;

@@ -9,12 +9,12 @@ use Rattle.wasm_types.specs.externs.declared.table.TableType.{TableType}
 use Rattle.wasm_types.specs.externs.declared.memory.MemoryType.{MemoryType}
 use Rattle.wasm_types.specs.externs.declared.global.GlobalType.{GlobalType}
 use Rattle.wasm_types.specs.externs.declared.tag.TagType.{TagType}
-use Rattle.wasm_sections_imports.specs.declared.type_ref.TypeRef.{TypeRef}
-use Rattle.wasm_sections_imports.specs.declared.type_ref.TypeRef.TheVariants as import
-use Rattle.wasm_sections_imports.specs.Spells.{ImportTree}
-use Rattle.wasm_module_validator_rules.specs.Syntax.{ModuleTree}
-use Rattle.wasm_module_validator_rules.specs.Spaces as tree
-use Rattle.wasm_module_validator_rules.specs.Spaces.{types_behind, FunctionEntry, function_with, function_of, table_of, memory_of, global_of, tag_of, imported, table_space, global_space, tag_space}
+use Rattle.wasm_module_validator_contexts.specs.imports.declared.type_ref.TypeRef.{TypeRef}
+use Rattle.wasm_module_validator_contexts.specs.imports.declared.type_ref.TypeRef.TheVariants as import
+use Rattle.wasm_module_validator_contexts.specs.imports.Spells.{ImportTree}
+use Rattle.wasm_module_validator_contexts.specs.rules.Syntax.{ModuleTree}
+use Rattle.wasm_module_validator_contexts.specs.rules.Spaces as tree
+use Rattle.wasm_module_validator_contexts.specs.rules.Spaces.{types_behind, FunctionEntry, function_with, function_of, table_of, memory_of, global_of, tag_of, imported, table_space, global_space, tag_space}
 use Rattle.wasm_module_validator_contexts.specs.InOrder.{no_items}
 use Rattle.wasm_operator_validator_resources.specs.Meaning.{table_in, global_in}
 use Rattle.wasm_module_validator_type_trees.specs.Groups.{Group, tree_of}
@@ -137,8 +137,8 @@ module _ (groups : List Group) (s : Spaces) (gs : List Written) (is : List Impor
     memories = r.memories ∙ stays memory_of (ap memory_of e);
     globals = r.globals ∙ ap (map (tree.global_in space)) (stays global_of (ap global_of e));
     tags = one_more (λ (y : CoreTypeId). tree_of groups y.0) (λ (y : TagType). type_at space y.func_type_idx) s.tags (tag_space before) (id_at s.types t.func_type_idx) t r.tags
-      (tag_means groups s before r t.func_type_idx l)
-      ∙ ap (map (λ (y : TagType). type_at space y.func_type_idx)) (grows tag_of t (ap tag_of e));
+        (tag_means groups s before r t.func_type_idx l)
+        ∙ ap (map (λ (y : TagType). type_at space y.func_type_idx)) (grows tag_of t (ap tag_of e));
     elements = r.elements;
     data_count = r.data_count;
     imported_functions = r.imported_functions ∙ ap length (sym (same function_of (ap function_of e)));

@@ -12,9 +12,9 @@ use Rattle.wasm_types.specs.values.declared.value.ValType.{ValType}
 use Rattle.wasm_types.specs.values.declared.value.ValType.TheVariants as value
 use Rattle.wasm_types.specs.externs.declared.table.TableType.{TableType}
 use Rattle.wasm_types.specs.externs.declared.global.GlobalType.{GlobalType}
-use Rattle.wasm_module_validator_rules.specs.constant_rules.rules.Context.{Module, Table, Global, IsTypeIndex, written_type}
-use Rattle.wasm_module_validator_rules.specs.Spaces as tree
-use Rattle.wasm_module_validator_rules.specs.Spaces.{with_types, value_in}
+use Rattle.wasm_module_validator_contexts.specs.rules.constant_rules.rules.Context.{Module, Table, Global, IsTypeIndex, written_type}
+use Rattle.wasm_module_validator_contexts.specs.rules.Spaces as tree
+use Rattle.wasm_module_validator_contexts.specs.rules.Spaces.{with_types, value_in}
 use Rattle.wasm_operator_validator_resources.specs.Meaning.{named_type, type_in, reference_in, table_in, global_in}
 use Rattle.wasm_module_validator_type_trees.specs.Groups.{Group}
 use Rattle.wasm_module_validator_interning.specs.Interned.{space_of}
