@@ -1,6 +1,6 @@
 -- What is added to a module as far as it was read is added to the tree.
-use Rattle.std.proofs.Common.{◌≡◌, ◌∙◌, ◌<◌, ℕ, zero, suc, ◌+◌, Bool, true, false, List, [], ◌∷◌, ◌++◌, map, length, filter_map, Option, Some, None, ap, refl, sym, subst}
-use Rattle.std.proofs.lemmas.List.{append-nil, append_assoc, map_push, length-map, length_push, get_or-map}
+use Rattle.std.proofs.Common.{◌≡◌, ◌∙◌, ◌<◌, ℕ, zero, suc, true, List, [], ◌∷◌, ◌++◌, map, length, Some, ap, refl, sym, subst}
+use Rattle.std.proofs.lemmas.List.{append_assoc, map_push, get_or-map}
 use Rattle.wasm_types.specs.indices.declared.index.CoreTypeId.{CoreTypeId}
 use Rattle.wasm_types.specs.limits.Settings.{Settings}
 use Rattle.wasm_types.specs.trees.Trees.{TypeTree}
@@ -10,15 +10,10 @@ use Rattle.wasm_types.specs.externs.declared.table.TableType.{TableType}
 use Rattle.wasm_types.specs.externs.declared.memory.MemoryType.{MemoryType}
 use Rattle.wasm_types.specs.externs.declared.global.GlobalType.{GlobalType}
 use Rattle.wasm_types.specs.externs.declared.tag.TagType.{TagType}
-use Rattle.wasm_module_validator_contexts.specs.imports.declared.type_ref.TypeRef.{TypeRef}
-use Rattle.wasm_module_validator_contexts.specs.imports.declared.type_ref.TypeRef.TheVariants as import
-use Rattle.wasm_module_validator_contexts.specs.imports.Spells.{ImportTree}
 use Rattle.wasm_module_validator_contexts.specs.segments.Spells.{GlobalTree}
 use Rattle.wasm_module_validator_contexts.specs.segments.Tables.{TableTree}
 use Rattle.wasm_module_validator_contexts.specs.elements.Spells.{ElementTree}
 use Rattle.wasm_module_validator_contexts.specs.rules.constant_rules.expression.Code.{Code}
-use Rattle.wasm_module_validator_contexts.specs.rules.constant_rules.rules.Context.{Table, Global}
-use Rattle.wasm_module_validator_contexts.specs.rules.constant_rules.rules.Operands.{ValueType}
 use Rattle.wasm_module_validator_contexts.specs.rules.Syntax.{ModuleTree}
 use Rattle.wasm_module_validator_contexts.specs.rules.Spaces as tree
 use Rattle.wasm_module_validator_contexts.specs.rules.Spaces.{types_behind, function_with, function_of, table_of, memory_of, global_of, tag_of, imported, function_space, table_space, memory_space, global_space, tag_space, element_type}
@@ -27,7 +22,7 @@ use Rattle.wasm_operator_validator_resources.specs.Meaning.{table_in, global_in,
 use Rattle.wasm_module_validator_type_trees.specs.Groups.{Group, tree_of}
 use Rattle.wasm_module_validator_interning.specs.Interned.{space_of}
 use Rattle.wasm_module_validator_module.specs.declared.module.Function.{Function}
-use Rattle.wasm_module_validator_module.specs.Spaces.{Spaces, nothing_read, id_at, own_function, imported_function, referring_to}
+use Rattle.wasm_module_validator_module.specs.Spaces.{Spaces, nothing_read, id_at, own_function, referring_to}
 use Rattle.wasm_module_validator_resources.specs.Reading.{names_in}
 use Rattle.wasm_module_validator_so_far.specs.SoFar.{entry_of, IsReadAs}
 

@@ -1,12 +1,10 @@
 -- The context of a module as far as it was read is that of the tree, but for the functions that code may refer to.
-use Rattle.std.proofs.Common.{◌≡◌, ◌∙◌, ℕ, suc, Bool, true, false, List, [], ◌∷◌, map, ap, refl, if◌then◌else◌}
+use Rattle.std.proofs.Common.{◌≡◌, ◌∙◌, ℕ, suc, List, [], ◌∷◌, map, ap, refl, if◌then◌else◌}
 use Rattle.wasm_types.specs.trees.Trees.{TypeTree}
 use Rattle.wasm_types.specs.trees.ValidGroup.{type_at}
 use Rattle.wasm_module_validator_contexts.specs.rules.Syntax.{ModuleTree}
 use Rattle.wasm_module_validator_contexts.specs.rules.Spaces.{FunctionEntry, exact_from, types_behind, module_of}
-use Rattle.wasm_module_validator_contexts.specs.rules.constant_rules.rules.Context.{Module}
 use Rattle.wasm_module_validator_type_trees.specs.Groups.{Group}
-use Rattle.wasm_module_validator_interning.specs.Interned.{space_of}
 use Rattle.wasm_module_validator_module.specs.declared.module.Function.{Function}
 use Rattle.wasm_module_validator_module.specs.Spaces.{Spaces}
 use Rattle.wasm_module_validator_resources.specs.Reading.{places, context_of}

@@ -1,5 +1,5 @@
 -- Types that are kept as the module writes them, by its own indices, mean what is written.
-use Rattle.std.proofs.Common.{◌≡◌, ℕ, List, refl, ap}
+use Rattle.std.proofs.Common.{◌≡◌, List, refl, ap}
 use Rattle.wasm_types.specs.indices.declared.index.CoreTypeId.{CoreTypeId}
 use Rattle.wasm_types.specs.indices.declared.index.UnpackedIndex.{UnpackedIndex}
 use Rattle.wasm_types.specs.indices.declared.index.UnpackedIndex.TheVariants as index
@@ -12,7 +12,7 @@ use Rattle.wasm_types.specs.values.declared.value.ValType.{ValType}
 use Rattle.wasm_types.specs.values.declared.value.ValType.TheVariants as value
 use Rattle.wasm_types.specs.externs.declared.table.TableType.{TableType}
 use Rattle.wasm_types.specs.externs.declared.global.GlobalType.{GlobalType}
-use Rattle.wasm_module_validator_contexts.specs.rules.constant_rules.rules.Context.{Module, Table, Global, IsTypeIndex, written_type}
+use Rattle.wasm_module_validator_contexts.specs.rules.constant_rules.rules.Context.{Module, IsTypeIndex, written_type}
 use Rattle.wasm_module_validator_contexts.specs.rules.Spaces as tree
 use Rattle.wasm_module_validator_contexts.specs.rules.Spaces.{with_types, value_in}
 use Rattle.wasm_operator_validator_resources.specs.Meaning.{named_type, type_in, reference_in, table_in, global_in}
