@@ -4,3 +4,8 @@ pub mod Agreement
 pub mod InOrder
 -- Laws, with the proofs.
 pub mod laws
+-- The rules of the crates below, under their names: crates above cite them here.
+pub use Rattle.wasm_module_validator_rules.specs as rules
+pub use Rattle.wasm_sections_imports.specs as imports
+pub use Rattle.wasm_sections_segments.specs as segments
+pub use Rattle.wasm_sections_elements.specs as elements

@@ -15,8 +15,22 @@
 //! let allocs = validator.into_allocations();
 //! ```
 //!
+//! A caller that reads the operators itself tells a [`WasmProposalValidator`] of each: it holds a [`ValidatingVisitor`], which is the
+//! validator and the module, and the offset of the operator, at which it answers an error where the operator may not come.
+//!
+//! ```text
+//! let inner = ValidatingVisitor { inner: &mut validator, resources: &module };
+//! let mut visitor = WasmProposalValidator { inner, offset };
+//! visitor.visit_i32_const(42)?;
+//! ```
+//!
+//! [`check_const_expr`] judges a whole constant expression, and [`new_const_expr`] makes the validator of one.
+//!
+//! [`OperatorArity::operator_arity`] tells how many operands an operator takes and gives there; a [`ModuleArity`] is what it asks, and
+//! the visitor is one.
+//!
 //! An operator may be tried and taken back: between `begin_try_op` and `rollback` the validator keeps what it undoes, and `commit`
-//! lets it stand.
+//! lets it stand. A [`Transaction`] with its [`RollbackLog`] does the same for stacks that a caller keeps itself.
 //!
 //! This crate has no code of its own. The rules stand in the crates below: what each operator takes and gives, and the typing of
 //! code, in `wasm_operator_validator_rules`; what a validator knows, and which operators it accepts, in
@@ -24,8 +38,13 @@
 //! accepted is never stuck is a law of `wasm_operator_validator_accepted`.
 #![tactic(auto)]
 
+pub use wasm_operator_validator_arity::{ModuleArity, OperatorArity, WasmProposalValidator};
+pub use wasm_operator_validator_constants::{ConstExpr, check_const_expr, new_const_expr};
 pub use wasm_operator_validator_functions::new_func;
+pub use wasm_operator_validator_log::{
+    RollbackLog, RollbackLogAllocations, Transaction, ty_to_str,
+};
 pub use wasm_operator_validator_walk::{
     BlockType, Frame, FrameKind, LocalInits, Locals, MaybeType, OperatorValidator,
-    OperatorValidatorAllocations, WasmModuleResources, validate_expression,
+    OperatorValidatorAllocations, ValidatingVisitor, WasmModuleResources, validate_expression,
 };

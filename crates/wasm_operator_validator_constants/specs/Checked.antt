@@ -1,5 +1,5 @@
 -- Constant expressions as bytes (WebAssembly 3.0, validation, constant expressions).
-use Rattle.std.specs.Prelude.{ℕ, Option, Result, IfErr}
+use Rattle.std.specs.Prelude.{◌≡◌, ℕ, Option, Result, IfErr}
 use Rattle.wasm_types.specs.decoding.Decoder.{State as Bytes}
 use Rattle.wasm_types.specs.error.Denials.{Tells, UnlessMemory}
 use Rattle.wasm_types.specs.error.ErrorValue.{ErrorValue}
@@ -11,6 +11,9 @@ use Rattle.wasm_operators_visiting.specs.reader.expression.Spelling.{SpelledExpr
 use Rattle.wasm_operator_validator_constant_rules.specs.Constants.{IsConstantOperator, IsConstant}
 use Rattle.wasm_operator_validator_expression.specs.resources.Meaning.{Meaning, type_in}
 use Rattle.wasm_operator_validator_expression.specs.state.State.{State}
+use Rattle.wasm_operator_validator_constants.specs.declared.refusal.ConstantRefusal.{ConstantRefusal}
+use Rattle.wasm_operator_validator_constants.specs.Refusals.{kind_of_constant}
+use Rattle.wasm_operator_validator_constants.specs.Operators.{RefusesOperator}
 use Rattle.wasm_operator_validator_constants.specs.Beginning.{constant_begins}
 use Rattle.wasm_operator_validator_constants.specs.Tested.{VisitsTested, StopsTested, ValidatesTested}
 
@@ -22,13 +25,17 @@ pub record Surroundings : Type 0 where
   pub meaning : Meaning
   pub imported : ℕ
 
+-- an operator that is not constant is refused with this kind
+abbrev pub RefusedWith : Surroundings → Op → ErrorKind → Type 0
+RefusedWith w o k = (r : ConstantRefusal) × RefusesOperator w.bits w.meaning.«module» w.imported o r × (k ≡ kind_of_constant r)
+
 -- an operator of a constant is visited
 abbrev pub VisitsConstant : Surroundings → State → Op → Option ErrorKind → State → Type 0
-VisitsConstant w σ o answer τ = VisitsTested (IsConstantOperator w.bits w.meaning.«module» w.imported) w.meaning σ o answer τ
+VisitsConstant w σ o answer τ = VisitsTested (IsConstantOperator w.bits w.meaning.«module» w.imported) (RefusedWith w) w.meaning σ o answer τ
 
 -- the operators of a constant are validated
 abbrev pub ValidatesConstant : Surroundings → State → Bytes → Result (Unit {0}) ErrorValue → Type 0
-ValidatesConstant w σ s answer = ValidatesTested (IsConstantOperator w.bits w.meaning.«module» w.imported) w.meaning σ s answer
+ValidatesConstant w σ s answer = ValidatesTested (IsConstantOperator w.bits w.meaning.«module» w.imported) (RefusedWith w) w.meaning σ s answer
 
 -- ---- whole constants
 
@@ -38,7 +45,7 @@ SpellsConstant w t s = (c : Code) × SpelledExpression s.settings c s.rest × Is
 
 -- why bytes are refused as one, and where
 abbrev pub StopsConstant : Surroundings → ValType → Bytes → ErrorValue → Type 0
-StopsConstant w t s e = StopsTested (IsConstantOperator w.bits w.meaning.«module» w.imported) w.meaning (constant_begins w.bits t) s e
+StopsConstant w t s e = StopsTested (IsConstantOperator w.bits w.meaning.«module» w.imported) (RefusedWith w) w.meaning (constant_begins w.bits t) s e
 
 -- It is not refused exactly where the bytes spell a constant of this type, out of memory aside; a refusal comes where this says.
 pub record ChecksConstant (w : Surroundings) (t : ValType) (s : Bytes) (answer : Result (Unit {0}) ErrorValue) : Type 0 where

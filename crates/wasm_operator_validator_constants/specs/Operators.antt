@@ -1,9 +1,9 @@
 -- Why an operator is refused in a constant.
-use Rattle.std.specs.Prelude.{◌≡◌, ◌≤◌, ◌==◌, ℕ, Bool, true, false, Option, Some, None, slice_get, bit_and}
+use Rattle.std.specs.Prelude.{◌≡◌, ◌≤◌, ℕ, Bool, true, false, Option, Some, None, slice_get}
 use Rattle.wasm_types.specs.error.declared.error.ErrorKind.TheVariants as kinds
 -- for attributes that unfold it
 unfoldable pub use Rattle.wasm_types.specs.features.Features.{has}
-use Rattle.wasm_types.specs.features.Features.{ExtendedConst, Gc, SharedEverythingThreads}
+use Rattle.wasm_types.specs.features.Features.{Feature, ExtendedConst, Gc, SharedEverythingThreads, mask}
 use Rattle.wasm_types.specs.features.declared.WasmFeatures.{WasmFeatures}
 use Rattle.wasm_operator_validator_constant_rules.specs.expression.control.declared.control.ControlOperator.{ControlOperator}
 use Rattle.wasm_operator_validator_constant_rules.specs.expression.control.declared.control.ControlOperator.TheVariants as control
@@ -91,25 +91,32 @@ is_allowed bits (op.Descriptor o) = has Gc bits
 is_allowed bits (op.Shared o) = has SharedEverythingThreads bits
 is_allowed bits o = true
 
+-- the feature that allows it, where one has to
+abbrev pub allowing : Op → Feature
+allowing (op.Numeric o) = ExtendedConst
+allowing (op.Shared o) = SharedEverythingThreads
+allowing o = Gc
+
 -- ---- why it is refused
 
--- these bits do not have a feature
-abbrev pub IsMissing : ℕ → WasmFeatures → Type 0
-IsMissing bits f = (bit_and bits f.0 == f.0) ≡ false
+-- these bits are a feature's, and no others
+abbrev pub IsOf : Feature → WasmFeatures → Type 0
+IsOf x f = f.0 ≡ mask x
 
--- Why the global at an index may not be read: there is none; it is the module's own, without garbage collection; it may be written.
+-- Why the global at an index may not be read: there is none; it is the module's own, without garbage collection; or else it may be
+-- written.
 abbrev pub RefusesGlobal : ℕ → Module → ℕ → ℕ → ConstantRefusal → Type 0
 RefusesGlobal bits g count x (refusals.Invalid r) = (kind_of r ≡ kinds.Other) × (slice_get g.globals x ≡ None)
 RefusesGlobal bits g count x (refusals.NonConstant name) = ⊥
 RefusesGlobal bits g count x (refusals.NotEnabled f name) = ⊥
-RefusesGlobal bits g count x (refusals.LocalGlobal f) = (count ≤ x) × (has Gc bits ≡ false) × IsMissing bits f
-RefusesGlobal bits g count x refusals.MutableGlobal = (v : Global) × (slice_get g.globals x ≡ Some v) × (v.mutable ≡ true)
+RefusesGlobal bits g count x (refusals.LocalGlobal f) = (v : Global) × (slice_get g.globals x ≡ Some v) × (count ≤ x) × (has Gc bits ≡ false) × IsOf Gc f
+RefusesGlobal bits g count x refusals.MutableGlobal = (v : Global) × (slice_get g.globals x ≡ Some v) × (v.mutable ≡ true) × (count ≤ x → has Gc bits ≡ true)
 
--- Why another operator is refused: it is constant by no features, or not by these.
+-- Why another operator is refused: it is constant by no features, or by some, but not by these.
 abbrev pub RefusesListed : ℕ → Op → ConstantRefusal → Type 0
 RefusesListed bits o (refusals.Invalid r) = ⊥
 RefusesListed bits o (refusals.NonConstant name) = (b : ℕ) (g : Module) (count : ℕ) → IsConstantOperator b g count o → ⊥
-RefusesListed bits o (refusals.NotEnabled f name) = (is_allowed bits o ≡ false) × IsMissing bits f
+RefusesListed bits o (refusals.NotEnabled f name) = (is_listed o ≡ true) × (is_allowed bits o ≡ false) × IsOf (allowing o) f
 RefusesListed bits o (refusals.LocalGlobal f) = ⊥
 RefusesListed bits o refusals.MutableGlobal = ⊥
 

@@ -1,6 +1,6 @@
 -- Expressions whose operators pass a test, each before it is validated: which bytes these are, and why others are refused.
 --
--- The test is any fact of an operator. It stays the same all the way.
+-- The test is any fact of an operator, and so is what is said of the kind of a refusal. Both stay the same all the way.
 use Rattle.std.specs.Prelude.{◌≡◌, ◌⊎◌, ◌+◌, ℕ, List, [], ◌∷◌, true, Option, Some, None, Result, IfErr, length}
 use Rattle.wasm_types.specs.decoding.Decoder.{State as Bytes}
 use Rattle.wasm_types.specs.error.Denials.{Tells}
@@ -19,15 +19,16 @@ use Rattle.wasm_operator_validator_expression.specs.state.State.{State, Accepts,
 
 -- ---- one operator
 
--- it is refused, and not for memory
-abbrev pub IsRefused : Option ErrorKind → Type 0
-IsRefused None = ⊥
-IsRefused (Some k) = IsNotMemory k
+-- it is refused with a kind of which this holds, and not for memory
+abbrev pub IsRefused : (ErrorKind → Type 0) → Option ErrorKind → Type 0
+IsRefused Why None = ⊥
+IsRefused Why (Some k) = IsNotMemory k × Why k
 
--- What a visit promises of an operator that is tested first. One that passes is validated; one that does not is refused, and the
--- validator has failed then.
-abbrev pub VisitsTested : (Op → Type 0) → Meaning → State → Op → Option ErrorKind → State → Type 0
-VisitsTested Passes m σ o answer τ = (Passes o × Visits m σ o answer τ) ⊎ ((Passes o → ⊥) × IsRefused answer × (τ ≡ record σ { failed = true }))
+-- What a visit promises of an operator that is tested first. One that passes is validated; one that does not is refused, as `Why` says,
+-- and the validator has failed then.
+abbrev pub VisitsTested : (Op → Type 0) → (Op → ErrorKind → Type 0) → Meaning → State → Op → Option ErrorKind → State → Type 0
+VisitsTested Passes Why m σ o answer τ =
+    (Passes o × Visits m σ o answer τ) ⊎ ((Passes o → ⊥) × IsRefused (Why o) answer × (τ ≡ record σ { failed = true }))
 
 -- ---- which bytes
 
@@ -43,25 +44,25 @@ AcceptsTested Passes m σ s = (c : Code) × SpelledExpression s.settings c s.res
 -- ---- why others are refused, and where
 
 -- some operators were accepted, and behind them nothing more is read
-abbrev pub StopsReading : (Op → Type 0) → Meaning → State → Bytes → ErrorValue → Type 0
-StopsReading Passes m σ s e = (t : Standing) × (ρ : State) × WalksTo (VisitsTested Passes m) None (at_start s) σ t ρ × StopsPlain t e
+abbrev pub StopsReading : (Op → Type 0) → (Op → ErrorKind → Type 0) → Meaning → State → Bytes → ErrorValue → Type 0
+StopsReading Passes Why m σ s e = (t : Standing) × (ρ : State) × WalksTo (VisitsTested Passes Why m) None (at_start s) σ t ρ × StopsPlain t e
 
 -- some operators were accepted, and the next is refused, at its offset
-abbrev pub StopsAtOperator : (Op → Type 0) → Meaning → State → Bytes → ErrorValue → Type 0
-StopsAtOperator Passes m σ s e =
-    (place : ℕ) × (τ : State) × WalksUntilAt (VisitsTested Passes m) None (at_start s) σ (Some e.kind) τ place × OfContent e.kind (e.offset ≡ place)
+abbrev pub StopsAtOperator : (Op → Type 0) → (Op → ErrorKind → Type 0) → Meaning → State → Bytes → ErrorValue → Type 0
+StopsAtOperator Passes Why m σ s e =
+    (place : ℕ) × (τ : State) × WalksUntilAt (VisitsTested Passes Why m) None (at_start s) σ (Some e.kind) τ place × OfContent e.kind (e.offset ≡ place)
 
 -- an expression was accepted, to the end of the bytes, and a frame is still open
-abbrev pub StopsAtEnd : (Op → Type 0) → Meaning → State → Bytes → ErrorValue → Type 0
-StopsAtEnd Passes m σ s e =
-    (c : Code) × (ρ : State) × SpelledExpression s.settings c s.rest × VisitsAll (VisitsTested Passes m) None σ (walk c) ρ × (ρ.opens ≡ [] → ⊥)
+abbrev pub StopsAtEnd : (Op → Type 0) → (Op → ErrorKind → Type 0) → Meaning → State → Bytes → ErrorValue → Type 0
+StopsAtEnd Passes Why m σ s e =
+    (c : Code) × (ρ : State) × SpelledExpression s.settings c s.rest × VisitsAll (VisitsTested Passes Why m) None σ (walk c) ρ × (ρ.opens ≡ [] → ⊥)
     × (e.kind ≡ kinds.Other) × (e.offset ≡ s.place + length s.rest)
 
-abbrev pub StopsTested : (Op → Type 0) → Meaning → State → Bytes → ErrorValue → Type 0
-StopsTested Passes m σ s e = StopsReading Passes m σ s e ⊎ (StopsAtOperator Passes m σ s e ⊎ StopsAtEnd Passes m σ s e)
+abbrev pub StopsTested : (Op → Type 0) → (Op → ErrorKind → Type 0) → Meaning → State → Bytes → ErrorValue → Type 0
+StopsTested Passes Why m σ s e = StopsReading Passes Why m σ s e ⊎ (StopsAtOperator Passes Why m σ s e ⊎ StopsAtEnd Passes Why m σ s e)
 
 -- It is not refused exactly where the bytes spell an expression that may come and each of whose operators passes, out of memory aside;
 -- a refusal comes where this says.
-pub record ValidatesTested (Passes : Op → Type 0) (m : Meaning) (σ : State) (s : Bytes) (answer : Result (Unit {0}) ErrorValue) : Type 0 where
+pub record ValidatesTested (Passes : Op → Type 0) (Why : Op → ErrorKind → Type 0) (m : Meaning) (σ : State) (s : Bytes) (answer : Result (Unit {0}) ErrorValue) : Type 0 where
   pub exact : Tells answer (AcceptsTested Passes m σ s)
-  pub stops : IfErr answer (StopsTested Passes m σ s)
+  pub stops : IfErr answer (StopsTested Passes Why m σ s)

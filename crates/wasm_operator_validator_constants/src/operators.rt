@@ -3,7 +3,7 @@
 ghost use Rattle.std.specs.Prelude.{◌≡◌, ℕ, false, IfOk, IfErr};
 ghost use Rattle.wasm_operators_visiting.specs.reader.operator.Op.{Op, op_of};
 ghost use Rattle.wasm_operator_validator_constant_rules.specs.Constants.{IsConstantOperator};
-ghost use Rattle.wasm_operator_validator_constants.specs.Operators.{global_read, is_sum, is_object, is_described, is_reference, is_shared_number, ends_frame, is_listed, is_allowed, IsMissing, RefusesOperator};
+ghost use Rattle.wasm_operator_validator_constants.specs.Operators.{global_read, is_sum, is_object, is_described, is_reference, is_shared_number, ends_frame, is_listed, is_allowed, allowing, IsOf, RefusesOperator};
 
 use crate::ConstantRefusal;
 use crate::globals::check_global;
@@ -103,10 +103,9 @@ fn is_allowed(op: &Operator<'_>, features: WasmFeatures) -> bool
     }
 }
 
-/// The feature by which an operator is constant, which is not on where it is not allowed.
-#[tactic(auto, unfolding(crate::specs::Operators::has))]
+/// The feature by which an operator is constant, where it is by one alone.
 fn feature_of(op: &Operator<'_>) -> WasmFeatures
-    ensures { (bits : ℕ) → is_allowed bits (op_of op.now) ≡ false → IsMissing bits result }
+    ensures { IsOf (allowing (op_of op.now)) result }
 {
     match op {
         Operator::Numeric(_) => WasmFeatures::EXTENDED_CONST,

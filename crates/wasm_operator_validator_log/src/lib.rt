@@ -12,3 +12,4 @@ mod transaction;
 
 pub use log::{RollbackLog, RollbackLogAllocations};
 pub use transaction::Transaction;
+pub use wasm_operator_validator_state::{Frame, MaybeType, ty_to_str};

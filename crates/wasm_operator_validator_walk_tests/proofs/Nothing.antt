@@ -1,5 +1,5 @@
 -- A module of which nothing was read stands over a list with no types.
-use Rattle.std.proofs.Common.{arith, ◌≡◌, sym, subst, ℕ, ◌<◌, List, []}
+use Rattle.std.proofs.Common.{arith, ◌≡◌, sym, ap, subst, ℕ, ◌<◌, List, [], length}
 use Rattle.wasm_types.specs.limits.Settings.{Settings}
 use Rattle.wasm_types.specs.trees.Unfold.{type_count}
 use Rattle.wasm_module_validator_type_trees.specs.Groups.{Group, count}
@@ -14,13 +14,16 @@ none_below id h = go h
     go : id < 0 → ⊥
     go k = omega (arith, k)
 
-at_nothing : (z : Settings) → IsReadOver [] (nothing_read z)
-at_nothing z = record {
+-- so does one that has no types
+at_nothing : (m : Spaces) → m.types ≡ [] → m.tags ≡ [] → IsReadOver [] m
+at_nothing m types tags = record {
   checked = record { canonical = λ h. tt; valid = λ id h. absurd (none_below id h) };
-  known = λ k d h. absurd (omega (arith, h));
-  tags = λ k d h. absurd (omega (arith, h));
+  known = λ k d h. absurd (omega (arith, h, ap length types));
+  tags = λ k d h. absurd (omega (arith, h, ap length tags));
 }
 
+pub read_without_types : (groups : List Group) (m : Spaces) → groups ≡ [] → m.types ≡ [] → m.tags ≡ [] → IsReadOver groups m
+read_without_types groups m e types tags = subst (λ (g : List Group). IsReadOver g m) (sym e) (at_nothing m types tags)
+
 pub read_over_nothing : (groups : List Group) (m : Spaces) (z : Settings) → groups ≡ [] → m ≡ nothing_read z → IsReadOver groups m
-read_over_nothing groups m z e f =
-    subst (λ (n : Spaces). IsReadOver groups n) (sym f) (subst (λ (g : List Group). IsReadOver g (nothing_read z)) (sym e) (at_nothing z))
+read_over_nothing groups m z e f = read_without_types groups m e (ap (λ (n : Spaces). n.types) f) (ap (λ (n : Spaces). n.tags) f)

@@ -1,6 +1,7 @@
 -- The rules, in reading order.
 pub mod Standing
 pub mod Iterating
+pub mod Frequent
 pub mod Visiting
 pub mod Walking
 -- What is proved of it.

@@ -6,7 +6,7 @@ use Rattle.wasm_types.specs.reader.Reading.{IsNotMemory}
 use Rattle.wasm_operators_expression.specs.operator.Op.{Op}
 use Rattle.wasm_operators_visit_simd_operator.specs.visit_operator.Vectors.{is_simd}
 use Rattle.wasm_operators_reader.specs.Standing.{Standing, Reads, Runs, WantsMemory}
-use Rattle.wasm_operators_reader.specs.Visiting.{RefusesPlain}
+use Rattle.wasm_operators_reader.specs.Visiting.{VisitsPlain, RefusesPlain}
 
 -- none of them is on vectors
 abbrev pub HasNoVectors : List Op → Type 0
@@ -30,6 +30,11 @@ WalksUntil {V} visits answer s v last w = (m : Standing) × (n : V) × WalksTo v
 abbrev pub WalksUntilAt : {V A : Type 0} → (V → Op → A → V → Type 0) → A → Standing → V → A → V → ℕ → Type 0
 WalksUntilAt {V} visits answer s v last w place =
     (m : Standing) × (n : V) × WalksTo visits answer s v m n × (o : Op) × (t : Standing) × Reads m o t × (is_simd o ≡ false) × visits n o last w × (m.bytes.place ≡ place)
+
+-- the same, and where it stands behind that operator
+abbrev pub WalksUntilTo : {V A : Type 0} → (V → Op → A → V → Type 0) → A → Standing → V → A → Standing → V → ℕ → Type 0
+WalksUntilTo {V} visits answer s v last t w place =
+    (m : Standing) × (n : V) × WalksTo visits answer s v m n × VisitsPlain visits m n last t w × (m.bytes.place ≡ place)
 
 -- why a walk without vectors goes no further: bytes are left, and no operator is read, or one on vectors, for memory only where the
 -- operator takes some; or none is left while a frame is open, which is refused at their end

@@ -15,7 +15,7 @@ use Rattle.wasm_operators_reader.specs.Visiting.{VisitsPlain, RefusesVector, Ref
 use Rattle.wasm_operators_reader.specs.StandingLaws.{reads_fewer}
 use Rattle.wasm_operators_reader.specs.RunLaws.{run_more, run_expression, expression_run, refused_run, ended_run}
 use Rattle.wasm_operators_reader.specs.MeetLaws.{meets_end}
-use Rattle.wasm_operators_reader.specs.Walking.{HasNoVectors, VisitsAll, WalksTo, WalksUntil, WalksUntilAt, StopsPlain}
+use Rattle.wasm_operators_reader.specs.Walking.{HasNoVectors, VisitsAll, WalksTo, WalksUntil, WalksUntilAt, WalksUntilTo, StopsPlain}
 
 none_more : (os : List Op) (o : Op) → HasNoVectors os → is_simd o ≡ false → HasNoVectors (os ++ o ∷ [])
 none_more [] o h e = (e, tt)
@@ -98,6 +98,10 @@ module _ {V A : Type 0} (visits : V → Op → A → V → Type 0) (answer : A) 
 
   pub until_both : (s t : Standing) (v w x : V) (last : A) (place : ℕ) → WalksTo visits answer s v t w → WalksUntilAt visits answer t w last x place → WalksUntilAt visits answer s v last x place
   until_both s t v w x last place before (m, n, walked, o, u, read, plain, told, at) = (m, n, walk_both s t m v w n before walked, o, u, read, plain, told, at)
+
+  -- without where it stands then
+  pub until_at : (s t : Standing) (v w : V) (last : A) (place : ℕ) → WalksUntilTo visits answer s v last t w place → WalksUntilAt visits answer s v last w place
+  until_at s t v w last place (m, n, walked, (o, read, plain, told), at) = (m, n, walked, o, t, read, plain, told, at)
 
   -- no more bytes are left behind a walk
   pub walk_fewer : (s t : Standing) (v w : V) → WalksTo visits answer s v t w → length t.bytes.rest ≤ length s.bytes.rest

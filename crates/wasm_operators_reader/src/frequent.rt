@@ -1,12 +1,13 @@
 //! The frequent operators, told to a visitor straight from their bytes.
 
-ghost use Rattle.std.specs.Prelude.{◌≡◌, Ok, Err, get_or, IfSome, IfNone};
+ghost use Rattle.std.specs.Prelude.{◌≡◌, true, false, Some, Ok, Err, get_or, IfSome, IfNone};
 ghost use Rattle.wasm_operators_decode_codes.specs.OpcodeRoles.{plain_role};
-ghost use Rattle.wasm_operators_expression.specs.operator.declared.role.Role.TheVariants.{Plain, Opens, End};
+ghost use Rattle.wasm_operators_expression.specs.Frames.{behind};
 ghost use Rattle.wasm_operators_expression.specs.operator.Op.{op_of};
+ghost use Rattle.wasm_operators_reader.specs.Frequent.{held, closed, given_back};
 ghost use Rattle.wasm_operators_reader.specs.Standing.{Reads};
 ghost use Rattle.wasm_operators_reader.specs.Visiting.{Tells, VisitsPlain};
-ghost use Rattle.wasm_operators_reader.specs.Walking.{WalksTo, WalksUntilAt};
+ghost use Rattle.wasm_operators_reader.specs.Walking.{WalksTo, WalksUntilTo};
 
 use crate::cursor::Cursor;
 use crate::taker::Taker;
@@ -31,73 +32,68 @@ fn visit_next<'a, V: TellOperator<'a>>(
     Some(answer)
 }
 
-/// The same of an operator that leaves the frames.
+/// Whether an operator that begins with this byte may come next here, and is a frequent one: the frame that it opens is open then.
 #[inline(always)]
-fn visit_inside<'a, V: TellOperator<'a>>(
-    reader: &mut Cursor<'a>,
-    control: &ControlStack,
-    visitor: &mut V,
-) -> Option<V::Output>
-    requires { plain_role (get_or reader.old.rest 0 0) ≡ Plain }
-    ensures visited { IfSome result (λ answer. VisitsPlain V.visits (record { bytes = reader.old; frames = control.now.frames }) visitor.old answer (record { bytes = reader.new; frames = control.now.frames }) visitor.new) }
-    ensures stays { IfNone result (reader.new ≡ reader.old) }
-    ensures told { IfNone result (visitor.new ≡ visitor.old) }
+fn enter(byte: u8, control: &mut ControlStack) -> bool
+    ensures fits { result ≡ true → behind (plain_role byte) control.old.frames ≡ Some (closed (plain_role byte) (held (plain_role byte) control.old.frames)) }
+    ensures held { result ≡ true → control.new.frames ≡ held (plain_role byte) control.old.frames }
+    ensures stays { result ≡ false → control.new.frames ≡ control.old.frames }
 {
     if control.is_empty() {
-        return None;
+        return false;
     }
-    let Some(answer) = visit_next(reader, visitor) else {
-        return None;
-    };
-    Some(answer)
+    // Most bytes are past those that speak of frames.
+    if byte > 0x1f {
+        return true;
+    }
+    match role_of(byte) {
+        Role::Plain => true,
+        Role::Opens(frame) => match control.push(frame) {
+            Ok(()) => true,
+            Err(_) => false,
+        },
+        Role::End => true,
+        Role::Else => false,
+        Role::Catch => false,
+        Role::CatchAll => false,
+        Role::Delegate => false,
+    }
 }
 
-/// The same of one that opens a frame.
-#[inline]
-fn visit_opening<'a, V: TellOperator<'a>>(
-    frame: FrameKind,
-    reader: &mut Cursor<'a>,
-    control: &mut ControlStack,
-    visitor: &mut V,
-) -> Option<V::Output>
-    requires { plain_role (get_or reader.old.rest 0 0) ≡ Opens frame }
-    ensures visited { IfSome result (λ answer. VisitsPlain V.visits (record { bytes = reader.old; frames = control.old.frames }) visitor.old answer (record { bytes = reader.new; frames = control.new.frames }) visitor.new) }
-    ensures stays { IfNone result ((reader.new ≡ reader.old) × (control.new.frames ≡ control.old.frames)) }
-    ensures told { IfNone result (visitor.new ≡ visitor.old) }
+/// The frames as they were before.
+#[inline(always)]
+fn leave(role: Role, control: &mut ControlStack)
+    ensures { control.new.frames ≡ given_back role control.old.frames }
 {
-    if control.is_empty() {
-        return None;
+    match role {
+        Role::Opens(_) => {
+            control.pop();
+        }
+        Role::Plain => (),
+        Role::End => (),
+        Role::Else => (),
+        Role::Catch => (),
+        Role::CatchAll => (),
+        Role::Delegate => (),
     }
-    let Ok(()) = control.push(frame) else {
-        return None;
-    };
-    let Some(answer) = visit_next(reader, visitor) else {
-        control.pop();
-        return None;
-    };
-    Some(answer)
 }
 
-/// The same of `end`.
+/// The frames behind the operator.
 #[inline(always)]
-fn visit_closing<'a, V: TellOperator<'a>>(
-    reader: &mut Cursor<'a>,
-    control: &mut ControlStack,
-    visitor: &mut V,
-) -> Option<V::Output>
-    requires { plain_role (get_or reader.old.rest 0 0) ≡ End }
-    ensures visited { IfSome result (λ answer. VisitsPlain V.visits (record { bytes = reader.old; frames = control.old.frames }) visitor.old answer (record { bytes = reader.new; frames = control.new.frames }) visitor.new) }
-    ensures stays { IfNone result ((reader.new ≡ reader.old) × (control.new.frames ≡ control.old.frames)) }
-    ensures told { IfNone result (visitor.new ≡ visitor.old) }
+fn close(role: Role, control: &mut ControlStack)
+    ensures { control.new.frames ≡ closed role control.old.frames }
 {
-    if control.is_empty() {
-        return None;
+    match role {
+        Role::End => {
+            control.pop();
+        }
+        Role::Plain => (),
+        Role::Opens(_) => (),
+        Role::Else => (),
+        Role::Catch => (),
+        Role::CatchAll => (),
+        Role::Delegate => (),
     }
-    let Some(answer) = visit_next(reader, visitor) else {
-        return None;
-    };
-    control.pop();
-    Some(answer)
 }
 
 /// Reads the next operator and tells the visitor of it, where it is a frequent one in a frequent form. None
@@ -115,18 +111,16 @@ pub(crate) fn visit_frequent<'a, V: TellOperator<'a>>(
     if reader.eof() {
         return None;
     }
-    match role_of(reader.first()) {
-        Role::Plain => {
-            let answer = visit_inside(reader, control, visitor)?;
-            Some(answer)
-        }
-        Role::Opens(frame) => visit_opening(frame, reader, control, visitor),
-        Role::End => visit_closing(reader, control, visitor),
-        Role::Else => None,
-        Role::Catch => None,
-        Role::CatchAll => None,
-        Role::Delegate => None,
+    let byte = reader.first();
+    if !enter(byte, control) {
+        return None;
     }
+    let Some(answer) = visit_next(reader, visitor) else {
+        leave(role_of(byte), control);
+        return None;
+    };
+    close(role_of(byte), control);
+    Some(answer)
 }
 
 /// Reads frequent operators and tells the visitor of them, one after the other, up to one that is another, or that is not read; or to
@@ -137,7 +131,7 @@ pub(crate) fn visit_run<'a, E: Drop, V: TellOperator<'a, Output = Result<(), E>>
     control: &mut ControlStack,
     visitor: &mut V,
 ) -> Option<(E, u64)>
-    ensures ended { IfSome result (λ last. WalksUntilAt V.visits (Ok tt) (record { bytes = reader.old; frames = control.old.frames }) visitor.old (Err last.0) visitor.new last.1) }
+    ensures ended { IfSome result (λ last. WalksUntilTo V.visits (Ok tt) (record { bytes = reader.old; frames = control.old.frames }) visitor.old (Err last.0) (record { bytes = reader.new; frames = control.new.frames }) visitor.new last.1) }
     ensures told { IfNone result (WalksTo V.visits (Ok tt) (record { bytes = reader.old; frames = control.old.frames }) visitor.old (record { bytes = reader.new; frames = control.new.frames }) visitor.new) }
 {
     while !reader.eof() {

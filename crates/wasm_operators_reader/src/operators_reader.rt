@@ -6,7 +6,7 @@ ghost use Rattle.wasm_types.specs.reader.Reading.{NeedsNoMemory};
 ghost use Rattle.wasm_operators_expression.specs.operator.Op.{op_of};
 ghost use Rattle.wasm_operators_reader.specs.Standing.{at_start, IsFinished, Reads, Refuses, WantsMemory};
 ghost use Rattle.wasm_operators_reader.specs.Visiting.{VisitsPlain};
-ghost use Rattle.wasm_operators_reader.specs.Walking.{WalksTo, WalksUntilAt};
+ghost use Rattle.wasm_operators_reader.specs.Walking.{WalksTo, WalksUntilTo};
 
 use crate::cursor::Cursor;
 use crate::frequent::{read_frequent, visit_frequent, visit_run};
@@ -226,12 +226,13 @@ impl<'a> OperatorsReader<'a> {
 
     /// Reads operators, as `read` does, and tells the visitor of them, one after the other, as long as they are frequent ones in frequent
     /// forms and the visitor answers `Ok`. Its first `Err` is given back, with the offset in the input of the operator that it
-    /// answers. None where another operator follows, or none that `read` reads: the reader stands there then.
+    /// answers, and the reader stands behind that operator. None where another operator follows, or none that `read` reads: the reader
+    /// stands there then.
     pub fn tell_run<E: Drop, V: TellOperator<'a, Output = std::result::Result<(), E>>>(
         &mut self,
         visitor: &mut V,
     ) -> Option<(E, u64)>
-        ensures ended { IfSome result (λ last. WalksUntilAt V.visits (Ok tt) self.old visitor.old (Err last.0) visitor.new last.1) }
+        ensures ended { IfSome result (λ last. WalksUntilTo V.visits (Ok tt) self.old visitor.old (Err last.0) self.new visitor.new last.1) }
         ensures told { IfNone result (WalksTo V.visits (Ok tt) self.old visitor.old self.new visitor.new) }
     {
         let mut ahead = self.reader.copy();

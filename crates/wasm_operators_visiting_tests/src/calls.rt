@@ -1,9 +1,15 @@
-//! One operator read and visited, where the reader keeps the frames and where the caller does.
+//! One operator read and visited, where the reader keeps the frames and where the caller does; and one visited by a copy.
+
+ghost use Rattle.std.specs.Prelude.{◌≡◌, false};
+ghost use Rattle.wasm_operators_visiting.specs.reader.operator.Op.{op_of};
+ghost use Rattle.wasm_operators_visiting.specs.reader.visit_operator.Vectors.{is_simd};
+
 use bitflags::Flags;
+use std::alloc::AllocError;
 use std::process::Abort;
 use std::test::Fail;
-use wasm_operators_counter::{Counter, count_next, count_next_in_frame};
-use wasm_operators_visiting::{FrameKind, OperatorsReader};
+use wasm_operators_counter::{Counter, Driven, Full, count_next, count_next_in_frame};
+use wasm_operators_visiting::{FrameKind, Operator, OperatorsReader, VisitOperator, is_simd};
 use wasm_types::{BinaryReader, WasmFeatures};
 
 // The bytes, with all features.
@@ -49,5 +55,36 @@ fn frames_of_the_caller(rt: HostRuntime) -> Result<(), Fail> {
         )
     );
     assert!(rt; counter.left == 4 && reader.bytes_remaining() == 1);
+    Ok(())
+}
+
+// The visit that belongs to an operator, which gets a copy of its lists.
+fn visit_copy<'a, V: Driven<'a>>(
+    op: &Operator<'a>,
+    visitor: &mut V,
+) -> Result<Result<(), Full>, AllocError>
+    requires { is_simd (op_of op.now) ≡ false }
+{
+    visitor.visit_operator(op)
+}
+
+// select i32 and i64, which keeps a list: a copy is visited, and the operator stays
+#[test]
+fn copies(rt: HostRuntime) -> Result<(), Fail> {
+    let text = [0x1c, 0x02, 0x7f, 0x7e];
+    let mut operators = OperatorsReader::new(rt.alloc(), bytes(&text));
+    let mut counter = Counter {
+        left: 5,
+        frame: None,
+    };
+    let Ok(op) = operators.read() else {
+        panic!(rt; "an operator is refused");
+    };
+    if is_simd(&op) {
+        panic!(rt; "an operator on vectors");
+    }
+    assert!(rt; matches!(visit_copy(&op, &mut counter), Ok(Ok(()))));
+    assert!(rt; matches!(visit_copy(&op, &mut counter), Ok(Ok(()))));
+    assert!(rt; counter.left == 3);
     Ok(())
 }

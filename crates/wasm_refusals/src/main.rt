@@ -1,4 +1,5 @@
-//! Reads and clones what takes memory: the types of a group, operators with tables, and operators in nested blocks.
+//! Reads and clones what takes memory: the types of a group, operators with tables, operators in nested blocks, and operators that keep
+//! lists. These are read again from the same place where memory was refused.
 //!
 //! It ends with status 0 where each clone is equal, with 2 where memory was refused and each refusal was answered as out of
 //! memory, and with 1 otherwise. `bench/refused-memory` refuses it each allocation in turn.
@@ -8,7 +9,7 @@ use std::alloc::{AllocError, AllocFailed, Global};
 use std::process::ExitCode;
 use wasm_operators_reader::{
     BlockType, BrTable, Catch, ContinuationOperator, ControlOperator, ExceptionOperator, Handle,
-    Operator, OperatorsReader, ParametricOperator, ResumeTable, TryTable,
+    Operator, OperatorsReader, ParametricOperator, ResumeTable, TryTable, read_expression,
 };
 use wasm_types::{BinaryReader, Error, ErrorKind, FromReader, RecGroup, ValType};
 
@@ -28,6 +29,12 @@ static BLOCKS: [u8; 61] = [
     0x02, 0x40, 0x02, 0x40, 0x02, 0x40, 0x02, 0x40, 0x02, 0x40, 0x02, 0x40, 0x02, 0x40, 0x02, 0x40,
     0x02, 0x40, 0x02, 0x40, 0x02, 0x40, 0x02, 0x40, 0x0b, 0x0b, 0x0b, 0x0b, 0x0b, 0x0b, 0x0b, 0x0b,
     0x0b, 0x0b, 0x0b, 0x0b, 0x0b, 0x0b, 0x0b, 0x0b, 0x0b, 0x0b, 0x0b, 0x0b, 0x0b,
+];
+
+/// `select` of two types, `try_table` with two clauses, `resume` with two handlers, and two times `end`: the first three keep a list each.
+static LISTS: [u8; 22] = [
+    0x1c, 0x02, 0x7f, 0x7e, 0x1f, 0x40, 0x02, 0x00, 0x01, 0x02, 0x02, 0x00, 0xe3, 0x00, 0x02, 0x00,
+    0x01, 0x02, 0x01, 0x03, 0x0b, 0x0b,
 ];
 
 /// How a part of the run ended, if not well.
@@ -126,10 +133,39 @@ fn frames(alloc: Global) -> Result<(), Fault> {
     }
 }
 
+/// Reads the next operator, and once more from the same place where memory was refused.
+fn read_again(operators: &mut OperatorsReader<'_>) -> Result<(), Fault> {
+    let place = operators.original_position();
+    let Err(error) = operators.read() else {
+        return Ok(());
+    };
+    if error.kind() != ErrorKind::OutOfMemory || operators.original_position() != place {
+        return Err(Fault::Wrong);
+    }
+    operators.read()?;
+    Ok(())
+}
+
+/// That operators which keep lists are read up to the last, one by one and as one expression.
+fn lists(alloc: Global) -> Result<(), Fault> {
+    let mut operators = OperatorsReader::new(alloc, BinaryReader::new(&LISTS, 0));
+    for _ in 0..5 {
+        read_again(&mut operators)?;
+    }
+    operators.finish()?;
+    let ops = read_expression(alloc, BinaryReader::new(&LISTS, 0))?;
+    if ops.len() == 5 {
+        Ok(())
+    } else {
+        Err(Fault::Wrong)
+    }
+}
+
 fn run(alloc: Global) -> Result<(), Fault> {
     types(alloc)?;
     operators(alloc)?;
-    frames(alloc)
+    frames(alloc)?;
+    lists(alloc)
 }
 
 fn main(rt: HostRuntime) -> ExitCode {

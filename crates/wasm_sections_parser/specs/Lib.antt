@@ -1,6 +1,7 @@
 -- Rules: what comes next where a parser stands, and what a call answers.
 pub mod Steps
 pub mod Places
+pub mod Needs
 pub mod Parsing
 pub mod Settled
 -- Laws.

@@ -1,7 +1,6 @@
 -- What a call of a parser answers, and where the parser stands then.
-use Rattle.std.specs.Prelude.{◌≡◌, ℕ, ◌+◌, ◌==◌, nat_le, List, length, Bool, true, false, Option, None, Result, Ok, Err, if◌then◌else◌}
+use Rattle.std.specs.Prelude.{◌≡◌, ℕ, ◌+◌, ◌==◌, nat_le, List, length, Bool, true, false, None, Result, Ok, Err, if◌then◌else◌}
 use Rattle.wasm_types.specs.limits.Limits.{default_limits}
-use Rattle.wasm_types.specs.limits.Settings.{Settings}
 use Rattle.wasm_types.specs.decoding.Decoder.{State, Outcome, Done, Short}
 use Rattle.wasm_types.specs.error.declared.error.ErrorKind.TheVariants.{Failed, Other}
 use Rattle.wasm_types.specs.error.ErrorValue.{ErrorValue}
@@ -18,6 +17,7 @@ use Rattle.wasm_sections_parser.specs.declared.parser.Parser.{Parser}
 use Rattle.wasm_sections_parser.specs.declared.parser.Chunk.{Chunk}
 use Rattle.wasm_sections_parser.specs.declared.parser.Chunk.TheVariants.{NeedMoreData, Parsed}
 use Rattle.wasm_sections_parser.specs.Places.{IsPlaced}
+use Rattle.wasm_sections_parser.specs.Needs.{needed}
 use Rattle.wasm_sections_parser.specs.Steps.{Shape, version, custom, section, code, entry, the_end, is_over, counts_agree, step}
 
 -- the layer that says so
@@ -87,10 +87,14 @@ Ends p eof (Ok (NeedMoreData n)) q = (eof ≡ false) × (n ≡ 2) × (q ≡ p)
 Ends p eof (Ok (Parsed n f)) q = (eof ≡ true) × (counts_agree p.progress ≡ true) × (n ≡ 0) × (f ≡ frames.End p.offset) × (q ≡ staged p stages.Ended)
 Ends p eof (Err e) q = (eof ≡ true) × (counts_agree p.progress ≡ false) × (e.kind ≡ Other) × (e.offset ≡ p.offset) × (q ≡ staged p stages.Failed)
 
--- What is answered elsewhere: what comes next. Where bytes are missing, as many are needed as the decoder says, and if none
--- follow it is an error.
+-- bytes are missing, and so many more can bring a frame or a refusal
+abbrev pub Lacks : Parser → List ℕ → ℕ → Type 0
+Lacks p text n = (place : ℕ) × (lacking : ℕ) × (comes p text ≡ Short place lacking) × (n ≡ needed p.progress p.offset text lacking)
+
+-- What is answered elsewhere: what comes next. Where bytes are missing, the least number is told that can bring something else, and
+-- if none follow it is an error.
 abbrev pub Comes : Parser → List ℕ → Bool → Result Chunk ErrorValue → Parser → Type 0
-Comes p text eof (Ok (NeedMoreData n)) q = (eof ≡ false) × ((place : ℕ) × (comes p text ≡ Short place n)) × (q ≡ p)
+Comes p text eof (Ok (NeedMoreData n)) q = (eof ≡ false) × Lacks p text n × (q ≡ p)
 Comes p text eof (Ok (Parsed n f)) q = IsNext p text n f q
 Comes p text eof (Err e) q = IsNotMemory e.kind × Fails e (comes p text) × ((eof ≡ false) → hint_of e.kind ≡ None) × (q ≡ staged p stages.Failed)
 

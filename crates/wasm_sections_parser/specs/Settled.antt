@@ -1,7 +1,7 @@
 -- The error of a part that is all there.
-use Rattle.std.proofs.Common.{◌≡◌, ℕ, ◌+◌, List, [], ◌∷◌, ◌++◌, length, refl, sym, ap, ◌∙◌, subst, arith, Some}
+use Rattle.std.proofs.Common.{◌≡◌, ℕ, ◌+◌, List, [], ◌∷◌, ◌++◌, length, refl, sym, ap, ◌∙◌, arith, Some}
 use Rattle.std.proofs.lemmas.List.{append-nil, length-append}
-use Rattle.wasm_types.specs.decoding.Decoder.{State, Outcome, Done, Short, Fault, Decoder, bytes}
+use Rattle.wasm_types.specs.decoding.Decoder.{State, Outcome, Done, Short, Decoder, bytes}
 use Rattle.wasm_types.specs.decoding.Exact.{decides-bytes}
 use Rattle.wasm_types.specs.error.declared.error.ErrorKind.{ErrorKind}
 use Rattle.wasm_types.specs.error.declared.error.ErrorKind.TheVariants.{EndOfData, MissingFeature, OutOfMemory, Failed, Other}

@@ -1,10 +1,10 @@
 -- What comes next is read lawfully: an answer is final, and a hint is exact.
-use Rattle.std.proofs.Common.{◌≡◌, ℕ, ◌+◌, ◌-◌, ◌<◌, ◌≤◌, ◌^◌, List, [], length, refl, sym, ap, ◌∙◌, subst, arith, cond, ltb, Bool, true, false}
+use Rattle.std.proofs.Common.{◌≡◌, ℕ, ◌+◌, ◌-◌, ◌<◌, ◌≤◌, ◌^◌, List, [], length, refl, sym, subst, arith, cond, Bool, true, false}
 use Rattle.std.specs.Prelude.{nat_lt, ◌==◌}
 use Rattle.std.proofs.lemmas.Bool.{ltb-true, ltb-false, lt-ltb, le-ltb}
 use Rattle.wasm_types.specs.limits.Settings.{Settings}
 use Rattle.wasm_types.specs.decoding.declared.Refusal.TheVariants.{Other}
-use Rattle.wasm_types.specs.decoding.Decoder.{State, extended, Outcome, Done, Short, Fault, Decoder, ◌>>=◌, pure, refuse, byte, bytes, GoesOn, GoesForward, IsBeyond, IsLawful}
+use Rattle.wasm_types.specs.decoding.Decoder.{State, extended, Outcome, Done, Short, Fault, Decoder, byte, bytes, GoesOn, GoesForward, IsBeyond, IsLawful}
 use Rattle.wasm_types.specs.decoding.Laws.{takes_none, lawful->>=, lawful-pure, lawful-refuse, lawful-byte, lawful-if, lawful-bytes}
 use Rattle.wasm_types.specs.decoding.Leb.{u32}
 use Rattle.wasm_types.specs.decoding.LebLaws.{lawful-unsigned}
@@ -17,36 +17,7 @@ use Rattle.wasm_sections_frames.specs.PartLaws.{lawful-header}
 use Rattle.wasm_sections_parser.specs.declared.progress.Stage.{Stage}
 use Rattle.wasm_sections_parser.specs.declared.progress.Stage.TheVariants as stages
 use Rattle.wasm_sections_parser.specs.declared.progress.Progress.{Progress}
-use Rattle.wasm_sections_parser.specs.Steps.{
-  Shape,
-  version,
-  entry,
-  begun,
-  one_less,
-  kept,
-  number_before,
-  found,
-  in_part,
-  Next,
-  has_count,
-  custom_next,
-  section_next,
-  contents_next,
-  contents,
-  code_next,
-  code_at,
-  code_start,
-  ordered,
-  next_section,
-  body_at,
-  body,
-  next_entry,
-  behind_code_at,
-  behind_code,
-  next_header,
-  at_stage,
-  step,
-}
+use Rattle.wasm_sections_parser.specs.Steps.{version, entry, begun, one_less, kept, number_before, found, in_part, has_count, custom_next, section_next, contents_next, contents, code_next, code_at, code_start, ordered, next_section, body_at, body, next_entry, behind_code_at, behind_code, next_header, at_stage, step}
 
 -- ---- a number before an offset
 
@@ -152,7 +123,7 @@ unfolding next_section
 lawful-next_section z p = lawful->>= byte _ lawful-byte (λ id. lawful->>= u32 (ordered z p id) (lawful-unsigned 4 4) (λ n.
     lawful-if _ _ _ (lawful-refuse Other 0) (lawful-if (id == 10) _ _ (lawful-code_start p n) (lawful-contents z p id n))))
 
-lawful-next_entry : (p : Progress) (left end : ℕ) → IsLawful (next_entry p left end)
+pub lawful-next_entry : (p : Progress) (left end : ℕ) → IsLawful (next_entry p left end)
 unfolding next_entry
 lawful-next_entry p left end = lawful->>= (number_before end) (body p left end) (lawful-number_before end) (λ n. lawful-from_place (body_at p left end n) (λ place.
     lawful-if (nat_lt (end - place) n) _ _ (lawful-refuse_at Other place) (lawful->>= (bytes n) _ (lawful-bytes n) (λ text. lawful-pure (entry text, one_less p left end)))))
@@ -161,7 +132,7 @@ lawful-behind_code : (z : Settings) (p : Progress) (end : ℕ) → IsLawful (beh
 unfolding behind_code
 lawful-behind_code z p end = lawful-from_place (behind_code_at z p end) (λ place. lawful-if (nat_lt place end) _ _ (lawful-refuse_at Other place) (lawful-next_section z p))
 
-lawful-next_header : (p : Progress) → IsLawful (next_header p)
+pub lawful-next_header : (p : Progress) → IsLawful (next_header p)
 unfolding next_header
 lawful-next_header p = lawful->>= header _ lawful-header (λ h. lawful-pure (version h, begun p))
 

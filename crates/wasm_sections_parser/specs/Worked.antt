@@ -1,6 +1,5 @@
 -- Worked steps of a parser.
-use Rattle.std.proofs.Common.{◌≡◌, ℕ, List, [], ◌∷◌, drop, refl, sym, ap, arith, true, false, Some, None}
-use Rattle.wasm_types.specs.limits.Limits.{default_limits}
+use Rattle.std.proofs.Common.{◌≡◌, ℕ, ◌-◌, ◌^◌, List, [], ◌∷◌, drop, refl, sym, ap, arith, true, false, Some, None}
 use Rattle.wasm_types.specs.limits.Settings.{no_features}
 use Rattle.wasm_types.specs.decoding.declared.Refusal.TheVariants.{Other}
 use Rattle.wasm_types.specs.decoding.Decoder.{State, Done, Short, Fault}
@@ -8,32 +7,13 @@ use Rattle.wasm_types.specs.decoding.Exact.{state_is}
 use Rattle.wasm_types.specs.decoding.Leb.{unsigned, u32, last, more}
 use Rattle.wasm_types.specs.decoding.LebLaws.{decides-u32}
 use Rattle.wasm_types.specs.values.WorkedTypeLaws.{start_of, behind}
-use Rattle.wasm_sections_frames.specs.Outer.{Header}
 use Rattle.wasm_sections_frames.specs.Decode.{header}
 use Rattle.wasm_sections_parser.specs.declared.progress.Stage.{Stage}
 use Rattle.wasm_sections_parser.specs.declared.progress.Stage.TheVariants as stages
 use Rattle.wasm_sections_parser.specs.declared.progress.Progress.{Progress}
 use Rattle.wasm_sections_parser.specs.Places.{HasContentsAt}
-use Rattle.wasm_sections_parser.specs.Steps.{
-  version,
-  section,
-  code,
-  entry,
-  counted,
-  in_code,
-  one_less,
-  begun,
-  counts_agree,
-  number_before,
-  in_part,
-  contents,
-  code_start,
-  next_section,
-  next_entry,
-  behind_code,
-  next_header,
-  step,
-}
+use Rattle.wasm_sections_parser.specs.Needs.{least_within, needed}
+use Rattle.wasm_sections_parser.specs.Steps.{version, section, code, entry, counted, in_code, counts_agree, number_before, in_part, contents, code_start, next_section, next_entry, behind_code, next_header, step}
 
 -- a parser in this stage, behind sections up to this place
 abbrev at : Stage → ℕ → Progress
@@ -105,6 +85,55 @@ pub record CountRows : Type 0 where
 
 pub count_rows : CountRows
 count_rows = record { none = refl; same = refl; fewer = refl }
+
+-- How many bytes are needed within a size. A section: its least size and that many bytes, or a size that is too large with its fifth
+-- byte. The code section: the end of its size and its count, or a size that is too large or that ends past the offsets of 64 bits. A
+-- section that comes too late: the end of its size. A body: its least size and that many bytes, or a size too large for its section.
+-- Elsewhere as many as the decoder lacks.
+pub record NeedRows : Type 0 where
+  pub no_size : needed sections 0 (0x01 ∷ []) 1 ≡ 1
+  pub five : needed sections 0 (0x01 ∷ 0x85 ∷ []) 1 ≡ 4
+  pub two : needed sections 0 (0x01 ∷ 0x82 ∷ []) 1 ≡ 3
+  pub padded : needed sections 0 (0x01 ∷ 0x83 ∷ 0x80 ∷ []) 1 ≡ 3
+  pub large : needed sections 0 (0x01 ∷ 0x80 ∷ 0x81 ∷ 0x80 ∷ []) 1 ≡ 2
+  pub fifth : needed sections 0 (0x01 ∷ 0x85 ∷ 0x80 ∷ 0x80 ∷ 0x80 ∷ []) 1 ≡ 1
+  pub none : needed sections 0 (0x01 ∷ 0x80 ∷ []) 1 ≡ 1
+  pub late : needed (at stages.Sections 4) 0 (0x03 ∷ 0x85 ∷ []) 1 ≡ 1
+  pub code_of_five : needed sections 0 (0x0a ∷ 0x85 ∷ []) 1 ≡ 2
+  pub code_of_none : needed sections 0 (0x0a ∷ 0x80 ∷ []) 1 ≡ 1
+  pub code_fifth : needed sections 0 (0x0a ∷ 0x85 ∷ 0x80 ∷ 0x80 ∷ 0x80 ∷ []) 1 ≡ 1
+  pub code_too_far : needed sections (2 ^ 64 - 130) (0x0a ∷ 0x85 ∷ []) 1 ≡ 1
+  pub body_of_four : needed (at (stages.Code 1 (2 ^ 32)) 12) 0 (0x84 ∷ []) 1 ≡ 4
+  pub body_of_two : needed (at (stages.Code 1 (2 ^ 32)) 12) 0 (0x82 ∷ []) 1 ≡ 3
+  pub body_too_large : needed (at (stages.Code 1 900) 12) 0 (0x84 ∷ []) 1 ≡ 1
+  pub body_in_two : needed (at (stages.Code 1 900000) 12) 0 (0x84 ∷ []) 1 ≡ 2
+  pub behind_code : needed (at (stages.Code 0 0) 12) 0 (0x0b ∷ 0x85 ∷ []) 1 ≡ 4
+  pub contents : needed sections 0 (0x01 ∷ 0x05 ∷ 0x01 ∷ []) 4 ≡ 4
+  pub header : needed (at stages.Header 0) 0 (0x00 ∷ 0x61 ∷ 0x73 ∷ 0x6d ∷ 0x01 ∷ 0x00 ∷ 0x00 ∷ []) 1 ≡ 1
+
+pub need_rows : NeedRows
+unfolding needed least_within
+need_rows = record {
+  no_size = refl;
+  five = refl;
+  two = refl;
+  padded = refl;
+  large = refl;
+  fifth = refl;
+  none = refl;
+  late = refl;
+  code_of_five = refl;
+  code_of_none = refl;
+  code_fifth = refl;
+  code_too_far = refl;
+  body_of_four = refl;
+  body_of_two = refl;
+  body_too_large = refl;
+  body_in_two = refl;
+  behind_code = refl;
+  contents = refl;
+  header = refl;
+}
 
 -- Contents begin behind an id and a size of one byte, or of two where it is padded, and nowhere else.
 pub record PlaceRows : Type 0 where

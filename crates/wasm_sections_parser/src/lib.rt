@@ -6,6 +6,7 @@
 
 mod frame;
 pub mod laws;
+mod needs;
 mod numbers;
 mod parser;
 mod progress;

@@ -6,6 +6,7 @@ ghost use Rattle.wasm_types.specs.reader.Reading.{NeedsNoMemory};
 ghost use Rattle.wasm_sections_parser.specs.declared.progress.Stage.TheVariants.{Header, Failed};
 ghost use Rattle.wasm_sections_parser.specs.Parsing.{between, staged, Ends, Comes, Parses};
 
+use crate::needs::needed;
 use crate::progress::{counts_agree, is_over};
 use crate::sections::{Read, read_frame};
 use crate::{Frame, Progress, Stage};
@@ -14,9 +15,9 @@ use wasm_types::{BinaryReader, Error, Result, WasmFeatures};
 /// What a call gives.
 #[derive(Drop)]
 pub enum Chunk<'a> {
-    /// So many more bytes than were given are needed: with fewer the call is answered so again, and as many, or more, can bring a
-    /// frame or a refusal (`wasm_sections_parser_hints` has the laws). Where the bytes end within a size this is 1, which may only bring
-    /// another request. The parser is as it was: the next call is given the same bytes again, with more behind them.
+    /// So many more bytes than were given are needed, and no fewer: with fewer the call is answered so again, and some so many bring a
+    /// frame or a refusal (`wasm_sections_parser_hints` has the laws). The parser is as it was: the next call is given the same bytes
+    /// again, with more behind them.
     NeedMoreData(usize),
     /// A frame of so many bytes.
     Parsed {
@@ -156,8 +157,9 @@ impl Parser {
             }
             Err(error) => {
                 if !eof {
-                    if let Some(needed) = error.needed_hint() {
-                        return Ok(Chunk::NeedMoreData(needed));
+                    if let Some(lacking) = error.needed_hint() {
+                        let count = needed(&self.progress, self.offset, data, lacking);
+                        return Ok(Chunk::NeedMoreData(count));
                     }
                 }
                 self.set_stage(Stage::Failed);

@@ -1,4 +1,4 @@
--- Worked bytes that end too early: how many are missing, and where a size is cut.
+-- Worked bytes that end too early: how many the decoder lacks, and where a size is cut.
 use Rattle.std.proofs.Common.{◌≡◌, inl, inr, ℕ, List, [], ◌∷◌, refl, arith, None}
 use Rattle.wasm_types.specs.limits.Settings.{no_features}
 use Rattle.wasm_types.specs.decoding.declared.Refusal.TheVariants.{Other}
@@ -40,13 +40,16 @@ unfolding step next_header header
 header_rows = record { none = refl; one = refl; two = refl; three = refl; four = refl; five = refl; six = refl; seven = refl; fourth = refl; eighth = refl }
 
 -- A section without its size, of which one byte may bring a frame or a refusal; one cut within its size, to which no single byte
--- brings either; its contents cut; a body cut within its size and behind it.
+-- brings either, nor two or three that end or go on with it, but four that make it too large; its contents cut; a body cut within its
+-- size and behind it.
 pub record CutRows : Type 0 where
   pub no_size : step no_features sections (start_of (0x01 ∷ [])) ≡ Short 1 1
   pub empty : step no_features sections (start_of (0x03 ∷ 0x00 ∷ [])) ≡ Fault Other 2
   pub within : step no_features sections (start_of (0x01 ∷ 0x85 ∷ [])) ≡ Short 2 1
   pub size_ends : step no_features sections (start_of (0x01 ∷ 0x85 ∷ 0x00 ∷ [])) ≡ Short 3 5
   pub size_goes_on : step no_features sections (start_of (0x01 ∷ 0x85 ∷ 0x80 ∷ [])) ≡ Short 3 1
+  pub two_bytes : step no_features sections (start_of (0x01 ∷ 0x85 ∷ 0x80 ∷ 0x00 ∷ [])) ≡ Short 4 5
+  pub three_bytes : step no_features sections (start_of (0x01 ∷ 0x85 ∷ 0x00 ∷ 0x00 ∷ 0x00 ∷ [])) ≡ Short 3 3
   pub size_too_long : step no_features sections (start_of (0x01 ∷ 0x85 ∷ 0x80 ∷ 0x80 ∷ 0x80 ∷ 0x10 ∷ [])) ≡ Fault Other 5
   pub contents : step no_features sections (start_of (0x01 ∷ 0x05 ∷ 0x01 ∷ [])) ≡ Short 2 4
   pub body_within : step no_features (at (stages.Code 1 900) 12) (start_of (0x84 ∷ [])) ≡ Short 1 1
@@ -83,6 +86,8 @@ cut_rows = record {
   within = refl;
   size_ends = refl;
   size_goes_on = refl;
+  two_bytes = refl;
+  three_bytes = refl;
   size_too_long = refl;
   contents = refl;
   body_within = refl;

@@ -8,8 +8,8 @@ ghost use Rattle.wasm_sections_parser_hints.specs.Hints.{IsLeast};
 ghost use Rattle.wasm_sections_parser_hints.specs.Worked.{HeaderRows, CutRows};
 
 /// A call that asks for more bytes leaves the parser, and as many as it asks for are the least that can bring a frame or a refusal:
-/// with fewer it asks for those that are still missing. (Where the bytes end within the size of a section or of a body, one byte is
-/// asked for, the least that can end the size: what then comes depends on it.) Where no bytes follow, none are asked for.
+/// some so many do, and with fewer it asks for more again, no less than those that are still missing. Where no bytes follow, none are
+/// asked for.
 pub const fn hints_are_least()
     ensures least { (p q : Parser) (text : List ℕ) (n : ℕ) → Parses p text false (Ok (NeedMoreData n)) q → (q ≡ p) × IsLeast p text n }
     ensures ended { (p q : Parser) (text : List ℕ) (n : ℕ) → Parses p text true (Ok (NeedMoreData n)) q → ⊥ }

@@ -113,7 +113,7 @@ asked_stuck q r rest n going h y t f = over (is_over q.progress) going h
   where
     missing : (k : Bool) → (length rest == 0) ≡ k → (b : Bool) → cond k (between q.progress.stage q.offset) false ≡ b
         → one_of b (Ends q false (Ok (NeedMoreData n)) r) (Comes q rest false (Ok (NeedMoreData n)) r) → ⊥
-    missing k e false g a = let no : Short a.1.0 n ≡ given y t = sym a.1.1 ∙ f in cc
+    missing k e false g a = let no : Short a.1.0 a.1.1 ≡ given y t = sym a.1.2 ∙ f in cc
     missing true e true g a = no_section (settings_of q) q.progress (reads q rest) g (no_bytes rest (eqb-true _ _ e)) y t f
     missing false e true g a = absurd cc
 

@@ -20,6 +20,7 @@ use Rattle.wasm_sections_parser.specs.declared.parser.Parser.{Parser}
 use Rattle.wasm_sections_parser.specs.declared.progress.Stage.{Stage}
 use Rattle.wasm_sections_parser.specs.declared.progress.Stage.TheVariants as stages
 use Rattle.wasm_sections_parser.specs.declared.progress.Progress.{Progress}
+use Rattle.wasm_sections_parser.specs.Needs.{least_within, needed}
 use Rattle.wasm_sections_parser.specs.Steps.{Shape, in_part, contents, next_section, next_header, step}
 use Rattle.wasm_sections_parser.specs.Parsing.{IsNext}
 use Rattle.wasm_sections_payloads.specs.declared.payload.Payload.{Payload}
@@ -139,7 +140,7 @@ abbrev behind_start : WasmFeatures → Parser
 behind_start w = record { offset = 12; features = w; progress = record { stage = stages.Sections; last = 9; functions = 0; bodies = 0; data_count = None; segments = 0 } }
 
 -- Seven bytes of the header need one more, and not two; all eight are a payload. Behind it no byte needs two, or is the end where none
--- follows; an id, a size of 5 and one byte need four. A start section with a byte behind its number is refused: the parser stays
+-- follows; an id, a size of 5 and one byte need four, and so do an id and the first of a size of 5 or more, not one. A start section with a byte behind its number is refused: the parser stays
 -- where it stood, and fails from then on; never for memory. The end comes once, and last.
 pub record CallRows : Type 0 where
   pub seven : (w : WasmFeatures) → ParsesPayload (parser w 0 stages.Header) first_seven false (Ok (NeedMoreData 1)) (parser w 0 stages.Header)
@@ -149,6 +150,8 @@ pub record CallRows : Type 0 where
   pub end : (w : WasmFeatures) → ParsesPayload (parser w 8 stages.Sections) [] true (Ok (Parsed 0 (payloads.End 8))) (parser w 8 stages.Ended)
   pub no_need_at_the_end : (w : WasmFeatures) → ParsesPayload (parser w 8 stages.Sections) [] true (Ok (NeedMoreData 2)) (parser w 8 stages.Sections) → ⊥
   pub part : (w : WasmFeatures) → ParsesPayload (parser w 8 stages.Sections) (0x01 ∷ 0x05 ∷ 0x01 ∷ []) false (Ok (NeedMoreData 4)) (parser w 8 stages.Sections)
+  pub part_of_size : (w : WasmFeatures) → ParsesPayload (parser w 8 stages.Sections) (0x01 ∷ 0x85 ∷ []) false (Ok (NeedMoreData 4)) (parser w 8 stages.Sections)
+  pub not_one : (w : WasmFeatures) → ParsesPayload (parser w 8 stages.Sections) (0x01 ∷ 0x85 ∷ []) false (Ok (NeedMoreData 1)) (parser w 8 stages.Sections) → ⊥
   pub refused : (w : WasmFeatures) → ParsesPayload (parser w 8 stages.Sections) long_start false (Err error) (parser w 8 stages.Failed)
   pub failed : (w : WasmFeatures) → ParsesPayload (parser w 8 stages.Failed) first_eight false (Err failed_before) (parser w 8 stages.Failed)
   pub not_for_memory : (w : WasmFeatures) (e : ErrorValue) → IsUnreadable (parser w 8 stages.Sections) long_start false e (parser w 8 stages.Failed) → e.kind ≡ OutOfMemory → ⊥
@@ -172,15 +175,17 @@ unfolding step next_section contents in_part unsigned
 start_next w = record { after = left w 8 12 []; read = refl; placed = (refl, refl, refl); consumed = refl; offset = refl; features = refl }
 
 pub call_rows : CallRows
-unfolding step next_header header next_section contents in_part unsigned
+unfolding step next_header header next_section contents in_part unsigned needed least_within
 call_rows = record {
-  seven = λ w. (refl, (4, refl), refl);
-  not_two = λ w h. let n : 1 ≡ 2 = need_is 4 h.1.0 1 2 h.1.1 in omega (arith, n);
+  seven = λ w. (refl, (4, 1, refl, refl), refl);
+  not_two = λ w h. let n : 1 ≡ h.1.1 = need_is 4 h.1.0 1 h.1.1 h.1.2 in let two : 2 ≡ h.1.1 = h.1.3 in omega (arith, n, two);
   eight = λ w. (frames.Version 1 Module (record { start = 0; end = 8 }), header_next w, refl);
   none = λ w. (refl, refl, refl);
   end = λ w. (frames.End 8, (refl, refl, refl, refl, refl), refl);
   no_need_at_the_end = λ w h. let e = h.0 in cc;
-  part = λ w. (refl, (10, refl), refl);
+  part = λ w. (refl, (10, 4, refl, refl), refl);
+  part_of_size = λ w. (refl, (10, 1, refl, refl), refl);
+  not_one = λ w h. let four : 1 ≡ 4 = h.1.3 in omega (arith, four);
   refused = λ w. inr (record { size = 4; frame = frames.Section 8 (left w 10 10 (0x05 ∷ 0x00 ∷ [])); behind = behind_start w; parses = start_next w; refused = refl; no_memory = tt; failed = refl });
   failed = λ w. inl (refl, refl, refl);
   not_for_memory = λ w e h k. subst IsNotMemory k h.no_memory;

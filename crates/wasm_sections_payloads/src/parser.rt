@@ -15,9 +15,9 @@ use wasm_types::{Result, WasmFeatures};
 /// What a call of a parser gives.
 #[derive(Drop)]
 pub enum Chunk<'a> {
-    /// So many more bytes than were given are needed: with fewer the call is answered so again, and as many, or more, can bring a
-    /// payload or a refusal. Where the bytes end within a size this is 1, which may only bring another request. The parser is as it
-    /// was: the next call is given the same bytes again, with more behind them. Where `eof` was said this never comes.
+    /// So many more bytes than were given are needed, and no fewer: with fewer the call is answered so again, and some so many bring a
+    /// payload or a refusal. The parser is as it was: the next call is given the same bytes again, with more behind them. Where `eof`
+    /// was said this never comes.
     NeedMoreData(usize),
     /// A payload of so many bytes.
     Parsed {

@@ -6,12 +6,16 @@
 #![tactic(auto)]
 
 mod answers;
+mod calls;
 mod operators;
+mod parts;
 mod sections;
 mod types;
 mod validator;
 
+use crate::calls::write_called;
 use crate::operators::write_coded;
+use crate::parts::write_part;
 use crate::sections::write_sections;
 use crate::types::{write_feature, write_read};
 use crate::validator::write_verdict;
@@ -28,6 +32,8 @@ fn answer(alloc: Global, line: &str) -> Result<String, AllocError> {
             text.push_str(" ->")?;
             write_read(alloc, &mut text, word, bytes.as_slice())?;
             write_coded(alloc, &mut text, word, bytes.as_slice())?;
+            write_called(alloc, &mut text, word, bytes.as_slice())?;
+            write_part(alloc, &mut text, word, bytes.as_slice())?;
             write_sections(alloc, &mut text, word, bytes.as_slice())?;
             if word == "validate" {
                 write_verdict(alloc, &mut text, bytes.as_slice())?;

@@ -5,7 +5,7 @@ use bitflags::Flags;
 use std::alloc::{AllocError, Global};
 use std::fmt::Write;
 use std::mem::size_of;
-use wasm_operators_reader::{Operator, OperatorsReader, read_expression};
+use wasm_operators_visiting::{Operator, OperatorsReader, read_expression};
 use wasm_sections::{ConstExpr, FunctionBody};
 use wasm_types::{BinaryReader, WasmFeatures};
 

@@ -16,7 +16,7 @@ use Rattle.wasm_operator_validator_expression.specs.state.Refusals.{OfContent}
 use Rattle.wasm_operator_validator_expression.specs.state.State.{State, Visits}
 use Rattle.wasm_operator_validator_constants.specs.declared.refusal.ConstantRefusal.{ConstantRefusal}
 use Rattle.wasm_operator_validator_constants.specs.Refusals.{kind_of_constant, refused_constant}
-use Rattle.wasm_operator_validator_constants.specs.Checked.{Surroundings, VisitsConstant, ValidatesConstant}
+use Rattle.wasm_operator_validator_constants.specs.Checked.{Surroundings, RefusedWith, VisitsConstant, ValidatesConstant}
 use Rattle.wasm_operator_validator_constants.specs.Operators.{RefusesOperator}
 use Rattle.wasm_operator_validator_constants.specs.laws.Operators.{refusal_denies, refusal_not_memory}
 use Rattle.wasm_operator_validator_constants.specs.laws.Mapped.{all_by_state, walk_by_state, until_by_state}
@@ -32,7 +32,9 @@ same_around a b m n x y p q r = rw (p, q, r) refl
 -- an operator is refused by the test
 pub refused_visit : (w : Surroundings) (σ τ : State) (o : Op) (r : ConstantRefusal) → RefusesOperator w.bits w.meaning.«module» w.imported o r
     → τ ≡ record σ { failed = true } → VisitsConstant w σ o (Some (kind_of_constant r)) τ
-refused_visit w σ τ o r why e = inr (refusal_denies w.bits w.meaning.«module» w.imported o r why, refusal_not_memory w.bits w.meaning.«module» w.imported o r why, e)
+refused_visit w σ τ o r why e =
+    let not_memory = refusal_not_memory w.bits w.meaning.«module» w.imported o r why in
+    inr (refusal_denies w.bits w.meaning.«module» w.imported o r why, (not_memory, (r, why, refl)), e)
 
 -- one that is constant is validated
 pub passed_visit : (w : Surroundings) (σ τ : State) (o : Op) (k : Option ErrorKind) → IsConstantOperator w.bits w.meaning.«module» w.imported o
@@ -64,7 +66,7 @@ module _ {V : Type 0} (visits : V → Op → Answer → V → Type 0) (around : 
       → ((t : Standing) × WalksTo visits (Ok tt) (at_start s) v t w × StopsPlain t e) → ValidatesConstant (around v) (state v) s (Err e)
   ends_reading w e unspelled (t, walked, stops) =
       let of = walk_by_state visits (VisitsConstant (around v)) state refused_constant keeps holds (Ok tt) None refl (at_start s) t v w refl walked in
-      stopped_reading Passes (around v).meaning (state v) s going (state w) e unspelled t of.0 stops
+      stopped_reading Passes (RefusedWith (around v)) (around v).meaning (state v) s going (state w) e unspelled t of.0 stops
 
   pub ends_at_operator : (w : V) (r : ConstantRefusal) (e : ErrorValue) (place : ℕ) → WalksUntilAt visits (Ok tt) (at_start s) v (Err r) w place → e.kind ≡ kind_of_constant r
       → OfContent e.kind (e.offset ≡ place) → ValidatesConstant (around v) (state v) s (Err e)
@@ -72,7 +74,7 @@ module _ {V : Type 0} (visits : V → Op → Answer → V → Type 0) (around : 
       let of = until_by_state visits (VisitsConstant (around v)) state refused_constant keeps holds (Ok tt) None refl (at_start s) v w (Err r) place refl until in
       let told : WalksUntilAt (VisitsConstant (around v)) None (at_start s) (state v) (Some e.kind) (state w) place =
       subst (λ (y : ErrorKind). WalksUntilAt (VisitsConstant (around v)) None (at_start s) (state v) (Some y) (state w) place) (sym k) of in
-      stopped_at_operator Passes (around v).meaning (state v) s going (state w) e place told at
+      stopped_at_operator Passes (RefusedWith (around v)) (around v).meaning (state v) s going (state w) e place told at
 
   -- a visitor was told of an expression, to the end of the bytes
   abbrev pub Whole : V → Type 0
@@ -82,9 +84,9 @@ module _ {V : Type 0} (visits : V → Op → Answer → V → Type 0) (around : 
       → ValidatesConstant (around v) (state v) s (Err e)
   ends_at_end w e (c, h, none, all) still kind at =
       let of = all_by_state visits (VisitsConstant (around v)) state refused_constant keeps holds (Ok tt) None refl (walk c) v w refl all in
-      stopped_at_end Passes (around v).meaning (state v) s going c h (state w) of.0 e still kind at
+      stopped_at_end Passes (RefusedWith (around v)) (around v).meaning (state v) s going c h (state w) of.0 e still kind at
 
   pub ends_well : (w : V) → Whole w → (state w).opens ≡ [] → ValidatesConstant (around v) (state v) s (Ok tt)
   ends_well w (c, h, none, all) closed =
       let of = all_by_state visits (VisitsConstant (around v)) state refused_constant keeps holds (Ok tt) None refl (walk c) v w refl all in
-      accepted_to_end Passes (around v).meaning (state v) s going c h (state w) of.0 closed
+      accepted_to_end Passes (RefusedWith (around v)) (around v).meaning (state v) s going c h (state w) of.0 closed

@@ -108,8 +108,8 @@ constant_global bits g count o x e = let f : ◌≡◌ {A = Option ℕ} None (So
 -- why a global may not be read denies that it may
 pub global_denied : (bits : ℕ) (g : Module) (count x : ℕ) (r : ConstantRefusal) → RefusesGlobal bits g count x r → IsConstantGlobal bits g count x → ⊥
 global_denied bits g count x (refusals.Invalid r) (k, none) (v, some, fixed, needs) = let e : ◌≡◌ {A = Option Global} None (Some v) = sym none ∙ some in cc
-global_denied bits g count x (refusals.LocalGlobal f) (own, off, missing) (v, some, fixed, needs) = let e : has Gc bits ≡ true = needs own in let z : false ≡ true = sym off ∙ e in cc
-global_denied bits g count x refusals.MutableGlobal (u, found, mutable) (v, some, fixed, needs) =
+global_denied bits g count x (refusals.LocalGlobal f) (u, found, own, off, missing) (v, some, fixed, needs) = let e : has Gc bits ≡ true = needs own in let z : false ≡ true = sym off ∙ e in cc
+global_denied bits g count x refusals.MutableGlobal (u, found, mutable, own) (v, some, fixed, needs) =
     let e : ◌≡◌ {A = Option Global} (Some u) (Some v) = sym found ∙ some in
     let f : u ≡ v = cc in
     let z : true ≡ false = sym (subst (λ (w : Global). w.mutable ≡ true) f mutable) ∙ fixed in
@@ -122,7 +122,7 @@ not_listed o e f b g count h = never (is_listed o) (is_allowed b o) f ((constant
 
 pub listed_denied : (bits : ℕ) (g : Module) (count : ℕ) (o : Op) → global_read o ≡ None → (r : ConstantRefusal) → RefusesListed bits o r → IsConstantOperator bits g count o → ⊥
 listed_denied bits g count o e (refusals.NonConstant name) h c = h bits g count c
-listed_denied bits g count o e (refusals.NotEnabled f name) (off, missing) c =
+listed_denied bits g count o e (refusals.NotEnabled f name) (listed, off, missing) c =
     let on : is_allowed bits o ≡ true = ((constant_listed bits g count o e).0 c).1 in
     let z : false ≡ true = sym off ∙ on in
     cc

@@ -27,10 +27,11 @@ returns-then-not-is_allowed g c =
     let m = (g.R.WasmModuleResources.meaning c.args.resources.now).«module» in
     let o = op_of c.args.op.now in
     let none : global_read o ≡ None = sym c.global_read.ensures ∙ c.in_default.is in
+    let listed : is_listed o ≡ true = sym c.is_listed.ensures ∙ c.if-not-is_listed.false in
     let off : is_allowed c.args.features.0 o ≡ false = sym c.is_allowed.ensures ∙ c.if-not-is_allowed.true in
     let r = refusals.NotEnabled c.feature_of.result c.info-then-not-is_allowed.result.name in
     let why : RefusesOperator c.args.features.0 m c.args.imported_globals o r =
-    refused_so c.args.features.0 m c.args.imported_globals o none r (off, c.feature_of.ensures c.args.features.0 off) in
+    refused_so c.args.features.0 m c.args.imported_globals o none r (listed, off, c.feature_of.ensures) in
     record { constant = tt; refused = refusal_denies c.args.features.0 m c.args.imported_globals o r why; why = why }
 
 pub returns : goal.returns

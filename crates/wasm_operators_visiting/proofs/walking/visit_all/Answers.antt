@@ -1,11 +1,13 @@
 use Rattle.std.proofs.Common.{Ok, Err, sym, arith}
-use Rattle.wasm_operators_reader.specs.WalkingLaws.{walk_on, walk_both, until_both, walk_fewer, visit_fewer, some_rest, none_rest, walk_stops, answered}
+use Rattle.wasm_operators_reader.specs.WalkingLaws.{walk_on, walk_both, until_both, until_at, walk_fewer, visit_fewer, some_rest, none_rest, walk_stops, answered}
 use Rattle.wasm_operators_visiting.proofs.walking.visit_all.Goals as goal
 
 pub returns-in-Some-clause-ended : goal.returns-in-Some-clause-ended
 returns-in-Some-clause-ended g c =
+    let last = until_at g.V.Visitor.visits (Ok tt) c.loop-operators.operators c.tell_run.new.self c.loop-operators.visitor c.tell_run.new.visitor
+    (Err c.in-Some.ended.0) c.in-Some.ended.1 c.in-Some.ensures.ended in
     until_both g.V.Visitor.visits (Ok tt) c.args.operators.now c.loop-operators.operators c.args.visitor.now c.loop-operators.visitor c.tell_run.new.visitor
-    (Err c.in-Some.ended.0) c.in-Some.ended.1 c.loop-operators.invariant c.in-Some.ensures.ended
+    (Err c.in-Some.ended.0) c.in-Some.ended.1 c.loop-operators.invariant last
 
 pub returns-then-at_end-clause-whole : goal.returns-then-at_end-clause-whole
 returns-then-at_end-clause-whole g c = (

@@ -1,0 +1,64 @@
+//! Items added one by one.
+
+ghost use Rattle.std.specs.Prelude.{◌≡◌, OnOk};
+ghost use Rattle.wasm_types.specs.error.Denials.{Tells};
+ghost use Rattle.wasm_module_validator_adding.specs.Adding.{AreAdded, Spelled};
+
+use wasm_sections_limited::SectionLimited;
+use wasm_types::{FromReader, Result};
+
+/// What items of this kind are added to.
+pub trait AddItem<'a, T: FromReader<'a>> {
+    /// What was read.
+    ghost Tree: { Type 0 };
+
+    /// What an item is for it.
+    ghost Item: { Type 0 };
+
+    /// That of an item.
+    ghost of: { T → Item };
+
+    /// The state stands for what was read.
+    ghost reads: { Self → Tree → Type 0 };
+
+    /// An item may be added to what was read.
+    ghost valid: { Tree → Item → Type 0 };
+
+    /// What was read, with an item more.
+    ghost adding: { Tree → Item → Tree };
+
+    /// Checks an item, which begins at this offset, and adds it.
+    fn add(&mut self, item: T, offset: u64) -> Result<()>
+        ensures answer { (m : Tree) → reads self.old m → Tells result (valid m (of item)) }
+        ensures added { OnOk result ((m : Tree) → reads self.old m → reads self.new (adding m (of item))) };
+
+    /// Items whose bytes are read alike are the same.
+    ghost alike: { (x y : T) → T.view x ≡ T.view y → of x ≡ of y };
+}
+
+/// Reads the items of a section and adds each.
+///
+/// # Errors
+///
+/// An item cannot be read, a byte is left behind the last, or an item is refused: the first of these.
+pub fn add_items<'a, T: FromReader<'a>, S: AddItem<'a, T>>(
+    state: &mut S,
+    section: SectionLimited<'a, T>,
+) -> Result<()>
+    ensures answer { (m : S.Tree) → S.reads state.old m
+        → Tells result ((t : S.Tree) × AreAdded (Spelled T.view S.of (T.grammar section.entry.reader.settings)) S.valid S.adding section.entry.count section.entry.reader.rest m t) }
+    ensures added { OnOk result ((m : S.Tree) → S.reads state.old m
+        → (t : S.Tree) × AreAdded (Spelled T.view S.of (T.grammar section.entry.reader.settings)) S.valid S.adding section.entry.count section.entry.reader.rest m t × S.reads state.new t) }
+{
+    for item in section.into_iter_with_offsets() {
+        let item = match item {
+            Ok(item) => item,
+            Err(error) => return Err(error),
+        };
+        match state.add(item.1, item.0) {
+            Ok(()) => (),
+            Err(error) => return Err(error),
+        }
+    }
+    Ok(())
+}

@@ -1,0 +1,78 @@
+-- The body of a function: which bytes spell one that is valid, what its validation promises, and why others are refused
+-- (WebAssembly 3.0, binary format, modules, code section; validation, modules, functions and locals).
+use Rattle.std.specs.Prelude.{◌≡◌, ◌↔◌, ◌⊎◌, ◌+◌, ◌≤◌, ℕ, List, [], ◌++◌, length, true, Some, is_some, slice_get, Result, IfErr, OnOk}
+use Rattle.wasm_types.specs.decoding.Decoder.{State as Bytes}
+use Rattle.wasm_types.specs.limits.Settings.{Settings}
+use Rattle.wasm_types.specs.limits.Limits.{default_limits}
+use Rattle.wasm_types.specs.error.Denials.{Tells}
+use Rattle.wasm_types.specs.error.ErrorValue.{ErrorValue}
+use Rattle.wasm_types.specs.error.declared.error.ErrorKind.TheVariants as kinds
+use Rattle.wasm_types.specs.trees.Trees.{TypeTree}
+use Rattle.wasm_operators_bodies.specs.Locals.{total, SpelledLocals}
+use Rattle.wasm_operators_bodies.specs.reader.expression.Spelling.{SpelledExpression}
+use Rattle.wasm_operator_validator_stacks.specs.rules.Context.{Module}
+use Rattle.wasm_operator_validator_stacks.specs.resources.Meaning.{Meaning}
+use Rattle.wasm_operator_validator_stacks.specs.state.Refusals.{refused_by}
+use Rattle.wasm_operator_validator_stacks.specs.state.State.{State}
+use Rattle.wasm_operator_validator_functions.specs.Functions.{Begins}
+use Rattle.wasm_operator_validator_expression.specs.Validating.{StopsBy}
+use Rattle.wasm_module_validator_rules.specs.Syntax.{Function}
+use Rattle.wasm_module_validator_rules.specs.Binary.{SpelledFunction}
+use Rattle.wasm_module_validator_rules.specs.Valid.{IsValidFunction, HasValidBody}
+use Rattle.wasm_module_validator_functions.specs.Locals.{judged_by, TakesLocals, StopsLocals}
+
+-- ---- which bytes
+
+-- func ::= loc**:list(locals) e:expr, to the last byte, however many these are: whoever cuts a body out of a module has its size
+pub record SpellsFunction (z : Settings) (f : Function) (text : List ℕ) : Type 0 where
+  pub locals_text : List ℕ
+  pub body_text : List ℕ
+  pub locals : SpelledLocals z f.locals locals_text
+  pub body : SpelledExpression z f.body body_text
+  pub whole : text ≡ locals_text ++ body_text
+
+-- The bytes spell a function that is valid as one of the type at an index. A validator of operators keeps no more locals than the
+-- limit by default, also where the limit is higher.
+pub record SpellsValidFunction (z : Settings) (g : Module) (x : ℕ) (text : List ℕ) : Type 0 where
+  pub function : Function
+  pub spelled : SpellsFunction z function text
+  pub type : TypeTree
+  pub at : slice_get g.types x ≡ Some type
+  pub valid : IsValidFunction z g type function
+  pub held : length valid.signature.params + total function.locals ≤ default_limits.locals
+
+-- where the limits are no higher, and the bytes no more than the limit, these are the functions of the rules
+abbrev pub FunctionsAreThoseOfTheRules : Type 0
+FunctionsAreThoseOfTheRules =
+    (z : Settings) (g : Module) (x : ℕ) (text : List ℕ) → z.limits.locals ≤ default_limits.locals → length text ≤ z.limits.body_bytes
+    → SpellsValidFunction z g x text ↔ (f : Function) × SpelledFunction z f text × HasValidBody z g x f
+
+-- ---- what the validation of a body promises
+
+-- the same bytes, read under these features
+abbrev pub under : ℕ → Bytes → Bytes
+under bits s = record { rest = s.rest; place = s.place; settings = judged_by bits s.settings; start = s.start }
+
+-- the locals were taken, and behind them the expression is refused
+pub record StopsInBody (m : Meaning) (s : Bytes) (σ : State) (e : ErrorValue) : Type 0 where
+  pub behind : Bytes
+  pub known : State
+  pub left : State
+  pub taken : TakesLocals m s σ behind known
+  pub stops : StopsBy m known behind e left
+
+-- why a body is refused
+abbrev pub StopsFunction : Meaning → Bytes → State → ErrorValue → Type 0
+StopsFunction m s σ e = StopsLocals m s σ e ⊎ StopsInBody m s σ e
+
+-- Where a body of the function type at an index begins, it is not refused exactly where the bytes spell a valid function of that type,
+-- out of memory aside; where something was refused before it is refused for that. Behind it no frame is open, or the validator has
+-- failed. The features, and what an attempt has saved, stay.
+pub record ValidatesFunction (m : Meaning) (s : Bytes) (σ : State) (answer : Result (Unit {0}) ErrorValue) (τ : State) : Type 0 where
+  pub exact : (x : ℕ) → Begins m σ.given.bits x σ → Tells answer (SpellsValidFunction (judged_by σ.given.bits s.settings) m.«module» x s.rest)
+  pub stopped : σ.failed ≡ true → refused_by answer ≡ Some kinds.Failed
+  pub stops : IfErr answer (λ e. StopsFunction m (under σ.given.bits s) σ e)
+  pub ended : OnOk answer (τ.opens ≡ [])
+  pub failed : τ.failed ≡ is_some (refused_by answer)
+  pub features : τ.given.bits ≡ σ.given.bits
+  pub saved : τ.saved ≡ σ.saved

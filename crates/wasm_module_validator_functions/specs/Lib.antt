@@ -1,0 +1,5 @@
+-- The locals of a body, and its function: definitions, in the order in which they are read.
+pub mod Locals
+pub mod Functions
+-- How a validation's promise follows from its steps: laws, with the proofs.
+pub mod laws

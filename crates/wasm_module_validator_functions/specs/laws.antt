@@ -1,0 +1,5 @@
+pub mod Locals
+pub mod Operators
+pub mod Reading
+pub mod Functions
+pub mod WorkedLocals

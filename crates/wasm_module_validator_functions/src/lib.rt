@@ -1,0 +1,30 @@
+//! The validator of one function's body, in its module (WebAssembly 3.0, validation, modules, functions and locals).
+//!
+//! A [`FuncToValidate`] says which function is to be judged, and [`FuncToValidate::into_validator`] makes its [`FuncValidator`]:
+//! [`FuncValidator::validate`] judges a whole [`FunctionBody`]. It is Ok exactly where the bytes spell a valid function of the type,
+//! read under the validator's own features, out of memory aside. Or its parts are called one by one, locals first, then operators.
+//!
+//! ```text
+//! let allocs = FuncValidatorAllocations::new(alloc);
+//! let mut validator = FuncToValidate { resources, index, ty, features }.into_validator(allocs)?;
+//! validator.validate(&body)?;
+//! let allocs = validator.into_allocations();
+//! ```
+//!
+//! `specs/Locals.antt` defines which bytes spell locals that a function may have, and `specs/Functions.antt` which spell a function
+//! that is valid, and why others are refused.
+#![tactic(auto)]
+
+mod beginning;
+mod heights;
+pub mod laws;
+mod locals;
+mod operators;
+mod validator;
+
+pub use beginning::{FuncToValidate, FuncValidatorAllocations};
+pub use validator::FuncValidator;
+pub use wasm_operator_validator_walk::{
+    BlockType, Frame, FrameKind, OperatorValidator, WasmModuleResources,
+};
+pub use wasm_operators_bodies::FunctionBody;

@@ -1,0 +1,148 @@
+//! The locals of a body: read, and put at the end of those that there are.
+
+ghost use Rattle.std.specs.Prelude.{◌≡◌, min, IfOk, IfErr, OnOk};
+ghost use Rattle.wasm_types.specs.limits.Limits.{default_limits};
+ghost use Rattle.wasm_types.specs.error.Denials.{RefusedAt};
+ghost use Rattle.wasm_types.specs.decoding.Decoder.{Done, Reaches};
+ghost use Rattle.wasm_types.specs.error.declared.error.ErrorKind.TheVariants.{Failed, Other};
+ghost use Rattle.wasm_types.specs.reader.Reading.{Gives};
+ghost use Rattle.wasm_operators_bodies.specs.Locals.{LocalGroup, group, group_of};
+ghost use Rattle.wasm_operator_validator_stacks.specs.Defining.{DefinesLocals};
+ghost use Rattle.wasm_module_validator_functions.specs.Locals.{relocated, TakesLocals, RefusesGroup, StopsLocals, ReadsLocals, DefinesMore};
+
+use crate::FuncValidator;
+use std::alloc::Global;
+use std::cmp::min;
+use wasm_operator_validator_walk::WasmModuleResources;
+use wasm_types::{BinaryReader, Error, Limits, Result, ValType};
+
+impl<R: WasmModuleResources> FuncValidator<R> {
+    /// Reads the locals at the front of a body, and puts them behind those that there are. The reader stands behind them then, where
+    /// the operators begin. It is Ok exactly where the bytes spell locals that the function may have, out of memory aside.
+    ///
+    /// # Errors
+    ///
+    /// Something was refused before; the bytes spell no locals; a group is refused, at its offset, first for its type and then for how many
+    /// locals there are with it; or there is no memory. The reader stays then, the validator has failed, and each later call
+    /// is refused.
+    pub fn read_locals(&mut self, reader: &mut BinaryReader<'_>) -> Result<()>
+        ensures reads { ReadsLocals (R.meaning self.old.resources) reader.old self.old.validator result reader.new self.new.validator }
+        ensures resources { self.new.resources ≡ self.old.resources }
+        ensures index { self.new.index ≡ self.old.index }
+    {
+        if self.validator.has_failed() {
+            return Err(failed_before(reader.original_position()));
+        }
+        let mut ahead = reader.clone();
+        match self.take_locals(&mut ahead) {
+            Ok(()) => (),
+            Err(error) => {
+                self.validator.fail();
+                return Err(error);
+            }
+        }
+        *reader = ahead;
+        Ok(())
+    }
+
+    /// Puts `count` locals of a type behind those that there are, as a body that is read elsewhere declares them. They have a value from
+    /// the start where the type has a default value (WebAssembly 3.0, validation, locals).
+    ///
+    /// # Errors
+    ///
+    /// Something was refused before; the module may not write the type, also for no locals; there would be more than 50,000 in all;
+    /// or there is no memory. The locals stay as they were.
+    pub fn define_locals(&mut self, offset: u64, count: u32, ty: ValType) -> Result<()>
+        ensures defines { DefinesMore (R.meaning self.old.resources) self.old.validator count ty result self.new.validator }
+        ensures stays { IfErr result (λ _. self.new ≡ self.old) }
+        ensures resources { self.new.resources ≡ self.old.resources }
+        ensures index { self.new.index ≡ self.old.index }
+        ensures at { RefusedAt offset result }
+    {
+        if self.validator.has_failed() {
+            return Err(failed_before(offset));
+        }
+        self.validator
+            .define_locals(offset, count, ty, &self.resources)
+    }
+
+    /// Puts all groups of locals behind those that there are. Where one is refused, those before it were put there.
+    fn take_locals(&mut self, reader: &mut BinaryReader<'_>) -> Result<()>
+        ensures taken { OnOk result (TakesLocals (R.meaning self.old.resources) reader.old self.old.validator reader.new self.new.validator) }
+        ensures refused { IfErr result (λ e. StopsLocals (R.meaning self.old.resources) reader.old self.old.validator e) }
+        ensures others { self.new.validator ≡ relocated self.old.validator self.new.validator.given.locals }
+        ensures resources { self.new.resources ≡ self.old.resources }
+        ensures index { self.new.index ≡ self.old.index }
+    {
+        let most = most_locals(reader.limits());
+        let count = match reader.read_var_u32() {
+            Ok(count) => count,
+            Err(error) => return Err(error),
+        };
+        for _ in 0..count {
+            match self.take_group(reader) {
+                Ok(()) => (),
+                Err(error) => return Err(error),
+            }
+        }
+        if self.validator.local(most).is_some() {
+            return Err(too_many_locals(reader.original_position()));
+        }
+        Ok(())
+    }
+
+    /// Puts one group of locals behind those that there are.
+    #[tactic(auto, unfolding(crate::specs::Locals::group))]
+    fn take_group(&mut self, reader: &mut BinaryReader<'_>) -> Result<()>
+        ensures taken { IfOk result (λ _. (l : LocalGroup) × (group reader.old ≡ Done l reader.new) × DefinesLocals (R.meaning self.old.resources) self.old.validator l.count l.type self.new.validator) }
+        ensures refused { IfErr result (λ e. RefusesGroup (R.meaning self.old.resources) reader.old self.old.validator e) }
+        ensures stays { IfErr result (λ _. self.new ≡ self.old) }
+        ensures settings { reader.new.settings ≡ reader.old.settings }
+        ensures resources { self.new.resources ≡ self.old.resources }
+        ensures index { self.new.index ≡ self.old.index }
+    {
+        let offset = reader.original_position();
+        let group = match read_group(self.alloc, reader) {
+            Ok(group) => group,
+            Err(error) => return Err(error),
+        };
+        self.validator
+            .define_locals(offset, group.0, group.1, &self.resources)
+    }
+}
+
+/// A group of locals: how many, and their type. Where it is refused the reader may have gone on.
+#[tactic(auto, using(wasm_types::specs::Laws::reaches_self, wasm_types::specs::Laws::reaches_then), unfolding(crate::specs::Locals::group))]
+fn read_group(alloc: Global, reader: &mut BinaryReader<'_>) -> Result<(u32, ValType)>
+    ensures answer { Gives (λ g. group_of g.0 g.1) result reader.new (group reader.old) }
+    ensures forward { Reaches reader.old reader.new }
+{
+    let count = reader.read_var_u32()?;
+    let ty = reader.read::<ValType>(alloc)?;
+    Ok((count, ty))
+}
+
+/// How many locals a function may have: as the limits say, and no more than a validator keeps.
+fn most_locals(limits: Limits) -> u32
+    ensures { result ≡ min limits.locals default_limits.locals }
+{
+    min(limits.locals, Limits::default().locals)
+}
+
+/// The refusal of more locals than the limit.
+#[cold]
+fn too_many_locals(offset: u64) -> Error
+    ensures kind { result.kind ≡ Other }
+    ensures offset { result.offset ≡ offset }
+{
+    Error::new("too many locals: locals exceed maximum", offset)
+}
+
+/// The refusal of a call behind one that was refused.
+#[cold]
+fn failed_before(offset: u64) -> Error
+    ensures kind { result.kind ≡ Failed }
+    ensures offset { result.offset ≡ offset }
+{
+    Error::failed("the function was refused before", offset)
+}

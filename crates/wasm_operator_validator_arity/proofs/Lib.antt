@@ -1,0 +1,4 @@
+pub mod Looking
+pub mod Parts
+pub mod Continuing
+pub mod ById

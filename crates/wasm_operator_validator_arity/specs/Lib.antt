@@ -1,0 +1,6 @@
+-- What look-ups by ids mean, and what is known of an operator.
+pub mod Knowing
+-- Answers beside the rules.
+pub mod laws
+-- The rules and laws of the crates below, under their names: crates above cite them here.
+pub use Rattle.wasm_operator_validator_arity_rules.specs as arity_rules

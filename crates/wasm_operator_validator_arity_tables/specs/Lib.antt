@@ -1,0 +1,2 @@
+-- Numbers of operands in 32 bits.
+pub mod Ended
