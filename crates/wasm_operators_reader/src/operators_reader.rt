@@ -208,22 +208,6 @@ impl<'a> OperatorsReader<'a> {
         Ok((op, place))
     }
 
-    /// Reads the next operator, as `read` does, and tells the visitor of it, where it is a frequent one in a frequent form: no operator
-    /// is built, and no error made. None where it is another, where it is one on vectors, and where `read` would refuse it. The
-    /// reader stays as it was then, and the visitor is told nothing. A visitor with a visit for each operator is lent
-    /// (`LentVisitor`).
-    #[inline(always)]
-    pub fn tell_frequent<V: TellOperator<'a>>(&mut self, visitor: &mut V) -> Option<V::Output>
-        ensures visited { IfSome result (λ answer. VisitsPlain V.visits self.old visitor.old answer self.new visitor.new) }
-        ensures stays { IfNone result (self.new ≡ self.old) }
-        ensures told { IfNone result (visitor.new ≡ visitor.old) }
-    {
-        let Some(answer) = visit_frequent(&mut self.reader, &mut self.control, visitor) else {
-            return None;
-        };
-        Some(answer)
-    }
-
     /// Reads operators, as `read` does, and tells the visitor of them, one after the other, as long as they are frequent ones in frequent
     /// forms and the visitor answers `Ok`. Its first `Err` is given back, with the offset in the input of the operator that it
     /// answers, and the reader stands behind that operator. None where another operator follows, or none that `read` reads: the reader
