@@ -6,5 +6,7 @@ pub mod Adding
 pub mod Texts
 -- What each frame does.
 pub mod Steps
+-- Laws, with the proofs.
+pub mod laws
 -- The rules of the crates below, under their names: crates above cite them here.
 pub use Rattle.wasm_module_validator_contexts.specs as contexts

@@ -1,0 +1,4 @@
+pub mod Turns
+pub mod Groups
+pub mod Counts
+pub mod Limits
