@@ -12,10 +12,10 @@ use Rattle.wasm_module_validator_contexts.specs.imports.declared.type_ref.TypeRe
 use Rattle.wasm_module_validator_contexts.specs.rules.Syntax.{ModuleTree}
 use Rattle.wasm_module_validator_contexts.specs.rules.Spaces.{types_behind, function_space, table_space, memory_space, tag_space, global_space, imported_globals, module_of}
 use Rattle.wasm_module_validator_contexts.specs.rules.Valid.{Each, IfThere, IsFunctionIndex, IsValidMemoryType, IsValidTagType, IsValidImport, IsValidExport, IsValidTable}
-use Rattle.wasm_module_validator_contexts.specs.rules.Valid.{IsValidGlobal, IsValidStart, IsValidElement, IsValidData, import_size, export_size, type_sizes, most_tables, most_memories}
+use Rattle.wasm_module_validator_contexts.specs.rules.Valid.{IsValidGlobal, IsValidStart, IsValidElement, IsValidData, import_size, export_size, type_sizes, most_tables, most_memories, IsWithinLimits}
 use Rattle.wasm_module_validator_contexts.specs.InOrder.{context_so_far, exports_read, InTurn, IsImportInTurn, IsFunctionInTurn, IsTableInTurn, IsTagInTurn, IsGlobalInTurn}
 use Rattle.wasm_module_validator_contexts.specs.InOrder.{IsExportInTurn, IsElementInTurn, IsDataInTurn}
-use Rattle.wasm_module_validator_steps.specs.Sections.{Section, Item, items, adding}
+use Rattle.wasm_module_validator_steps.specs.Sections.{Section, Item, items, adding, IsWithSection}
 use Rattle.wasm_module_validator_steps.specs.Sections as section
 
 -- ---- valid items
@@ -112,3 +112,10 @@ pub record Adds (z : Settings) (s : Section) (m : ModuleTree) (x : Item s) (n : 
 abbrev pub AddsEach : {M A : Type 0} → (M → A → M → Type 0) → M → List A → M → Type 0
 AddsEach adds m [] n = m ≡ n
 AddsEach adds m (x ∷ xs) n = (k : _) × adds m x k × AddsEach adds k xs n
+
+-- n is m with a section of these items more, which is valid; and n is within the limits
+pub record IsWithItems (z : Settings) (s : Section) (m : ModuleTree) (xs : List (Item s)) (n : ModuleTree) : Type 0 where
+  pub added : IsWithSection s m n
+  pub holds : items s n ≡ xs
+  pub valid : IsValidSection z s n
+  pub within : IsWithinLimits z (module_of n) n

@@ -2,3 +2,5 @@ pub mod Turns
 pub mod Groups
 pub mod Counts
 pub mod Limits
+pub mod Imports
+pub mod Adding

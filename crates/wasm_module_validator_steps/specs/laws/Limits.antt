@@ -31,14 +31,19 @@ turn_trivial : {A : Type 0} (b xs : List A) → InTurn (λ b x. Unit {0}) b xs
 turn_trivial b [] = tt
 turn_trivial b (x ∷ xs) = (tt, turn_trivial (b ++ x ∷ []) xs)
 
+-- a module of groups alone
+abbrev pub groups_read : List Written → ModuleTree
+groups_read gs = record no_items { types = gs }
+
+-- what stands before the data segments, and these
+abbrev pub segments_read : ModuleTree → List (DataTree Code) → ModuleTree
+segments_read k xs = record (data_count_read k) { data_segments = xs }
+
 module _ (z : Settings) where
   abbrev pub IsWithin : ModuleTree → Type 0
   IsWithin m = IsWithinLimits z (module_of m) m
 
   -- ---- types
-
-  abbrev pub groups_read : List Written → ModuleTree
-  groups_read gs = record no_items { types = gs }
 
   abbrev GroupFits : List Written → Written → Type 0
   GroupFits b g = IsWithinNext z section.types (groups_read b) g
@@ -142,14 +147,11 @@ module _ (z : Settings) where
         → Fits z section.element_segments (elements_read k []) (length xs) × InTurn (λ b x. IsWithinNext z section.element_segments (elements_read k b) x) [] xs
     elements_come xs w = (w.element_segments, counted_in_turn length 0 z.limits.element_segments (λ l. omega arith) xs w.element_segments)
 
-    abbrev pub segments_read : List (DataTree Code) → ModuleTree
-    segments_read xs = record (data_count_read k) { data_segments = xs }
-
-    pub segments_go : (xs : List (DataTree Code)) → IsWithin (segments_read []) → Fits z section.data_segments (segments_read []) (length xs) → IsWithin (segments_read xs)
+    pub segments_go : (xs : List (DataTree Code)) → IsWithin (segments_read k []) → Fits z section.data_segments (segments_read k []) (length xs) → IsWithin (segments_read k xs)
     segments_go xs w f = search (f, w)
 
-    pub segments_come : (xs : List (DataTree Code)) → IsWithin (segments_read xs)
-        → Fits z section.data_segments (segments_read []) (length xs) × InTurn (λ b x. IsWithinNext z section.data_segments (segments_read b) x) [] xs
+    pub segments_come : (xs : List (DataTree Code)) → IsWithin (segments_read k xs)
+        → Fits z section.data_segments (segments_read k []) (length xs) × InTurn (λ b x. IsWithinNext z section.data_segments (segments_read k b) x) [] xs
     segments_come xs w = (w.data_segments, turn_trivial [] xs)
 
     -- ---- exports
