@@ -4,3 +4,6 @@ pub mod Counts
 pub mod Limits
 pub mod Imports
 pub mod Adding
+pub mod Reading
+pub mod Fronts
+pub mod Within

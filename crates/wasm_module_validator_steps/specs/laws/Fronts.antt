@@ -1,0 +1,275 @@
+-- Fronts of a module: what stands before a section, and up to it. What a later section adds leaves them alone.
+use Rattle.std.proofs.Common.{◌≡◌, ◌<◌, ◌≤◌, ◌==◌, ℕ, suc, nat_lt, Bool, true, false, if◌then◌else◌, List, [], Option, Some, None, refl, sym, ap, ◌∙◌, subst, inl, inr, arith, lt-ltb, le-ltb, ltb-true, ltb-false}
+use Rattle.std.specs.Prelude.{◌↔◌, ◌⊎◌}
+use Rattle.std.proofs.lemmas.Bool.{cases_order}
+use Rattle.wasm_module_validator_contexts.specs.rules.constant_rules.expression.types.limits.Settings.{Settings}
+use Rattle.wasm_module_validator_contexts.specs.rules.constant_rules.expression.types.trees.ValidGroup.{done}
+use Rattle.wasm_module_validator_contexts.specs.rules.Syntax.{ModuleTree}
+use Rattle.wasm_module_validator_contexts.specs.rules.Binary.{SpelledNumber}
+use Rattle.wasm_module_validator_contexts.specs.InOrder.{no_items, imports_read, functions_read, tables_read, memories_read, tags_read, globals_read, exports_read, elements_read, data_count_read}
+use Rattle.wasm_module_validator_steps.specs.Sections.{Section, place, Item, items, before, up_to, IsUnread, IsWithSection}
+use Rattle.wasm_module_validator_steps.specs.Sections as section
+use Rattle.wasm_module_validator_steps.specs.Adding.{IsValidSection}
+use Rattle.wasm_module_validator_steps.specs.Texts.{SpelledSection}
+
+-- ---- by places
+
+-- what has a place below this one, and else nothing
+abbrev below : {A : Type 0} → A → ℕ → ℕ → A → A
+below none p k x = if nat_lt p k then x else none
+
+-- of a module, but for its code
+abbrev front : ℕ → ModuleTree → ModuleTree
+front k m = record {
+  types = below [] 1 k m.types;
+  imports = below [] 2 k m.imports;
+  functions = below [] 3 k m.functions;
+  tables = below [] 4 k m.tables;
+  memories = below [] 5 k m.memories;
+  tags = below [] 6 k m.tags;
+  globals = below [] 7 k m.globals;
+  exports = below [] 8 k m.exports;
+  start = below None 9 k m.start;
+  element_segments = below [] 10 k m.element_segments;
+  data_count = below None 11 k m.data_count;
+  code = [];
+  data_segments = below [] 13 k m.data_segments;
+}
+
+chosen : {A : Type 0} (none x : A) (b c : Bool) → (b ≡ true → c ≡ true) → (if b then (if c then x else none) else none) ≡ (if b then x else none)
+chosen none x true c f = ap (λ d. if d then x else none) (f refl)
+chosen none x false c f = refl
+
+-- a front of a front is the shorter of the two
+below_twice : {A : Type 0} (none : A) (p j k : ℕ) (x : A) → j ≤ k → below none p j (below none p k x) ≡ below none p j x
+below_twice none p j k x h = chosen none x (nat_lt p j) (nat_lt p k) (λ e. let l : p < j = ltb-true p j e in lt-ltb p k (omega (arith, l, h)))
+
+chosen_so : {A : Type 0} (none x : A) (b c : Bool) → (c ≡ true → b ≡ true) → (if b then (if c then x else none) else none) ≡ (if c then x else none)
+chosen_so none x true c f = refl
+chosen_so none x false true f = ap (λ d. if d then x else none) (f refl)
+chosen_so none x false false f = refl
+
+below_twice_so : {A : Type 0} (none : A) (p j k : ℕ) (x : A) → j ≤ k → below none p k (below none p j x) ≡ below none p j x
+below_twice_so none p j k x h = chosen_so none x (nat_lt p k) (nat_lt p j) (λ e. let l : p < j = ltb-true p j e in lt-ltb p k (omega (arith, l, h)))
+
+front_twice : (j k : ℕ) (m : ModuleTree) → j ≤ k → front j (front k m) ≡ front j m
+front_twice j k m h i = record {
+  types = below_twice [] 1 j k m.types h i;
+  imports = below_twice [] 2 j k m.imports h i;
+  functions = below_twice [] 3 j k m.functions h i;
+  tables = below_twice [] 4 j k m.tables h i;
+  memories = below_twice [] 5 j k m.memories h i;
+  tags = below_twice [] 6 j k m.tags h i;
+  globals = below_twice [] 7 j k m.globals h i;
+  exports = below_twice [] 8 j k m.exports h i;
+  start = below_twice None 9 j k m.start h i;
+  element_segments = below_twice [] 10 j k m.element_segments h i;
+  data_count = below_twice None 11 j k m.data_count h i;
+  code = [];
+  data_segments = below_twice [] 13 j k m.data_segments h i;
+}
+
+front_twice_so : (j k : ℕ) (m : ModuleTree) → j ≤ k → front k (front j m) ≡ front j m
+front_twice_so j k m h i = record {
+  types = below_twice_so [] 1 j k m.types h i;
+  imports = below_twice_so [] 2 j k m.imports h i;
+  functions = below_twice_so [] 3 j k m.functions h i;
+  tables = below_twice_so [] 4 j k m.tables h i;
+  memories = below_twice_so [] 5 j k m.memories h i;
+  tags = below_twice_so [] 6 j k m.tags h i;
+  globals = below_twice_so [] 7 j k m.globals h i;
+  exports = below_twice_so [] 8 j k m.exports h i;
+  start = below_twice_so None 9 j k m.start h i;
+  element_segments = below_twice_so [] 10 j k m.element_segments h i;
+  data_count = below_twice_so None 11 j k m.data_count h i;
+  code = [];
+  data_segments = below_twice_so [] 13 j k m.data_segments h i;
+}
+
+-- ---- by sections
+
+before_is : (s : Section) (m : ModuleTree) → before s m ≡ front (place s) m
+before_is section.types m = refl
+before_is section.imports m = refl
+before_is section.functions m = refl
+before_is section.tables m = refl
+before_is section.memories m = refl
+before_is section.tags m = refl
+before_is section.globals m = refl
+before_is section.exports m = refl
+before_is section.start m = refl
+before_is section.element_segments m = refl
+before_is section.data_count m = refl
+before_is section.data_segments m = refl
+
+up_to_is : (s : Section) (m : ModuleTree) → up_to s m ≡ front (suc (place s)) m
+up_to_is section.types m = refl
+up_to_is section.imports m = refl
+up_to_is section.functions m = refl
+up_to_is section.tables m = refl
+up_to_is section.memories m = refl
+up_to_is section.tags m = refl
+up_to_is section.globals m = refl
+up_to_is section.exports m = refl
+up_to_is section.start m = refl
+up_to_is section.element_segments m = refl
+up_to_is section.data_count m = refl
+up_to_is section.data_segments m = refl
+
+-- what stands up to a section stands before a later one
+pub up_to_before : (s t : Section) (m : ModuleTree) → place s < place t → up_to s (before t m) ≡ up_to s m
+up_to_before s t m l = ap (up_to s) (before_is t m) ∙ (up_to_is s (front (place t) m) ∙ (front_twice (suc (place s)) (place t) m (omega (arith, l)) ∙ sym (up_to_is s m)))
+
+-- a section that is added changes nothing up to an earlier one
+pub same_up_to : (s t : Section) (m n : ModuleTree) → place s < place t → IsWithSection t m n → up_to s m ≡ up_to s n
+same_up_to s t m n l w = ap (up_to s) w.kept ∙ up_to_before s t n l
+
+-- nothing of a later section was read
+pub unread_later : (s t : Section) (m : ModuleTree) → place s < place t → IsUnread s m → IsUnread t m
+unread_later s t m l e =
+    let first = e ∙ before_is s m in
+    first ∙ (sym (front_twice_so (place s) (place t) m (omega (arith, l))) ∙ (ap (front (place t)) (sym first) ∙ sym (before_is t m)))
+
+pub unread_behind : (s t : Section) (m n : ModuleTree) → place s < place t → IsWithSection s m n → IsUnread t n
+unread_behind s t m n l w =
+    let first = w.last ∙ up_to_is s n in
+    first ∙ (sym (front_twice_so (suc (place s)) (place t) n (omega (arith, l))) ∙ (ap (front (place t)) (sym first) ∙ sym (before_is t n)))
+
+-- ---- places are of one section each
+
+section_at : ℕ → Section
+section_at n = if n == 1 then section.types else (if n == 2 then section.imports else (if n == 3 then section.functions else (if n == 4 then section.tables else
+    (if n == 5 then section.memories else (if n == 6 then section.tags else (if n == 7 then section.globals else (if n == 8 then section.exports else
+    (if n == 9 then section.start else (if n == 10 then section.element_segments else (if n == 11 then section.data_count else section.data_segments))))))))))
+
+section_of_place : (s : Section) → section_at (place s) ≡ s
+unfolding section_at
+section_of_place section.types = refl
+section_of_place section.imports = refl
+section_of_place section.functions = refl
+section_of_place section.tables = refl
+section_of_place section.memories = refl
+section_of_place section.tags = refl
+section_of_place section.globals = refl
+section_of_place section.exports = refl
+section_of_place section.start = refl
+section_of_place section.element_segments = refl
+section_of_place section.data_count = refl
+section_of_place section.data_segments = refl
+
+pub one_place : (s t : Section) → place s ≡ place t → s ≡ t
+one_place s t e = sym (section_of_place s) ∙ (ap section_at e ∙ section_of_place t)
+
+-- ---- a section looks at what stands up to it
+
+pub valid_up_to : (z : Settings) (s : Section) (m : ModuleTree) → IsValidSection z s m ↔ IsValidSection z s (up_to s m)
+valid_up_to z section.types m = (λ h. h, λ h. h)
+valid_up_to z section.imports m = (λ h. h, λ h. h)
+valid_up_to z section.functions m = (λ h. h, λ h. h)
+valid_up_to z section.tables m = (λ h. h, λ h. h)
+valid_up_to z section.memories m = (λ h. h, λ h. h)
+valid_up_to z section.tags m = (λ h. h, λ h. h)
+valid_up_to z section.globals m = (λ h. h, λ h. h)
+valid_up_to z section.exports m = (λ h. h, λ h. h)
+valid_up_to z section.start m = (λ h. h, λ h. h)
+valid_up_to z section.element_segments m = (λ h. h, λ h. h)
+valid_up_to z section.data_count m = (λ h. h, λ h. h)
+valid_up_to z section.data_segments m = (λ h. h, λ h. h)
+
+pub spelled_up_to : (z : Settings) (s : Section) (m : ModuleTree) (o : Option (List ℕ)) → SpelledSection z s m o ↔ SpelledSection z s (up_to s m) o
+spelled_up_to z section.types m o = (λ h. h, λ h. h)
+spelled_up_to z section.imports m o = (λ h. h, λ h. h)
+spelled_up_to z section.functions m o = (λ h. h, λ h. h)
+spelled_up_to z section.tables m o = (λ h. h, λ h. h)
+spelled_up_to z section.memories m o = (λ h. h, λ h. h)
+spelled_up_to z section.tags m o = (λ h. h, λ h. h)
+spelled_up_to z section.globals m o = (λ h. h, λ h. h)
+spelled_up_to z section.exports m o = (λ h. h, λ h. h)
+spelled_up_to z section.start m o = (λ h. h, λ h. h)
+spelled_up_to z section.element_segments m o = (λ h. h, λ h. h)
+spelled_up_to z section.data_count m o = (λ h. h, λ h. h)
+spelled_up_to z section.data_segments m o = (λ h. h, λ h. h)
+
+pub items_up_to : (s : Section) (m : ModuleTree) → items s m ≡ items s (up_to s m)
+items_up_to section.types m = refl
+items_up_to section.imports m = refl
+items_up_to section.functions m = refl
+items_up_to section.tables m = refl
+items_up_to section.memories m = refl
+items_up_to section.tags m = refl
+items_up_to section.globals m = refl
+items_up_to section.exports m = refl
+items_up_to section.start m = refl
+items_up_to section.element_segments m = refl
+items_up_to section.data_count m = refl
+items_up_to section.data_segments m = refl
+
+module _ (z : Settings) (s t : Section) (m n : ModuleTree) (l : place s < place t) (w : IsWithSection t m n) where
+  pub valid_stays : IsValidSection z s m ↔ IsValidSection z s n
+  valid_stays = (
+    λ h. (valid_up_to z s n).1 (subst (IsValidSection z s) (same_up_to s t m n l w) ((valid_up_to z s m).0 h)),
+    λ h. (valid_up_to z s m).1 (subst (IsValidSection z s) (sym (same_up_to s t m n l w)) ((valid_up_to z s n).0 h)),
+  )
+
+  pub spelled_stays : (o : Option (List ℕ)) → SpelledSection z s m o ↔ SpelledSection z s n o
+  spelled_stays o = (
+    λ h. (spelled_up_to z s n o).1 (subst (λ k. SpelledSection z s k o) (same_up_to s t m n l w) ((spelled_up_to z s m o).0 h)),
+    λ h. (spelled_up_to z s m o).1 (subst (λ k. SpelledSection z s k o) (sym (same_up_to s t m n l w)) ((spelled_up_to z s n o).0 h)),
+  )
+
+pub items_stay : (s t : Section) (m n : ModuleTree) → place s < place t → IsWithSection t m n → items s m ≡ items s n
+items_stay s t m n l w = items_up_to s m ∙ (ap (items s) (same_up_to s t m n l w) ∙ sym (items_up_to s n))
+
+-- a section of which nothing was read has no items, and is valid; absent it is spelled
+empty_is_valid : (z : Settings) (s : Section) (m : ModuleTree) → IsValidSection z s (before s m)
+empty_is_valid z section.types m = done
+empty_is_valid z section.imports m = tt
+empty_is_valid z section.functions m = tt
+empty_is_valid z section.tables m = tt
+empty_is_valid z section.memories m = tt
+empty_is_valid z section.tags m = tt
+empty_is_valid z section.globals m = tt
+empty_is_valid z section.exports m = tt
+empty_is_valid z section.start m = tt
+empty_is_valid z section.element_segments m = tt
+empty_is_valid z section.data_count m = tt
+empty_is_valid z section.data_segments m = tt
+
+pub unread_is_valid : (z : Settings) (s : Section) (m : ModuleTree) → IsUnread s m → IsValidSection z s m
+unread_is_valid z s m e = subst (IsValidSection z s) (sym e) (empty_is_valid z s m)
+
+empty_is_spelled : (z : Settings) (s : Section) (m : ModuleTree) → SpelledSection z s (before s m) None
+empty_is_spelled z section.types m = refl
+empty_is_spelled z section.imports m = refl
+empty_is_spelled z section.functions m = refl
+empty_is_spelled z section.tables m = refl
+empty_is_spelled z section.memories m = refl
+empty_is_spelled z section.tags m = (refl, tt)
+empty_is_spelled z section.globals m = refl
+empty_is_spelled z section.exports m = refl
+empty_is_spelled z section.start m = tt
+empty_is_spelled z section.element_segments m = refl
+empty_is_spelled z section.data_count m = tt
+empty_is_spelled z section.data_segments m = refl
+
+pub unread_is_spelled : (z : Settings) (s : Section) (m : ModuleTree) → IsUnread s m → SpelledSection z s m None
+unread_is_spelled z s m e = subst (λ k. SpelledSection z s k None) (sym e) (empty_is_spelled z s m)
+
+number_absent : (o : Option ℕ) → SpelledNumber o None → o ≡ None
+number_absent None h = refl
+number_absent (Some n) h = absurd h
+
+-- an absent section adds nothing
+pub absent_adds_nothing : (z : Settings) (s : Section) (m : ModuleTree) → SpelledSection z s m None → up_to s m ≡ before s m
+absent_adds_nothing z section.types m h = ap (λ xs. record no_items { types = xs }) h
+absent_adds_nothing z section.imports m h = ap (imports_read m) h
+absent_adds_nothing z section.functions m h = ap (functions_read m) h
+absent_adds_nothing z section.tables m h = ap (tables_read m) h
+absent_adds_nothing z section.memories m h = ap (memories_read m) h
+absent_adds_nothing z section.tags m h = ap (tags_read m) h.0
+absent_adds_nothing z section.globals m h = ap (globals_read m) h
+absent_adds_nothing z section.exports m h = ap (exports_read m) h
+absent_adds_nothing z section.start m h = ap (λ x. record (exports_read m m.exports) { start = x }) (number_absent m.start h)
+absent_adds_nothing z section.element_segments m h = ap (elements_read m) h
+absent_adds_nothing z section.data_count m h = ap (λ x. record (elements_read m m.element_segments) { data_count = x }) (number_absent m.data_count h)
+absent_adds_nothing z section.data_segments m h = ap (λ xs. record (data_count_read m) { data_segments = xs }) h
