@@ -7,9 +7,9 @@ use Rattle.wasm_sections_parser.specs.Steps.{Shape, version, custom, code, entry
 use Rattle.wasm_sections_parser.specs.Steps as frame
 use Rattle.wasm_module_validator_contexts.specs.rules.Syntax.{ModuleTree}
 use Rattle.wasm_module_validator_contexts.specs.rules.Spaces.{module_of}
-use Rattle.wasm_module_validator_contexts.specs.rules.Valid.{IsWithinLimits}
+use Rattle.wasm_module_validator_contexts.specs.rules.Valid.{Each, IsWithinLimits}
 use Rattle.wasm_module_validator_contexts.specs.InOrder.{no_items}
-use Rattle.wasm_module_validator_steps.specs.Sections.{Section, number, place, code_place, IsWithSection}
+use Rattle.wasm_module_validator_steps.specs.Sections.{Section, number, place, code_place, IsUnread, IsWithSection}
 use Rattle.wasm_module_validator_steps.specs.Adding.{IsValidSection}
 use Rattle.wasm_module_validator_steps.specs.Texts.{SpelledSection}
 
@@ -57,3 +57,14 @@ JudgesShape z p the_end q = q ≡ p
 abbrev pub JudgesShapes : Settings → SoFar → List Shape → SoFar → Type 0
 JudgesShapes z p [] q = p ≡ q
 JudgesShapes z p (x ∷ xs) q = (r : SoFar) × JudgesShape z p x r × JudgesShapes z r xs q
+
+-- What is known of frames that were judged: each section is valid, and the limits hold; nothing stands behind the last section; there are
+-- no more bodies than functions, each within its limit, and none before the code section.
+pub record IsJudged (z : Settings) (q : SoFar) : Type 0 where
+  pub valid : (s : Section) → IsValidSection z s q.tree
+  pub within : IsWithinLimits z (module_of q.tree) q.tree
+  pub unread : (s : Section) → q.last < place s → IsUnread s q.tree
+  pub no_code : q.tree.code ≡ []
+  pub no_more : length q.bodies ≤ length q.tree.functions
+  pub bodies : Each (λ (text : List ℕ). length text ≤ z.limits.body_bytes) q.bodies
+  pub none : q.last < code_place → q.bodies ≡ []

@@ -7,3 +7,4 @@ pub mod Adding
 pub mod Reading
 pub mod Fronts
 pub mod Within
+pub mod Judged

@@ -86,6 +86,27 @@ front_twice_so j k m h i = record {
   data_segments = below_twice_so [] 13 j k m.data_segments h i;
 }
 
+below_none : {A : Type 0} (none : A) (b : Bool) → none ≡ (if b then none else none)
+below_none none true = refl
+below_none none false = refl
+
+nothing_front : (k : ℕ) → no_items ≡ front k no_items
+nothing_front k i = record {
+  types = below_none [] (nat_lt 1 k) i;
+  imports = below_none [] (nat_lt 2 k) i;
+  functions = below_none [] (nat_lt 3 k) i;
+  tables = below_none [] (nat_lt 4 k) i;
+  memories = below_none [] (nat_lt 5 k) i;
+  tags = below_none [] (nat_lt 6 k) i;
+  globals = below_none [] (nat_lt 7 k) i;
+  exports = below_none [] (nat_lt 8 k) i;
+  start = below_none None (nat_lt 9 k) i;
+  element_segments = below_none [] (nat_lt 10 k) i;
+  data_count = below_none None (nat_lt 11 k) i;
+  code = [];
+  data_segments = below_none [] (nat_lt 13 k) i;
+}
+
 -- ---- by sections
 
 before_is : (s : Section) (m : ModuleTree) → before s m ≡ front (place s) m
@@ -102,7 +123,7 @@ before_is section.element_segments m = refl
 before_is section.data_count m = refl
 before_is section.data_segments m = refl
 
-up_to_is : (s : Section) (m : ModuleTree) → up_to s m ≡ front (suc (place s)) m
+pub up_to_is : (s : Section) (m : ModuleTree) → up_to s m ≡ front (suc (place s)) m
 up_to_is section.types m = refl
 up_to_is section.imports m = refl
 up_to_is section.functions m = refl
@@ -115,6 +136,13 @@ up_to_is section.start m = refl
 up_to_is section.element_segments m = refl
 up_to_is section.data_count m = refl
 up_to_is section.data_segments m = refl
+
+pub no_code_up_to : (s : Section) (m : ModuleTree) → (up_to s m).code ≡ []
+no_code_up_to s m = ap (λ (k : ModuleTree). k.code) (up_to_is s m)
+
+-- where nothing was read, nothing of any section was
+pub nothing_is_unread : (s : Section) → IsUnread s no_items
+nothing_is_unread s = nothing_front (place s) ∙ sym (before_is s no_items)
 
 -- what stands up to a section stands before a later one
 pub up_to_before : (s t : Section) (m : ModuleTree) → place s < place t → up_to s (before t m) ≡ up_to s m
