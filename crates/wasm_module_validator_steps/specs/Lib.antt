@@ -6,6 +6,8 @@ pub mod Adding
 pub mod Texts
 -- What each frame does.
 pub mod Steps
+-- Worked items, sections and frames.
+pub mod Worked
 -- Laws, with the proofs.
 pub mod laws
 -- The rules of the crates below, under their names: crates above cite them here.
