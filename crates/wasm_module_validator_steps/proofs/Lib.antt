@@ -1,0 +1,2 @@
+pub mod WorkedCode
+pub mod WorkedSteps

@@ -1,0 +1,11 @@
+pub mod Places
+pub mod Turns
+pub mod Groups
+pub mod Counts
+pub mod Limits
+pub mod Imports
+pub mod Adding
+pub mod Reading
+pub mod Fronts
+pub mod Within
+pub mod Judged
