@@ -2,8 +2,11 @@
 --
 -- `adds` says what is read with an item more: it is a relation, since of a constant expression the bytes are an item and the code is
 -- what is added. An item that may not be added stands in it to nothing.
-use Rattle.std.specs.Prelude.{◌≡◌, ℕ, List, [], ◌∷◌}
-use Rattle.wasm_types.specs.decoding.Decoder.{Grammar, Many}
+use Rattle.std.specs.Prelude.{◌≡◌, ◌⊎◌, ◌<◌, ℕ, List, [], ◌∷◌, length}
+use Rattle.wasm_types.specs.decoding.Decoder.{State, Done, Decoder, Grammar, Many}
+use Rattle.wasm_types.specs.error.declared.error.ErrorKind.TheVariants.{Other}
+use Rattle.wasm_types.specs.error.ErrorValue.{ErrorValue}
+use Rattle.wasm_types.specs.reader.Reading.{Fails}
 
 -- the bytes of an item: those of what is read of it
 abbrev pub Spelled : {T V A : Type 0} → (T → V) → (T → A) → Grammar V → Grammar A
@@ -19,3 +22,27 @@ pub record AreAdded {M A : Type 0} (g : Grammar A) (adds : M → A → M → Typ
   pub items : List A
   pub spelled : Many g n items text
   pub each : AddsEach adds before items after
+
+-- ---- why a section is refused
+
+-- an item is read, from one place to another
+abbrev pub IsRead : {T V A : Type 0} → (T → V) → (T → A) → Decoder V → State → A → State → Type 0
+IsRead view item d s a t = (x : _) × (item x ≡ a) × (d s ≡ Done (view x) t)
+
+-- a byte is left behind the last item
+abbrev pub IsByteLeft : State → ErrorValue → Type 0
+IsByteLeft s e = (0 < length s.rest) × (e.kind ≡ Other) × (e.offset ≡ s.place)
+
+-- the item here is read and refused
+abbrev pub IsItemRefused : {T V A M : Type 0} → (T → V) → (T → A) → Decoder V → (M → A → ℕ → ErrorValue → Type 0) → State → M → ErrorValue → Type 0
+IsItemRefused view item d refuses s m e = (x : _) × (t : State) × (d s ≡ Done (view x) t) × refuses m (item x) s.place e
+
+-- Some items were read and added, which leads here. Behind them all a byte is left; or the next item is not read, or is refused.
+pub record StopsAdding {T V A M : Type 0} (view : T → V) (item : T → A) (d : Decoder V) (adds : M → A → M → Type 0) (refuses : M → A → ℕ → ErrorValue → Type 0) (n : ℕ)
+    (s : State) (before : M) (e : ErrorValue) : Type 0 where
+  pub items : List A
+  pub here : State
+  pub now : M
+  pub read : AddsEach (IsRead view item d) s items here
+  pub each : AddsEach adds before items now
+  pub stops : ((length items ≡ n) × IsByteLeft here e) ⊎ ((length items < n) × (Fails e (d here) ⊎ IsItemRefused view item d refuses here now e))

@@ -12,7 +12,7 @@ use Rattle.wasm_types.specs.error.DenialLaws.{denies}
 use Rattle.wasm_types.specs.reader.Reading.{FailsAt, Fails}
 use Rattle.wasm_sections_limited.specs.Walking.{Walk, NextIn, fresh}
 use Rattle.wasm_sections_limited.specs.Runs.{with_offset}
-use Rattle.wasm_module_validator_adding.specs.Adding.{Spelled, AddsEach, AreAdded}
+use Rattle.wasm_module_validator_adding.specs.Adding.{Spelled, AddsEach, AreAdded, IsRead, StopsAdding}
 
 -- what would have to be read is denied by what refused it
 unread : {Y : Type 0} (k : ErrorKind) (p : ℕ) (o : Outcome Y) (P : Type 0) → FailsAt k p o → (P → (y : Y) × (t : State) × (o ≡ Done y t)) → Denies k P
@@ -45,9 +45,13 @@ module _ {M A : Type 0} (adds : M → A → M → Type 0) where
   without_last m [] x n (k, last, is) = (m, refl, subst (λ (j : M). adds m x j) is last)
   without_last m (y ∷ xs) x n (j, first, more) = let a = without_last j xs x n more in (a.0, (j, first, a.1), a.2)
 
+one_longer : {A : Type 0} (xs : List A) (x : A) → length (xs ++ x ∷ []) ≡ length xs + 1
+one_longer [] x = refl
+one_longer (y ∷ xs) x = omega (arith, one_longer xs x)
+
 -- ---- where a walk stands
 
-module _ {T V A M : Type 0} (view : T → V) (of : T → A) (g : Settings → Grammar V) (adds : M → A → M → Type 0) (z : Settings) where
+module _ {T V A M : Type 0} (view : T → V) (of : T → A) (d : Settings → Decoder V) (g : Settings → Grammar V) (adds : M → A → M → Type 0) (z : Settings) where
   -- what is left of the section is added
   abbrev pub Added : Walk → M → M → Type 0
   Added w = AreAdded (Spelled view of (g z)) adds w.left w.reader.rest
@@ -56,6 +60,8 @@ module _ {T V A M : Type 0} (view : T → V) (of : T → A) (g : Settings → Gr
   -- whatever can be, and the whole section leads where what is left of it leads from there.
   pub record Leads {S : Type 0} (reads : S → M → Type 0) (n : ℕ) (b : State) (w : Walk) (u : S) (first : M) : Type 0 where
     pub front : List A
+    pub read : AddsEach (IsRead view of (d z)) b front w.reader
+    pub counted : w.left + length front ≡ n
     pub some : (k : M) × AddsEach adds first front k
     pub stands : (k : M) → AddsEach adds first front k → reads u k
     pub to : (t : M) → Added (fresh n b) first t → (k : M) × AddsEach adds first front k × Added w k t
@@ -69,7 +75,7 @@ module _ {T V A M : Type 0} (view : T → V) (of : T → A) (g : Settings → Gr
 module _ {T V A M : Type 0} (view : T → V) (of : T → A) (alike : (x y : T) → view x ≡ view y → of x ≡ of y) (d : Settings → Decoder V) (g : Settings → Grammar V)
     (exact : (z : Settings) → Decides (d z) (g z)) (adds : M → A → M → Type 0) (z : Settings) where
   abbrev Here : Walk → M → M → Type 0
-  Here = Added view of g adds z
+  Here = Added view of d g adds z
 
   abbrev G : Grammar A
   G = Spelled view of (g z)
@@ -137,10 +143,10 @@ module _ {T V A M : Type 0} (view : T → V) (of : T → A) (alike : (x y : T) �
 
   module _ {S : Type 0} (reads : S → M → Type 0) (n : ℕ) (b : State) (s : S) where
     abbrev Led : Walk → S → M → Type 0
-    Led = Leads view of g adds z reads n b
+    Led = Leads view of d g adds z reads n b
 
     abbrev Standing : Walk → S → Type 0
-    Standing = Stands view of g adds z reads n b s
+    Standing = Stands view of d g adds z reads n b s
 
     pub stands_first : b.settings ≡ z → Standing (fresh n b) s
     stands_first e = record {
@@ -148,6 +154,8 @@ module _ {T V A M : Type 0} (view : T → V) (of : T → A) (alike : (x y : T) �
       settings = e;
       leads = λ m h. record {
         front = [];
+        read = refl;
+        counted = omega arith;
         some = (m, refl);
         stands = λ k is. subst (λ (j : M). reads s j) is h;
         to = λ t a. (m, refl, a);
@@ -175,6 +183,8 @@ module _ {T V A M : Type 0} (view : T → V) (of : T → A) (alike : (x y : T) �
             let last = may_now l.some.0 (l.stands l.some.0 l.some.1) in
             record {
               front = l.front ++ of x.1 ∷ [];
+              read = one_more (IsRead view of (d z)) b l.front (of x.1) v.reader (w.reader, l.read, (x.1, refl, read.3.1));
+              counted = omega (arith, l.counted, read.2, one_longer l.front (of x.1));
               some = (last.0, one_more adds m l.front (of x.1) last.0 (l.some.0, l.some.1, last.1));
               stands = λ k is. let a = without_last adds m l.front (of x.1) k is in added a.0 k (l.stands a.0 a.1) a.2;
               to = λ t all.
@@ -205,6 +215,51 @@ module _ {T V A M : Type 0} (view : T → V) (of : T → A) (alike : (x y : T) �
         let l = h.leads m first in
         unread e.kind e.offset (d z w.reader) _ (subst (λ (y : Settings). Fails e (d y w.reader)) h.settings refused.1)
         (λ all. let a = l.to all.0 all.1 in not_read w a.0 all.0 refused.0 a.2)
+
+    -- ---- why it stops
+
+    module _ (refuses : M → A → ℕ → ErrorValue → Type 0) where
+      abbrev Stopped : M → ErrorValue → Type 0
+      Stopped = StopsAdding view of (d z) adds refuses n b
+
+      pub stops_at_an_item : (w v : Walk) (u : S) (x : ℕ × T) (e : ErrorValue) → Standing w u → Step w (Some (Ok x)) v → ((m : M) → reads u m → refuses m (of x.1) x.0 e)
+          → (m : M) → reads s m → Stopped m e
+      stops_at_an_item w v u x e h step refused m first = go (h.leads m first) (is_read w v x h.settings step)
+        where
+          go : Led w u m → Reads w x v → Stopped m e
+          go l (o, q, left, (place, read)) = record {
+            items = l.front;
+            here = w.reader;
+            now = l.some.0;
+            read = l.read;
+            each = l.some.1;
+            stops = inr (
+              omega (arith, left, l.counted),
+              inr (x.1, v.reader, read, subst (λ (p : ℕ). refuses l.some.0 (of x.1) p e) place (refused l.some.0 (l.stands l.some.0 l.some.1))),
+            );
+          }
+
+      pub stops_at_bytes : (w v : Walk) (u : S) (e : ErrorValue) → Standing w u → Step w (Some (Err e)) v → (m : M) → reads s m → Stopped m e
+      stops_at_bytes w v u e h (o, p, inl trailing) m first =
+          let l = h.leads m first in
+          record {
+            items = l.front;
+            here = w.reader;
+            now = l.some.0;
+            read = l.read;
+            each = l.some.1;
+            stops = inl (omega (arith, trailing.0, l.counted), (trailing.1, trailing.2, trailing.3));
+          }
+      stops_at_bytes w v u e h (o, p, inr refused) m first =
+          let l = h.leads m first in
+          record {
+            items = l.front;
+            here = w.reader;
+            now = l.some.0;
+            read = l.read;
+            each = l.some.1;
+            stops = inr (omega (arith, refused.0, l.counted), inl (subst (λ (y : Settings). Fails e (d y w.reader)) h.settings refused.1));
+          }
 
     -- ---- the end
 
