@@ -1,26 +1,48 @@
 -- The items of a section, added to what was read before them (WebAssembly 3.0, binary format, modules; validation, modules).
 --
--- `valid` says which item may be added to what was read, and `adding` what was read then.
-use Rattle.std.specs.Prelude.{◌≡◌, ℕ, List, [], ◌∷◌}
-use Rattle.wasm_types.specs.decoding.Decoder.{Grammar, Many}
+-- `adds` says what is read with an item more: it is a relation, since of a constant expression the bytes are an item and the code is
+-- what is added. An item that may not be added stands in it to nothing.
+use Rattle.std.specs.Prelude.{◌≡◌, ◌⊎◌, ◌<◌, ℕ, List, [], ◌∷◌, length}
+use Rattle.wasm_types.specs.decoding.Decoder.{State, Done, Decoder, Grammar, Many}
+use Rattle.wasm_types.specs.error.declared.error.ErrorKind.TheVariants.{Other}
+use Rattle.wasm_types.specs.error.ErrorValue.{ErrorValue}
+use Rattle.wasm_types.specs.reader.Reading.{Fails}
 
 -- the bytes of an item: those of what is read of it
 abbrev pub Spelled : {T V A : Type 0} → (T → V) → (T → A) → Grammar V → Grammar A
 Spelled view item g a text = (x : _) × (item x ≡ a) × g (view x) text
 
--- each of these may be added behind those before it
-abbrev pub MayBeAdded : {M A : Type 0} → (M → A → Type 0) → (M → A → M) → M → List A → Type 0
-MayBeAdded valid adding m [] = Unit {0}
-MayBeAdded valid adding m (x ∷ xs) = valid m x × MayBeAdded valid adding (adding m x) xs
+-- each of these is added behind those before it, from the first of these to the last
+abbrev pub AddsEach : {M A : Type 0} → (M → A → M → Type 0) → M → List A → M → Type 0
+AddsEach adds m [] n = m ≡ n
+AddsEach adds m (x ∷ xs) n = (k : _) × adds m x k × AddsEach adds k xs n
 
--- what was read, with each of these more
-abbrev pub adding_all : {M A : Type 0} → (M → A → M) → M → List A → M
-adding_all adding m [] = m
-adding_all adding m (x ∷ xs) = adding_all adding (adding m x) xs
-
--- The bytes spell so many items, and no byte is left; each may be added; and what was read is then this.
-pub record AreAdded {M A : Type 0} (g : Grammar A) (valid : M → A → Type 0) (adding : M → A → M) (n : ℕ) (text : List ℕ) (before after : M) : Type 0 where
+-- The bytes spell so many items, and no byte is left; and each is added, which leads from what was read before to what is read then.
+pub record AreAdded {M A : Type 0} (g : Grammar A) (adds : M → A → M → Type 0) (n : ℕ) (text : List ℕ) (before after : M) : Type 0 where
   pub items : List A
   pub spelled : Many g n items text
-  pub each : MayBeAdded valid adding before items
-  pub whole : after ≡ adding_all adding before items
+  pub each : AddsEach adds before items after
+
+-- ---- why a section is refused
+
+-- an item is read, from one place to another
+abbrev pub IsRead : {T V A : Type 0} → (T → V) → (T → A) → Decoder V → State → A → State → Type 0
+IsRead view item d s a t = (x : _) × (item x ≡ a) × (d s ≡ Done (view x) t)
+
+-- a byte is left behind the last item
+abbrev pub IsByteLeft : State → ErrorValue → Type 0
+IsByteLeft s e = (0 < length s.rest) × (e.kind ≡ Other) × (e.offset ≡ s.place)
+
+-- the item here is read and refused
+abbrev pub IsItemRefused : {T V A M : Type 0} → (T → V) → (T → A) → Decoder V → (M → A → ℕ → ErrorValue → Type 0) → State → M → ErrorValue → Type 0
+IsItemRefused view item d refuses s m e = (x : _) × (t : State) × (d s ≡ Done (view x) t) × refuses m (item x) s.place e
+
+-- Some items were read and added, which leads here. Behind them all a byte is left; or the next item is not read, or is refused.
+pub record StopsAdding {T V A M : Type 0} (view : T → V) (item : T → A) (d : Decoder V) (adds : M → A → M → Type 0) (refuses : M → A → ℕ → ErrorValue → Type 0) (n : ℕ)
+    (s : State) (before : M) (e : ErrorValue) : Type 0 where
+  pub items : List A
+  pub here : State
+  pub now : M
+  pub read : AddsEach (IsRead view item d) s items here
+  pub each : AddsEach adds before items now
+  pub stops : ((length items ≡ n) × IsByteLeft here e) ⊎ ((length items < n) × (Fails e (d here) ⊎ IsItemRefused view item d refuses here now e))

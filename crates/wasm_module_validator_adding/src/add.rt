@@ -1,8 +1,11 @@
 //! Items added one by one.
 
-ghost use Rattle.std.specs.Prelude.{◌≡◌, OnOk};
+ghost use Rattle.std.specs.Prelude.{◌≡◌, ℕ, OnOk, IfErr};
+ghost use Rattle.wasm_types.specs.limits.Settings.{Settings};
+ghost use Rattle.wasm_types.specs.decoding.Decoder.{State, Done};
 ghost use Rattle.wasm_types.specs.error.Denials.{Tells};
-ghost use Rattle.wasm_module_validator_adding.specs.Adding.{AreAdded, Spelled};
+ghost use Rattle.wasm_types.specs.error.ErrorValue.{ErrorValue};
+ghost use Rattle.wasm_module_validator_adding.specs.Adding.{AreAdded, Spelled, StopsAdding};
 
 use wasm_sections_limited::SectionLimited;
 use wasm_types::{FromReader, Result};
@@ -21,16 +24,18 @@ pub trait AddItem<'a, T: FromReader<'a>> {
     /// The state stands for what was read.
     ghost reads: { Self → Tree → Type 0 };
 
-    /// An item may be added to what was read.
-    ghost valid: { Tree → Item → Type 0 };
+    /// What was read, an item, and what is read with it. An item that may not be added has no third.
+    ghost adds: { Tree → Item → Tree → Type 0 };
 
-    /// What was read, with an item more.
-    ghost adding: { Tree → Item → Tree };
+    /// With what an item that begins at an offset is refused.
+    ghost refuses: { Tree → Item → ℕ → ErrorValue → Type 0 };
 
-    /// Checks an item, which begins at this offset, and adds it.
+    /// Checks an item that was read, which begins at this offset, and adds it.
     fn add(&mut self, item: T, offset: u64) -> Result<()>
-        ensures answer { (m : Tree) → reads self.old m → Tells result (valid m (of item)) }
-        ensures added { OnOk result ((m : Tree) → reads self.old m → reads self.new (adding m (of item))) };
+        requires read { (z : Settings) × (s : State) × (t : State) × (T.decoder z s ≡ Done (T.view item) t) }
+        ensures answer { (m : Tree) → reads self.old m → Tells result ((n : Tree) × adds m (of item) n) }
+        ensures added { OnOk result ((m n : Tree) → reads self.old m → adds m (of item) n → reads self.new n) }
+        ensures refused { IfErr result (λ e. (m : Tree) → reads self.old m → refuses m (of item) offset e) };
 
     /// Items whose bytes are read alike are the same.
     ghost alike: { (x y : T) → T.view x ≡ T.view y → of x ≡ of y };
@@ -46,9 +51,11 @@ pub fn add_items<'a, T: FromReader<'a>, S: AddItem<'a, T>>(
     section: SectionLimited<'a, T>,
 ) -> Result<()>
     ensures answer { (m : S.Tree) → S.reads state.old m
-        → Tells result ((t : S.Tree) × AreAdded (Spelled T.view S.of (T.grammar section.entry.reader.settings)) S.valid S.adding section.entry.count section.entry.reader.rest m t) }
-    ensures added { OnOk result ((m : S.Tree) → S.reads state.old m
-        → (t : S.Tree) × AreAdded (Spelled T.view S.of (T.grammar section.entry.reader.settings)) S.valid S.adding section.entry.count section.entry.reader.rest m t × S.reads state.new t) }
+        → Tells result ((t : S.Tree) × AreAdded (Spelled T.view S.of (T.grammar section.entry.reader.settings)) S.adds section.entry.count section.entry.reader.rest m t) }
+    ensures added { OnOk result ((m t : S.Tree) → S.reads state.old m
+        → AreAdded (Spelled T.view S.of (T.grammar section.entry.reader.settings)) S.adds section.entry.count section.entry.reader.rest m t → S.reads state.new t) }
+    ensures refused { (m : S.Tree) → S.reads state.old m
+        → IfErr result (λ e. StopsAdding T.view S.of (T.decoder section.entry.reader.settings) S.adds S.refuses section.entry.count section.entry.reader m e) }
 {
     for item in section.into_iter_with_offsets() {
         let item = match item {

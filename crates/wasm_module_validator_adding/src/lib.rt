@@ -6,5 +6,7 @@
 #![tactic(auto)]
 
 mod add;
+#[cfg(test)]
+mod tests;
 
 pub use add::{AddItem, add_items};
