@@ -37,37 +37,10 @@ use Rattle.wasm_operator_validator_constants.specs.rules.Operands.{ValueType}
 use Rattle.wasm_operator_validator_constants.specs.rules.Context.{Module, Global, Table, address_type}
 use Rattle.wasm_module_validator_externs.specs.rules.Spaces.{value_in, global_in as global_written, table_in as table_written}
 use Rattle.wasm_module_validator_externs.specs.rules.Valid.{IsValidGlobalType, IsValidTableType, IsInitialised}
+use Rattle.wasm_module_validator_segments.specs.Laws.{unless_from, tells_from, refused_from, address_in}
 use Rattle.wasm_module_validator_segments.specs.Trees.{bytes_of, SpelledInit}
 use Rattle.wasm_module_validator_segments.specs.Judged.{IsConstantText, IsGlobal, IsInitText, IsTableHere, IsTable, IsData}
 use Rattle.wasm_module_validator_segments.specs.Refusals.{around, read_by, StopsText, RefusesGlobal, RefusesInit, RefusesData}
-
--- ---- refusals, unless memory ran out
-
-pub unless : (k : ErrorKind) (P : Type 0) → P → UnlessMemory k P
-unless (EndOfData h) P p = p
-unless (MissingFeature f) P p = p
-unless OutOfMemory P p = tt
-unless Failed P p = p
-unless Other P p = p
-
-pub unless_from : (k : ErrorKind) (P Q : Type 0) → (P → Q) → UnlessMemory k P → UnlessMemory k Q
-unless_from (EndOfData h) P Q f p = f p
-unless_from (MissingFeature x) P Q f p = f p
-unless_from OutOfMemory P Q f p = tt
-unless_from Failed P Q f p = f p
-unless_from Other P Q f p = f p
-
--- ---- answers
-
--- what is the same as what an answer tells of, it tells of too
-pub tells_from : {X : Type 0} (r : Result X ErrorValue) (P Q : Type 0) → (P → Q) → (Q → P) → Tells r P → Tells r Q
-tells_from (Ok x) P Q f g h = f h
-tells_from (Err e) P Q f g h = denies_from e.kind P Q g h
-
-pub refused_from : {X : Type 0} (r : Result X ErrorValue) (P Q : ErrorValue → Type 0) → ((e : ErrorValue) → P e → Q e) → IfErr r (λ e. UnlessMemory e.kind (P e))
-    → IfErr r (λ e. UnlessMemory e.kind (Q e))
-refused_from (Ok x) P Q f h = tt
-refused_from (Err e) P Q f h = unless_from e.kind (P e) (Q e) (f e) h
 
 -- ---- what there is to see
 
@@ -226,12 +199,6 @@ module _ (z : Settings) (m : Meaning) (count : ℕ) where
 
   -- ---- data segments
 
-  -- the type of addresses, as the code names it
-  address_in : (b : Bool) → type_in m (address_written b) ≡ address_type b
-  unfolding type_in
-  address_in true = refl
-  address_in false = refl
-
   -- an active segment, in a memory that there is
   pub data_is : (x : ℕ) (text : List ℕ) (v : MemoryType) → slice_get m.«module».memories x ≡ Some v → IsConstantText z m.«module» count (address_type v.memory64) text
       → IsData z m.«module» count (data_mode.active x text)
@@ -254,7 +221,7 @@ module _ (z : Settings) (m : Meaning) (count : ℕ) where
   module _ {X : Type 0} (r : Result X ErrorValue) (k : DataKindOf State) (x : ℕ) (s : State) (v : MemoryType) (t : ValType)
       (used : k ≡ data_kind.Active x s) (found : slice_get m.«module».memories x ≡ Some v) (named : t ≡ address_written v.memory64) where
     addresses : type_in m t ≡ address_type v.memory64
-    addresses = ap (type_in m) named ∙ address_in v.memory64
+    addresses = ap (type_in m) named ∙ address_in m v.memory64
 
     pub active_answer : Tells r (IsConstantText z m.«module» count (type_in m t) s.rest) → Tells r (IsData z m.«module» count (data_mode_of bytes_of k))
     active_answer h =

@@ -3,6 +3,8 @@
 pub mod Trees
 pub mod Judged
 pub mod Refusals
+-- What is proved of answers and addresses.
+pub mod Laws
 -- Worked items, a pair for each rule.
 pub mod Worked
 -- The rules of the crates below, under their names: crates above cite them here.

@@ -1,0 +1,6 @@
+mod Walks
+mod Trees
+mod Names
+mod Places
+mod References
+mod Checked
