@@ -1,6 +1,6 @@
 -- What the checks of its parts tell of a segment.
-use Rattle.std.proofs.Common.{◌≡◌, ℕ, sym, subst, Result, inl, inr}
-use Rattle.std.specs.Prelude.{◌⊎◌, IfErr}
+use Rattle.std.proofs.Common.{◌≡◌, ℕ, sym, subst, Result, inr}
+use Rattle.std.specs.Prelude.{IfErr}
 use Rattle.wasm_types.specs.limits.Settings.{Settings}
 use Rattle.wasm_types.specs.decoding.Decoder.{State}
 use Rattle.wasm_types.specs.error.Denials.{Denies, UnlessMemory}

@@ -4,3 +4,4 @@ mod Names
 mod Places
 mod References
 mod Checked
+mod Worked

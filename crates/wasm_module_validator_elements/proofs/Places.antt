@@ -1,6 +1,6 @@
 -- What the check of a place in a table tells of an active segment.
 use Rattle.std.proofs.Common.{◌≡◌, ◌↔◌, ◌∙◌, ℕ, sym, ap, subst, Bool, true, false, IsTrue, Option, Some, Result, inl, inr}
-use Rattle.std.specs.Prelude.{◌⊎◌, IfErr, slice_get}
+use Rattle.std.specs.Prelude.{IfErr, slice_get}
 use Rattle.wasm_types.specs.limits.Settings.{Settings}
 use Rattle.wasm_types.specs.decoding.Decoder.{State}
 use Rattle.wasm_types.specs.error.Denials.{Denies, Tells, UnlessMemory}

@@ -1,20 +1,16 @@
 -- A segment over the code that its bytes spell, and by its parts as they are judged.
-use Rattle.std.proofs.Common.{◌≡◌, ◌↔◌, ℕ, zero, suc, ◌+◌, ◌<◌, ◌≤◌, List, [], ◌∷◌, length, refl, sym, ap, ◌∙◌, subst, arith, true, false, Bool, Option, Some, None, inl, inr}
-use Rattle.std.specs.Prelude.{◌⊎◌, ◌==◌, slice_get, if◌then◌else◌}
+use Rattle.std.proofs.Common.{◌≡◌, ℕ, zero, suc, ◌≤◌, List, [], ◌∷◌, length, refl, sym, ap, ◌∙◌, subst, arith, true, false, Bool, Option, Some, None}
+use Rattle.std.specs.Prelude.{◌==◌, slice_get, if◌then◌else◌}
 use Rattle.std.specs.List.{AllZip}
 use Rattle.std.proofs.lemmas.Bool.{eqb-true}
 use Rattle.wasm_types.specs.limits.Settings.{Settings}
-use Rattle.wasm_types.specs.features.Features.{BulkMemory}
 use Rattle.wasm_types.specs.decoding.Decoder.{State, Outcome, Done, Short, Fault, Decoder, continue_with, pure, ◌>>=◌, repeated}
-use Rattle.wasm_types.specs.decoding.Exact.{value_is, state_is}
-use Rattle.wasm_types.specs.trees.Gates.{Has}
-use Rattle.wasm_types.specs.trees.Below.{Below}
+use Rattle.wasm_types.specs.decoding.Exact.{value_is}
 use Rattle.wasm_types.specs.values.Reference.{Reference}
-use Rattle.wasm_types.specs.values.declared.value.ValType.TheVariants as value
 use Rattle.wasm_operators_bodies.specs.ConstantDecoder.{constant}
 use Rattle.wasm_module_validator_segments.specs.constants.expression.Code.{Code}
 use Rattle.wasm_module_validator_segments.specs.constants.expression.Spelling.{SpelledExpression}
-use Rattle.wasm_sections_limited.specs.Walking.{Walk, fresh}
+use Rattle.wasm_sections_limited.specs.Walking.{fresh}
 use Rattle.wasm_sections_elements.specs.declared.element.ElementOf.{ElementOf}
 use Rattle.wasm_sections_elements.specs.declared.element.ElementKindOf.{ElementKindOf}
 use Rattle.wasm_sections_elements.specs.declared.element.ElementKindOf.TheVariants as kinds
@@ -22,12 +18,12 @@ use Rattle.wasm_sections_elements.specs.declared.element.ElementItemsOf.{Element
 use Rattle.wasm_sections_elements.specs.declared.element.ElementItemsOf.TheVariants as items
 use Rattle.wasm_sections_elements.specs.Spells.{ElementTree, ElementMode, ElementItems, passive, active, declared, functions, expressions}
 use Rattle.wasm_sections_elements.specs.Passing.{values_of, items_at}
-use Rattle.wasm_sections_elements.specs.Elements.{mode_of, items_of, is_whole, has_whole, tree_of}
-use Rattle.wasm_module_validator_segments.specs.constants.constant_rules.Constants.{IsConstant, seeing}
+use Rattle.wasm_sections_elements.specs.Elements.{mode_of, items_of, is_whole, has_whole}
+use Rattle.wasm_module_validator_segments.specs.constants.constant_rules.Constants.{IsConstant}
 use Rattle.wasm_module_validator_segments.specs.constants.rules.Operands.{ValueType}
-use Rattle.wasm_module_validator_segments.specs.constants.rules.Context.{Module, Table, Global, address_type}
+use Rattle.wasm_module_validator_segments.specs.constants.rules.Context.{Module}
 use Rattle.wasm_module_validator_segments.specs.rules.Spaces.{element_type}
-use Rattle.wasm_module_validator_segments.specs.rules.Valid.{Each, IsValidValueType, IsValidMode, AreValidItems, item_count, table_index, IsValidElement}
+use Rattle.wasm_module_validator_segments.specs.rules.Valid.{Each, IsValidMode, AreValidItems, item_count, table_index}
 use Rattle.wasm_module_validator_segments.specs.Trees.{bytes_of}
 use Rattle.wasm_module_validator_segments.specs.Judged.{IsConstantText}
 use Rattle.wasm_module_validator_elements.specs.Trees.{element_read, SpelledMode, SpelledItems}

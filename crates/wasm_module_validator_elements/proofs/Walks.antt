@@ -1,5 +1,5 @@
 -- Values that are read one by one: what a step tells of those that are left.
-use Rattle.std.proofs.Common.{◌≡◌, ◌↔◌, ℕ, zero, suc, ◌+◌, ◌<◌, List, [], ◌∷◌, length, refl, sym, ap, ◌∙◌, subst, arith, true, false, Bool, Some, Result, Ok, Err, inl, inr}
+use Rattle.std.proofs.Common.{◌≡◌, ◌↔◌, ℕ, zero, suc, ◌+◌, ◌<◌, List, [], ◌∷◌, length, refl, sym, ap, ◌∙◌, subst, arith, true, false, Some, Result, Ok, Err, inl, inr}
 use Rattle.std.specs.Prelude.{◌⊎◌}
 use Rattle.wasm_types.specs.limits.Settings.{Settings}
 use Rattle.wasm_types.specs.decoding.Decoder.{State, Outcome, Done, Short, Fault, Decoder, continue_with, pure, ◌>>=◌, repeated}
@@ -9,10 +9,10 @@ use Rattle.wasm_types.specs.error.DenialLaws.{denies_from}
 use Rattle.wasm_types.specs.error.ErrorValue.{ErrorValue}
 use Rattle.wasm_types.specs.error.declared.error.ErrorKind.{ErrorKind}
 use Rattle.wasm_types.specs.error.declared.error.ErrorKind.TheVariants.{EndOfData, MissingFeature, OutOfMemory, Failed, Other}
-use Rattle.wasm_types.specs.reader.Reading.{Fails, FailsAt}
+use Rattle.wasm_types.specs.reader.Reading.{FailsAt}
 use Rattle.wasm_sections_limited.specs.Walking.{Walk, IsTrailing, NextIn}
 use Rattle.wasm_module_validator_segments.specs.rules.Valid.{Each}
-use Rattle.wasm_module_validator_elements.specs.Items.{AllLeft, Passes, PassesTo, IsUnread, StopsAmong}
+use Rattle.wasm_module_validator_elements.specs.Items.{AllLeft, Passes, IsUnread, StopsAmong}
 use Rattle.wasm_module_validator_elements.specs.Naming.{NamesEach, NamesLeft}
 
 pub unless : (k : ErrorKind) (P : Type 0) → P → UnlessMemory k P
@@ -118,7 +118,7 @@ module _ {X : Type 0} (reads : State → X → State → Type 0) (refuses : Stat
 -- Where a walk over values stands, behind those that are so: what is left decides and stops as all of them, and names the rest of
 -- what they name.
 pub record Walked {A : Type 0} (P : A → Type 0) (N : A → List ℕ → List ℕ → Type 0) (d : Settings → Decoder A) (Refused : Walk → ErrorValue → Type 0)
-  (first : Walk) (before : List ℕ) (w : Walk) (now : List ℕ) : Type 0 where
+    (first : Walk) (before : List ℕ) (w : Walk) (now : List ℕ) : Type 0 where
   pub going : w.over ≡ false
   pub same : AllLeft P d w ↔ AllLeft P d first
   pub stops : (e : ErrorValue) → StopsAmong P d Refused w e → StopsAmong P d Refused first e

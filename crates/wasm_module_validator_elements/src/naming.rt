@@ -17,7 +17,8 @@ ghost use Rattle.wasm_module_validator_elements.specs.Naming.{NamesFunction};
 use std::alloc::Global;
 use wasm_module_validator_referring::name_references;
 use wasm_module_validator_segments::{
-    ConstExpr, OperatorValidatorAllocations, Settings, WasmModuleResources, check_constant, reader_by,
+    ConstExpr, OperatorValidatorAllocations, Settings, WasmModuleResources, check_constant,
+    reader_by,
 };
 use wasm_types::{Error, Result, ValType};
 

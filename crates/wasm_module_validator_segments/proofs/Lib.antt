@@ -1,2 +1,2 @@
 mod Parts
-mod Worked
+pub mod Worked

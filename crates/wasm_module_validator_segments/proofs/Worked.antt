@@ -31,14 +31,14 @@ use Rattle.wasm_module_validator_segments.specs.Worked.{short, long, nothing, wi
 
 -- ---- the bytes, and what they spell
 
-abbrev five : Code
+abbrev pub five : Code
 five = only (short_constant (pos 5))
 
-abbrev long_five : Code
+abbrev pub long_five : Code
 long_five = only (long_constant (pos 5))
 
 module _ (z : Settings) where
-  short_spelled : SpelledExpression z five short
+  pub short_spelled : SpelledExpression z five short
   short_spelled = record {
     expression = (refl, refl);
     spelled = (
@@ -50,7 +50,7 @@ module _ (z : Settings) where
     );
   }
 
-  long_spelled : SpelledExpression z long_five long
+  pub long_spelled : SpelledExpression z long_five long
   long_spelled = record {
     expression = (refl, refl);
     spelled = (
@@ -75,14 +75,14 @@ module _ (bits : ℕ) (g : Module) (t : ValueType) (o : Op) where
     typed = (known t ∷ [], ([], known t ∷ [], [], row _, tt, refl), ((below, tt), tt));
   }
 
-is_short : (g : Module) → IsConstant 0xfff_ffff g 0 (number i32) five
+pub is_short : (g : Module) → IsConstant 0xfff_ffff g 0 (number i32) five
 unfolding has
 is_short g = record {
   operators = (tt, (tt, tt));
   typed = gives 0xfff_ffff g (number i32) (short_constant (pos 5)) refl (λ set. (search rules, (([] ⟶ number i32 ∷ []), refl, (refl, refl)))) refl;
 }
 
-is_long : (g : Module) → IsConstant 0xfff_ffff g 0 (number i64) long_five
+pub is_long : (g : Module) → IsConstant 0xfff_ffff g 0 (number i64) long_five
 unfolding has
 is_long g = record {
   operators = (tt, (tt, tt));
@@ -91,10 +91,10 @@ is_long g = record {
 
 -- a constant is of no other type
 module _ (z : Settings) (g : Module) where
-  short_is_not : (t : ValueType) → (IsConstant z.features g 0 t five → ⊥) → IsConstantText z g 0 t short → ⊥
+  pub short_is_not : (t : ValueType) → (IsConstant z.features g 0 t five → ⊥) → IsConstantText z g 0 t short → ⊥
   short_is_not t none (c, spelled, h) = none (subst (λ (d : Code). IsConstant z.features g 0 t d) (one_expression z c five short spelled (short_spelled z)) h)
 
-  long_is_not : (t : ValueType) → (IsConstant z.features g 0 t long_five → ⊥) → IsConstantText z g 0 t long → ⊥
+  pub long_is_not : (t : ValueType) → (IsConstant z.features g 0 t long_five → ⊥) → IsConstantText z g 0 t long → ⊥
   long_is_not t none (c, spelled, h) = none (subst (λ (d : Code). IsConstant z.features g 0 t d) (one_expression z c long_five long spelled (long_spelled z)) h)
 
 -- an opcode has a byte
@@ -111,7 +111,7 @@ first_spelled z o os (front, back, spelled, rest, e) =
     some_byte _ _ spelled.front spelled.opcode (nothing_in_front spelled.front spelled.back (sym (nothing_in_front front back e) ∙ spelled.whole))
 
 -- no expression is no bytes
-not_nothing : (z : Settings) (c : Code) → SpelledExpression z c [] → ⊥
+pub not_nothing : (z : Settings) (c : Code) → SpelledExpression z c [] → ⊥
 not_nothing z (close o) h = first_spelled z o [] h.spelled
 not_nothing z (plain o more) h = first_spelled z o (walk more) h.spelled
 not_nothing z (nested o body more) h = first_spelled z o (walk body ++ walk more) h.spelled

@@ -1,7 +1,7 @@
 -- How answers follow from answers, and which type addresses have.
 use Rattle.std.specs.Prelude.{◌≡◌, Bool, true, false, Result, Ok, Err, IfErr}
 use Rattle.std.proofs.Common.{refl}
-use Rattle.wasm_types.specs.error.Denials.{Denies, Tells, UnlessMemory}
+use Rattle.wasm_types.specs.error.Denials.{Tells, UnlessMemory}
 use Rattle.wasm_types.specs.error.DenialLaws.{denies_from}
 use Rattle.wasm_types.specs.error.ErrorValue.{ErrorValue}
 use Rattle.wasm_types.specs.error.declared.error.ErrorKind.{ErrorKind}

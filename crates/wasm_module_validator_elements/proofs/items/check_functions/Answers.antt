@@ -4,7 +4,6 @@ use Rattle.wasm_types.specs.error.ErrorValue.{ErrorValue}
 use Rattle.wasm_types.specs.reader.Reading.{Fails}
 use Rattle.wasm_sections_limited.specs.Walking.{Walk, fresh}
 use Rattle.wasm_sections_limited.specs.Runs.{place_with_offsets, with_offset}
-use Rattle.wasm_module_validator_segments.specs.constants.rules.Context.{Module}
 use Rattle.wasm_module_validator_segments.specs.Laws.{unless_from}
 use Rattle.wasm_module_validator_segments.specs.Refusals.{IsFault}
 use Rattle.wasm_module_validator_elements.specs.Items.{IsFunction, StopsAmong, function_index}
@@ -76,7 +75,7 @@ returns-in-Err-take_function-clause-refused g c =
     let s = step_read (reads w) (refuses w) w v _ c.in-Ok.function c.in-Ok.is c.in-Some.ensures.steps.0 in
     unless_from e.kind ((IsFunction m.«module» c.in-Ok.function.1 → ⊥) × IsFault c.in-Ok.function.0 e) (StopsAmong (IsFunction m.«module») function_index (RefusesFunction m.«module») first e)
     (λ k. walked_refused (IsFunction m.«module») NamesFunction function_index (RefusesFunction m.«module») first c.args.names.now.items w c.loop-found.names.items c.loop-found.invariant e
-        (c.in-Ok.function.1, v.reader, s.2.1, k.0, subst (λ (n : ℕ). IsFault n e) s.2.0 k.1)) c.in-Err-take_function.ensures.refused
+    (c.in-Ok.function.1, v.reader, s.2.1, k.0, subst (λ (n : ℕ). IsFault n e) s.2.0 k.1)) c.in-Err-take_function.ensures.refused
 
 pub returns-clause-answer : goal.returns-clause-answer
 returns-clause-answer g c =

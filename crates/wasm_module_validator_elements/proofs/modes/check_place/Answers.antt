@@ -1,4 +1,4 @@
-use Rattle.std.proofs.Common.{◌≡◌, ◌∙◌, sym, ap}
+use Rattle.std.proofs.Common.{◌∙◌, sym, ap}
 use Rattle.std.specs.Prelude.{option_map, slice_get}
 use Rattle.wasm_module_validator_segments.specs.constants.resources.Meaning.{table_in}
 use Rattle.wasm_module_validator_elements.proofs.Places.{fits, fits_not, place_denied, place_refused, offset_answer, offset_refused}
