@@ -159,7 +159,18 @@ fn write_calls(
     Ok(())
 }
 
-/// How many payloads are given of these bytes before more are needed or what follows is refused.
+/// The bodies of a code section, up to a refusal.
+fn write_bodies(text: &mut String, section: CodeSectionReader<'_>) -> Result<(), AllocError> {
+    for found in section {
+        match found {
+            Ok(body) => write_body(text, &body)?,
+            Err(error) => write_refusal(text, &error)?,
+        }
+    }
+    Ok(())
+}
+
+/// How many payloads are given of these bytes before more are needed; where what follows is refused, a number that no count of payloads is.
 fn count_payloads(alloc: Global, bytes: &[u8]) -> u64 {
     let mut parser = Parser::new(alloc, 0);
     let mut rest = bytes;
@@ -171,7 +182,8 @@ fn count_payloads(alloc: Global, bytes: &[u8]) -> u64 {
                     payload: _,
                 },
             ) => rest = &rest[consumed..],
-            _ => return count,
+            Ok(Chunk::NeedMoreData(_)) => return count,
+            Err(_) => return u64::MAX,
         }
     }
     u64::MAX
@@ -187,7 +199,7 @@ fn write_cuts(alloc: Global, text: &mut String, bytes: &[u8]) -> Result<(), Allo
 }
 
 /// What the word names: a module, what calls of a parser give where no bytes follow and where some may, a module cut at each byte; and
-/// the contents of a code section and of a type section.
+/// the contents of a code section, by their offsets and by what they hold, and of a type section.
 pub(crate) fn write_sections(
     alloc: Global,
     text: &mut String,
@@ -202,6 +214,10 @@ pub(crate) fn write_sections(
         "cuts" => write_cuts(alloc, text, bytes),
         "code" => match CodeSectionReader::new(alloc, reader) {
             Ok(section) => write_items(text, section),
+            Err(error) => write_refusal(text, &error),
+        },
+        "bodies" => match CodeSectionReader::new(alloc, reader) {
+            Ok(section) => write_bodies(text, section),
             Err(error) => write_refusal(text, &error),
         },
         "function_types" => match TypeSectionReader::new(alloc, reader) {
