@@ -34,10 +34,11 @@
 //!
 //! This crate has no code of its own. The rules stand in the crates below: what each operator takes and gives, and the typing of
 //! code, in `wasm_operator_validator_rules`; what a validator knows, and which operators it accepts, in
-//! `wasm_operator_validator_state`; which bytes it accepts, in `wasm_operator_validator_expression`. That what is
-//! accepted is never stuck is a law of `wasm_operator_validator_accepted`.
+//! `wasm_operator_validator_state`; which bytes it accepts, in `wasm_operator_validator_expression`. What is accepted as a body is
+//! never stuck within one activation: [`accepted_bodies_are_sound`].
 #![tactic(auto)]
 
+pub use wasm_operator_validator_accepted::accepted_bodies_are_sound;
 pub use wasm_operator_validator_arity::{ModuleArity, OperatorArity, WasmProposalValidator};
 pub use wasm_operator_validator_constants::{ConstExpr, check_const_expr, new_const_expr};
 pub use wasm_operator_validator_functions::new_func;

@@ -1,5 +1,5 @@
 -- Types that code writes, by ids and as they are written.
-use Rattle.std.proofs.Common.{◌≡◌, ◌∙◌, ℕ, refl, sym, ap}
+use Rattle.std.proofs.Common.{◌≡◌, ℕ, refl, sym, ap}
 use Rattle.wasm_types.specs.error.declared.error.ErrorKind.{ErrorKind}
 use Rattle.wasm_types.specs.error.declared.error.ErrorKind.TheVariants as kinds
 use Rattle.wasm_types.specs.error.Denials.{Denies}
@@ -9,6 +9,7 @@ use Rattle.wasm_types.specs.indices.declared.index.UnpackedIndex.TheVariants as 
 use Rattle.wasm_types.specs.trees.Types.{HeapOf, ValueOf, abstract, concrete, exact, number, ref, heap_map, value_map}
 use Rattle.wasm_types.specs.trees.Each.{EachHeap, EachValue}
 use Rattle.wasm_types.specs.values.declared.value.ValType.{ValType}
+use Rattle.wasm_types.specs.values.declared.value.ValType.TheVariants.{I32, I64}
 use Rattle.wasm_types.specs.values.Values.{value_of}
 use Rattle.wasm_operator_validator_state.specs.rules.Operands.{ValueType}
 use Rattle.wasm_operator_validator_state.specs.rules.Context.{IsType, IsTypeIndex, written_type}
@@ -32,6 +33,15 @@ same_value m (ref n h) k = ap (ref n) (same_heap m h k)
 pub written_as : (m : Meaning) (bits : ℕ) (v : ValType) (t : ValueType) → IsType bits m.«module» v t → IsType bits m.«module» v (type_in m v)
 unfolding type_in
 written_as m bits v t i = record { allowed = i.allowed; known = i.known; is = sym (same_value m (value_of v) i.known) }
+
+-- a number that needs no feature is what it says
+pub plain_i32 : (m : Meaning) (bits : ℕ) → IsType bits m.«module» I32 (type_in m I32)
+unfolding type_in
+plain_i32 m bits = record { allowed = tt; known = tt; is = refl }
+
+pub plain_i64 : (m : Meaning) (bits : ℕ) → IsType bits m.«module» I64 (type_in m I64)
+unfolding type_in
+plain_i64 m bits = record { allowed = tt; known = tt; is = refl }
 
 -- ---- a denial of another kind
 

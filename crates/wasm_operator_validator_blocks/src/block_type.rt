@@ -54,6 +54,12 @@ fn check_result_type<R: WasmModuleResources>(
 ) -> Result<ValType, Refusal>
     ensures { MatchResult result (λ named. IsType features.0 (R.meaning resources.now).«module» written (type_in (R.meaning resources.now) named)) (λ r. Denies (kind_of r) ((t : ValueType) × IsType features.0 (R.meaning resources.now).«module» written t)) }
 {
+    if let ValType::I32 = written {
+        return Ok(ValType::I32);
+    }
+    if let ValType::I64 = written {
+        return Ok(ValType::I64);
+    }
     let mut ty = written;
     match resources.check_value_type(&mut ty, &features, 0) {
         Ok(()) => Ok(ty),

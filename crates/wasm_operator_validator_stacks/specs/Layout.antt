@@ -60,6 +60,19 @@ restored σ frames operands inits = record σ { saved = none_saved }
 abbrev pub rolled_back : State → State
 rolled_back σ = restored σ σ.saved.frames σ.saved.operands σ.saved.inits
 
+-- an attempt has begun: what stood there is saved, all of it
+pub record IsBegun (s : Saved) : Type 0 where
+  pub operands : List MaybeType
+  pub frames : List Frame
+  pub inits : List ℕ
+  pub all : s ≡ record { operands = Some operands; frames = Some frames; inits = Some inits; failed = s.failed }
+
+-- what stands where an attempt begins, and behind its beginning: a rollback gives what stood there, outside an attempt
+pub record Begins (σ τ : State) : Type 0 where
+  pub same : τ ≡ record σ { saved = τ.saved }
+  pub saves : rolled_back τ ≡ record σ { saved = none_saved }
+  pub begun : IsBegun τ.saved
+
 -- a reference to this abstract type may be taken for one of this type
 abbrev pub IsAbstractFit : Meaning → Bool → AbstractHeapType → ValType → Type 0
 IsAbstractFit m s a t = OperandBelow (known (ref false (abstract s (abstract_of a)))) (known (type_in m t))

@@ -8,7 +8,7 @@ pub mod Worked
 pub mod WorkedLaws
 -- Locals that a body declares.
 pub mod Defining
--- What a type that a module writes stands for: laws, with the proofs.
+-- What a type that a module writes stands for, and what an attempt leaves: laws, with the proofs.
 pub mod laws
 -- The rules and laws of the crates below, under their names: crates above cite them here.
 pub use Rattle.wasm_operator_validator_state.specs.expression as expression

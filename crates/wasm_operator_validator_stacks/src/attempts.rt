@@ -1,7 +1,7 @@
 //! Attempts: an operator is tried, and taken back.
 
 ghost use Rattle.std.specs.Prelude.{◌≡◌, [], false, None};
-ghost use Rattle.wasm_operator_validator_stacks.specs.Layout.{none_saved, rolled_back, AreFirst};
+ghost use Rattle.wasm_operator_validator_stacks.specs.Layout.{none_saved, rolled_back, AreFirst, Begins};
 
 use crate::OperatorValidator;
 use wasm_operator_validator_inits::LocalInits;
@@ -46,8 +46,7 @@ impl OperatorValidator {
 
     /// Begins an attempt: a rollback gives what stands here.
     pub fn begin_try_op(&mut self)
-        ensures same { self.new ≡ record self.old { saved = self.new.saved } }
-        ensures saves { rolled_back self.new ≡ record self.old { saved = none_saved } }
+        ensures { Begins self.old self.new }
     {
         self.failed_before = self.failed;
         self.operands.begin();

@@ -11,6 +11,7 @@ mod entering;
 mod fitting;
 mod frames;
 mod heights;
+pub mod laws;
 mod peeking;
 mod validator;
 

@@ -3,7 +3,7 @@
 use wasm_operator_validator_resources::{BlockType, FrameKind};
 
 /// An open frame, over the operands and the set locals of those around it (WebAssembly 3.0, validation algorithm).
-#[derive(Clone, Copy)]
+#[derive(Clone, Copy, Debug, PartialEq, Eq)]
 pub struct Frame {
     /// What opened it, or began its last part.
     pub kind: FrameKind,

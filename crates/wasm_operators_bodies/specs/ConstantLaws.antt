@@ -1,5 +1,8 @@
--- What is read to the first `end`, where it closes all frames, is a constant expression, and every one is read so.
-use Rattle.std.proofs.Common.{◌≡◌, inl, inr, ℕ, ◌+◌, Bool, true, false, List, [], ◌∷◌, ◌++◌, length, refl, sym, ◌∙◌, ap, subst, append-nil, append_assoc, length-append, is_some, arith}
+-- What is read to the first `end`, where it closes all frames, is a constant expression, and every one is read so. And the equality of
+-- constant expressions is an equivalence.
+use Rattle.std.specs.Cmp.{IsPartialEquivalence, IsEquivalence}
+use Rattle.std.specs.Cmp.Rules.{comparing}
+use Rattle.std.proofs.Common.{◌≡◌, inl, inr, ℕ, ◌+◌, Bool, true, false, List, [], ◌∷◌, ◌++◌, length, refl, sym, ◌∙◌, ap, subst, append-nil, append_assoc, length-append, is_some, arith, rules}
 use Rattle.wasm_types.specs.limits.Settings.{Settings}
 use Rattle.wasm_types.specs.decoding.Decoder.{State, Takes}
 use Rattle.wasm_types.specs.decoding.Laws.{takes_none, Takes-then}
@@ -18,7 +21,7 @@ use Rattle.wasm_operators_reader.specs.expression.Stack.{innermost}
 use Rattle.wasm_operators_reader.specs.Standing.{Standing, at_start, Reads, Runs}
 use Rattle.wasm_operators_reader.specs.RunLaws.{run_more, closes_at}
 use Rattle.wasm_operators_reader.specs.MeetLaws.{meets_end, meets_refusal}
-use Rattle.wasm_operators_bodies.specs.Constants.{is_end, HasNoEnd, EndsOnce, SpelledConstant, PassesTo, StopsConstant}
+use Rattle.wasm_operators_bodies.specs.Constants.{is_end, HasNoEnd, EndsOnce, SpelledConstant, PassesTo, StopsConstant, same_bytes}
 
 -- ---- from a run to bytes
 
@@ -150,3 +153,8 @@ ended_once s t b e h = subst (λ (a : Bool). PassesTo s a t) e h
 pub none_open : (ks : List FrameKind) → false ≡ is_some (innermost ks) → ks ≡ []
 none_open [] e = refl
 none_open (k ∷ ks) e = absurd cc
+
+-- ---- equality
+
+pub same_bytes_equal : IsPartialEquivalence same_bytes × IsEquivalence same_bytes
+same_bytes_equal = (search (comparing, rules), search (comparing, rules))

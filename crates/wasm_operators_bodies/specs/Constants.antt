@@ -1,6 +1,9 @@
 -- Constant expressions, as they stand among other bytes (WebAssembly 3.0, binary format, expressions): an expression whose only
 -- `end` is its last operator. Which operators are constant is a rule of validation.
-use Rattle.std.specs.Prelude.{◌≡◌, ◌⊎◌, ℕ, Bool, true, false, List, [], ◌∷◌, ◌++◌}
+use Rattle.std.specs.Prelude.{◌≡◌, ◌⊎◌, ◌==◌, ℕ, Bool, true, false, List, [], ◌∷◌, ◌++◌}
+use Rattle.std.specs.Cmp.Lexicographic.{pointwise}
+use Rattle.std.specs.Ordering.{on}
+use Rattle.wasm_types.specs.decoding.Decoder.{State}
 use Rattle.wasm_types.specs.limits.Settings.{Settings}
 use Rattle.wasm_types.specs.error.declared.error.ErrorKind.TheVariants.{Other}
 use Rattle.wasm_types.specs.error.ErrorValue.{ErrorValue}
@@ -50,3 +53,7 @@ PassesTo s true t = (os : List Op) × (m : Standing) × (o : Op) × Runs s os m 
 -- is open behind it, which is refused there
 abbrev pub StopsConstant : Standing → ErrorValue → Type 0
 StopsConstant s e = ((t : Standing) × PassesTo s false t × Refuses t e × ((WantsMemory t → ⊥) → IsNotMemory e.kind)) ⊎ ((t : Standing) × PassesTo s true t × (t.frames ≡ [] → ⊥) × (e.kind ≡ Other) × (e.offset ≡ t.bytes.place))
+
+-- two expressions of the same bytes, wherever they stand and whatever the settings of their readers are
+abbrev pub same_bytes : State → State → Bool
+same_bytes = on (λ s. s.rest) (pointwise ◌==◌)

@@ -7,7 +7,8 @@ ghost use Rattle.wasm_types.specs.reader.Parts.{part_at};
 ghost use Rattle.wasm_types.specs.reader.Reading.{Gives, IsNotMemory, MemoryOnlyIf, NeedsNoMemory};
 ghost use Rattle.wasm_operators_reader.specs.operator.Op.{Op, op_of};
 ghost use Rattle.wasm_operators_reader.specs.Standing.{at_start, Reads, Refuses, WantsMemory};
-ghost use Rattle.wasm_operators_bodies.specs.Constants.{is_end, SpelledConstant, PassesTo, StopsConstant};
+ghost use Rattle.wasm_operators_bodies.specs.Constants.{is_end, SpelledConstant, PassesTo, StopsConstant, same_bytes};
+ghost use Rattle.wasm_operators_bodies.specs.ConstantLaws.{same_bytes_equal};
 ghost use Rattle.wasm_operators_bodies.specs.ConstantDecoder.{constant};
 
 use crate::part::front;
@@ -72,6 +73,32 @@ impl<'a> ConstExpr<'a> {
     {
         OperatorsReader::new(self.alloc, self.reader.clone())
     }
+
+    /// The expression's bytes.
+    fn bytes(&self) -> &'a [u8]
+        ensures { result.now ≡ self.now.rest }
+    {
+        let mut reader = self.reader.clone();
+        let Ok(bytes) = reader.read_bytes(reader.bytes_remaining()) else {
+            unreachable!()
+        };
+        bytes
+    }
+}
+
+/// Expressions of the same bytes are equal, wherever they stand and whatever the settings of their readers are.
+impl<'a> PartialEq for ConstExpr<'a> {
+    ghost eq = { same_bytes };
+
+    ghost laws = { same_bytes_equal.0 };
+
+    fn eq(&self, other: &ConstExpr<'a>) -> bool {
+        self.bytes() == other.bytes()
+    }
+}
+
+impl<'a> Eq for ConstExpr<'a> {
+    ghost laws = { same_bytes_equal.1 };
 }
 
 /// The bytes of an expression whose only `end` is its last operator, as [`ConstExpr::read`] takes them.

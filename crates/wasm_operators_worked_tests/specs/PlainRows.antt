@@ -22,6 +22,7 @@ pub record PlainRows : Type 0 where
   pub nop : begins none (0x01 ∷ 0x00 ∷ []) (op.Control control.Nop) 1 (0x00 ∷ [])
   pub block : spells none (0x02 ∷ 0x40 ∷ []) (op.Control (control.Block Empty))
   pub branches : spells none (0x0e ∷ 0x01 ∷ 0x00 ∷ 0x02 ∷ []) (op.Control (control.BrTable (record { targets = 0 ∷ []; default = 2 })))
+  pub branches_of_two : spells none (0x0e ∷ 0x02 ∷ 0x01 ∷ 0x02 ∷ 0x00 ∷ []) (op.Control (control.BrTable (record { targets = 1 ∷ 2 ∷ []; default = 0 })))
   pub call_indirect : spells none (0x11 ∷ 0x05 ∷ 0x00 ∷ []) (op.Control (control.CallIndirect 5 0))
   pub call_indirect_by_another_table : spells (mask CallIndirectOverlong) (0x11 ∷ 0x05 ∷ 0x03 ∷ []) (op.Control (control.CallIndirect 5 3))
   pub call_indirect_by_table_zero_alone : is_none none (0x11 ∷ 0x00 ∷ 0x01 ∷ []) 2
@@ -40,6 +41,8 @@ pub record PlainRows : Type 0 where
   pub load : spells none (0x28 ∷ 0x02 ∷ 0x04 ∷ []) (op.Memory (memory.I32Load (argument 2 2 0 None 4)))
   pub load_of_another_memory : spells (mask MultiMemory) (0x28 ∷ 0x42 ∷ 0x01 ∷ 0x00 ∷ []) (op.Memory (memory.I32Load (argument 2 2 1 None 0)))
   pub load_of_no_other_memory : is_none none (0x28 ∷ 0x42 ∷ 0x01 ∷ 0x00 ∷ []) 1
+  pub load_of_memory_zero_by_name : spells (mask MultiMemory) (0x28 ∷ 0x42 ∷ 0x00 ∷ 0x00 ∷ []) (op.Memory (memory.I32Load (argument 2 2 0 None 0)))
+  pub load_of_no_memory_by_name : is_none none (0x28 ∷ 0x42 ∷ 0x00 ∷ 0x00 ∷ []) 1
   pub size : spells none (0x3f ∷ 0x00 ∷ []) (op.Memory (memory.MemorySize 0))
   pub size_of_another : spells (mask MultiMemory) (0x3f ∷ 0x80 ∷ 0x01 ∷ []) (op.Memory (memory.MemorySize 128))
   pub size_of_no_other : is_none none (0x3f ∷ 0x01 ∷ []) 1

@@ -1,5 +1,5 @@
 -- What the check of an operator promises follows from its entry and from what it decides, and a visit's promise from its check's.
-use Rattle.std.proofs.Common.{◌≡◌, ◌∙◌, Bool, true, false, List, ◌∷◌, Option, Some, None, Result, Ok, Err, refl, sym}
+use Rattle.std.proofs.Common.{◌≡◌, ◌∙◌, Bool, true, false, Option, Some, None, refl, sym}
 use Rattle.wasm_types.specs.error.declared.error.ErrorKind.{ErrorKind}
 use Rattle.wasm_types.specs.error.declared.error.ErrorKind.TheVariants as kinds
 use Rattle.wasm_types.specs.error.Denials.{Denies}
@@ -12,7 +12,7 @@ use Rattle.wasm_operator_validator_resources.specs.Meaning.{Meaning}
 use Rattle.wasm_operator_validator_state.specs.Refusals.{kind_of}
 use Rattle.wasm_operator_validator_state.specs.declared.refusal.Refusal.{Refusal}
 use Rattle.wasm_operator_validator_state.specs.declared.refusal.Refusal.TheVariants as refusals
-use Rattle.wasm_operator_validator_state.specs.State.{State, Accepts, Decides, Checks, Visits}
+use Rattle.wasm_operator_validator_state.specs.State.{State, Decides, Checks, Visits}
 use Rattle.wasm_operator_validator_state.specs.Entering.{MayBegin, StopsWith}
 use Rattle.wasm_operator_validator_state.specs.laws.Entering.{IsOf, denied_begin, denied_at_first}
 

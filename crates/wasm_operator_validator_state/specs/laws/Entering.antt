@@ -3,7 +3,7 @@ use Rattle.std.proofs.Common.{◌≡◌, ◌↔◌, ◌∙◌, ◌==◌, ℕ, Bo
 use Rattle.std.proofs.lemmas.Bool.{eqb-true}
 use Rattle.std.proofs.lemmas.Nat.{and_le_r}
 use Rattle.wasm_types.specs.error.declared.error.ErrorKind.{ErrorKind}
-use Rattle.wasm_types.specs.features.Features.{Floats, has}
+use Rattle.wasm_types.specs.features.Features.{Floats}
 use Rattle.wasm_types.specs.trees.Gates.{Has}
 use Rattle.wasm_types.specs.error.Denials.{Denies}
 use Rattle.wasm_types.specs.error.DenialLaws.{denies_from}
@@ -16,7 +16,7 @@ use Rattle.wasm_operator_validator_resources.specs.expression.operator.declared.
 use Rattle.wasm_operator_validator_resources.specs.expression.operator.Roles.{role_of}
 use Rattle.wasm_operator_validator_resources.specs.rules.Row.{IsEnabled, names_float}
 use Rattle.wasm_operator_validator_resources.specs.Meaning.{Meaning}
-use Rattle.wasm_operator_validator_state.specs.State.{Given, Open, State, initialised, ClosesAll, Accepts}
+use Rattle.wasm_operator_validator_state.specs.State.{Open, State, initialised, ClosesAll, Accepts}
 use Rattle.wasm_operator_validator_state.specs.Steps.{IsOpen}
 use Rattle.wasm_operator_validator_state.specs.Entering.{MayBegin}
 use Rattle.wasm_operator_validator_state.specs.laws.Rows.{some_row}

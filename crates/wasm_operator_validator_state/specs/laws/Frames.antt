@@ -1,5 +1,5 @@
 -- What is accepted where operands were put on, where a frame begins, and where one ends.
-use Rattle.std.proofs.Common.{◌≡◌, ◌↔◌, ◌∙◌, ℕ, List, [], ◌∷◌, ◌++◌, Bool, true, false, Some, refl, sym, ap, subst, append-nil, map}
+use Rattle.std.proofs.Common.{◌≡◌, ◌↔◌, ◌∙◌, ℕ, List, [], ◌∷◌, ◌++◌, Bool, true, false, refl, sym, ap, subst, append-nil, map}
 use Rattle.wasm_operator_validator_resources.specs.expression.immediates.declared.block.BlockType.{BlockType}
 use Rattle.wasm_operator_validator_resources.specs.expression.immediates.declared.frames.FrameKind.{FrameKind}
 use Rattle.wasm_operator_validator_resources.specs.expression.immediates.declared.frames.FrameKind.TheVariants as frames
