@@ -1,2 +1,2 @@
 pub mod WorkedCode
-pub mod Worked
+pub mod WorkedSteps

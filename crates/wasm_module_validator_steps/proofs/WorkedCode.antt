@@ -8,13 +8,12 @@ use Rattle.wasm_module_validator_contexts.specs.rules.constant_rules.expression.
 use Rattle.wasm_module_validator_contexts.specs.rules.constant_rules.expression.operator.Op.{Op}
 use Rattle.wasm_module_validator_contexts.specs.rules.constant_rules.expression.operator.Roles.{role_of, effect}
 use Rattle.wasm_module_validator_contexts.specs.rules.constant_rules.expression.operator.declared.role.Effect.TheVariants.{Stays}
-use Rattle.wasm_module_validator_contexts.specs.rules.constant_rules.rules.Operands.{ValueType, known}
+use Rattle.wasm_module_validator_contexts.specs.rules.constant_rules.rules.Operands.{known}
 use Rattle.wasm_module_validator_contexts.specs.rules.constant_rules.rules.Context.{Module, Global, Context, Initialised, inside}
 use Rattle.wasm_module_validator_contexts.specs.rules.constant_rules.rules.InstructionTypes.{◌⟶◌}
 use Rattle.wasm_module_validator_contexts.specs.rules.constant_rules.rules.Row.{Row}
 use Rattle.wasm_module_validator_contexts.specs.rules.constant_rules.rules.Typed.{IsBody}
 use Rattle.wasm_module_validator_contexts.specs.rules.constant_rules.Constants.{constant_context, IsConstant}
-use Rattle.wasm_module_validator_contexts.specs.rules.constant_rules.expression.types.trees.Below.{Below}
 use Rattle.wasm_module_validator_contexts.specs.rules.Valid.{IsValidGlobalType}
 use Rattle.wasm_module_validator_contexts.specs.rules.worked.Trees.{everything, constant, only, global_get, constant_of}
 

@@ -1,6 +1,6 @@
 -- The sections that a module has beside its code, each with its id, its place and its items (WebAssembly 3.0, structure, modules; binary
 -- format, modules).
-use Rattle.std.specs.Prelude.{◌≡◌, ℕ, List, [], ◌∷◌, ◌++◌, Option, Some, None}
+use Rattle.std.specs.Prelude.{◌≡◌, ℕ, suc, nat_lt, if◌then◌else◌, List, [], ◌∷◌, ◌++◌, Option, Some, None}
 use Rattle.wasm_module_validator_contexts.specs.rules.constant_rules.expression.types.trees.ValidGroup.{Written}
 use Rattle.wasm_module_validator_contexts.specs.rules.constant_rules.expression.types.externs.declared.memory.MemoryType.{MemoryType}
 use Rattle.wasm_module_validator_contexts.specs.rules.constant_rules.expression.types.externs.declared.tag.TagType.{TagType}
@@ -10,8 +10,6 @@ use Rattle.wasm_module_validator_contexts.specs.segments.Tables.{TableTree}
 use Rattle.wasm_module_validator_contexts.specs.elements.Spells.{ElementTree}
 use Rattle.wasm_module_validator_contexts.specs.rules.constant_rules.expression.Code.{Code}
 use Rattle.wasm_module_validator_contexts.specs.rules.Syntax.{ModuleTree}
-use Rattle.wasm_module_validator_contexts.specs.InOrder.{no_items, types_read, imports_read, functions_read, tables_read, memories_read, tags_read, globals_read, exports_read}
-use Rattle.wasm_module_validator_contexts.specs.InOrder.{elements_read, data_count_read}
 
 -- ---- sections
 
@@ -117,35 +115,34 @@ adding data_segments m x = record m { data_segments = m.data_segments ++ x ∷ [
 
 -- ---- modules as far as a section
 
--- what stands before a section
-abbrev pub before : Section → ModuleTree → ModuleTree
-before types m = no_items
-before imports m = types_read m
-before functions m = imports_read m m.imports
-before tables m = functions_read m m.functions
-before memories m = tables_read m m.tables
-before tags m = memories_read m m.memories
-before globals m = tags_read m m.tags
-before exports m = globals_read m m.globals
-before start m = exports_read m m.exports
-before element_segments m = record (exports_read m m.exports) { start = m.start }
-before data_count m = elements_read m m.element_segments
-before data_segments m = data_count_read m
+-- something of this place, where that is below k, and else nothing
+abbrev pub below : {A : Type 0} → A → ℕ → ℕ → A → A
+below none p k x = if nat_lt p k then x else none
 
--- the same, and the section
+-- the sections of a module with a place below k
+abbrev pub front : ℕ → ModuleTree → ModuleTree
+front k m = record {
+  types = below [] (place types) k m.types;
+  imports = below [] (place imports) k m.imports;
+  functions = below [] (place functions) k m.functions;
+  tables = below [] (place tables) k m.tables;
+  memories = below [] (place memories) k m.memories;
+  tags = below [] (place tags) k m.tags;
+  globals = below [] (place globals) k m.globals;
+  exports = below [] (place exports) k m.exports;
+  start = below None (place start) k m.start;
+  element_segments = below [] (place element_segments) k m.element_segments;
+  data_count = below None (place data_count) k m.data_count;
+  code = [];
+  data_segments = below [] (place data_segments) k m.data_segments;
+}
+
+-- what stands before a section; and with the section
+abbrev pub before : Section → ModuleTree → ModuleTree
+before s m = front (place s) m
+
 abbrev pub up_to : Section → ModuleTree → ModuleTree
-up_to types m = types_read m
-up_to imports m = imports_read m m.imports
-up_to functions m = functions_read m m.functions
-up_to tables m = tables_read m m.tables
-up_to memories m = memories_read m m.memories
-up_to tags m = tags_read m m.tags
-up_to globals m = globals_read m m.globals
-up_to exports m = exports_read m m.exports
-up_to start m = record (exports_read m m.exports) { start = m.start }
-up_to element_segments m = elements_read m m.element_segments
-up_to data_count m = data_count_read m
-up_to data_segments m = record (data_count_read m) { data_segments = m.data_segments }
+up_to s m = front (suc (place s)) m
 
 -- nothing was read of a section, nor of what stands behind it
 abbrev pub IsUnread : Section → ModuleTree → Type 0

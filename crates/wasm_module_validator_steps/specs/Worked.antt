@@ -1,5 +1,5 @@
 -- Worked items, sections and frames: for each kind of section one that is added and one that is not, and each frame.
-use Rattle.std.specs.Prelude.{◌≡◌, ℕ, ℤ, List, [], ◌∷◌, Some, None, true}
+use Rattle.std.specs.Prelude.{ℤ, [], ◌∷◌, Some, None, true}
 use Rattle.wasm_module_validator_contexts.specs.rules.constant_rules.expression.types.features.Features.{ReferenceTypes, BulkMemory, MultiMemory}
 use Rattle.wasm_module_validator_contexts.specs.rules.constant_rules.expression.types.limits.declared.Limits.{Limits}
 use Rattle.wasm_module_validator_contexts.specs.rules.constant_rules.expression.types.limits.Limits.{default_limits}
@@ -13,8 +13,9 @@ use Rattle.wasm_module_validator_contexts.specs.imports.declared.type_ref.TypeRe
 use Rattle.wasm_module_validator_contexts.specs.segments.Spells as data_mode
 use Rattle.wasm_module_validator_contexts.specs.elements.Spells.{passive, declared, functions}
 use Rattle.wasm_module_validator_contexts.specs.rules.Syntax.{ModuleTree}
-use Rattle.wasm_module_validator_contexts.specs.rules.worked.Trees.{everything, without, empty, procedure, takes_i32, taking_and_giving, only, constant, global_get, funcref, some_function, table_with}
-use Rattle.wasm_module_validator_contexts.specs.rules.worked.Trees.{memory_with, constant_of, tag_with, imports, exports, null_table, filled_table, global_with, declared_functions, active_data, passive_data}
+use Rattle.wasm_module_validator_contexts.specs.rules.worked.Trees.{everything, without, empty, procedure, taking_and_giving, only, constant, global_get, funcref, some_function, table_with}
+use Rattle.wasm_module_validator_contexts.specs.rules.worked.Trees.{memory_with, constant_of, tag_with, imports, exports, null_table, filled_table, global_with}
+use Rattle.wasm_module_validator_contexts.specs.rules.worked.Trees.{declared_functions, active_data, passive_data}
 use Rattle.wasm_sections_parser.specs.Steps.{Shape, version, custom, code, entry, the_end}
 use Rattle.wasm_sections_parser.specs.Steps as frame
 use Rattle.wasm_module_validator_steps.specs.Sections.{Section, Item, code_place}
@@ -96,7 +97,8 @@ pub record SpacesWorked (x : ℤ) : Type 0 where
   pub global : May everything section.globals empty (global_with (constant_of value.I32) (only (constant x)))
   pub global_reads_earlier : May everything section.globals (with_global x) (global_with (constant_of value.I32) (only (global_get 0)))
   pub global_reads_itself : MayNot everything section.globals empty (global_with (constant_of value.I32) (only (global_get 0)))
-  pub globals_full : MayNot (under (record default_limits { globals = 1 })) section.globals (importing (import.Global (constant_of value.I32))) (global_with (constant_of value.I32) (only (constant x)))
+  pub globals_full : MayNot (under (record default_limits { globals = 1 })) section.globals (importing (import.Global (constant_of value.I32)))
+      (global_with (constant_of value.I32) (only (constant x)))
   pub globals_begin : Fits (under (record default_limits { globals = 2 })) section.globals (importing (import.Global (constant_of value.I32))) 1
   pub globals_begin_not : Fits (under (record default_limits { globals = 2 })) section.globals (importing (import.Global (constant_of value.I32))) 2 → ⊥
 

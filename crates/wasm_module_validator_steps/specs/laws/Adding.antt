@@ -1,12 +1,10 @@
 -- A section is added item by item exactly where it is valid and within the limits as a whole.
-use Rattle.std.proofs.Common.{◌≡◌, ◌≤◌, ℕ, List, [], ◌∷◌, ◌++◌, length, Option, Some, None, refl, sym, ap, ◌∙◌, subst}
+use Rattle.std.proofs.Common.{◌≡◌, ℕ, List, [], ◌∷◌, ◌++◌, length, Option, Some, None, refl, sym, ap, ◌∙◌, subst}
 use Rattle.std.specs.Prelude.{◌↔◌}
 use Rattle.wasm_module_validator_contexts.specs.rules.constant_rules.expression.types.limits.Settings.{Settings}
-use Rattle.wasm_module_validator_contexts.specs.imports.Spells.{ExportTree}
-use Rattle.wasm_module_validator_contexts.specs.rules.constant_rules.expression.types.externs.declared.memory.MemoryType.{MemoryType}
 use Rattle.wasm_module_validator_contexts.specs.rules.Syntax.{ModuleTree}
-use Rattle.wasm_module_validator_contexts.specs.rules.Valid.{Each, IsValidMemoryType}
-use Rattle.wasm_module_validator_contexts.specs.InOrder.{types_read, imports_read, functions_read, tables_read, memories_read, tags_read, globals_read, exports_read, elements_read, data_count_read, InTurn}
+use Rattle.wasm_module_validator_contexts.specs.rules.Valid.{IsValidMemoryType}
+use Rattle.wasm_module_validator_contexts.specs.InOrder.{imports_read, functions_read, tables_read, memories_read, tags_read, globals_read, exports_read, elements_read, InTurn}
 use Rattle.wasm_module_validator_contexts.specs.laws.Lists.{in_turn, from_turn}
 use Rattle.wasm_module_validator_steps.specs.Sections.{Section, Item, items, as_list, adding, before, up_to, IsUnread}
 use Rattle.wasm_module_validator_steps.specs.Sections as section
@@ -47,7 +45,8 @@ module _ (z : Settings) (s : Section) (put : ModuleTree → List (Item s) → Mo
   items_go : (m n : ModuleTree) (xs : List (Item s)) → IsUnread s m → IsWithin z m → Fits z s m (length xs) → AddsEach (Adds z s) m xs n → IsWithItems z s m xs n
   items_go m n xs e wm f h =
       let start = e ∙ o.begins m in
-      let a = each_opened (put m) (λ b x. IsValidNext z s (put m b) x) (λ b x. IsWithinNext z s (put m b) x) (Adds z s) (opened m) (closed m) [] xs n (subst (λ t. AddsEach (Adds z s) t xs n) start h) in
+      let there_all = subst (λ t. AddsEach (Adds z s) t xs n) start h in
+      let a = each_opened (put m) (λ b x. IsValidNext z s (put m b) x) (λ b x. IsWithinNext z s (put m b) x) (Adds z s) (opened m) (closed m) [] xs n there_all in
       let there : IsWithItems z s m xs (put m xs) = record {
         added = record { kept = e ∙ sym (o.kept m xs); last = sym (o.whole m xs) };
         holds = o.holds m xs;

@@ -1,6 +1,6 @@
 -- How many there are in the spaces of a module, with one item more.
-use Rattle.std.proofs.Common.{◌≡◌, ◌⊎◌, ◌+◌, ◌<◌, ◌≤◌, ℕ, zero, suc, List, [], ◌∷◌, ◌++◌, map, length, Option, Some, None, inl, inr, refl, sym, ap, ◌∙◌, subst, arith}
-use Rattle.std.proofs.lemmas.List.{append_assoc, append-nil, length-map, length-append, length_push}
+use Rattle.std.proofs.Common.{◌≡◌, ◌+◌, ◌<◌, ◌≤◌, ℕ, List, [], ◌∷◌, ◌++◌, map, length, Option, Some, None, refl, ap, arith}
+use Rattle.std.proofs.lemmas.List.{length-map, length-append, length_push}
 use Rattle.std.proofs.lemmas.List.Elements.{filter_map-append}
 use Rattle.std.specs.List.{filter_map, cons_option}
 use Rattle.wasm_module_validator_contexts.specs.rules.constant_rules.expression.types.trees.ValidGroup.{type_at}
@@ -50,5 +50,11 @@ as_long (Some y) = refl
 pub kind_counted : {A : Type 0} (f : ImportTree → Option A) (b : List ImportTree) (x : ImportTree)
     → length (filter_map f (b ++ x ∷ []) ++ []) ≡ length (filter_map f b ++ []) + length (as_list (f x))
 kind_counted f b x =
-    omega (arith, length-append (filter_map f (b ++ x ∷ [])) [], length-append (filter_map f b) [], ap length (filter_map-append f b (x ∷ [])), length-append (filter_map f b) (filter_map f (x ∷ [])),
-    as_long (f x))
+    omega (
+      arith,
+      length-append (filter_map f (b ++ x ∷ [])) [],
+      length-append (filter_map f b) [],
+      ap length (filter_map-append f b (x ∷ [])),
+      length-append (filter_map f b) (filter_map f (x ∷ [])),
+      as_long (f x),
+    )

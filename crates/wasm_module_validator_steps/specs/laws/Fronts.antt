@@ -1,40 +1,18 @@
 -- Fronts of a module: what stands before a section, and up to it. What a later section adds leaves them alone.
-use Rattle.std.proofs.Common.{◌≡◌, ◌<◌, ◌≤◌, ◌==◌, ℕ, suc, nat_lt, Bool, true, false, if◌then◌else◌, List, [], Option, Some, None, refl, sym, ap, ◌∙◌, subst, inl, inr, arith, lt-ltb, le-ltb, ltb-true, ltb-false}
-use Rattle.std.specs.Prelude.{◌↔◌, ◌⊎◌}
-use Rattle.std.proofs.lemmas.Bool.{cases_order}
+use Rattle.std.proofs.Common.{◌≡◌, ◌<◌, ◌≤◌, ◌==◌, ℕ, suc, nat_lt, Bool, true, false, if◌then◌else◌, List, [], Option, Some, None, refl, sym, ap, ◌∙◌}
+use Rattle.std.proofs.Common.{subst, arith, lt-ltb, ltb-true, ltb-false}
+use Rattle.std.specs.Prelude.{◌↔◌}
 use Rattle.wasm_module_validator_contexts.specs.rules.constant_rules.expression.types.limits.Settings.{Settings}
 use Rattle.wasm_module_validator_contexts.specs.rules.constant_rules.expression.types.trees.ValidGroup.{done}
 use Rattle.wasm_module_validator_contexts.specs.rules.Syntax.{ModuleTree}
 use Rattle.wasm_module_validator_contexts.specs.rules.Binary.{SpelledNumber}
-use Rattle.wasm_module_validator_contexts.specs.InOrder.{no_items, imports_read, functions_read, tables_read, memories_read, tags_read, globals_read, exports_read, elements_read, data_count_read}
-use Rattle.wasm_module_validator_steps.specs.Sections.{Section, place, Item, items, before, up_to, IsUnread, IsWithSection}
+use Rattle.wasm_module_validator_contexts.specs.InOrder.{no_items}
+use Rattle.wasm_module_validator_steps.specs.Sections.{Section, place, below, front, items, before, up_to, IsUnread, IsWithSection}
 use Rattle.wasm_module_validator_steps.specs.Sections as section
 use Rattle.wasm_module_validator_steps.specs.Adding.{IsValidSection}
 use Rattle.wasm_module_validator_steps.specs.Texts.{SpelledSection}
 
 -- ---- by places
-
--- what has a place below this one, and else nothing
-abbrev below : {A : Type 0} → A → ℕ → ℕ → A → A
-below none p k x = if nat_lt p k then x else none
-
--- of a module, but for its code
-abbrev front : ℕ → ModuleTree → ModuleTree
-front k m = record {
-  types = below [] 1 k m.types;
-  imports = below [] 2 k m.imports;
-  functions = below [] 3 k m.functions;
-  tables = below [] 4 k m.tables;
-  memories = below [] 5 k m.memories;
-  tags = below [] 6 k m.tags;
-  globals = below [] 7 k m.globals;
-  exports = below [] 8 k m.exports;
-  start = below None 9 k m.start;
-  element_segments = below [] 10 k m.element_segments;
-  data_count = below None 11 k m.data_count;
-  code = [];
-  data_segments = below [] 13 k m.data_segments;
-}
 
 chosen : {A : Type 0} (none x : A) (b c : Bool) → (b ≡ true → c ≡ true) → (if b then (if c then x else none) else none) ≡ (if b then x else none)
 chosen none x true c f = ap (λ d. if d then x else none) (f refl)
@@ -52,7 +30,7 @@ chosen_so none x false false f = refl
 below_twice_so : {A : Type 0} (none : A) (p j k : ℕ) (x : A) → j ≤ k → below none p k (below none p j x) ≡ below none p j x
 below_twice_so none p j k x h = chosen_so none x (nat_lt p k) (nat_lt p j) (λ e. let l : p < j = ltb-true p j e in lt-ltb p k (omega (arith, l, h)))
 
-front_twice : (j k : ℕ) (m : ModuleTree) → j ≤ k → front j (front k m) ≡ front j m
+pub front_twice : (j k : ℕ) (m : ModuleTree) → j ≤ k → front j (front k m) ≡ front j m
 front_twice j k m h i = record {
   types = below_twice [] 1 j k m.types h i;
   imports = below_twice [] 2 j k m.imports h i;
@@ -69,7 +47,7 @@ front_twice j k m h i = record {
   data_segments = below_twice [] 13 j k m.data_segments h i;
 }
 
-front_twice_so : (j k : ℕ) (m : ModuleTree) → j ≤ k → front k (front j m) ≡ front j m
+pub front_twice_so : (j k : ℕ) (m : ModuleTree) → j ≤ k → front k (front j m) ≡ front j m
 front_twice_so j k m h i = record {
   types = below_twice_so [] 1 j k m.types h i;
   imports = below_twice_so [] 2 j k m.imports h i;
@@ -107,46 +85,28 @@ nothing_front k i = record {
   data_segments = below_none [] (nat_lt 13 k) i;
 }
 
+-- what stands between two places is left out, where there is nothing
+skips : {A : Type 0} (none : A) (p j k : ℕ) (x : A) → (j ≤ p → p < k → x ≡ none) → j ≤ k → below none p j x ≡ below none p k x
+skips none p j k x f h = by (nat_lt p j) (nat_lt p k) refl refl
+  where
+    by : (b c : Bool) → nat_lt p j ≡ b → nat_lt p k ≡ c → (if b then x else none) ≡ (if c then x else none)
+    by true true d e = refl
+    by true false d e = let l : p < j = ltb-true p j d in let g : k ≤ p = ltb-false p k e in absurd (omega (arith, l, g, h))
+    by false true d e = sym (f (ltb-false p j d) (ltb-true p k e))
+    by false false d e = refl
+
 -- ---- by sections
 
-before_is : (s : Section) (m : ModuleTree) → before s m ≡ front (place s) m
-before_is section.types m = refl
-before_is section.imports m = refl
-before_is section.functions m = refl
-before_is section.tables m = refl
-before_is section.memories m = refl
-before_is section.tags m = refl
-before_is section.globals m = refl
-before_is section.exports m = refl
-before_is section.start m = refl
-before_is section.element_segments m = refl
-before_is section.data_count m = refl
-before_is section.data_segments m = refl
-
-pub up_to_is : (s : Section) (m : ModuleTree) → up_to s m ≡ front (suc (place s)) m
-up_to_is section.types m = refl
-up_to_is section.imports m = refl
-up_to_is section.functions m = refl
-up_to_is section.tables m = refl
-up_to_is section.memories m = refl
-up_to_is section.tags m = refl
-up_to_is section.globals m = refl
-up_to_is section.exports m = refl
-up_to_is section.start m = refl
-up_to_is section.element_segments m = refl
-up_to_is section.data_count m = refl
-up_to_is section.data_segments m = refl
-
 pub no_code_up_to : (s : Section) (m : ModuleTree) → (up_to s m).code ≡ []
-no_code_up_to s m = ap (λ (k : ModuleTree). k.code) (up_to_is s m)
+no_code_up_to s m = refl
 
 -- where nothing was read, nothing of any section was
 pub nothing_is_unread : (s : Section) → IsUnread s no_items
-nothing_is_unread s = nothing_front (place s) ∙ sym (before_is s no_items)
+nothing_is_unread s = nothing_front (place s)
 
 -- what stands up to a section stands before a later one
 pub up_to_before : (s t : Section) (m : ModuleTree) → place s < place t → up_to s (before t m) ≡ up_to s m
-up_to_before s t m l = ap (up_to s) (before_is t m) ∙ (up_to_is s (front (place t) m) ∙ (front_twice (suc (place s)) (place t) m (omega (arith, l)) ∙ sym (up_to_is s m)))
+up_to_before s t m l = front_twice (suc (place s)) (place t) m (omega (arith, l))
 
 -- a section that is added changes nothing up to an earlier one
 pub same_up_to : (s t : Section) (m n : ModuleTree) → place s < place t → IsWithSection t m n → up_to s m ≡ up_to s n
@@ -154,14 +114,10 @@ same_up_to s t m n l w = ap (up_to s) w.kept ∙ up_to_before s t n l
 
 -- nothing of a later section was read
 pub unread_later : (s t : Section) (m : ModuleTree) → place s < place t → IsUnread s m → IsUnread t m
-unread_later s t m l e =
-    let first = e ∙ before_is s m in
-    first ∙ (sym (front_twice_so (place s) (place t) m (omega (arith, l))) ∙ (ap (front (place t)) (sym first) ∙ sym (before_is t m)))
+unread_later s t m l e = e ∙ (sym (front_twice_so (place s) (place t) m (omega (arith, l))) ∙ ap (front (place t)) (sym e))
 
 pub unread_behind : (s t : Section) (m n : ModuleTree) → place s < place t → IsWithSection s m n → IsUnread t n
-unread_behind s t m n l w =
-    let first = w.last ∙ up_to_is s n in
-    first ∙ (sym (front_twice_so (suc (place s)) (place t) n (omega (arith, l))) ∙ (ap (front (place t)) (sym first) ∙ sym (before_is t n)))
+unread_behind s t m n l w = w.last ∙ (sym (front_twice_so (suc (place s)) (place t) n (omega (arith, l))) ∙ ap (front (place t)) (sym w.last))
 
 -- ---- places are of one section each
 
@@ -287,17 +243,26 @@ number_absent : (o : Option ℕ) → SpelledNumber o None → o ≡ None
 number_absent None h = refl
 number_absent (Some n) h = absurd h
 
+-- so a front reaches as far as the next section that is there
+pub absent_between : (z : Settings) (j k : ℕ) (m : ModuleTree) → j ≤ k → ((s : Section) → j ≤ place s → place s < k → SpelledSection z s m None)
+    → front j m ≡ front k m
+absent_between z j k m h f i = record {
+  types = skips [] 1 j k m.types (f section.types) h i;
+  imports = skips [] 2 j k m.imports (f section.imports) h i;
+  functions = skips [] 3 j k m.functions (f section.functions) h i;
+  tables = skips [] 4 j k m.tables (f section.tables) h i;
+  memories = skips [] 5 j k m.memories (f section.memories) h i;
+  tags = skips [] 6 j k m.tags (λ p q. (f section.tags p q).0) h i;
+  globals = skips [] 7 j k m.globals (f section.globals) h i;
+  exports = skips [] 8 j k m.exports (f section.exports) h i;
+  start = skips None 9 j k m.start (λ p q. number_absent m.start (f section.start p q)) h i;
+  element_segments = skips [] 10 j k m.element_segments (f section.element_segments) h i;
+  data_count = skips None 11 j k m.data_count (λ p q. number_absent m.data_count (f section.data_count p q)) h i;
+  code = [];
+  data_segments = skips [] 13 j k m.data_segments (f section.data_segments) h i;
+}
+
 -- an absent section adds nothing
 pub absent_adds_nothing : (z : Settings) (s : Section) (m : ModuleTree) → SpelledSection z s m None → up_to s m ≡ before s m
-absent_adds_nothing z section.types m h = ap (λ xs. record no_items { types = xs }) h
-absent_adds_nothing z section.imports m h = ap (imports_read m) h
-absent_adds_nothing z section.functions m h = ap (functions_read m) h
-absent_adds_nothing z section.tables m h = ap (tables_read m) h
-absent_adds_nothing z section.memories m h = ap (memories_read m) h
-absent_adds_nothing z section.tags m h = ap (tags_read m) h.0
-absent_adds_nothing z section.globals m h = ap (globals_read m) h
-absent_adds_nothing z section.exports m h = ap (exports_read m) h
-absent_adds_nothing z section.start m h = ap (λ x. record (exports_read m m.exports) { start = x }) (number_absent m.start h)
-absent_adds_nothing z section.element_segments m h = ap (elements_read m) h
-absent_adds_nothing z section.data_count m h = ap (λ x. record (elements_read m m.element_segments) { data_count = x }) (number_absent m.data_count h)
-absent_adds_nothing z section.data_segments m h = ap (λ xs. record (data_count_read m) { data_segments = xs }) h
+absent_adds_nothing z s m h = sym (absent_between z (place s) (suc (place s)) m (omega arith)
+    (λ t p q. let e : place s ≡ place t = omega (arith, p, q) in subst (λ u. SpelledSection z u m None) (one_place s t e) h))

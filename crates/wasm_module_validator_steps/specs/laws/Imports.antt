@@ -1,6 +1,6 @@
 -- Imports within the limits: of each kind, and of the sizes of their types.
 use Rattle.std.proofs.Common.{◌≡◌, ◌⊎◌, ◌+◌, ◌<◌, ◌≤◌, ℕ, List, [], ◌∷◌, ◌++◌, map, length, Option, inl, inr, refl, ap, ◌∙◌, sym, arith}
-use Rattle.std.proofs.lemmas.List.{map_push, append_assoc, append-nil}
+use Rattle.std.proofs.lemmas.List.{map_push, append-nil}
 use Rattle.wasm_module_validator_contexts.specs.rules.constant_rules.expression.types.limits.Settings.{Settings}
 use Rattle.wasm_module_validator_contexts.specs.imports.declared.type_ref.TypeRef.{TypeRef}
 use Rattle.wasm_module_validator_contexts.specs.imports.declared.type_ref.TypeRef.TheVariants as import
@@ -141,7 +141,8 @@ module _ (z : Settings) (k : ModuleTree) where
 
   pub imports_come : (xs : List ImportTree) → IsWithin z (imports_read k xs) → Fits z section.imports (imports_read k []) (length xs) × InTurn ImportFits [] xs
   imports_come xs w =
-      let functions = total_comes functions_in (λ (x : ImportTree). one_of function_of x.ty) functions_step z.limits.functions [] xs (omega (arith, w.functions, functions_counted (imports_read k xs))) in
+      let many : functions_in xs ≤ z.limits.functions = omega (arith, w.functions, functions_counted (imports_read k xs)) in
+      let functions = total_comes functions_in (λ (x : ImportTree). one_of function_of x.ty) functions_step z.limits.functions [] xs many in
       let tables = total_comes tables_in (λ (x : ImportTree). one_of table_of x.ty) tables_step (most_tables z) [] xs (omega (arith, w.tables, tables_counted (imports_read k xs))) in
       let memories = total_comes memories_in (λ (x : ImportTree). one_of memory_of x.ty) memories_step (most_memories z) [] xs w.memories in
       let globals = total_comes globals_in (λ (x : ImportTree). one_of global_of x.ty) globals_step z.limits.globals [] xs (omega (arith, w.globals, globals_counted (imports_read k xs))) in

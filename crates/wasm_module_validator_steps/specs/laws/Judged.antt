@@ -1,6 +1,6 @@
 -- What is known of frames that were judged one after the other.
-use Rattle.std.proofs.Common.{◌≡◌, ◌<◌, ◌≤◌, ◌⊎◌, ℕ, List, [], ◌∷◌, ◌++◌, length, Option, refl, sym, ap, ◌∙◌, subst, inl, inr, arith}
-use Rattle.std.specs.Prelude.{◌↔◌}
+use Rattle.std.proofs.Common.{◌≡◌, ◌<◌, ◌≤◌, ◌⊎◌, ℕ, List, [], ◌∷◌, ◌++◌, length, Some, refl, sym, ap, ◌∙◌, subst, inl, inr, arith}
+use Rattle.std.specs.Prelude.{◌↔◌, suc}
 use Rattle.std.specs.List.{AllZip}
 use Rattle.std.proofs.lemmas.Bool.{cases_order}
 use Rattle.std.proofs.lemmas.List.{length_push}
@@ -14,13 +14,14 @@ use Rattle.wasm_module_validator_contexts.specs.rules.Binary.{SpelledFunction, S
 use Rattle.wasm_module_validator_contexts.specs.rules.Valid.{Each, HasValidBody, IsWithinLimits}
 use Rattle.wasm_module_validator_contexts.specs.InOrder.{no_items, IsValidInOrder}
 use Rattle.wasm_module_validator_contexts.specs.laws.Lists.{each_joined}
-use Rattle.wasm_module_validator_steps.specs.Sections.{Section, number, place, code_place, items, up_to, IsUnread}
+use Rattle.wasm_module_validator_steps.specs.Sections.{Section, number, place, code_place, items, before, up_to, IsUnread}
 use Rattle.wasm_module_validator_steps.specs.Sections as section
 use Rattle.wasm_module_validator_steps.specs.Adding.{IsValidSection}
 use Rattle.wasm_module_validator_steps.specs.Texts.{SpelledSection}
 use Rattle.wasm_module_validator_steps.specs.Steps.{SoFar, nothing, JudgesSection, JudgesBody, JudgesShape, JudgesShapes, IsJudged}
-use Rattle.wasm_module_validator_steps.specs.laws.Fronts.{up_to_is, no_code_up_to, same_up_to, valid_up_to, spelled_up_to, unread_behind, one_place, valid_stays, items_stay, unread_is_valid, nothing_is_unread}
-use Rattle.wasm_module_validator_steps.specs.laws.Within.{nothing_is_within}
+use Rattle.wasm_module_validator_steps.specs.laws.Fronts.{front_twice, no_code_up_to, nothing_is_unread, same_up_to, unread_behind, one_place, valid_up_to, spelled_up_to}
+use Rattle.wasm_module_validator_steps.specs.laws.Fronts.{valid_stays, items_stay, unread_is_valid}
+use Rattle.wasm_module_validator_steps.specs.laws.Within.{nothing_is_within, within_up_to}
 
 -- ---- one after the other
 
@@ -217,20 +218,34 @@ module _ (z : Settings) (m : ModuleTree) where
 
   -- whatever the code is
   module _ (cs : List Function) where
-    code_aside : (s : Section) → up_to s (record m { code = cs }) ≡ up_to s m
-    code_aside s = up_to_is s (record m { code = cs }) ∙ sym (up_to_is s m)
-
-    pub valid_with_code : (s : Section) → IsValidSection z s m ↔ IsValidSection z s (record m { code = cs })
-    valid_with_code s = (
-      λ h. (valid_up_to z s (record m { code = cs })).1 (subst (IsValidSection z s) (sym (code_aside s)) ((valid_up_to z s m).0 h)),
-      λ h. (valid_up_to z s m).1 (subst (IsValidSection z s) (code_aside s) ((valid_up_to z s (record m { code = cs })).0 h)),
-    )
-
-    pub spelled_with_code : (s : Section) (o : Option (List ℕ)) → SpelledSection z s m o ↔ SpelledSection z s (record m { code = cs }) o
-    spelled_with_code s o = (
-      λ h. (spelled_up_to z s (record m { code = cs }) o).1 (subst (λ k. SpelledSection z s k o) (sym (code_aside s)) ((spelled_up_to z s m o).0 h)),
-      λ h. (spelled_up_to z s m o).1 (subst (λ k. SpelledSection z s k o) (code_aside s) ((spelled_up_to z s (record m { code = cs }) o).0 h)),
-    )
-
     pub within_with_code : IsWithinLimits z (module_of m) m ↔ IsWithinLimits z (module_of (record m { code = cs })) (record m { code = cs })
     within_with_code = (λ w. search (w), λ w. search (w))
+
+pub code_aside : (m : ModuleTree) (cs : List Function) (s : Section) → up_to s (record m { code = cs }) ≡ up_to s m
+code_aside m cs s = refl
+
+-- ---- frames of modules
+
+-- what was judged is valid in order, with bodies that are
+pub judged_in_order : (z : Settings) (q : SoFar) (cs : List Function) → IsJudged z q → AllZip (HasValidBody z (module_of q.tree)) q.tree.functions cs → IsValidInOrder z (record q.tree { code = cs })
+judged_in_order z q cs j v = (order_by_sections z (record q.tree { code = cs })).1 (
+  λ s. (valid_up_to z s (record q.tree { code = cs })).1 ((valid_up_to z s q.tree).0 (j.valid s)),
+  v,
+  (within_with_code z q.tree cs).0 j.within,
+)
+
+-- the next section of a module that is valid in order comes behind what stands before it
+pub section_comes : (z : Settings) (s : Section) (m : ModuleTree) (p : SoFar) (text : List ℕ) → IsValidInOrder z m → p.tree ≡ before s m → p.last < place s
+    → SpelledSection z s m (Some text) → JudgesSection z p s text (record { last = place s; tree = up_to s m; bodies = p.bodies })
+section_comes z s m p text v e l t = record {
+  ordered = l;
+  added = record {
+    kept = e ∙ sym (front_twice (place s) (suc (place s)) m (omega arith));
+    last = sym (front_twice (suc (place s)) (suc (place s)) m (omega arith));
+  };
+  spelled = (spelled_up_to z s m (Some text)).0 t;
+  valid = (valid_up_to z s m).0 (sections_of_order z m v s);
+  within = within_up_to z s m v.limits;
+  last = refl;
+  bodies = refl;
+}

@@ -1,12 +1,10 @@
 -- A module with one section more is within the limits exactly where the section may begin, and each of its items is within them in turn.
-use Rattle.std.proofs.Common.{◌≡◌, ◌⊎◌, ◌+◌, ◌<◌, ◌≤◌, ℕ, true, List, [], ◌∷◌, ◌++◌, map, length, inl, inr, refl, ap, ◌∙◌, sym, arith}
+use Rattle.std.proofs.Common.{◌≡◌, ◌⊎◌, ◌+◌, ◌≤◌, ℕ, true, List, [], ◌∷◌, ◌++◌, map, length, inr, ap, ◌∙◌, sym, arith}
 use Rattle.std.proofs.lemmas.List.{map_push, append_assoc}
 use Rattle.wasm_module_validator_contexts.specs.rules.constant_rules.expression.types.limits.Settings.{Settings}
 use Rattle.wasm_module_validator_contexts.specs.rules.constant_rules.expression.types.trees.ValidGroup.{Written}
 use Rattle.wasm_module_validator_contexts.specs.rules.constant_rules.expression.types.externs.declared.memory.MemoryType.{MemoryType}
 use Rattle.wasm_module_validator_contexts.specs.rules.constant_rules.expression.types.externs.declared.tag.TagType.{TagType}
-use Rattle.wasm_module_validator_contexts.specs.imports.declared.type_ref.TypeRef.{TypeRef}
-use Rattle.wasm_module_validator_contexts.specs.imports.declared.type_ref.TypeRef.TheVariants as import
 use Rattle.wasm_module_validator_contexts.specs.imports.Spells.{ImportTree, ExportTree}
 use Rattle.wasm_module_validator_contexts.specs.segments.Spells.{GlobalTree, DataTree}
 use Rattle.wasm_module_validator_contexts.specs.segments.Tables.{TableTree}
@@ -16,15 +14,15 @@ use Rattle.wasm_module_validator_contexts.specs.rules.Syntax.{ModuleTree}
 use Rattle.wasm_module_validator_contexts.specs.rules.Spaces.{types_behind, imported, function_of, table_of, memory_of, global_of, tag_of, function_with, function_space, table_space}
 use Rattle.wasm_module_validator_contexts.specs.rules.Spaces.{memory_space, global_space, tag_space, module_of}
 use Rattle.wasm_module_validator_contexts.specs.rules.Valid.{IsWithinLimits, import_size, export_size, type_sizes, most_tables, most_memories}
-use Rattle.wasm_module_validator_contexts.specs.InOrder.{no_items, imports_read, functions_read, tables_read, memories_read, tags_read, globals_read, exports_read, elements_read, data_count_read}
+use Rattle.wasm_module_validator_contexts.specs.InOrder.{no_items, functions_read, tables_read, memories_read, tags_read, globals_read, exports_read, elements_read, data_count_read}
 use Rattle.wasm_module_validator_contexts.specs.InOrder.{InTurn}
 use Rattle.wasm_module_validator_contexts.specs.laws.Lists.{turn_both}
 use Rattle.wasm_module_validator_steps.specs.Sections as section
 use Rattle.wasm_module_validator_steps.specs.Sections.{as_list}
-use Rattle.wasm_module_validator_steps.specs.Adding.{HasRoomIn, IsWithinNext, Fits}
+use Rattle.wasm_module_validator_steps.specs.Adding.{IsWithinNext, Fits}
 use Rattle.wasm_module_validator_steps.specs.laws.Turns.{turn_from, total_goes, total_comes, sums_go, sums_come}
 use Rattle.wasm_module_validator_steps.specs.laws.Groups.{types_grow}
-use Rattle.wasm_module_validator_steps.specs.laws.Counts.{functions_counted, tables_counted, globals_counted, tags_counted, own_counted, own_counted_so, counted_in_turn, kind_counted}
+use Rattle.wasm_module_validator_steps.specs.laws.Counts.{functions_counted, tables_counted, globals_counted, tags_counted, own_counted, own_counted_so, counted_in_turn}
 
 -- nothing is asked of items
 turn_trivial : {A : Type 0} (b xs : List A) → InTurn (λ b x. Unit {0}) b xs

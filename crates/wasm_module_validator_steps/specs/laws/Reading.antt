@@ -1,5 +1,5 @@
 -- Items as they are read are added exactly where items that they stand for are.
-use Rattle.std.proofs.Common.{◌≡◌, List, [], ◌∷◌}
+use Rattle.std.proofs.Common.{List, [], ◌∷◌}
 use Rattle.std.specs.Prelude.{◌↔◌}
 use Rattle.std.specs.List.{AllZip}
 use Rattle.wasm_module_validator_contexts.specs.rules.constant_rules.expression.types.limits.Settings.{Settings}

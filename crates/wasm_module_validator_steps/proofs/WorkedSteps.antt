@@ -1,6 +1,6 @@
 -- The worked rows.
 use Rattle.std.specs.Prelude.{ℤ}
-use Rattle.std.proofs.Common.{◌≡◌, ℕ, List, [], ◌∷◌, ◌++◌, Some, refl, rules, inl, inr, arith}
+use Rattle.std.proofs.Common.{◌≡◌, ℕ, List, [], ◌∷◌, ◌++◌, refl, rules, inl, arith}
 use Rattle.wasm_module_validator_contexts.specs.rules.constant_rules.expression.types.features.Features.{has}
 use Rattle.wasm_module_validator_contexts.specs.rules.constant_rules.expression.types.limits.Limits.{default_limits}
 use Rattle.wasm_module_validator_contexts.specs.rules.constant_rules.expression.types.trees.Trees.{opened}
