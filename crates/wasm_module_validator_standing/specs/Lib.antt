@@ -1,0 +1,6 @@
+-- MOCK
+pub mod items
+-- When the state of a module stands for a tree.
+pub mod Standing
+-- Laws, with the proofs.
+pub mod laws

@@ -1,0 +1,105 @@
+-- A module whose items are checked and added one by one: what a contract sees of it, when an item may be added, and what it is then
+-- (WebAssembly 3.0, validation, modules; appendix, implementation limitations).
+use Rattle.std.proofs.Common.{suc}
+use Rattle.std.specs.Prelude.{◌≡◌, ◌⊎◌, ◌+◌, ◌<◌, ◌≤◌, ℕ, Bool, IsTrue, List, [], ◌∷◌, ◌++◌, length, Option, Some, None, slice_get}
+use Rattle.wasm_types.specs.limits.Settings.{Settings}
+use Rattle.wasm_types.specs.error.declared.error.ErrorKind.{ErrorKind}
+use Rattle.wasm_types.specs.error.declared.error.ErrorKind.TheVariants.{Other}
+use Rattle.wasm_sections_imports.specs.declared.kind.ExternalKind.{ExternalKind}
+use Rattle.wasm_sections_imports.specs.declared.type_ref.TypeRef.{TypeRef}
+use Rattle.wasm_sections_imports.specs.declared.type_ref.TypeRef.TheVariants as import
+use Rattle.wasm_module_validator_type_trees.specs.Groups.{Group}
+use Rattle.wasm_module_validator_module.specs.declared.module.Function.{Function}
+use Rattle.wasm_module_validator_module.specs.Spaces.{Spaces, nothing_read}
+use Rattle.wasm_module_validator_resources.specs.Reading.{context_of, meaning_of}
+use Rattle.wasm_module_validator_externs.specs.rules.Valid.{IsValidImport, IsValidExport, import_size, export_size, most_tables, most_memories}
+use Rattle.wasm_module_validator_externs.specs.Refusals.{IsRefusal}
+use Rattle.wasm_module_validator_exports.specs.Imports.{IsNamedImport}
+use Rattle.wasm_module_validator_exports.specs.Names.{IsNew}
+use Rattle.wasm_module_validator_standing.specs.items.Adding.{importing, exporting}
+use Rattle.wasm_module_validator_standing.specs.items.Contexts.{with_import, IsWithExport}
+
+-- The module as far as it was read, the names of its exports, the sum of the sizes of its types, and the index of the function whose
+-- code comes next, where code has come.
+pub record Items : Type 0 where
+  pub spaces : Spaces
+  pub export_names : List (List ℕ)
+  pub type_size : ℕ
+  pub next_code : Option ℕ
+
+-- no item; the sum of sizes begins at 1
+abbrev pub no_items : Settings → Items
+no_items z = record { spaces = nothing_read z; export_names = []; type_size = 1; next_code = None }
+
+-- ---- imports
+
+-- there are fewer of what is imported than the limit
+abbrev pub HasRoomFor : TypeRef → Spaces → Type 0
+HasRoomFor (import.Func x) s = length s.functions < s.settings.limits.functions
+HasRoomFor (import.FuncExact x) s = length s.functions < s.settings.limits.functions
+HasRoomFor (import.Table t) s = length s.tables < most_tables s.settings
+HasRoomFor (import.Memory t) s = length s.memories < most_memories s.settings
+HasRoomFor (import.Global t) s = length s.globals < s.settings.limits.globals
+HasRoomFor (import.Tag t) s = length s.tags < s.settings.limits.tags
+
+-- the module has the type that is imported by its index
+abbrev pub HasItsType : TypeRef → Spaces → Type 0
+HasItsType (import.Func x) s = x < length s.types
+HasItsType (import.FuncExact x) s = x < length s.types
+HasItsType (import.Table t) s = Unit {0}
+HasItsType (import.Memory t) s = Unit {0}
+HasItsType (import.Global t) s = Unit {0}
+HasItsType (import.Tag t) s = t.func_type_idx < length s.types
+
+-- an import may be added: it is valid, and there is room for it and for the size of its type
+pub record IsImportable (groups : List Group) (m : Items) (t : TypeRef) : Type 0 where
+  pub valid : IsValidImport m.spaces.settings (context_of groups m.spaces) t
+  pub room : HasRoomFor t m.spaces
+  pub size : m.type_size + import_size (context_of groups m.spaces) t < m.spaces.settings.limits.type_size
+
+-- it is added, by a type over ids
+pub record IsImported (groups : List Group) (t : TypeRef) (before after : Items) : Type 0 where
+  pub type : TypeRef
+  pub named : IsNamedImport (meaning_of groups before.spaces) t type
+  pub added : after ≡ record before { spaces = importing type before.spaces; type_size = before.type_size + import_size (context_of groups before.spaces) t }
+  pub context : context_of groups after.spaces ≡ with_import t (context_of groups before.spaces)
+
+-- ---- exports
+
+-- an export may be added: it is valid, its name is new, and there is room for the size of its type; and for it, where that is tested
+pub record IsExportable (groups : List Group) (m : Items) (name : List ℕ) (k : ExternalKind) (x : ℕ) (check_limit : Bool) : Type 0 where
+  pub valid : IsValidExport m.spaces.settings (context_of groups m.spaces) k x
+  pub room : IsTrue check_limit → length m.export_names < m.spaces.settings.limits.exports
+  pub size : m.type_size + export_size (context_of groups m.spaces) k x < m.spaces.settings.limits.type_size
+  pub new : IsNew name m.export_names
+
+-- it is added
+pub record IsExported (groups : List Group) (name : List ℕ) (k : ExternalKind) (x : ℕ) (before after : Items) : Type 0 where
+  pub added : after ≡ record before {
+    spaces = exporting k x before.spaces;
+    export_names = before.export_names ++ name ∷ [];
+    type_size = before.type_size + export_size (context_of groups before.spaces) k x;
+  }
+  pub context : IsWithExport k x (context_of groups before.spaces) (context_of groups after.spaces)
+
+-- ---- code
+
+-- the function whose code comes next: the first is the first that the module has itself
+abbrev pub next_function : ℕ → Option ℕ → ℕ
+next_function first None = first
+next_function first (Some i) = i
+
+-- The next function and the index of its type, which the module has; the one behind it comes next. Where there is no function left
+-- nothing changes.
+abbrev pub IsNextCode : Items → Items → Option (ℕ × ℕ) → Type 0
+IsNextCode before after None = (length before.spaces.functions ≤ next_function before.spaces.imported_functions before.next_code) × (after ≡ before)
+IsNextCode before after (Some entry) =
+    (entry.0 ≡ next_function before.spaces.imported_functions before.next_code)
+    × ((f : Function) × (slice_get before.spaces.functions entry.0 ≡ Some f) × (f.type_index ≡ entry.1) × (f.type_index < length before.spaces.types))
+    × (after ≡ record before { next_code = Some (suc entry.0) })
+
+-- ---- refusals
+
+-- The kind of a refusal: it is that of the rule, or the item is valid, and is one too many, or has a name that is taken.
+abbrev pub IsRefusedBy : ℕ → (ℕ → Type 0) → Type 0 → ErrorKind → Type 0
+IsRefusedBy bits P valid k = IsRefusal bits P k ⊎ ((k ≡ Other) × valid)
