@@ -1,5 +1,3 @@
--- MOCK
-pub mod items
 -- When the state of a module stands for a tree.
 pub mod Standing
 -- Laws, with the proofs.

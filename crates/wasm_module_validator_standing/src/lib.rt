@@ -4,3 +4,11 @@
 //! item, and what the call leaves stands for every tree that has the item. There is no code here: each law is the contract of a function
 //! that does nothing.
 #![tactic(auto)]
+
+mod laws;
+
+pub use laws::{
+    constants_see_the_tree, items_are_decided_alike, items_stand,
+    items_with_constants_are_decided_alike, items_with_constants_stand, sections_fit_alike,
+    states_are_worked,
+};

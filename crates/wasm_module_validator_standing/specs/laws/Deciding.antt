@@ -15,13 +15,17 @@ use Rattle.wasm_module_validator_so_far.specs.laws.Context.{context_is}
 use Rattle.wasm_module_validator_so_far.specs.laws.Limits.{counts_are, import_size_is, export_size_is}
 use Rattle.wasm_module_validator_exports.specs.Names.{IsNew}
 use Rattle.wasm_module_validator_referring.specs.Referring.{meaning_with_all, with_all_referenced}
-use Rattle.wasm_module_validator_standing.specs.items.Items.{Items, HasRoomFor, IsImportable, IsExportable}
+use Rattle.wasm_module_validator_items.specs.Items.{Items, HasRoomFor, IsImportable, IsExportable}
 use Rattle.wasm_module_validator_steps.specs.contexts.imports.Spells.{ImportTree, ExportTree}
+use Rattle.wasm_module_validator_steps.specs.contexts.rules.constant_rules.expression.Code.{Code}
+use Rattle.wasm_module_validator_steps.specs.contexts.segments.Spells.{GlobalTree, DataTree}
+use Rattle.wasm_module_validator_steps.specs.contexts.segments.Tables.{TableTree}
+use Rattle.wasm_module_validator_steps.specs.contexts.elements.Spells.{ElementTree}
 use Rattle.wasm_module_validator_steps.specs.contexts.imports.declared.type_ref.TypeRef.{TypeRef}
 use Rattle.wasm_module_validator_steps.specs.contexts.imports.declared.type_ref.TypeRef.TheVariants as import
 use Rattle.wasm_module_validator_steps.specs.contexts.rules.Syntax.{ModuleTree}
-use Rattle.wasm_module_validator_steps.specs.contexts.rules.Spaces.{module_of, function_space, table_space, memory_space, global_space, tag_space}
-use Rattle.wasm_module_validator_steps.specs.contexts.rules.Valid.{Each, IsFunctionIndex, IsValidMemoryType, IsValidTagType, IsValidStart, IsValidImport, IsValidExport, import_size, export_size, most_tables, most_memories}
+use Rattle.wasm_module_validator_steps.specs.contexts.rules.Spaces.{imported_globals, module_of, function_space, table_space, memory_space, global_space, tag_space}
+use Rattle.wasm_module_validator_steps.specs.contexts.rules.Valid.{Each, IsFunctionIndex, IsValidMemoryType, IsValidTagType, IsValidStart, IsValidImport, IsValidExport, IsValidTable, IsValidGlobal, IsValidElement, IsValidData, import_size, export_size, most_tables, most_memories}
 use Rattle.wasm_module_validator_steps.specs.contexts.rules.constant_rules.rules.Context.{Module}
 use Rattle.wasm_module_validator_steps.specs.contexts.Agreement.{AgreeOnTypes, AgreeForExports, AgreeOnFunctions}
 use Rattle.wasm_module_validator_steps.specs.contexts.laws.Types.{function_agrees, tag_agrees, import_agrees}
@@ -152,8 +156,8 @@ module _ (groups : List Group) (s : Items) (z : Settings) (m : ModuleTree) (r : 
   tags_decided t =
       let l = room (λ n (y : Settings). n < y.limits.tags) _ _ tags_counted in
       may_be_added z section.tags m t _
-          (λ h. (tag_agrees here there types_to z t (subst (λ y. IsValidTagType y here t) r.settings h.0), l.0 h.1))
-          (λ h. (subst (λ y. IsValidTagType y here t) (sym r.settings) (tag_agrees there here types_back z t h.0), l.1 h.1))
+      (λ h. (tag_agrees here there types_to z t (subst (λ y. IsValidTagType y here t) r.settings h.0), l.0 h.1))
+      (λ h. (subst (λ y. IsValidTagType y here t) (sym r.settings) (tag_agrees there here types_back z t h.0), l.1 h.1))
 
   pub start_decided : (x : ℕ) → m.start ≡ None → IsValidStart here x ↔ ((n : ModuleTree) × Adds z section.start m x n)
   start_decided x e = may_be_added z section.start m x _ (λ h. (start_agrees here there functions_to x h, e)) (λ h. start_agrees there here functions_back x h.0)
@@ -162,7 +166,7 @@ module _ (groups : List Group) (s : Items) (z : Settings) (m : ModuleTree) (r : 
       → (Has s.spaces.settings.features BulkMemory × (n ≤ s.spaces.settings.limits.data_segments)) ↔ ((k : ModuleTree) × Adds z section.data_count m n k)
   data_count_decided n e =
       may_be_added z section.data_count m n _ (λ h. (subst (λ (y : Settings). Has y.features BulkMemory) r.settings h.0, (e, subst (λ (y : Settings). n ≤ y.limits.data_segments) r.settings h.1)))
-          (λ h. (subst (λ (y : Settings). Has y.features BulkMemory) (sym r.settings) h.0, subst (λ (y : Settings). n ≤ y.limits.data_segments) (sym r.settings) h.1.1))
+      (λ h. (subst (λ (y : Settings). Has y.features BulkMemory) (sym r.settings) h.0, subst (λ (y : Settings). n ≤ y.limits.data_segments) (sym r.settings) h.1.1))
 
   -- ---- exports
 
@@ -180,14 +184,19 @@ module _ (groups : List Group) (s : Items) (z : Settings) (m : ModuleTree) (r : 
       (λ i. r.size i + export_size_is here there exports_to e.kind e.index i) in
       let l = room (λ n (y : Settings). n < y.limits.type_size) _ _ size in
       may_be_added z section.exports m e _
-          (λ h. ((export_agrees here there z exports_to e.kind e.index (subst (λ y. IsValidExport y here e.kind e.index) r.settings h.valid),
-              new_is e.name m.exports (subst (IsNew e.name) r.names h.new)), l.0 h.size))
-          (λ h. record {
-            valid = subst (λ y. IsValidExport y here e.kind e.index) (sym r.settings) (export_agrees there here z exports_back e.kind e.index h.0.0);
-            room = λ k. absurd cc;
-            size = l.1 h.1;
-            new = subst (IsNew e.name) (sym r.names) (is_new e.name m.exports h.0.1);
-          })
+      (λ h. (
+        (
+          export_agrees here there z exports_to e.kind e.index (subst (λ y. IsValidExport y here e.kind e.index) r.settings h.valid),
+          new_is e.name m.exports (subst (IsNew e.name) r.names h.new),
+        ),
+        l.0 h.size,
+      ))
+      (λ h. record {
+        valid = subst (λ y. IsValidExport y here e.kind e.index) (sym r.settings) (export_agrees there here z exports_back e.kind e.index h.0.0);
+        room = λ k. absurd cc;
+        size = l.1 h.1;
+        new = subst (IsNew e.name) (sym r.names) (is_new e.name m.exports h.0.1);
+      })
 
   -- ---- imports
 
@@ -204,12 +213,54 @@ module _ (groups : List Group) (s : Items) (z : Settings) (m : ModuleTree) (r : 
       let size : s.type_size + import_size here i.ty ≡ size_so_far m + import_size there i.ty = (λ j. r.size j + import_size_is here there types_to i.ty j) in
       let l = room (λ n (y : Settings). n < y.limits.type_size) _ _ size in
       may_be_added z section.imports m i _
-          (λ h. (import_agrees here there types_to z i.ty (subst (λ y. IsValidImport y here i.ty) r.settings h.valid), ((room_of_import i.ty).0 h.room, l.0 h.size)))
-          (λ h. record {
-            valid = subst (λ y. IsValidImport y here i.ty) (sym r.settings) (import_agrees there here types_back z i.ty h.0);
-            room = (room_of_import i.ty).1 h.1.0;
-            size = l.1 h.1.1;
-          })
+      (λ h. (import_agrees here there types_to z i.ty (subst (λ y. IsValidImport y here i.ty) r.settings h.valid), ((room_of_import i.ty).0 h.room, l.0 h.size)))
+      (λ h. record {
+        valid = subst (λ y. IsValidImport y here i.ty) (sym r.settings) (import_agrees there here types_back z i.ty h.0);
+        room = (room_of_import i.ty).1 h.1.0;
+        size = l.1 h.1.1;
+      })
+
+  -- ---- items with constants, judged where each function may be referred to
+
+  abbrev constants : Module
+  constants = (meaning_with_all (meaning_of groups s.spaces)).«module»
+
+  seen : (P : Settings → Module → ℕ → Type 0) → P s.spaces.settings constants s.spaces.imported_globals ≡ P z there (imported_globals m)
+  seen P = λ i. P (r.settings i) (constants_see groups s m r.read i) (r.read.imported_globals i)
+
+  seen_to : (P : Settings → Module → ℕ → Type 0) → P s.spaces.settings constants s.spaces.imported_globals → P z there (imported_globals m)
+  seen_to P h = subst (λ (T : Type 0). T) (seen P) h
+
+  seen_back : (P : Settings → Module → ℕ → Type 0) → P z there (imported_globals m) → P s.spaces.settings constants s.spaces.imported_globals
+  seen_back P h = subst (λ (T : Type 0). T) (sym (seen P)) h
+
+  pub tables_decided : (x : TableTree Code)
+      → (IsValidTable s.spaces.settings constants s.spaces.imported_globals x × (length s.spaces.tables < most_tables s.spaces.settings)) ↔ ((n : ModuleTree) × Adds z section.tables m x n)
+  tables_decided x =
+      let P : Settings → Module → ℕ → Type 0 = (λ y g c. IsValidTable y g c x) in
+      let l = room (λ n (y : Settings). n < most_tables y) _ _ tables_counted in
+      may_be_added z section.tables m x _ (λ h. (seen_to P h.0, l.0 h.1)) (λ h. (seen_back P h.0, l.1 h.1))
+
+  pub globals_decided : (x : GlobalTree Code)
+      → (IsValidGlobal s.spaces.settings constants s.spaces.imported_globals (length constants.globals) x × (length s.spaces.globals < s.spaces.settings.limits.globals))
+      ↔ ((n : ModuleTree) × Adds z section.globals m x n)
+  globals_decided x =
+      let P : Settings → Module → ℕ → Type 0 = (λ y g c. IsValidGlobal y g c (length g.globals) x) in
+      let l = room (λ n (y : Settings). n < y.limits.globals) _ _ globals_counted in
+      may_be_added z section.globals m x _ (λ h. (seen_to P h.0, l.0 h.1)) (λ h. (seen_back P h.0, l.1 h.1))
+
+  pub elements_decided : (x : ElementTree Code)
+      → (IsValidElement s.spaces.settings constants s.spaces.imported_globals x × (length s.spaces.elements < s.spaces.settings.limits.element_segments))
+      ↔ ((n : ModuleTree) × Adds z section.element_segments m x n)
+  elements_decided x =
+      let P : Settings → Module → ℕ → Type 0 = (λ y g c. IsValidElement y g c x) in
+      let l = room (λ n (y : Settings). n < y.limits.element_segments) _ _ elements_counted in
+      may_be_added z section.element_segments m x _ (λ h. (seen_to P h.0, l.0 h.1)) (λ h. (seen_back P h.0, l.1 h.1))
+
+  pub data_decided : (x : DataTree Code) → IsValidData s.spaces.settings constants s.spaces.imported_globals x.mode ↔ ((n : ModuleTree) × Adds z section.data_segments m x n)
+  data_decided x =
+      let P : Settings → Module → ℕ → Type 0 = (λ y g c. IsValidData y g c x.mode) in
+      may_be_added z section.data_segments m x _ (λ h. (seen_to P h, tt)) (λ h. seen_back P h.0)
 
   -- ---- where sections begin
 
