@@ -1,5 +1,5 @@
 -- What a call of the state leaves stands for every tree with the item more.
-use Rattle.std.proofs.Common.{◌≡◌, ◌∙◌, ◌+◌, ◌<◌, ◌≤◌, ℕ, List, [], ◌∷◌, ◌++◌, length, map, Some, refl, sym, ap, subst, arith}
+use Rattle.std.proofs.Common.{◌≡◌, ◌∙◌, ◌+◌, ◌<◌, ◌≤◌, ℕ, List, [], ◌∷◌, ◌++◌, length, map, Some, refl, sym, ap, subst}
 use Rattle.std.proofs.lemmas.List.{map_push, append_assoc}
 use Rattle.std.proofs.lemmas.Option.{slice_get_within}
 use Rattle.wasm_types.specs.limits.Settings.{Settings}
@@ -12,10 +12,10 @@ use Rattle.wasm_module_validator_type_trees.specs.Groups.{Group, count}
 use Rattle.wasm_module_validator_module.specs.Spaces.{Spaces, own_function}
 use Rattle.wasm_module_validator_resources.specs.Reading.{context_of, meaning_of, names_in}
 use Rattle.wasm_module_validator_so_far.specs.SoFar.{IsReadAs}
-use Rattle.wasm_module_validator_so_far.specs.Referring.{IsReferredAs, referring_to_each}
+use Rattle.wasm_module_validator_so_far.specs.Referring.{referring_to_each}
 use Rattle.wasm_module_validator_so_far.specs.laws.Adding.{function_is_added, table_is_added, memory_is_added, tag_is_added, global_is_added, element_is_added, data_count_is_set, others_are_read, function_is_referred_to}
-use Rattle.wasm_module_validator_so_far.specs.laws.Referring.{function_is_not_referred_to, others_refer_to_none, export_refers, table_refers, global_refers, element_refers}
-use Rattle.wasm_module_validator_so_far.specs.laws.Named.{table_is_named, global_is_named, reference_is_named}
+use Rattle.wasm_module_validator_so_far.specs.laws.Referring.{function_is_not_referred_to, export_refers, table_refers, global_refers, element_refers}
+use Rattle.wasm_module_validator_so_far.specs.laws.Named.{table_is_named, global_is_named}
 use Rattle.wasm_module_validator_so_far.specs.laws.Limits.{import_size_is, export_size_is}
 use Rattle.wasm_module_validator_items.specs.Adding.{adding_function, adding_table, adding_memory, adding_global, adding_tag, adding_element, referring, counting_data, exporting}
 use Rattle.wasm_module_validator_items.specs.Items.{Items}

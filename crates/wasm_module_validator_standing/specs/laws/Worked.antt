@@ -1,5 +1,5 @@
 -- Worked states: of a module of which nothing was read.
-use Rattle.std.proofs.Common.{◌≡◌, ◌≤◌, ℕ, List, [], ◌∷◌, refl, arith}
+use Rattle.std.proofs.Common.{◌≡◌, ℕ, List, [], ◌∷◌, refl, arith}
 use Rattle.wasm_types.specs.limits.Settings.{Settings}
 use Rattle.wasm_types.specs.trees.Unfold.{type_count}
 use Rattle.wasm_module_validator_type_trees.specs.Groups.{count}
