@@ -1,0 +1,2 @@
+//! The items that a section's reader gives, and those of the trees of the rules (WebAssembly 3.0, binary format, modules).
+#![tactic(auto)]
