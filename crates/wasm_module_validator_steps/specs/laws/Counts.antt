@@ -35,7 +35,8 @@ pub own_counted_so : {A : Type 0} (is xs : List A) → length (is ++ xs) ≡ len
 own_counted_so is xs = omega (arith, length-append is xs, length-append is [])
 
 -- a total of one for each item: what is within the limit in the end was below it before each item
-pub counted_in_turn : {A : Type 0} (total : List A → ℕ) (base limit : ℕ) → ((l : List A) → total l ≡ base + length l) → (xs : List A) → total xs ≤ limit → InTurn (λ b x. total b < limit) [] xs
+pub counted_in_turn : {A : Type 0} (total : List A → ℕ) (base limit : ℕ) → ((l : List A) → total l ≡ base + length l) → (xs : List A) → total xs ≤ limit
+    → InTurn (λ b x. total b < limit) [] xs
 counted_in_turn {A} total base limit f xs k =
     let step : (l : List A) (x : A) → total (l ++ x ∷ []) ≡ total l + 1 = λ l x. omega (arith, f (l ++ x ∷ []), f l, length_push l x) in
     turn_from (λ b x. total b + 1 ≤ limit) (λ b x. total b < limit) (λ b x h. omega (arith, h)) [] xs (total_comes total (λ x. 1) step limit [] xs k)

@@ -227,7 +227,8 @@ code_aside m cs s = refl
 -- ---- frames of modules
 
 -- what was judged is valid in order, with bodies that are
-pub judged_in_order : (z : Settings) (q : SoFar) (cs : List Function) → IsJudged z q → AllZip (HasValidBody z (module_of q.tree)) q.tree.functions cs → IsValidInOrder z (record q.tree { code = cs })
+pub judged_in_order : (z : Settings) (q : SoFar) (cs : List Function) → IsJudged z q → AllZip (HasValidBody z (module_of q.tree)) q.tree.functions cs
+    → IsValidInOrder z (record q.tree { code = cs })
 judged_in_order z q cs j v = (order_by_sections z (record q.tree { code = cs })).1 (
   λ s. (valid_up_to z s (record q.tree { code = cs })).1 ((valid_up_to z s q.tree).0 (j.valid s)),
   v,
