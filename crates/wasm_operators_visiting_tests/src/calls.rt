@@ -35,6 +35,26 @@ fn frames_of_the_reader(rt: HostRuntime) -> Result<(), Fail> {
     Ok(())
 }
 
+// v128.const of sixteen zeros, drop, end: the first is one on vectors, which is refused where it begins, and the counter isn't told
+#[test]
+fn vectors_are_refused(rt: HostRuntime) -> Result<(), Fail> {
+    let text = [
+        0xfd, 0x0c, 0x00, 0x00, 0x00, 0x00, 0x00, 0x00, 0x00, 0x00, 0x00, 0x00, 0x00, 0x00, 0x00,
+        0x00, 0x00, 0x00, 0x1a, 0x0b,
+    ];
+    let mut operators = OperatorsReader::new(rt.alloc(), bytes(&text));
+    let mut counter = Counter {
+        left: 5,
+        frame: None,
+    };
+    match count_next(&mut operators, &mut counter) {
+        Ok(_) => panic!(rt; "an operator on vectors is visited"),
+        Err(error) => assert!(rt; error.kind().number() == 5 && error.offset() == 0),
+    }
+    assert!(rt; counter.left == 5 && operators.original_position() == 0);
+    Ok(())
+}
+
 // else, end: the first may come next in an `if`, and in no block
 #[test]
 fn frames_of_the_caller(rt: HostRuntime) -> Result<(), Fail> {
