@@ -5,11 +5,10 @@ ghost use Rattle.wasm_types.specs.error.declared.error.ErrorKind.TheVariants.{Ot
 ghost use Rattle.wasm_types.specs.reader.Reading.{NeedsNoMemory};
 ghost use Rattle.wasm_operators_expression.specs.operator.Op.{op_of};
 ghost use Rattle.wasm_operators_reader.specs.Standing.{at_start, IsFinished, Reads, Refuses, WantsMemory};
-ghost use Rattle.wasm_operators_reader.specs.Visiting.{VisitsPlain};
 ghost use Rattle.wasm_operators_reader.specs.Walking.{WalksTo, WalksUntilTo};
 
 use crate::cursor::Cursor;
-use crate::frequent::{read_frequent, visit_frequent, visit_run};
+use crate::frequent::{read_frequent, visit_run};
 use std::alloc::Global;
 use std::marker::Model;
 use wasm_operators_decode::read_operator;
