@@ -1,7 +1,0 @@
-mod Walks
-mod Trees
-mod Names
-mod Places
-mod References
-mod Checked
-mod Worked
