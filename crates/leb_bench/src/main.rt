@@ -1,7 +1,10 @@
-//! Numbers in LEB128, read over and over.
+//! Reads numbers in LEB128 over and over, for `bench/leb`: `leb_bench PASSES` reads a buffer of 100,000 numbers so many
+//! times, and prints the sum of all that was read.
+#![tactic(auto)]
 
 use anyhow::{Context, Result};
 use std::alloc::{AllocError, Global};
+use std::env;
 use wasm_types::BinaryReader;
 
 /// Puts a number at the end of a buffer.
@@ -53,8 +56,7 @@ fn total(buffer: &[u8]) -> Option<u32> {
     Some(sum)
 }
 
-/// Reads a buffer of 100,000 numbers so many times, and prints its length and the sum of all that was read.
-pub(crate) fn run(rt: &(impl AllocGlobal + Print), passes: u32) -> Result<()> {
+fn run(rt: &(impl AllocGlobal + Print), passes: u32) -> Result<()> {
     let buffer = numbers(rt.alloc())?;
     let mut sum: u32 = 0;
     for _ in 0..passes {
@@ -64,4 +66,13 @@ pub(crate) fn run(rt: &(impl AllocGlobal + Print), passes: u32) -> Result<()> {
     let length = buffer.len();
     println!(rt; "{length} {sum}")?;
     Ok(())
+}
+
+fn main(rt: HostRuntime) -> Result<()> {
+    let words: Vec<String> = env::args(&rt)?.collect(rt.alloc())?;
+    let passes = match words.get(1) {
+        Some(word) => word.as_str().parse::<u32>().context("reading PASSES")?,
+        None => 1,
+    };
+    run(&rt, passes)
 }
