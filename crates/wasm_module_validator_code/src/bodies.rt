@@ -1,0 +1,78 @@
+//! Bodies judged in turn.
+
+ghost use Rattle.wasm_types.specs.limits.Settings.{Settings};
+ghost use Rattle.wasm_types.specs.error.Denials.{Tells};
+ghost use Rattle.wasm_module_validator_rules.specs.Valid.{Each};
+ghost use Rattle.wasm_module_validator_code.specs.Code.{IsReadBy, IsFunctionOf};
+
+use std::alloc::Global;
+use wasm_module_validator_functions::{
+    FuncToValidate, FuncValidatorAllocations, FunctionBody, WasmModuleResources,
+};
+use wasm_types::{Result, WasmFeatures};
+
+/// The body of a function of a module, which is to be judged.
+#[derive(Drop)]
+pub struct Body<'a> {
+    /// The index of the function in its module.
+    pub index: u32,
+    /// The index of the function's type, among those of the module.
+    pub type_index: u32,
+    /// Its bytes.
+    pub body: FunctionBody<'a>,
+}
+
+/// Judges bodies of functions in order, by these features. Where they were read by the settings of a module, with these features and no
+/// more locals than by default, and each has no more bytes than a body may have, it is Ok exactly where each spells a valid function
+/// of its type, out of memory aside (WebAssembly 3.0, validation, modules, functions).
+///
+/// # Errors
+///
+/// The module has no function type at a body's index, or one with more parameters than a function may have locals; a body spells no
+/// valid function; or there is no memory: the first of these.
+pub fn judge_bodies<R: WasmModuleResources>(
+    alloc: Global,
+    resources: &R,
+    features: WasmFeatures,
+    bodies: &[Body<'_>],
+) -> Result<()>
+    ensures answer { (z : Settings) → Each (λ b. IsReadBy z features.0 b.body) bodies.now
+        → Tells result (Each (λ b. IsFunctionOf z (R.meaning resources.now).«module» b.type_index b.body.rest) bodies.now) }
+{
+    let mut allocs = FuncValidatorAllocations::new(alloc);
+    for i in 0..bodies.len() {
+        allocs = match judge_body(resources, features, &bodies[i], allocs) {
+            Ok(allocs) => allocs,
+            Err(error) => return Err(error),
+        };
+    }
+    Ok(())
+}
+
+/// Judges a body, with the memory of a validator that is done, and gives the memory of its own.
+fn judge_body<R: WasmModuleResources>(
+    resources: &R,
+    features: WasmFeatures,
+    body: &Body<'_>,
+    allocs: FuncValidatorAllocations,
+) -> Result<FuncValidatorAllocations>
+    ensures answer { (z : Settings) → IsReadBy z features.0 body.now.body
+        → Tells result (IsFunctionOf z (R.meaning resources.now).«module» body.now.type_index body.now.body.rest) }
+{
+    let function = FuncToValidate {
+        resources,
+        index: body.index,
+        ty: body.type_index,
+        features,
+    };
+    let mut validator = match function.into_validator(allocs) {
+        Ok(validator) => validator,
+        Err(error) => return Err(error),
+    };
+    let answer = validator.validate(&body.body);
+    let allocs = validator.into_allocations();
+    match answer {
+        Ok(()) => Ok(allocs),
+        Err(error) => Err(error),
+    }
+}

@@ -1,0 +1,10 @@
+//! The bodies of a module's functions, judged one after the other (WebAssembly 3.0, validation, modules, functions).
+//!
+//! [`judge_bodies`] is Ok exactly where each body's bytes spell a function that is valid as one of its type, by the rules of a module
+//! (`specs/Code.antt`), out of memory aside. The memory of one body's validator is used again for the next.
+#![tactic(auto)]
+
+mod bodies;
+
+pub use bodies::{Body, judge_bodies};
+pub use wasm_module_validator_functions::{FunctionBody, WasmModuleResources};

@@ -1,0 +1,99 @@
+//! Frames of a module that are no items: where a section begins, and the code section.
+
+ghost use Rattle.std.specs.Prelude.{◌≡◌, ◌<◌, ℕ, List, OnOk};
+ghost use Rattle.wasm_types.specs.decoding.Decoder.{State};
+ghost use Rattle.wasm_types.specs.error.Denials.{Tells};
+ghost use Rattle.wasm_types.specs.limits.Settings.{Settings};
+ghost use Rattle.wasm_sections_payloads.specs.Payloads.{Counts};
+ghost use Rattle.wasm_module_validator_code.specs.declared.bodies.Body.{Body as TheBody};
+ghost use Rattle.wasm_module_validator_steps.specs.Sections.{code_place};
+ghost use Rattle.wasm_module_validator_steps.specs.Steps.{SoFar, JudgesSection, JudgesBody};
+ghost use Rattle.wasm_module_validator_progress.specs.Progress.{IsAt};
+
+use crate::{Body, InProgress, SectionItem};
+use wasm_module_validator_adding::add_items;
+use wasm_operators_bodies::FunctionBody;
+use wasm_sections_limited::SectionLimited;
+use wasm_types::{Error, Result};
+
+impl InProgress {
+    // Refuses a section whose place is not behind that of the last.
+    fn begin_section(&mut self, place: u32, offset: u64) -> Result<()>
+        ensures answer { Tells result (self.old.last < place) }
+        ensures begun { self.new ≡ record self.old { last = place } }
+    {
+        let last = self.last;
+        self.last = place;
+        if place <= last {
+            return Err(Error::new("section out of order", offset));
+        }
+        Ok(())
+    }
+
+    /// Takes a section of items.
+    ///
+    /// # Errors
+    ///
+    /// The section is out of order, or brings more items than there may be; an item cannot be read or is not valid, or a byte is left
+    /// behind the last; or there is no memory: the first of these.
+    pub fn take_section<'a, T: SectionItem<'a>>(&mut self, section: SectionLimited<'a, T>) -> Result<()>
+        ensures answer { (z : Settings) (p : SoFar) (bodies : List TheBody) (b : State) → IsAt z self.old bodies p → b.settings ≡ z
+            → Counts b section.entry.count section.entry.reader → Tells result ((q : SoFar) × JudgesSection z p T.section b.rest q) }
+        ensures added { OnOk result ((z : Settings) (p q : SoFar) (bodies : List TheBody) (b : State) → IsAt z self.old bodies p → b.settings ≡ z
+            → Counts b section.entry.count section.entry.reader → JudgesSection z p T.section b.rest q → IsAt z self.new bodies q) }
+    {
+        let offset = section.range().start;
+        match self.begin_section(T::place(), offset) {
+            Ok(()) => (),
+            Err(error) => return Err(error),
+        }
+        match T::check_count(&self.state, section.count(), offset) {
+            Ok(()) => (),
+            Err(error) => return Err(error),
+        }
+        add_items(self, section)
+    }
+
+    /// Takes the start of the code section.
+    ///
+    /// # Errors
+    ///
+    /// The section is out of order.
+    pub fn take_code_start(&mut self, offset: u64) -> Result<()>
+        ensures answer { (z : Settings) (p : SoFar) (bodies : List TheBody) → IsAt z self.old bodies p → Tells result (p.last < code_place) }
+        ensures added { OnOk result ((z : Settings) (p : SoFar) (bodies : List TheBody) → IsAt z self.old bodies p → IsAt z self.new bodies (record p { last = code_place })) }
+    {
+        self.begin_section(12, offset)
+    }
+
+    /// Takes a body: it is kept with the index of its function and of its type.
+    ///
+    /// # Errors
+    ///
+    /// The code section has not begun, or another section came behind it; the body is longer than a body may be; each function has
+    /// its body; or there is no memory.
+    pub fn take_body<'a>(&mut self, body: FunctionBody<'a>, bodies: &mut Vec<Body<'a>>) -> Result<()>
+        ensures answer { (z : Settings) (p : SoFar) → IsAt z self.old bodies.old.items p → body.entry.settings ≡ z → Tells result ((q : SoFar) × JudgesBody z p body.entry.rest q) }
+        ensures added { OnOk result ((z : Settings) (p q : SoFar) → IsAt z self.old bodies.old.items p → body.entry.settings ≡ z → JudgesBody z p body.entry.rest q
+            → IsAt z self.new bodies.new.items q) }
+    {
+        let reader = body.get_binary_reader();
+        let offset = reader.original_position();
+        if self.last != 12 {
+            return Err(Error::new("code section entry out of order", offset));
+        }
+        let most = self.state.settings().limits().body_bytes;
+        if reader.bytes_remaining() > most as usize {
+            return Err(Error::new("function body size is out of bounds", offset));
+        }
+        let Some((index, type_index)) = self.state.next_code_index_and_type() else {
+            return Err(Error::new("code section entry exceeds number of functions", offset));
+        };
+        bodies.push(Body {
+            index,
+            type_index,
+            body,
+        })?;
+        Ok(())
+    }
+}

@@ -1,0 +1,100 @@
+//! The items of a section, whatever they are.
+
+ghost use Rattle.std.specs.Prelude.{◌≡◌, ◌↔◌, ◌×◌, ℕ, List, OnOk, true};
+ghost use Rattle.wasm_types.specs.decoding.Decoder.{State, Done};
+ghost use Rattle.wasm_types.specs.decoding.Leb.{u32};
+ghost use Rattle.wasm_types.specs.error.Denials.{Tells};
+ghost use Rattle.wasm_types.specs.limits.Limits.{IsWithinCeilings};
+ghost use Rattle.wasm_types.specs.limits.Settings.{Settings};
+ghost use Rattle.wasm_module_validator_adding.specs.Adding.{AreAdded, Spelled};
+ghost use Rattle.wasm_module_validator_resources.specs.Named.{IsReadOver};
+ghost use Rattle.wasm_module_validator_type_trees.specs.Groups.{Group};
+ghost use Rattle.wasm_module_validator_items.specs.Items.{Items};
+ghost use Rattle.wasm_module_validator_steps.specs.contexts.rules.Syntax.{ModuleTree};
+ghost use Rattle.wasm_module_validator_steps.specs.contexts.rules.Spaces.{module_of};
+ghost use Rattle.wasm_module_validator_steps.specs.contexts.rules.Valid.{IsWithinLimits};
+ghost use Rattle.wasm_module_validator_steps.specs.Sections.{Section, place, IsUnread};
+ghost use Rattle.wasm_module_validator_steps.specs.Adding.{Fits};
+ghost use Rattle.wasm_module_validator_steps.specs.Texts.{ItemRead, AddsRead};
+ghost use Rattle.wasm_module_validator_standing.specs.Standing.{Stands};
+ghost use Rattle.wasm_module_validator_progress.specs.Progress.{Reads, Read, IsRead, AddsTo, MayBegin, IsSectionRead};
+
+use crate::InProgress;
+use wasm_module_validator_adding::AddItem;
+use wasm_module_validator_items::ModuleState;
+use wasm_module_validator_types::TypeList;
+use wasm_types::{FromReader, Result};
+
+/// An item of a section: what is asked where the section begins, and how an item is added.
+pub trait SectionItem<'a>: FromReader<'a> {
+    /// The section that it stands in.
+    ghost section: { Section };
+
+    /// What is read of it.
+    ghost of: { Self → ItemRead section };
+
+    /// The place of the section in the order of sections.
+    fn place() -> u32
+        ensures { result ≡ place section };
+
+    /// Refuses a section of more items than there may be.
+    fn check_count(state: &ModuleState, count: u32, offset: u64) -> Result<()>
+        ensures answer { (groups : List Group) (z : Settings) (m : ModuleTree) → Stands groups state.now z m → IsUnread section m
+            → Tells result (MayBegin z section × Fits z section m count) };
+
+    /// Checks an item that was read, which begins at this offset, and adds it.
+    fn add_to(
+        self,
+        state: &mut ModuleState,
+        types: &mut TypeList,
+        groups: &mut u32,
+        offset: u64,
+    ) -> Result<()>
+        requires over { IsReadOver types.old.groups state.old.spaces }
+        requires interning { types.old.can_intern ≡ true }
+        requires ceilings { IsWithinCeilings state.old.spaces.settings.limits }
+        requires read { (z : Settings) × (s : State) × (t : State) × (Self.FromReader.decoder z s ≡ Done (Self.FromReader.view self) t) }
+        ensures answer { (z : Settings) (m : ModuleTree) → Reads section types.old.groups state.old groups.old z m → Tells result ((n : ModuleTree) × AddsRead z section m (of self) n) }
+        ensures added { OnOk result ((z : Settings) (m n : ModuleTree) → Reads section types.old.groups state.old groups.old z m → AddsRead z section m (of self) n
+            → Reads section types.new.groups state.new groups.new z n) }
+        ensures over { OnOk result (IsReadOver types.new.groups state.new.spaces) }
+        ensures interning { OnOk result (types.new.can_intern ≡ true) }
+        ensures kept { (state.new.spaces.settings ≡ state.old.spaces.settings) × (state.new.next_code ≡ state.old.next_code) };
+
+    /// Items whose bytes are read alike are the same.
+    ghost alike: { (x y : Self) → Self.FromReader.view x ≡ Self.FromReader.view y → of x ≡ of y };
+
+    /// Behind a module within its limits, contents bring a section of these items exactly where they spell one that is valid, within the
+    /// limits.
+    ghost brings: { (z : Settings) (b r : State) (count : ℕ) (m n : ModuleTree) → b.settings ≡ z → u32 b ≡ Done count r → IsUnread section m → IsWithinLimits z (module_of m) m
+        → ((MayBegin z section × Fits z section m count) × AreAdded (Spelled Self.FromReader.view of (Self.FromReader.grammar r.settings)) (AddsRead z section) count r.rest m n)
+        ↔ IsSectionRead z section m b.rest n };
+}
+
+impl<'a, T: SectionItem<'a>> AddItem<'a, T> for InProgress {
+    ghost use Rattle.std.specs.Prelude.{Unit};
+
+    ghost Tree = { Read };
+
+    ghost Item = { ItemRead T.section };
+
+    ghost of = { T.of };
+
+    ghost reads = { λ r a. IsRead T.section r a };
+
+    ghost adds = { λ a x b. AddsTo T.section a x b };
+
+    ghost refuses = { λ a x p e. Unit {0} };
+
+    fn add(&mut self, item: T, offset: u64) -> Result<()> {
+        match item.add_to(&mut self.state, &mut self.types, &mut self.groups, offset) {
+            Ok(()) => Ok(()),
+            Err(error) => {
+                self.clear();
+                Err(error)
+            }
+        }
+    }
+
+    ghost alike = { T.alike };
+}

@@ -1,0 +1,15 @@
+//! A module that is being read, section by section (WebAssembly 3.0, validation, modules).
+//!
+//! [`InProgress`] keeps the state of a module and the list of its types. A section of items is taken by
+//! [`InProgress::take_section`], whatever its items are: a [`SectionItem`] says which section it stands in, how many of it there may be,
+//! and how one is added. `specs/Progress.antt` says when what is kept stands for what was judged: each call is Ok exactly where its
+//! frame may come next by the rules, and what is kept then stands for whatever was judged with it.
+#![tactic(auto)]
+
+mod frames;
+mod items;
+mod progress;
+
+pub use items::SectionItem;
+pub use progress::InProgress;
+pub use wasm_module_validator_code::Body;
