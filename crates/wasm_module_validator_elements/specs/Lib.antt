@@ -10,3 +10,4 @@ pub mod Worked
 -- The rules of the crates below, under their names: crates above cite them here.
 pub use Rattle.wasm_module_validator_segments.specs as segments
 pub use Rattle.wasm_module_validator_segments.specs.rules as rules
+pub use Rattle.wasm_module_validator_referring.specs as referring

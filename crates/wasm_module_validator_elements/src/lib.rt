@@ -15,7 +15,9 @@ mod modes;
 mod naming;
 
 pub use elements::check_element;
+pub use wasm_module_validator_referring::{ReferringToAll, name_references};
 pub use wasm_module_validator_segments::{
-    ConstExpr, OperatorValidatorAllocations, Settings, WasmModuleResources,
+    ConstExpr, DataOf, GlobalOf, OperatorValidatorAllocations, Settings, TableInitOf, TableOf,
+    WasmModuleResources, check_data, check_global, check_table, reader_by,
 };
 pub use wasm_sections_elements::{ElementItemsOf, ElementKindOf, ElementOf};

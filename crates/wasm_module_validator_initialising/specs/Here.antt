@@ -2,15 +2,15 @@
 use Rattle.std.specs.Prelude.{◌≡◌, ℕ, List, Option, Some, None}
 use Rattle.wasm_types.specs.limits.Settings.{Settings}
 use Rattle.wasm_types.specs.decoding.Decoder.{State}
-use Rattle.wasm_sections_segments.specs.declared.segment.DataOf.{DataOf}
-use Rattle.wasm_sections_segments.specs.Spells.{DataTree}
-use Rattle.wasm_module_validator_type_trees.specs.Groups.{Group}
-use Rattle.wasm_module_validator_resources.specs.Reading.{meaning_of}
-use Rattle.wasm_module_validator_items.specs.Items.{Items}
-use Rattle.wasm_module_validator_referring.specs.Referring.{meaning_with_all}
-use Rattle.wasm_module_validator_referring.specs.Naming.{NamesMore}
-use Rattle.wasm_module_validator_segments.specs.constants.resources.Meaning.{Meaning}
-use Rattle.wasm_module_validator_segments.specs.Trees.{data_read}
+use Rattle.wasm_module_validator_standing.specs.steps.contexts.segments.declared.segment.DataOf.{DataOf}
+use Rattle.wasm_module_validator_standing.specs.steps.contexts.segments.Spells.{DataTree}
+use Rattle.wasm_module_validator_standing.specs.type_trees.Groups.{Group}
+use Rattle.wasm_module_validator_standing.specs.resources.Reading.{meaning_of}
+use Rattle.wasm_module_validator_standing.specs.items.Items.{Items}
+use Rattle.wasm_module_validator_elements.specs.referring.Referring.{meaning_with_all}
+use Rattle.wasm_module_validator_elements.specs.referring.Naming.{NamesMore}
+use Rattle.wasm_module_validator_elements.specs.segments.constants.resources.Meaning.{Meaning}
+use Rattle.wasm_module_validator_elements.specs.segments.Trees.{data_read}
 
 -- what constants are judged in: the module as far as it was read, where each function may be referred to
 abbrev pub here : List Group → Items → Meaning

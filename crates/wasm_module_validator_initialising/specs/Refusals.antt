@@ -2,13 +2,13 @@
 use Rattle.std.specs.Prelude.{◌⊎◌, ◌≤◌, ℕ, List, length}
 use Rattle.wasm_types.specs.decoding.Decoder.{State}
 use Rattle.wasm_types.specs.error.ErrorValue.{ErrorValue}
-use Rattle.wasm_sections_segments.specs.declared.global.GlobalOf.{GlobalOf}
-use Rattle.wasm_sections_segments.specs.declared.table.TableOf.{TableOf}
-use Rattle.wasm_sections_elements.specs.declared.element.ElementOf.{ElementOf}
-use Rattle.wasm_module_validator_type_trees.specs.Groups.{Group}
-use Rattle.wasm_module_validator_items.specs.Items.{Items}
-use Rattle.wasm_module_validator_segments.specs.rules.Valid.{most_tables}
-use Rattle.wasm_module_validator_segments.specs.Refusals.{IsFault, RefusesGlobal, RefusesTable}
+use Rattle.wasm_module_validator_standing.specs.steps.contexts.segments.declared.global.GlobalOf.{GlobalOf}
+use Rattle.wasm_module_validator_standing.specs.steps.contexts.segments.declared.table.TableOf.{TableOf}
+use Rattle.wasm_module_validator_standing.specs.steps.contexts.elements.declared.element.ElementOf.{ElementOf}
+use Rattle.wasm_module_validator_standing.specs.type_trees.Groups.{Group}
+use Rattle.wasm_module_validator_standing.specs.items.Items.{Items}
+use Rattle.wasm_module_validator_elements.specs.segments.rules.Valid.{most_tables}
+use Rattle.wasm_module_validator_elements.specs.segments.Refusals.{IsFault, RefusesGlobal, RefusesTable}
 use Rattle.wasm_module_validator_elements.specs.Refusals.{RefusesElement}
 use Rattle.wasm_module_validator_initialising.specs.Here.{here}
 

@@ -3,24 +3,19 @@
 ghost use Rattle.std.specs.Prelude.{◌≡◌, IfErr, OnOk};
 ghost use Rattle.wasm_types.specs.error.Denials.{Tells, UnlessMemory};
 ghost use Rattle.wasm_types.specs.limits.Limits.{IsWithinCeilings};
-ghost use Rattle.wasm_types.specs.limits.Settings.{Settings};
-ghost use Rattle.wasm_module_validator_resources.specs.Named.{IsReadOver};
-ghost use Rattle.wasm_module_validator_segments.specs.Trees.{data_read};
-ghost use Rattle.wasm_module_validator_segments.specs.Judged.{IsData};
-ghost use Rattle.wasm_module_validator_segments.specs.Refusals.{RefusesData};
-ghost use Rattle.wasm_module_validator_segments.specs.steps.contexts.rules.Syntax.{ModuleTree};
-ghost use Rattle.wasm_module_validator_segments.specs.steps.Sections as section;
-ghost use Rattle.wasm_module_validator_segments.specs.steps.Sections.{up_to};
-ghost use Rattle.wasm_module_validator_segments.specs.steps.Texts.{AddsRead};
-ghost use Rattle.wasm_module_validator_standing.specs.Standing.{Stands};
+ghost use Rattle.wasm_module_validator_standing.specs.resources.Named.{IsReadOver};
+ghost use Rattle.wasm_module_validator_elements.specs.segments.Trees.{data_read};
+ghost use Rattle.wasm_module_validator_elements.specs.segments.Judged.{IsData};
+ghost use Rattle.wasm_module_validator_elements.specs.segments.Refusals.{RefusesData};
+ghost use Rattle.wasm_module_validator_standing.specs.steps.Sections as section;
+ghost use Rattle.wasm_module_validator_standing.specs.Standing.{AddsItem, TellsItem};
 ghost use Rattle.wasm_module_validator_initialising.specs.Here.{here, data_tree};
 
 use std::alloc::Global;
-use wasm_module_validator_items::ModuleState;
-use wasm_module_validator_referring::ReferringToAll;
-use wasm_module_validator_segments::{
-    ConstExpr, DataOf, OperatorValidatorAllocations, check_data,
+use wasm_module_validator_elements::{
+    ConstExpr, DataOf, OperatorValidatorAllocations, ReferringToAll, check_data,
 };
+use wasm_module_validator_standing::ModuleState;
 use wasm_module_validator_types::TypeList;
 use wasm_types::Result;
 
@@ -68,10 +63,8 @@ pub fn check_data_item(
 ) -> Result<()>
     requires over { IsReadOver types.now.groups state.old.spaces }
     requires within { IsWithinCeilings state.old.spaces.settings.limits }
-    ensures answer { (z : Settings) (m : ModuleTree) → Stands types.now.groups state.old z m → m ≡ up_to section.data_segments m
-        → Tells result ((n : ModuleTree) × AddsRead z section.data_segments m (data_tree segment.entry) n) }
-    ensures added { OnOk result ((z : Settings) (m n : ModuleTree) → Stands types.now.groups state.old z m → m ≡ up_to section.data_segments m
-        → AddsRead z section.data_segments m (data_tree segment.entry) n → Stands types.now.groups state.new z n × (n ≡ up_to section.data_segments n)) }
+    ensures answer { TellsItem section.data_segments types.now.groups state.old (data_tree segment.entry) result }
+    ensures added { OnOk result (AddsItem section.data_segments types.now.groups state.old (data_tree segment.entry) types.now.groups state.new) }
     ensures stays { state.new ≡ state.old }
     ensures refused { IfErr result (λ e. UnlessMemory e.kind (RefusesData state.old.spaces.settings (here types.now.groups state.old) state.old.spaces.imported_globals offset segment.entry.kind e)) }
 {

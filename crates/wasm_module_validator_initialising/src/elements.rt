@@ -3,29 +3,24 @@
 ghost use Rattle.std.specs.Prelude.{◌≡◌, IfErr, IfOk, OnErr, OnOk};
 ghost use Rattle.wasm_types.specs.error.Denials.{Tells, UnlessMemory};
 ghost use Rattle.wasm_types.specs.limits.Limits.{IsWithinCeilings};
-ghost use Rattle.wasm_types.specs.limits.Settings.{Settings};
-ghost use Rattle.wasm_module_validator_resources.specs.Named.{IsReadOver};
-ghost use Rattle.wasm_module_validator_segments.specs.constants.resources.Meaning.{reference_in};
-ghost use Rattle.wasm_module_validator_segments.specs.steps.contexts.rules.Syntax.{ModuleTree};
-ghost use Rattle.wasm_module_validator_segments.specs.steps.Sections as section;
-ghost use Rattle.wasm_module_validator_segments.specs.steps.Sections.{up_to};
-ghost use Rattle.wasm_module_validator_segments.specs.steps.Texts.{AddsRead};
+ghost use Rattle.wasm_module_validator_standing.specs.resources.Named.{IsReadOver};
+ghost use Rattle.wasm_module_validator_elements.specs.segments.constants.resources.Meaning.{reference_in};
+ghost use Rattle.wasm_module_validator_standing.specs.steps.Sections as section;
 ghost use Rattle.wasm_module_validator_elements.specs.Trees.{element_read};
 ghost use Rattle.wasm_module_validator_elements.specs.Items.{item_type};
 ghost use Rattle.wasm_module_validator_elements.specs.Judged.{IsElementThere};
 ghost use Rattle.wasm_module_validator_elements.specs.Naming.{NamesElement};
 ghost use Rattle.wasm_module_validator_elements.specs.Refusals.{RefusesElement};
-ghost use Rattle.wasm_module_validator_standing.specs.Standing.{Stands};
+ghost use Rattle.wasm_module_validator_standing.specs.Standing.{AddsItem, TellsItem};
 ghost use Rattle.wasm_module_validator_initialising.specs.Here.{here};
 ghost use Rattle.wasm_module_validator_initialising.specs.Refusals.{RefusesNewElement};
 
 use crate::marking::refer_to_each;
 use std::alloc::Global;
 use wasm_module_validator_elements::{
-    ConstExpr, ElementOf, OperatorValidatorAllocations, check_element,
+    ConstExpr, ElementOf, OperatorValidatorAllocations, ReferringToAll, check_element,
 };
-use wasm_module_validator_items::ModuleState;
-use wasm_module_validator_referring::ReferringToAll;
+use wasm_module_validator_standing::ModuleState;
 use wasm_module_validator_types::TypeList;
 use wasm_types::{RefType, Result};
 
@@ -101,12 +96,11 @@ pub fn add_element<'a>(
 ) -> Result<()>
     requires over { IsReadOver types.now.groups state.old.spaces }
     requires within { IsWithinCeilings state.old.spaces.settings.limits }
-    ensures answer { (z : Settings) (m : ModuleTree) → Stands types.now.groups state.old z m → m ≡ up_to section.element_segments m
-        → Tells result ((n : ModuleTree) × AddsRead z section.element_segments m (element_read element.entry) n) }
-    ensures added { OnOk result ((z : Settings) (m n : ModuleTree) → Stands types.now.groups state.old z m → m ≡ up_to section.element_segments m
-        → AddsRead z section.element_segments m (element_read element.entry) n → Stands types.now.groups state.new z n × (n ≡ up_to section.element_segments n)) }
+    ensures answer { TellsItem section.element_segments types.now.groups state.old (element_read element.entry) result }
+    ensures added { OnOk result (AddsItem section.element_segments types.now.groups state.old (element_read element.entry) types.now.groups state.new) }
     ensures read { IsReadOver types.now.groups state.new.spaces }
     ensures settings { state.new.spaces.settings ≡ state.old.spaces.settings }
+    ensures code { state.new.next_code ≡ state.old.next_code }
     ensures stays { OnErr result (state.new ≡ state.old) }
     ensures refused { IfErr result (λ e. UnlessMemory e.kind (RefusesNewElement types.now.groups state.old offset element.entry e)) }
 {

@@ -3,30 +3,26 @@
 ghost use Rattle.std.specs.Prelude.{◌≡◌, IfErr, IfOk, OnErr, OnOk};
 ghost use Rattle.wasm_types.specs.error.Denials.{Tells, UnlessMemory};
 ghost use Rattle.wasm_types.specs.limits.Limits.{IsWithinCeilings};
-ghost use Rattle.wasm_types.specs.limits.Settings.{Settings};
-ghost use Rattle.wasm_module_validator_resources.specs.Named.{IsReadOver};
-ghost use Rattle.wasm_module_validator_referring.specs.Naming.{NamesMore};
-ghost use Rattle.wasm_module_validator_segments.specs.constants.resources.Meaning.{global_in};
-ghost use Rattle.wasm_module_validator_segments.specs.rules.Spaces.{global_in as global_written};
-ghost use Rattle.wasm_module_validator_segments.specs.Trees.{global_read};
-ghost use Rattle.wasm_module_validator_segments.specs.Judged.{IsGlobal};
-ghost use Rattle.wasm_module_validator_segments.specs.Refusals.{RefusesGlobal};
-ghost use Rattle.wasm_module_validator_segments.specs.steps.contexts.rules.Syntax.{ModuleTree};
-ghost use Rattle.wasm_module_validator_segments.specs.steps.Sections as section;
-ghost use Rattle.wasm_module_validator_segments.specs.steps.Sections.{up_to};
-ghost use Rattle.wasm_module_validator_segments.specs.steps.Texts.{AddsRead};
-ghost use Rattle.wasm_module_validator_standing.specs.Standing.{Stands};
+ghost use Rattle.wasm_module_validator_standing.specs.resources.Named.{IsReadOver};
+ghost use Rattle.wasm_module_validator_elements.specs.referring.Naming.{NamesMore};
+ghost use Rattle.wasm_module_validator_elements.specs.segments.constants.resources.Meaning.{global_in};
+ghost use Rattle.wasm_module_validator_elements.specs.segments.rules.Spaces.{global_in as global_written};
+ghost use Rattle.wasm_module_validator_elements.specs.segments.Trees.{global_read};
+ghost use Rattle.wasm_module_validator_elements.specs.segments.Judged.{IsGlobal};
+ghost use Rattle.wasm_module_validator_elements.specs.segments.Refusals.{RefusesGlobal};
+ghost use Rattle.wasm_module_validator_standing.specs.steps.Sections as section;
+ghost use Rattle.wasm_module_validator_standing.specs.Standing.{AddsItem, TellsItem};
 ghost use Rattle.wasm_module_validator_initialising.specs.Here.{here};
 ghost use Rattle.wasm_module_validator_initialising.specs.Refusals.{RefusesNewGlobal};
 
 use crate::marking::refer_to_each;
 use crate::naming::name_constant;
 use std::alloc::Global;
-use wasm_module_validator_items::ModuleState;
-use wasm_module_validator_referring::ReferringToAll;
-use wasm_module_validator_segments::{
-    ConstExpr, GlobalOf, OperatorValidatorAllocations, Settings, WasmModuleResources, check_global,
+use wasm_module_validator_elements::{
+    ConstExpr, GlobalOf, OperatorValidatorAllocations, ReferringToAll, Settings,
+    WasmModuleResources, check_global,
 };
+use wasm_module_validator_standing::ModuleState;
 use wasm_module_validator_types::TypeList;
 use wasm_types::{GlobalType, Result};
 
@@ -136,12 +132,11 @@ pub fn add_global(
 ) -> Result<()>
     requires over { IsReadOver types.now.groups state.old.spaces }
     requires within { IsWithinCeilings state.old.spaces.settings.limits }
-    ensures answer { (z : Settings) (m : ModuleTree) → Stands types.now.groups state.old z m → m ≡ up_to section.globals m
-        → Tells result ((n : ModuleTree) × AddsRead z section.globals m (global_read global.entry) n) }
-    ensures added { OnOk result ((z : Settings) (m n : ModuleTree) → Stands types.now.groups state.old z m → m ≡ up_to section.globals m
-        → AddsRead z section.globals m (global_read global.entry) n → Stands types.now.groups state.new z n × (n ≡ up_to section.globals n)) }
+    ensures answer { TellsItem section.globals types.now.groups state.old (global_read global.entry) result }
+    ensures added { OnOk result (AddsItem section.globals types.now.groups state.old (global_read global.entry) types.now.groups state.new) }
     ensures read { IsReadOver types.now.groups state.new.spaces }
     ensures settings { state.new.spaces.settings ≡ state.old.spaces.settings }
+    ensures code { state.new.next_code ≡ state.old.next_code }
     ensures stays { OnErr result (state.new ≡ state.old) }
     ensures refused { IfErr result (λ e. UnlessMemory e.kind (RefusesNewGlobal types.now.groups state.old offset global.entry e)) }
 {

@@ -3,17 +3,18 @@
 ghost use Rattle.std.specs.Prelude.{◌≡◌, IfErr, IfOk, Option};
 ghost use Rattle.wasm_types.specs.limits.Limits.{IsWithinCeilings};
 ghost use Rattle.wasm_types.specs.reader.Reading.{IsNotMemory};
-ghost use Rattle.wasm_sections_segments.specs.Tables.{init_of};
-ghost use Rattle.wasm_module_validator_segments.specs.constants.expression.Code.{Code};
-ghost use Rattle.wasm_module_validator_segments.specs.constants.expression.Spelling.{SpelledExpression};
-ghost use Rattle.wasm_module_validator_segments.specs.Trees.{bytes_of};
-ghost use Rattle.wasm_module_validator_segments.specs.steps.Texts.{SpelledInit};
-ghost use Rattle.wasm_module_validator_referring.specs.Naming.{NamesMore};
+ghost use Rattle.wasm_module_validator_standing.specs.steps.contexts.segments.Tables.{init_of};
+ghost use Rattle.wasm_module_validator_elements.specs.segments.constants.expression.Code.{Code};
+ghost use Rattle.wasm_module_validator_elements.specs.segments.constants.expression.Spelling.{SpelledExpression};
+ghost use Rattle.wasm_module_validator_elements.specs.segments.Trees.{bytes_of};
+ghost use Rattle.wasm_module_validator_standing.specs.steps.Texts.{SpelledInit};
+ghost use Rattle.wasm_module_validator_elements.specs.referring.Naming.{NamesMore};
 ghost use Rattle.wasm_module_validator_initialising.specs.Here.{NamesInit};
 
 use std::alloc::Global;
-use wasm_module_validator_referring::name_references;
-use wasm_module_validator_segments::{ConstExpr, Settings, TableInitOf, reader_by};
+use wasm_module_validator_elements::{
+    ConstExpr, Settings, TableInitOf, name_references, reader_by,
+};
 use wasm_types::Result;
 
 /// Names the functions that an expression refers to, by the settings that the module is judged by.

@@ -3,32 +3,28 @@
 ghost use Rattle.std.specs.Prelude.{◌≡◌, ◌≤◌, IfErr, IfOk, OnErr, OnOk, length};
 ghost use Rattle.wasm_types.specs.error.Denials.{Tells, UnlessMemory};
 ghost use Rattle.wasm_types.specs.limits.Limits.{IsWithinCeilings};
-ghost use Rattle.wasm_types.specs.limits.Settings.{Settings};
-ghost use Rattle.wasm_module_validator_resources.specs.Named.{IsReadOver};
-ghost use Rattle.wasm_sections_segments.specs.Tables.{init_of};
-ghost use Rattle.wasm_module_validator_segments.specs.constants.resources.Meaning.{table_in};
-ghost use Rattle.wasm_module_validator_segments.specs.rules.Spaces.{table_in as table_written};
-ghost use Rattle.wasm_module_validator_segments.specs.Trees.{bytes_of, table_read};
-ghost use Rattle.wasm_module_validator_segments.specs.Judged.{IsTable};
-ghost use Rattle.wasm_module_validator_segments.specs.Refusals.{RefusesTable};
-ghost use Rattle.wasm_module_validator_segments.specs.steps.contexts.rules.Syntax.{ModuleTree};
-ghost use Rattle.wasm_module_validator_segments.specs.steps.Sections as section;
-ghost use Rattle.wasm_module_validator_segments.specs.steps.Sections.{up_to};
-ghost use Rattle.wasm_module_validator_segments.specs.steps.Texts.{AddsRead};
-ghost use Rattle.wasm_module_validator_standing.specs.Standing.{Stands};
+ghost use Rattle.wasm_module_validator_standing.specs.resources.Named.{IsReadOver};
+ghost use Rattle.wasm_module_validator_standing.specs.steps.contexts.segments.Tables.{init_of};
+ghost use Rattle.wasm_module_validator_elements.specs.segments.constants.resources.Meaning.{table_in};
+ghost use Rattle.wasm_module_validator_elements.specs.segments.rules.Spaces.{table_in as table_written};
+ghost use Rattle.wasm_module_validator_elements.specs.segments.Trees.{bytes_of, table_read};
+ghost use Rattle.wasm_module_validator_elements.specs.segments.Judged.{IsTable};
+ghost use Rattle.wasm_module_validator_elements.specs.segments.Refusals.{RefusesTable};
+ghost use Rattle.wasm_module_validator_standing.specs.steps.Sections as section;
+ghost use Rattle.wasm_module_validator_standing.specs.Standing.{AddsItem, TellsItem};
 ghost use Rattle.wasm_module_validator_initialising.specs.Here.{here, NamesInit};
 ghost use Rattle.wasm_module_validator_initialising.specs.Refusals.{RefusesNewTable};
 
 use crate::marking::refer_to_each;
 use crate::naming::name_init;
 use std::alloc::Global;
-use wasm_module_validator_items::ModuleState;
-use wasm_module_validator_referring::ReferringToAll;
-use wasm_module_validator_segments::{
-    ConstExpr, TableOf, OperatorValidatorAllocations, Settings, WasmModuleResources, check_table,
+use wasm_module_validator_elements::{
+    ConstExpr, OperatorValidatorAllocations, ReferringToAll, Settings, TableOf,
+    WasmModuleResources, check_table,
 };
+use wasm_module_validator_standing::ModuleState;
 use wasm_module_validator_types::TypeList;
-use wasm_types::{TableType, Result};
+use wasm_types::{Result, TableType};
 
 // Checks a table over any module, gives its type over ids, and names the functions that its expression refers to. Where tables come in
 // turn the module has no globals but those that are imported.
@@ -141,12 +137,11 @@ pub fn add_table(
 ) -> Result<()>
     requires over { IsReadOver types.now.groups state.old.spaces }
     requires within { IsWithinCeilings state.old.spaces.settings.limits }
-    ensures answer { (z : Settings) (m : ModuleTree) → Stands types.now.groups state.old z m → m ≡ up_to section.tables m
-        → Tells result ((n : ModuleTree) × AddsRead z section.tables m (table_read table.entry) n) }
-    ensures added { OnOk result ((z : Settings) (m n : ModuleTree) → Stands types.now.groups state.old z m → m ≡ up_to section.tables m
-        → AddsRead z section.tables m (table_read table.entry) n → Stands types.now.groups state.new z n × (n ≡ up_to section.tables n)) }
+    ensures answer { TellsItem section.tables types.now.groups state.old (table_read table.entry) result }
+    ensures added { OnOk result (AddsItem section.tables types.now.groups state.old (table_read table.entry) types.now.groups state.new) }
     ensures read { IsReadOver types.now.groups state.new.spaces }
     ensures settings { state.new.spaces.settings ≡ state.old.spaces.settings }
+    ensures code { state.new.next_code ≡ state.old.next_code }
     ensures stays { OnErr result (state.new ≡ state.old) }
     ensures refused { IfErr result (λ e. UnlessMemory e.kind (RefusesNewTable types.now.groups state.old offset table.entry e)) }
 {

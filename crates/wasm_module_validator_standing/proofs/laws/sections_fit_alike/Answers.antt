@@ -1,0 +1,17 @@
+use Rattle.wasm_module_validator_standing.specs.laws.Deciding.{functions_fit, tables_fit, memories_fit, tags_fit, globals_fit}
+use Rattle.wasm_module_validator_standing.proofs.laws.sections_fit_alike.Goals as goal
+
+pub returns-clause-functions : goal.returns-clause-functions
+returns-clause-functions c = functions_fit
+
+pub returns-clause-tables : goal.returns-clause-tables
+returns-clause-tables c = tables_fit
+
+pub returns-clause-memories : goal.returns-clause-memories
+returns-clause-memories c = memories_fit
+
+pub returns-clause-tags : goal.returns-clause-tags
+returns-clause-tags c = tags_fit
+
+pub returns-clause-globals : goal.returns-clause-globals
+returns-clause-globals c = globals_fit
