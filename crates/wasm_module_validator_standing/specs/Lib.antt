@@ -2,3 +2,10 @@
 pub mod Standing
 -- Laws, with the proofs.
 pub mod laws
+-- The rules of the crates below, under their names: crates above cite them here.
+pub use Rattle.wasm_module_validator_steps.specs as steps
+pub use Rattle.wasm_module_validator_items.specs as items
+pub use Rattle.wasm_module_validator_resources.specs as resources
+pub use Rattle.wasm_module_validator_type_trees.specs as type_trees
+pub use Rattle.wasm_module_validator_canonical.specs as canonical
+pub use Rattle.wasm_module_validator_interning.specs as interning

@@ -1,5 +1,7 @@
 -- The state of a module that is being read stands for the tree of what was read (WebAssembly 3.0, structure, modules; validation, modules).
-use Rattle.std.specs.Prelude.{◌≡◌, ◌≤◌, ℕ, List, length, map}
+use Rattle.std.specs.Prelude.{◌≡◌, ◌≤◌, ℕ, List, Result, length, map}
+use Rattle.wasm_types.specs.error.ErrorValue.{ErrorValue}
+use Rattle.wasm_types.specs.error.Denials.{Tells}
 use Rattle.wasm_types.specs.limits.Settings.{Settings}
 use Rattle.wasm_module_validator_type_trees.specs.Groups.{Group, count}
 use Rattle.wasm_module_validator_module.specs.Spaces.{Spaces}
@@ -8,7 +10,9 @@ use Rattle.wasm_module_validator_so_far.specs.Referring.{IsReferredAs, referring
 use Rattle.wasm_module_validator_items.specs.Items.{Items}
 use Rattle.wasm_module_validator_steps.specs.contexts.imports.Spells.{ExportTree}
 use Rattle.wasm_module_validator_steps.specs.contexts.rules.Syntax.{ModuleTree}
+use Rattle.wasm_module_validator_steps.specs.Sections.{Section, up_to, IsUnread}
 use Rattle.wasm_module_validator_steps.specs.Adding.{size_so_far}
+use Rattle.wasm_module_validator_steps.specs.Texts.{ItemRead, AddsRead}
 
 -- It was made with these settings; its spaces are those of the tree, and the functions that are marked those that the tree refers to; the
 -- names of exports and the size of types are the tree's. The list of types holds no more types than the module, and no more groups.
@@ -24,3 +28,24 @@ pub record Stands (groups : List Group) (s : Items) (z : Settings) (m : ModuleTr
 -- code may refer to each of these functions that there is, as it is where a table, a global or an element segment names them
 abbrev pub marking : List ℕ → Spaces → Spaces
 marking xs s = record s { functions = referring_to_each xs s.functions }
+
+-- ---- while a section is read
+
+-- nothing was read behind the section
+pub record IsReading (s : Section) (groups : List Group) (i : Items) (z : Settings) (m : ModuleTree) : Type 0 where
+  pub stands : Stands groups i z m
+  pub last : m ≡ up_to s m
+
+-- where it begins, nothing of the section was read
+pub record IsBefore (s : Section) (groups : List Group) (i : Items) (z : Settings) (m : ModuleTree) : Type 0 where
+  pub stands : Stands groups i z m
+  pub unread : IsUnread s m
+
+-- What a call that adds an item to the state answers: Ok exactly where the rules allow the item behind what was read, for each tree that
+-- the state stands for.
+abbrev pub TellsItem : {X : Type 0} → (s : Section) → List Group → Items → ItemRead s → Result X ErrorValue → Type 0
+TellsItem s groups i x result = (z : Settings) (m : ModuleTree) → IsReading s groups i z m → Tells result ((n : ModuleTree) × AddsRead z s m x n)
+
+-- And what it leaves, where it is Ok: the state stands for each tree that has the item more. The list of types may have grown.
+abbrev pub AddsItem : (s : Section) → List Group → Items → ItemRead s → List Group → Items → Type 0
+AddsItem s groups i x grown j = (z : Settings) (m n : ModuleTree) → IsReading s groups i z m → AddsRead z s m x n → IsReading s grown j z n

@@ -12,3 +12,4 @@ pub use laws::{
     items_with_constants_are_decided_alike, items_with_constants_stand, sections_fit_alike,
     states_are_worked,
 };
+pub use wasm_module_validator_items::ModuleState;

@@ -1,0 +1,43 @@
+//! Exports.
+
+ghost use Rattle.std.specs.Prelude.{◌≡◌, IfErr, OnErr, OnOk};
+ghost use Rattle.wasm_types.specs.error.Denials.{UnlessMemory};
+ghost use Rattle.wasm_module_validator_standing.specs.resources.Named.{IsReadOver};
+ghost use Rattle.wasm_module_validator_standing.specs.steps.Sections as section;
+ghost use Rattle.wasm_module_validator_standing.specs.Standing.{AddsItem, TellsItem};
+
+use wasm_module_validator_standing::ModuleState;
+use wasm_module_validator_types::TypeList;
+use wasm_sections_imports::Export;
+use wasm_types::Result;
+
+/// Adds an export; code may then refer to a function that is exported. How many exports there may be is tested where their section begins.
+///
+/// # Errors
+///
+/// The index is past the end of its space, or the global is mutable and may not be exported; the sizes of types pass their limit; or the
+/// name is taken: the first of these in that order, at `offset`; or there is no memory. The state stays then.
+pub fn add_export_item(
+    state: &mut ModuleState,
+    types: &TypeList,
+    export: Export<'_>,
+    offset: u64,
+) -> Result<()>
+    requires { IsReadOver types.now.groups state.old.spaces }
+    ensures answer { TellsItem section.exports types.now.groups state.old (record { name = export.name.now; kind = export.kind; index = export.index }) result }
+    ensures added { OnOk result (AddsItem section.exports types.now.groups state.old (record { name = export.name.now; kind = export.kind; index = export.index }) types.now.groups state.new) }
+    ensures read { IsReadOver types.now.groups state.new.spaces }
+    ensures settings { state.new.spaces.settings ≡ state.old.spaces.settings }
+    ensures code { state.new.next_code ≡ state.old.next_code }
+    ensures stays { OnErr result (state.new ≡ state.old) }
+    ensures refused { IfErr result (λ e. UnlessMemory e.kind (e.offset ≡ offset)) }
+{
+    state.add_export(
+        export.name,
+        export.kind,
+        export.index,
+        types,
+        offset,
+        false,
+    )
+}

@@ -1,0 +1,78 @@
+//! Groups of types.
+
+ghost use Rattle.std.specs.Prelude.{◌≡◌, ◌<◌, IfErr, IsTrue, OnErr, OnOk, length};
+ghost use Rattle.wasm_types.specs.error.Denials.{Tells, RefusedAt};
+ghost use Rattle.wasm_types.specs.error.declared.error.ErrorKind.TheVariants.{Other};
+ghost use Rattle.wasm_types.specs.groups.Entries.{declared_types};
+ghost use Rattle.wasm_types.specs.limits.Limits.{IsWithinCeilings};
+ghost use Rattle.wasm_types.specs.limits.Settings.{Settings};
+ghost use Rattle.wasm_module_validator_standing.specs.canonical.Written.{AreModuleIndices};
+ghost use Rattle.wasm_module_validator_standing.specs.interning.Interned.{written_group};
+ghost use Rattle.wasm_module_validator_standing.specs.resources.Named.{IsReadOver};
+ghost use Rattle.wasm_module_validator_standing.specs.steps.contexts.rules.Syntax.{ModuleTree};
+ghost use Rattle.wasm_module_validator_standing.specs.steps.Sections as section;
+ghost use Rattle.wasm_module_validator_standing.specs.steps.Texts.{AddsRead};
+ghost use Rattle.wasm_module_validator_standing.specs.Standing.{AddsItem, IsReading};
+
+use wasm_module_validator_standing::ModuleState;
+use wasm_module_validator_types::TypeList;
+use wasm_types::{Error, RecGroup, Result};
+
+// The refusal of more groups than the limit of types.
+#[cold]
+fn too_many(most: u32, offset: u64) -> Error
+    ensures kind { result.kind ≡ Other }
+    ensures at { result.offset ≡ offset }
+{
+    Error::fmt(
+        format_args!("types count exceeds limit of {most}"),
+        offset,
+    )
+}
+
+// Refuses a group behind as many as the limit of types.
+fn check_room(state: &ModuleState, groups: u32, offset: u64) -> Result<()>
+    ensures answer { Tells result (groups < state.now.spaces.settings.limits.types) }
+    ensures refused { IfErr result (λ e. (e.kind ≡ Other) × (e.offset ≡ offset)) }
+{
+    let most = state.settings().limits().types;
+    if groups >= most {
+        return Err(too_many(most, offset));
+    }
+    Ok(())
+}
+
+/// Adds a group of types, behind so many groups of the module.
+///
+/// # Errors
+///
+/// There are as many groups as the limit of types; more types with the group than that; or the group is not valid behind the types of the
+/// module: the first of these in that order, at `offset`; or there is no memory. The state stays then; the list may have the group.
+pub fn add_group(
+    state: &mut ModuleState,
+    types: &mut TypeList,
+    groups: u32,
+    rec_group: RecGroup,
+    offset: u64,
+) -> Result<()>
+    requires can_intern { IsTrue types.old.can_intern }
+    requires read { IsReadOver types.old.groups state.old.spaces }
+    requires within { IsWithinCeilings state.old.spaces.settings.limits }
+    requires indices { AreModuleIndices (declared_types rec_group) }
+    ensures answer { (z : Settings) (m : ModuleTree) → IsReading section.types types.old.groups state.old z m → groups ≡ length m.types
+        → Tells result ((n : ModuleTree) × AddsRead z section.types m (written_group rec_group) n) }
+    ensures added { OnOk result (AddsItem section.types types.old.groups state.old (written_group rec_group) types.new.groups state.new) }
+    ensures fewer { OnOk result (groups < state.old.spaces.settings.limits.types) }
+    ensures read { OnOk result (IsReadOver types.new.groups state.new.spaces) }
+    ensures settings { state.new.spaces.settings ≡ state.old.spaces.settings }
+    ensures code { state.new.next_code ≡ state.old.next_code }
+    ensures stays { OnErr result (state.new ≡ state.old) }
+    ensures refused { RefusedAt offset result }
+    ensures can_intern { IsTrue types.new.can_intern }
+{
+    match check_room(state, groups, offset) {
+        Ok(()) => (),
+        Err(error) => return Err(error),
+    }
+    state.add_types(rec_group, types, offset, true)
+}

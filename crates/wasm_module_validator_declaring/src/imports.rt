@@ -1,0 +1,37 @@
+//! Imports.
+
+ghost use Rattle.std.specs.Prelude.{◌≡◌, IfErr, OnErr, OnOk};
+ghost use Rattle.wasm_types.specs.error.Denials.{UnlessMemory};
+ghost use Rattle.wasm_module_validator_standing.specs.resources.Named.{IsReadOver};
+ghost use Rattle.wasm_module_validator_standing.specs.steps.Sections as section;
+ghost use Rattle.wasm_module_validator_standing.specs.Standing.{AddsItem, TellsItem};
+
+use wasm_module_validator_standing::ModuleState;
+use wasm_module_validator_types::TypeList;
+use wasm_sections_imports::Import;
+use wasm_types::Result;
+
+/// Adds an import.
+///
+/// # Errors
+///
+/// Its type is not valid; there is no room for one more of what is imported; or the sizes of types pass their limit: the first of these in
+/// that order, at `offset`; or there is no memory. The state stays then.
+pub fn add_import_item(
+    state: &mut ModuleState,
+    types: &TypeList,
+    import: Import<'_>,
+    offset: u64,
+) -> Result<()>
+    requires { IsReadOver types.now.groups state.old.spaces }
+    ensures answer { TellsItem section.imports types.now.groups state.old (record { module_name = import.«module».now; field_name = import.name.now; ty = import.ty }) result }
+    ensures added { OnOk result (AddsItem section.imports types.now.groups state.old (record { module_name = import.«module».now; field_name = import.name.now; ty = import.ty })
+        types.now.groups state.new) }
+    ensures read { IsReadOver types.now.groups state.new.spaces }
+    ensures settings { state.new.spaces.settings ≡ state.old.spaces.settings }
+    ensures code { state.new.next_code ≡ state.old.next_code }
+    ensures stays { OnErr result (state.new ≡ state.old) }
+    ensures refused { IfErr result (λ e. UnlessMemory e.kind (e.offset ≡ offset)) }
+{
+    state.add_import(import.ty, types, offset)
+}

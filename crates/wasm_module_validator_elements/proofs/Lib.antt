@@ -1,0 +1,7 @@
+mod Walks
+mod Trees
+mod Names
+mod Places
+mod References
+mod Checked
+mod Worked

@@ -1,0 +1,16 @@
+use Rattle.wasm_operators_bodies.specs.ConstantDecoder.{constant}
+use Rattle.wasm_sections_limited.specs.Walking.{fresh}
+use Rattle.wasm_sections_limited.specs.Runs.{place_in}
+use Rattle.wasm_module_validator_segments.specs.constants.resources.Meaning.{type_in}
+use Rattle.wasm_module_validator_segments.specs.Judged.{IsConstantText}
+use Rattle.wasm_module_validator_referring.specs.Naming.{NamesMore}
+use Rattle.wasm_module_validator_elements.specs.Refusals.{RefusesConstant}
+use Rattle.wasm_module_validator_elements.proofs.Walks.{Walked}
+use Rattle.wasm_module_validator_elements.proofs.items.check_constants.Given as goal
+
+abbrev pub invariant-loop-found : goal.invariant-loop-found
+invariant-loop-found g l =
+    let m = g.R.WasmModuleResources.meaning l.resources in
+    let t = type_in m l.ty in
+    Walked (IsConstantText l.settings m.«module» l.imported_globals t) (NamesMore l.settings) constant (RefusesConstant l.settings m l.imported_globals t)
+    (fresh l.fn.constants.count l.fn.constants.reader) l.fn.names.items (place_in l.found-iterator) l.names.items

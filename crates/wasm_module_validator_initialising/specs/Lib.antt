@@ -1,0 +1,4 @@
+-- What constants are judged in, and items as they are read.
+pub mod Here
+-- Why items are refused, and where.
+pub mod Refusals

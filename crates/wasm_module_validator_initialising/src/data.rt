@@ -1,0 +1,75 @@
+//! Data segments.
+
+ghost use Rattle.std.specs.Prelude.{◌≡◌, IfErr, OnOk};
+ghost use Rattle.wasm_types.specs.error.Denials.{Tells, UnlessMemory};
+ghost use Rattle.wasm_types.specs.limits.Limits.{IsWithinCeilings};
+ghost use Rattle.wasm_module_validator_standing.specs.resources.Named.{IsReadOver};
+ghost use Rattle.wasm_module_validator_elements.specs.segments.Trees.{data_read};
+ghost use Rattle.wasm_module_validator_elements.specs.segments.Judged.{IsData};
+ghost use Rattle.wasm_module_validator_elements.specs.segments.Refusals.{RefusesData};
+ghost use Rattle.wasm_module_validator_standing.specs.steps.Sections as section;
+ghost use Rattle.wasm_module_validator_standing.specs.Standing.{AddsItem, TellsItem};
+ghost use Rattle.wasm_module_validator_initialising.specs.Here.{here, data_tree};
+
+use std::alloc::Global;
+use wasm_module_validator_elements::{
+    ConstExpr, DataOf, OperatorValidatorAllocations, ReferringToAll, check_data,
+};
+use wasm_module_validator_standing::ModuleState;
+use wasm_module_validator_types::TypeList;
+use wasm_types::Result;
+
+// Checks a data segment in the module that is being read.
+fn judge_data(
+    alloc: Global,
+    segment: &DataOf<'_, ConstExpr<'_>>,
+    state: &ModuleState,
+    types: &TypeList,
+    allocs: &mut OperatorValidatorAllocations,
+    offset: u64,
+) -> Result<()>
+    requires over { IsReadOver types.now.groups state.now.spaces }
+    requires within { IsWithinCeilings state.now.spaces.settings.limits }
+    ensures answer { Tells result (IsData state.now.spaces.settings (here types.now.groups state.now).«module» state.now.spaces.imported_globals (data_read segment.now)) }
+    ensures refused { IfErr result (λ e. UnlessMemory e.kind (RefusesData state.now.spaces.settings (here types.now.groups state.now) state.now.spaces.imported_globals offset segment.now.kind e)) }
+{
+    let module = state.resources(types);
+    check_data(
+        alloc,
+        segment,
+        &ReferringToAll::new(&module),
+        &state.settings(),
+        state.module().imported_globals(),
+        allocs,
+        offset,
+    )
+}
+
+/// Checks a data segment, of which the state keeps nothing. Where the state stands for a tree it is Ok exactly where the segment may be
+/// added to the tree, out of memory aside, and the state then stands for each tree with the segment more (WebAssembly 3.0, validation,
+/// modules, data segments).
+///
+/// # Errors
+///
+/// It is passive, and no feature allows that; it is active, and the module has no such memory, or the bytes of its offset spell no
+/// constant of the type of that memory's addresses: the first of these, the constant inside its bytes, the others at `offset`. Or there
+/// is no memory. The state stays in any case.
+pub fn check_data_item(
+    alloc: Global,
+    state: &mut ModuleState,
+    types: &TypeList,
+    segment: DataOf<'_, ConstExpr<'_>>,
+    offset: u64,
+) -> Result<()>
+    requires over { IsReadOver types.now.groups state.old.spaces }
+    requires within { IsWithinCeilings state.old.spaces.settings.limits }
+    ensures answer { TellsItem section.data_segments types.now.groups state.old (data_tree segment.entry) result }
+    ensures added { OnOk result (AddsItem section.data_segments types.now.groups state.old (data_tree segment.entry) types.now.groups state.new) }
+    ensures stays { state.new ≡ state.old }
+    ensures refused { IfErr result (λ e. UnlessMemory e.kind (RefusesData state.old.spaces.settings (here types.now.groups state.old) state.old.spaces.imported_globals offset segment.entry.kind e)) }
+{
+    let mut allocs = state.take_const_expr_allocs(alloc);
+    let answer = judge_data(alloc, &segment, state, types, &mut allocs, offset);
+    state.keep_const_expr_allocs(allocs);
+    answer
+}

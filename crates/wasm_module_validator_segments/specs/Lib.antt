@@ -1,0 +1,14 @@
+-- Globals, tables and data segments with their constant expressions, which of them are valid, and why others are refused: definitions,
+-- in the order in which they are read.
+pub mod Trees
+pub mod Judged
+pub mod Refusals
+-- What is proved of answers and addresses.
+pub mod Laws
+-- Worked items, a pair for each rule.
+pub mod Worked
+-- The rules of the crates below, under their names: crates above cite them here.
+pub use Rattle.wasm_module_validator_externs.specs as externs
+pub use Rattle.wasm_module_validator_externs.specs.rules as rules
+pub use Rattle.wasm_operator_validator_constants.specs as constants
+pub use Rattle.wasm_module_validator_steps.specs as steps
