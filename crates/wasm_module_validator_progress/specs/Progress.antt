@@ -11,12 +11,12 @@ use Rattle.wasm_module_validator_items.specs.Items.{Items, no_items}
 use Rattle.wasm_module_validator_steps.specs.contexts.rules.Syntax.{ModuleTree}
 use Rattle.wasm_module_validator_steps.specs.contexts.rules.Valid.{Each, IsWithinLimits}
 use Rattle.wasm_module_validator_steps.specs.contexts.rules.Spaces.{module_of}
-use Rattle.wasm_module_validator_steps.specs.Sections.{Section, up_to, IsUnread, IsWithSection}
+use Rattle.wasm_module_validator_steps.specs.Sections.{Section, IsWithSection}
 use Rattle.wasm_module_validator_steps.specs.Sections as section
-use Rattle.wasm_module_validator_steps.specs.Adding.{Fits, IsValidSection}
+use Rattle.wasm_module_validator_steps.specs.Adding.{IsValidSection}
 use Rattle.wasm_module_validator_steps.specs.Texts.{ItemRead, SpelledSection, AddsRead}
 use Rattle.wasm_module_validator_steps.specs.Steps.{SoFar, IsJudged}
-use Rattle.wasm_module_validator_standing.specs.Standing.{Stands}
+use Rattle.wasm_module_validator_standing.specs.Standing.{Stands, IsReading}
 use Rattle.wasm_module_validator_code.specs.Code.{IsReadBy}
 use Rattle.wasm_module_validator_code.specs.declared.bodies.Body.{Body}
 
@@ -35,11 +35,10 @@ nothing_kept z = record { groups = []; items = no_items z; count = 0; last = 0 }
 
 -- ---- while the items of a section are added
 
--- the state stands for a tree, in which nothing was read behind this section
+-- the state stands for a tree, in which nothing was read behind this section; and its groups are counted
 pub record Reads (s : Section) (groups : List Group) (items : Items) (count : ℕ) (z : Settings) (m : ModuleTree) : Type 0 where
-  pub stands : Stands groups items z m
+  pub reading : IsReading s groups items z m
   pub counted : count ≡ length m.types
-  pub last : m ≡ up_to s m
 
 -- what was read, with what no item changes: the settings, the function whose code comes next, and the place of the last section
 pub record Read : Type 0 where

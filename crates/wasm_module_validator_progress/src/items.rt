@@ -20,6 +20,7 @@ ghost use Rattle.wasm_module_validator_standing.specs.Standing.{Stands};
 ghost use Rattle.wasm_module_validator_progress.specs.Progress.{Reads, Read, IsRead, AddsTo, MayBegin, IsSectionRead};
 
 use crate::InProgress;
+use std::alloc::Global;
 use wasm_module_validator_adding::AddItem;
 use wasm_module_validator_items::ModuleState;
 use wasm_module_validator_types::TypeList;
@@ -45,6 +46,7 @@ pub trait SectionItem<'a>: FromReader<'a> {
     /// Checks an item that was read, which begins at this offset, and adds it.
     fn add_to(
         self,
+        alloc: Global,
         state: &mut ModuleState,
         types: &mut TypeList,
         groups: &mut u32,
@@ -87,7 +89,7 @@ impl<'a, T: SectionItem<'a>> AddItem<'a, T> for InProgress {
     ghost refuses = { λ a x p e. Unit {0} };
 
     fn add(&mut self, item: T, offset: u64) -> Result<()> {
-        match item.add_to(&mut self.state, &mut self.types, &mut self.groups, offset) {
+        match item.add_to(self.alloc, &mut self.state, &mut self.types, &mut self.groups, offset) {
             Ok(()) => Ok(()),
             Err(error) => {
                 self.clear();

@@ -9,16 +9,13 @@ use Rattle.wasm_sections_parser.specs.Steps as frame
 use Rattle.wasm_module_validator_code.specs.declared.bodies.Body.{Body}
 use Rattle.wasm_module_validator_steps.specs.contexts.rules.Syntax.{ModuleTree}
 use Rattle.wasm_module_validator_steps.specs.contexts.rules.Spaces.{imported, function_of}
-use Rattle.wasm_module_validator_steps.specs.Sections.{Section, number, place, code_place, before, up_to, IsUnread}
+use Rattle.wasm_module_validator_steps.specs.Sections.{Section, number, place, code_place}
 use Rattle.wasm_module_validator_steps.specs.Sections as section
 use Rattle.wasm_module_validator_steps.specs.Steps.{SoFar, JudgesSection}
-use Rattle.wasm_module_validator_steps.specs.laws.Fronts.{front_twice_so, items_stay}
+use Rattle.wasm_module_validator_steps.specs.laws.Fronts.{items_stay}
 use Rattle.wasm_module_validator_steps.specs.laws.Judged.{shape_keeps}
+use Rattle.wasm_module_validator_standing.specs.laws.Counts.{unread_is_last}
 use Rattle.wasm_module_validator_progress.specs.Progress.{Reading, Read, Reads, IsRead, IsSectionRead, IsAt, text_of, type_of, code_behind}
-
--- where nothing was read of a section, nothing was read behind it
-pub unread_is_last : (s : Section) (m : ModuleTree) → IsUnread s m → m ≡ up_to s m
-unread_is_last s m e = e ∙ (sym (front_twice_so (place s) (suc (place s)) m (omega arith)) ∙ ap (up_to s) (sym e))
 
 -- ---- what depends on the number of bodies alone, where there are some
 
@@ -52,7 +49,7 @@ module _ (z : Settings) (p : SoFar) (r : Reading) (bodies : List Body) (at : IsA
   not_behind k text d = denies_from k _ _ (λ h. subst (λ (n : ℕ). n < place s) (sym at.placed) h.1.ordered) d
 
   pub starts : p.last < place s → IsRead s begun start
-  starts o = (record { stands = at.stands; counted = at.counted; last = unread_is_last s p.tree (at.judged.unread s o) }, refl, refl)
+  starts o = (record { reading = record { stands = at.stands; last = unread_is_last s p.tree (at.judged.unread s o) }; counted = at.counted }, refl, refl)
 
   pub judged_of : (text : List ℕ) (n : ModuleTree) → p.last < place s → IsSectionRead z s p.tree text n
       → JudgesSection z p s text (record { last = place s; tree = n; bodies = p.bodies })
@@ -85,13 +82,13 @@ module _ (z : Settings) (p : SoFar) (r : Reading) (bodies : List Body) (at : IsA
 
     pub at_behind : (r' : Reading) → IsRead s r' (record start { tree = q.tree }) → IsAt z r' bodies q
     at_behind r' (h, next, last) = record {
-      stands = h.stands;
+      stands = h.reading.stands;
       judged = shape_keeps z (frame.section (number s) text) p q at.judged (s, refl, j);
       counted = h.counted;
       placed = last ∙ sym j.last;
       next = next ∙ (at.next ∙ (ap (λ (i : ℕ). code_behind i (length bodies)) at.stands.read.imported_functions
           ∙ (same_behind _ _ (length bodies) (stay ℕ (λ m. length (imported function_of m)) imports_stay)
-          ∙ ap (λ (i : ℕ). code_behind i (length bodies)) (sym h.stands.read.imported_functions))));
+          ∙ ap (λ (i : ℕ). code_behind i (length bodies)) (sym h.reading.stands.read.imported_functions))));
       bodies = at.bodies ∙ sym j.bodies;
       types = at.types ∙ same_taken (length bodies) p.tree.functions q.tree.functions (stay (List ℕ) (λ m. m.functions) functions_stay);
       read = at.read;

@@ -1,0 +1,2 @@
+-- Laws, with the proofs.
+pub mod laws

@@ -1,0 +1,5 @@
+pub mod Parts
+pub mod Frames
+pub mod Sound
+pub mod Complete
+pub mod Accepted

@@ -1,0 +1,29 @@
+//! Laws of modules and their frames, each on the contract of a function that does nothing.
+
+ghost use Rattle.std.specs.Prelude.{◌≡◌, ℕ, [], List};
+ghost use Rattle.std.specs.List.{AllZip};
+ghost use Rattle.wasm_sections_parser.specs.Steps.{Shape};
+ghost use Rattle.wasm_sections_parser_laws.specs.Modules.{IsModule};
+ghost use Rattle.wasm_module_validator_steps.specs.contexts.rules.constant_rules.expression.types.limits.Settings.{Settings};
+ghost use Rattle.wasm_module_validator_steps.specs.contexts.rules.Syntax.{Function, ModuleTree};
+ghost use Rattle.wasm_module_validator_steps.specs.contexts.rules.Spaces.{module_of};
+ghost use Rattle.wasm_module_validator_steps.specs.contexts.rules.Binary.{SpelledFunction, SpelledModule};
+ghost use Rattle.wasm_module_validator_steps.specs.contexts.rules.Valid.{HasValidBody, IsValid};
+ghost use Rattle.wasm_module_validator_steps.specs.contexts.InOrder.{IsValidInOrder};
+ghost use Rattle.wasm_module_validator_steps.specs.Steps.{SoFar, nothing, JudgesShapes};
+
+/// Where the frames of a module were judged one after the other, the bytes spell what was read, with the code that the bodies spell. It is
+/// valid where each body is.
+pub fn judged_frames_are_modules()
+    ensures spelled { (z : Settings) (text : List ℕ) (xs : List Shape) (q : SoFar) (cs : List Function) → IsModule z text xs → JudgesShapes z nothing xs q
+        → AllZip (SpelledFunction z) cs q.bodies → SpelledModule z (record q.tree { code = cs }) text }
+    ensures valid { (z : Settings) (xs : List Shape) (q : SoFar) (cs : List Function) → JudgesShapes z nothing xs q
+        → AllZip (HasValidBody z (module_of q.tree)) q.tree.functions cs → IsValidInOrder z (record q.tree { code = cs }) }
+{}
+
+/// The frames of a module that is spelled and valid are judged one after the other. What was read then is the module but for its code,
+/// and the bodies spell that.
+pub fn valid_modules_are_judged()
+    ensures { (z : Settings) (m : ModuleTree) (text : List ℕ) → SpelledModule z m text → IsValid z m → (xs : List Shape) × IsModule z text xs
+        × ((q : SoFar) × JudgesShapes z nothing xs q × (q.tree ≡ record m { code = [] }) × AllZip (SpelledFunction z) m.code q.bodies) }
+{}

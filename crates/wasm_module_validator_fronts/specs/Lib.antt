@@ -1,0 +1,8 @@
+-- What reads by which settings, and where a walk over a module stands.
+pub mod Walks
+-- Laws: frames that calls gave come first among those of a module.
+pub mod FrontLaws
+-- Laws of walks.
+pub mod WalkLaws
+-- Worked walks.
+pub mod Worked

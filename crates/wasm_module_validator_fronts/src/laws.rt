@@ -1,0 +1,58 @@
+//! Laws of frames and walks, each on the contract of a function that does nothing.
+
+ghost use Rattle.std.specs.Prelude.{◌≡◌, ◌+◌, ◌<◌, ◌^◌, ◌∷◌, ◌++◌, ℕ, List, [], length, drop, true, false, Some, Ok, Err};
+ghost use Rattle.wasm_types.specs.limits.Settings.{Settings};
+ghost use Rattle.wasm_types.specs.error.ErrorValue.{ErrorValue};
+ghost use Rattle.wasm_sections_parser.specs.declared.frame.Frame.{Frame};
+ghost use Rattle.wasm_sections_parser.specs.declared.parser.Parser.{Parser};
+ghost use Rattle.wasm_sections_parser.specs.declared.parser.Chunk.TheVariants.{Parsed};
+ghost use Rattle.wasm_sections_parser.specs.Parsing.{shape_of};
+ghost use Rattle.wasm_sections_parser.specs.Steps.{Shape, the_end, is_over};
+ghost use Rattle.wasm_sections_parser_laws.specs.Runs.{fresh};
+ghost use Rattle.wasm_sections_parser_laws.specs.Calls.{settings_of, shapes_of, Called, Calls};
+ghost use Rattle.wasm_sections_parser_laws.specs.Modules.{IsModule};
+ghost use Rattle.wasm_sections_payloads.specs.declared.payload.Payload.{Payload};
+ghost use Rattle.wasm_sections_payloads.specs.Payloads.{IsPayloadOf};
+ghost use Rattle.wasm_sections_payloads.specs.Walking.{Standing, IsFrameOf, NextPayload};
+ghost use Rattle.wasm_module_validator_fronts.specs.Walks.{HasSettings, IsBehind, RefusesNext};
+ghost use Rattle.wasm_module_validator_fronts.specs.Worked.{WalkRows};
+
+/// A text is a module of one list of frames. Those that calls of a parser gave so far come first among them, and where the parser is
+/// over they are all, and the end. A call more gives a frame more. Each frame is read by the settings of the parser that began.
+pub const fn fronts_are_of_modules()
+    ensures one { (z : Settings) (text : List ℕ) (xs ys : List Shape) → length text < 2 ^ 64 → IsModule z text xs → IsModule z text ys → xs ≡ ys }
+    ensures front { (p q : Parser) (text rest : List ℕ) (fs : List Frame) (ys : List Shape) → p.progress ≡ fresh → p.offset + length text < 2 ^ 64
+        → IsModule (settings_of p) text ys → Calls p text fs q rest → is_over q.progress ≡ false → (zs : List Shape) × (ys ≡ shapes_of fs ++ zs) }
+    ensures ended { (p q : Parser) (text rest : List ℕ) (fs : List Frame) → p.progress ≡ fresh → Calls p text fs q rest → is_over q.progress ≡ true
+        → (ys : List Shape) × (shapes_of fs ≡ ys ++ the_end ∷ []) × IsModule (settings_of p) text ys }
+    ensures joined { (fs : List Frame) (p q r : Parser) (text rest : List ℕ) (n : ℕ) (f : Frame) → Calls p text fs q rest → Called q rest (Ok (Parsed n f)) r
+        → Calls p text (fs ++ f ∷ []) r (drop n rest) }
+    ensures shapes { (fs : List Frame) (f : Frame) → shapes_of (fs ++ f ∷ []) ≡ shapes_of fs ++ shape_of f ∷ [] }
+    ensures kept { (fs : List Frame) (p q : Parser) (text rest : List ℕ) → Calls p text fs q rest → settings_of q ≡ settings_of p }
+    ensures settings { (p q r : Parser) (text rest : List ℕ) (fs : List Frame) (n : ℕ) (f : Frame) → Calls p text fs q rest → Called q rest (Ok (Parsed n f)) r
+        → HasSettings (settings_of p) f }
+{}
+
+/// A walk over all bytes of a module stands behind no frames as it begins, and then behind one frame more with each payload, which is
+/// that frame's. Behind the end the bytes are a module, and the frames are its own and the end. Where the bytes are a module, the frames
+/// so far come first among its own and the end, wherever the walk stands; and nothing is refused but a section that comes next and is no
+/// payload.
+pub const fn walks_go_along_modules()
+    ensures called { (p : Parser) (text : List ℕ) (f : Frame) (q : Parser) (rest : List ℕ) → IsFrameOf p text f q rest
+        → (n : ℕ) × Called p text (Ok (Parsed n f)) q × (rest ≡ drop n text) }
+    ensures begins { (p : Parser) (text : List ℕ) (s : Standing) → p.progress ≡ fresh → s ≡ record { parser = p; rest = text; over = false } → IsBehind p text [] s }
+    ensures next { (p : Parser) (text : List ℕ) (fs : List Frame) (s t : Standing) (x : Payload) → IsBehind p text fs s → NextPayload s (Some (Ok x)) t
+        → (f : Frame) × IsPayloadOf f x × HasSettings (settings_of p) f × IsBehind p text (fs ++ f ∷ []) t }
+    ensures ended { (p : Parser) (text : List ℕ) (fs : List Frame) (s : Standing) → p.progress ≡ fresh → IsBehind p text fs s → s.over ≡ true
+        → (ys : List Shape) × (shapes_of fs ≡ ys ++ the_end ∷ []) × IsModule (settings_of p) text ys }
+    ensures front { (p : Parser) (text : List ℕ) (fs : List Frame) (ys : List Shape) (s : Standing) → p.progress ≡ fresh → p.offset + length text < 2 ^ 64
+        → IsModule (settings_of p) text ys → IsBehind p text fs s → (zs : List Shape) × (ys ++ the_end ∷ [] ≡ shapes_of fs ++ zs) }
+    ensures refused { (p : Parser) (text : List ℕ) (fs : List Frame) (ys : List Shape) (s t : Standing) (e : ErrorValue) → p.progress ≡ fresh
+        → p.offset + length text < 2 ^ 64 → IsModule (settings_of p) text ys → IsBehind p text fs s → NextPayload s (Some (Err e)) t → RefusesNext p fs ys e }
+{}
+
+/// Worked settings and walks, each with a yes and a no.
+#[tactic(auto, using(crate::specs::Worked::walk_rows))]
+pub const fn walks_are_worked()
+    ensures { WalkRows }
+{}
