@@ -2,7 +2,6 @@
 use Rattle.std.specs.Prelude.{◌≡◌, ℕ, ◌≤◌, ◌^◌, false, ◌⊎◌, List, [], ◌++◌, length, IfSome, codes, Option}
 use Rattle.std.specs.Fmt.{digits}
 use Rattle.wasm_module_validator.specs.Accepts.{Accepts}
-use Rattle.wasm_module_validator.specs.Refusals.{IsRefusedAt}
 
 -- An input's bytes, at most 2^30: those that its reader says it has left, where it says them.
 pub record HasBytes (said : Option (List ℕ)) (bytes : List ℕ) : Type 0 where
@@ -17,11 +16,10 @@ valid_line name = name ++ codes ": valid\n"
 abbrev pub invalid_line : List ℕ → ℕ → List ℕ → List ℕ
 invalid_line name offset message = name ++ codes ": invalid at 0x" ++ digits 16 false offset ++ codes ": " ++ message ++ codes "\n"
 
--- The line says of these bytes whether they spell a valid module, and, where their header or a section is refused, at which
--- offset.
+-- The line says of these bytes whether they spell a valid module; where they do not, it has an offset and a message.
 abbrev pub IsLine : List ℕ → List ℕ → List ℕ → Type 0
 IsLine name bytes line = (Accepts bytes × (line ≡ valid_line name))
-    ⊎ (¬ Accepts bytes × ((offset : ℕ) × (message : List ℕ) × (line ≡ invalid_line name offset message) × IsRefusedAt offset bytes))
+    ⊎ (¬ Accepts bytes × ((offset : ℕ) × (message : List ℕ) × (line ≡ invalid_line name offset message)))
 
 -- this begins the line of these bytes
 abbrev pub BeginsLine : List ℕ → List ℕ → List ℕ → Type 0

@@ -12,7 +12,7 @@ use crate::error::CheckError;
 use std::alloc::{AllocError, Global};
 use std::io::{self, Read, Write};
 use wasm_module_validator::{ValidatorId, validate};
-use wasm_types::ErrorKind;
+use wasm_types::{Error, ErrorKind};
 
 /// The most bytes that an input may have.
 pub const MAX_BYTES: usize = 0x4000_0000;
@@ -70,6 +70,13 @@ fn invalid_line(alloc: Global, name: &str, offset: u64, message: &str) -> Result
     format!(in alloc; "{name}: invalid at 0x{offset:x}: {message}\n")
 }
 
+/// The line of a module that was refused by this error: at its offset, for its reason.
+fn refusal_line(alloc: Global, name: &str, error: &Error) -> Result<String, AllocError>
+    ensures { IfOk result (λ line. (message : List ℕ) × (string_bytes line ≡ invalid_line name.now error.now.offset message)) }
+{
+    invalid_line(alloc, name, error.offset(), error.message())
+}
+
 /// The line of these bytes, and whether they spell a valid module.
 fn verdict_line(
     alloc: Global,
@@ -85,7 +92,7 @@ fn verdict_line(
             if error.kind() == ErrorKind::OutOfMemory {
                 return Err(AllocError);
             }
-            let line = invalid_line(alloc, name, error.offset(), error.message())?;
+            let line = refusal_line(alloc, name, &error)?;
             Ok((false, line))
         }
     }

@@ -1,23 +1,23 @@
 //! The validator of whole modules.
 
-ghost use Rattle.std.specs.Prelude.{◌≡◌, ◌↔◌, ◌≤◌, length, IsTrue, IfOk};
+ghost use Rattle.std.specs.Prelude.{◌≡◌, ◌↔◌, IsTrue, IfOk};
+ghost use Rattle.wasm_types.specs.error.Denials.{Tells};
+ghost use Rattle.wasm_types.specs.features.Sets.{bits_of, default_features};
+ghost use Rattle.wasm_module_validator_steps.specs.contexts.rules.Syntax.{ModuleTree};
+ghost use Rattle.wasm_module_validator_steps.specs.Steps.{SoFar};
+ghost use Rattle.wasm_module_validator_standing.specs.Standing.{Stands};
+ghost use Rattle.wasm_module_validator_reading.specs.Reading.{under, IsReadAs};
+ghost use Rattle.wasm_module_validator_progress.specs.Progress.{IsAt};
 ghost use Rattle.wasm_module_validator.specs.declared.validator.State.TheVariants as states;
-ghost use Rattle.wasm_module_validator.specs.Accepts.{Accepts, Judges};
-ghost use Rattle.wasm_module_validator_operands.specs.Answers.{Tells};
-ghost use Rattle.wasm_module_validator_operands.specs.Defaults.{default_settings};
-ghost use Rattle.wasm_module_validator.specs.Answers.{Counts, Shows};
-ghost use Rattle.wasm_module_validator.specs.Refusals.{at_begin, RefusedAsRead, RefusesFunction, progress_after, progress_of};
-ghost use Rattle.wasm_types.specs.reader.Reading.{Collects};
-ghost use Rattle.wasm_module_validator.specs.Syntax.{Module};
-ghost use Rattle.wasm_module_validator.specs.laws.Frames.{module_frames};
-ghost use Rattle.wasm_module_validator.specs.laws.Entries.{bodies, frames_of};
-ghost use Rattle.wasm_module_validator.specs.laws.Judged.{AreAccepted, AcceptsAt};
+ghost use Rattle.wasm_module_validator.specs.Accepts.{AcceptsUnder, Accepts, Judges, default_settings};
+ghost use Rattle.wasm_module_validator.specs.States.{Leaves};
 
-use crate::sections::{ModuleFrames, read_module};
+use crate::types::Types;
 use std::alloc::Global;
 use std::marker::Model;
-use wasm_module_validator_bodies::FuncValidator;
-use wasm_types::{BinaryReader, Error, ErrorKind};
+use wasm_module_validator_code::judge_bodies;
+use wasm_module_validator_reading::{ReadModule, read_module};
+use wasm_types::{Error, ErrorKind, Result, WasmFeatures};
 
 /// Tells a validator from others; the caller makes each number once.
 #[derive(Clone, Copy, Debug, PartialEq, Eq, PartialOrd, Ord, Hash)]
@@ -49,57 +49,74 @@ pub struct Validator {
     alloc: Global,
     id: ValidatorId,
     state: State,
-}
-
-impl Model for Validator {
-    ghost use Rattle.wasm_module_validator.specs.declared.validator.State.{State as TheState};
-
-    ghost Value = { TheState };
-
-    ghost view = { λ v. v.state };
+    features: WasmFeatures,
 }
 
 impl Validator {
-    /// A validator that has read nothing. It takes no memory.
+    /// A validator that has read nothing, with the default features. It takes no memory.
     pub fn new(alloc: Global, id: ValidatorId) -> Validator
-        ensures { result ≡ states.Unparsed }
+        ensures state { result.state ≡ states.Unparsed }
+        ensures features { result.features.0 ≡ bits_of default_features }
+    {
+        Validator::new_with_features(alloc, id, WasmFeatures::default())
+    }
+
+    /// A validator that has read nothing, with these features. It takes no memory.
+    pub fn new_with_features(alloc: Global, id: ValidatorId, features: WasmFeatures) -> Validator
+        ensures state { result.state ≡ states.Unparsed }
+        ensures features { result.features ≡ features }
     {
         Validator {
             alloc,
             id,
             state: State::Unparsed,
+            features,
         }
+    }
+
+    /// The features that are allowed.
+    pub fn features(&self) -> WasmFeatures
+        ensures { result ≡ self.now.features }
+    {
+        self.features
     }
 
     /// Whether nothing was read yet and nothing refused.
     pub fn is_fresh(&self) -> bool
-        ensures { IsTrue result ↔ (self.now ≡ states.Unparsed) }
+        ensures { IsTrue result ↔ (self.now.state ≡ states.Unparsed) }
     {
         self.state == State::Unparsed
     }
 
-    /// Validates a module that is all of these bytes.
+    /// Validates a module that is all of these bytes (WebAssembly 3.0, validation, modules).
     ///
-    /// Where only a function is refused, the validator has ended. Where the header or a section is refused, or memory ran out,
-    /// it has failed.
-    pub fn validate_all(&mut self, bytes: &[u8]) -> Result<Types, Error>
-        requires { self.old ≡ states.Unparsed }
-        ensures verdict { Tells result (Accepts bytes.now) }
-        ensures shown { IfOk result (λ types. (m : Module) × Judges default_settings bytes.now m × Shows types m) }
-        ensures refused { RefusedAsRead result bytes.now }
-        ensures progress { self.new ≡ progress_after result bytes.now }
+    /// # Errors
+    ///
+    /// The bytes are no module; or a section is not valid behind those before it; or, where each is, a body is not valid: the first of
+    /// these. Or there is no memory. Where only a function is refused the validator has ended, and else it has failed.
+    pub fn validate_all(&mut self, bytes: &[u8]) -> Result<Types>
+        requires { self.old.state ≡ states.Unparsed }
+        ensures verdict { Tells result (AcceptsUnder (under self.old.features.0) bytes.now) }
+        ensures shown { IfOk result (λ types. (m : ModuleTree) × Judges (under self.old.features.0) bytes.now m × Stands types.groups types.items (under self.old.features.0) (record m { code = [] })) }
+        ensures state { Leaves (under self.old.features.0) bytes.now result self.new.state }
     {
         self.state = State::Failed;
-        let module = read_all(self.alloc, bytes)?;
-        let judged = judge(self.alloc, &module);
+        let read = match read_module(self.alloc, self.features, bytes) {
+            Ok(read) => read,
+            Err(error) => return Err(error),
+        };
+        let judged = judge(self.alloc, self.features, &read);
         self.state = state_after(&judged);
-        judged
+        match judged {
+            Ok(()) => Ok(Types { module: read.progress }),
+            Err(error) => Err(error),
+        }
     }
 }
 
 /// How far a validator is once it has read all sections and judged the functions.
-fn state_after(judged: &Result<Types, Error>) -> State
-    ensures { result ≡ progress_of judged.now }
+fn state_after(judged: &Result<()>) -> State
+    ensures { IsLeft judged.now result }
 {
     match judged {
         Ok(_) => State::Ended,
@@ -110,134 +127,22 @@ fn state_after(judged: &Result<Types, Error>) -> State
     }
 }
 
-/// Validates a module that is all of these bytes.
+/// Judges the bodies of a module whose sections were read.
+fn judge(alloc: Global, features: WasmFeatures, read: &ReadModule<'_>) -> Result<()>
+    ensures { (q : SoFar) → IsAt (under features.0) read.now.progress read.now.bodies.items q → Tells result (AreBodies (under features.0) q) }
+{
+    let resources = read.progress.state().resources(read.progress.types());
+    judge_bodies(alloc, &resources, features, read.bodies.as_slice())
+}
+
+/// Validates a module that is all of these bytes, with the default features (WebAssembly 3.0, validation, modules).
 ///
-/// A header or a section is refused with the kind and at the offset that its reader gives; a function with kind 5, or with kind 1,
-/// which comes only where a function's bytes end before its number of groups, a group of locals or an operator is whole.
-pub fn validate(alloc: Global, id: ValidatorId, bytes: &[u8]) -> Result<Types, Error>
+/// # Errors
+///
+/// As `Validator::validate_all`.
+pub fn validate(alloc: Global, id: ValidatorId, bytes: &[u8]) -> Result<Types>
     ensures verdict { Tells result (Accepts bytes.now) }
-    ensures shown { IfOk result (λ types. (m : Module) × Judges default_settings bytes.now m × Shows types m) }
-    ensures refused { RefusedAsRead result bytes.now }
+    ensures shown { IfOk result (λ types. (m : ModuleTree) × Judges default_settings bytes.now m × Stands types.groups types.items default_settings (record m { code = [] })) }
 {
     Validator::new(alloc, id).validate_all(bytes)
-}
-
-/// What a validator learned of a module.
-#[derive(Debug, Drop)]
-pub struct Types {
-    types: u32,
-    functions: u32,
-}
-
-impl Model for Types {
-    ghost use Rattle.wasm_module_validator.specs.Answers.{Counts as TheCounts};
-
-    ghost Value = { TheCounts };
-
-    ghost view = { λ t. record { types = t.types; functions = t.functions } };
-}
-
-impl Types {
-    /// The same, borrowed.
-    pub fn as_ref(&self) -> TypesRef<'_>
-        ensures { result ≡ self.now }
-    {
-        TypesRef { types: self }
-    }
-}
-
-/// What a validator learned of a module, borrowed.
-#[derive(Debug, Drop)]
-pub struct TypesRef<'a> {
-    types: &'a Types,
-}
-
-impl<'a> Model for TypesRef<'a> {
-    ghost use Rattle.wasm_module_validator.specs.Answers.{Counts as TheCounts};
-
-    ghost Value = { TheCounts };
-
-    ghost view = { λ r. r.types.now };
-}
-
-impl<'a> TypesRef<'a> {
-    /// How many types the module has.
-    pub fn core_type_count_in_module(&self) -> u32
-        ensures { result ≡ self.now.types }
-    {
-        let types = self.types;
-        types.types
-    }
-
-    /// How many functions the module has.
-    pub fn function_count(&self) -> u32
-        ensures { result ≡ self.now.functions }
-    {
-        let types = self.types;
-        types.functions
-    }
-}
-
-/// Reads all of the bytes as a module, whose functions stay as they are.
-fn read_all(alloc: Global, bytes: &[u8]) -> Result<ModuleFrames<'_>, Error>
-    ensures { Collects frames_of result (module_frames default_settings (at_begin bytes.now)) }
-{
-    let mut reader = BinaryReader::new(bytes, 0);
-    read_module(alloc, &mut reader)
-}
-
-/// Judges the functions of a module, and counts what it has.
-fn judge(alloc: Global, module: &ModuleFrames<'_>) -> Result<Types, Error>
-    requires types { length «module».now.types.items ≤ 1000000 }
-    requires functions { length «module».now.functions.items ≤ 1000000 }
-    ensures verdict { Tells result (AreAccepted default_settings «module».now.types.items «module».now.functions.items (bodies «module».now.bodies.items)) }
-    ensures types { IfOk result (λ t. t.types ≡ length «module».now.types.items) }
-    ensures functions { IfOk result (λ t. t.functions ≡ length «module».now.functions.items) }
-    ensures kind { RefusesFunction (bodies «module».now.bodies.items) result }
-{
-    validate_bodies(alloc, module)?;
-    let types = module.types.as_slice();
-    let functions = module.functions.as_slice();
-    Ok(Types {
-        types: types.len() as u32,
-        functions: functions.len() as u32,
-    })
-}
-
-/// Judges each function by its type.
-fn validate_bodies(alloc: Global, module: &ModuleFrames<'_>) -> Result<(), Error>
-    ensures verdict { Tells result (AreAccepted default_settings «module».now.types.items «module».now.functions.items (bodies «module».now.bodies.items)) }
-    ensures kind { RefusesFunction (bodies «module».now.bodies.items) result }
-{
-    let functions = module.functions.as_slice();
-    let bodies = module.bodies.as_slice();
-    if functions.len() != bodies.len() {
-        return Err(Error::new("function and code section have inconsistent lengths", 0));
-    }
-    let mut validator = FuncValidator::new(alloc);
-    for place in 0..functions.len() {
-        validate_body(&mut validator, module, place)?;
-    }
-    Ok(())
-}
-
-/// Judges the function at an index by its type.
-fn validate_body(
-    validator: &mut FuncValidator,
-    module: &ModuleFrames<'_>,
-    place: usize,
-) -> Result<(), Error>
-    ensures verdict { Tells result (AcceptsAt default_settings «module».now.types.items «module».now.functions.items (bodies «module».now.bodies.items) place) }
-    ensures kind { RefusesFunction (bodies «module».now.bodies.items) result }
-{
-    let Some(index) = module.functions.get(place) else {
-        return Err(Error::new("unknown function: function index out of bounds", 0));
-    };
-    let Some(ty) = module.types.get(*index as usize) else {
-        return Err(Error::new("unknown type: type index out of bounds", 0));
-    };
-    let Some(body) = module.bodies.get(place) else {
-        return Err(Error::new("function and code section have inconsistent lengths", 0));
-    };
-    validator.validate(&ty.0, body.reader.clone())
 }

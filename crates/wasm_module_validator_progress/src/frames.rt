@@ -18,7 +18,7 @@ use wasm_types::{Error, Result};
 
 impl InProgress {
     // Refuses a section whose place is not behind that of the last.
-    fn begin_section(&mut self, place: u32, offset: u64) -> Result<()>
+    pub(crate) fn begin_section(&mut self, place: u32, offset: u64) -> Result<()>
         ensures answer { Tells result (self.old.last < place) }
         ensures begun { self.new ≡ record self.old { last = place } }
     {

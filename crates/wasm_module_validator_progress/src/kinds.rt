@@ -3,16 +3,16 @@
 use crate::SectionItem;
 use std::alloc::Global;
 use wasm_module_validator_declaring::{
-    ModuleState, add_export_item, add_function_item, add_group, add_import_item, add_memory_item,
-    add_tag_item,
+    add_export_item, add_function_item, add_group, add_import_item, add_memory_item, add_tag_item,
 };
 use wasm_module_validator_initialising::{add_element, add_global, add_table, check_data_item};
+use wasm_module_validator_items::ModuleState;
 use wasm_module_validator_types::TypeList;
 use wasm_operators_bodies::ConstExpr;
 use wasm_sections_elements::ElementOf;
 use wasm_sections_imports::{Export, Import};
 use wasm_sections_segments::{DataOf, GlobalOf, TableOf};
-use wasm_types::{Error, MemoryType, RecGroup, Result, TagType, WasmFeatures};
+use wasm_types::{Error, MemoryType, RecGroup, Result, TagType};
 
 impl<'a> SectionItem<'a> for RecGroup {
     ghost use Rattle.wasm_module_validator_steps.specs.Sections as section;
@@ -195,7 +195,7 @@ impl<'a> SectionItem<'a> for TagType {
     }
 
     fn check_count(state: &ModuleState, count: u32, offset: u64) -> Result<()> {
-        if !state.settings().features().contains(WasmFeatures::EXCEPTIONS) {
+        if !state.settings().features().exceptions() {
             return Err(Error::new("exceptions proposal not enabled", offset));
         }
         state.check_tag_count(count, offset)

@@ -8,6 +8,8 @@
 
 mod frames;
 mod items;
+mod kinds;
+mod payloads;
 mod progress;
 
 pub use items::SectionItem;

@@ -15,7 +15,8 @@ ghost use Rattle.wasm_module_validator_progress.specs.Progress.{IsAt, HasSetting
 
 use crate::{Body, InProgress};
 use wasm_module_validator_declaring::{take_data_count, take_start};
-use wasm_sections_payloads::{Encoding, Payload};
+use wasm_sections_parser::Encoding;
+use wasm_sections_payloads::Payload;
 use wasm_types::{Error, Result};
 
 // Refuses what is no module of the version that there is.

@@ -1,2 +1,0 @@
-mod Judging
-pub mod Parts

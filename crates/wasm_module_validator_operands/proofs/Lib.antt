@@ -1,3 +1,0 @@
-pub mod Covering
-pub mod Exchanging
-pub mod Runs

@@ -1,4 +1,0 @@
--- The codes of value types.
-pub mod Codes
--- Worked ones.
-pub mod Worked

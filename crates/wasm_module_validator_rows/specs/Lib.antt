@@ -1,2 +1,0 @@
--- Worked modules and their verdicts.
-pub mod Modules
