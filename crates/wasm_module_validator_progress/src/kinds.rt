@@ -12,7 +12,7 @@ use wasm_operators_bodies::ConstExpr;
 use wasm_sections_elements::ElementOf;
 use wasm_sections_imports::{Export, Import};
 use wasm_sections_segments::{DataOf, GlobalOf, TableOf};
-use wasm_types::{Error, MemoryType, RecGroup, Result, TagType};
+use wasm_types::{Error, MemoryType, RecGroup, Result, TagType, WasmFeatures};
 
 impl<'a> SectionItem<'a> for RecGroup {
     ghost use Rattle.wasm_module_validator_steps.specs.Sections as section;
@@ -196,7 +196,11 @@ impl<'a> SectionItem<'a> for TagType {
 
     fn check_count(state: &ModuleState, count: u32, offset: u64) -> Result<()> {
         if !state.settings().features().exceptions() {
-            return Err(Error::new("exceptions proposal not enabled", offset));
+            return Err(Error::missing_feature(
+                WasmFeatures::EXCEPTIONS,
+                "exceptions proposal not enabled",
+                offset,
+            ));
         }
         state.check_tag_count(count, offset)
     }

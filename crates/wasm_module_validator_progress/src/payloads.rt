@@ -1,9 +1,9 @@
 //! What each payload does to a module in progress.
 
 ghost use Rattle.std.specs.Prelude.{◌≡◌, ◌⊎◌, ℕ, List, OnOk};
-ghost use Rattle.wasm_types.specs.decoding.Decoder.{State};
+ghost use Rattle.wasm_types.specs.decoding.Decoder.{State, Done};
 ghost use Rattle.wasm_types.specs.error.Denials.{Tells};
-ghost use Rattle.wasm_types.specs.error.declared.error.ErrorKind.TheVariants.{Other};
+ghost use Rattle.wasm_types.specs.reader.Reading.{IsNotMemory};
 ghost use Rattle.wasm_types.specs.limits.Settings.{Settings};
 ghost use Rattle.wasm_sections_parser.specs.declared.frame.Frame.{Frame};
 ghost use Rattle.wasm_sections_parser.specs.Parsing.{shape_of, layer_of};
@@ -17,25 +17,46 @@ use crate::{Body, InProgress};
 use wasm_module_validator_declaring::{take_data_count, take_start};
 use wasm_sections_parser::Encoding;
 use wasm_sections_payloads::Payload;
-use wasm_types::{Error, Result};
+use wasm_types::{Error, Result, WasmFeatures};
 
 // Refuses what is no module of the version that there is.
 fn check_header(num: u16, encoding: Encoding, offset: u64) -> Result<()>
     ensures answer { Tells result ((num ≡ 1) × (layer_of encoding ≡ 0)) }
 {
-    if num != 1 {
-        return Err(Error::new("unknown binary version", offset));
-    }
     match encoding {
-        Encoding::Module => Ok(()),
-        Encoding::Component => Err(Error::new("unknown binary version and encoding combination", offset)),
+        Encoding::Module => (),
+        Encoding::Component => return Err(component(offset)),
     }
+    if num != 1 {
+        return Err(unknown_version(num, offset));
+    }
+    Ok(())
+}
+
+// The refusal of a component.
+#[cold]
+fn component(offset: u64) -> Error
+    ensures { IsNotMemory result.kind }
+{
+    Error::missing_feature(
+        WasmFeatures::COMPONENT_MODEL,
+        "encoded as a component but the WebAssembly component model feature is not enabled",
+        offset,
+    )
+}
+
+// The refusal of a module of another version.
+#[cold]
+fn unknown_version(num: u16, offset: u64) -> Error
+    ensures { IsNotMemory result.kind }
+{
+    Error::fmt(format_args!("unknown binary version: {num:#x}"), offset)
 }
 
 // The refusal of a section of another id.
 #[cold]
 fn unknown_section(id: u8, offset: u64) -> Error
-    ensures { result.kind ≡ Other }
+    ensures { IsNotMemory result.kind }
 {
     Error::fmt(format_args!("malformed section id: {id}"), offset)
 }
