@@ -1,3 +1,3 @@
-pub mod Along
 pub mod Taking
 pub mod Bodies
+pub mod Shapes

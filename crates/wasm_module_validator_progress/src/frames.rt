@@ -1,8 +1,9 @@
 //! Frames of a module that are no items: where a section begins, and the code section.
 
-ghost use Rattle.std.specs.Prelude.{◌≡◌, ◌<◌, ℕ, List, OnOk};
+ghost use Rattle.std.specs.Prelude.{◌≡◌, ◌<◌, ◌+◌, List, OnOk, option_map, slice_get};
 ghost use Rattle.wasm_types.specs.decoding.Decoder.{State};
 ghost use Rattle.wasm_types.specs.error.Denials.{Tells};
+ghost use Rattle.wasm_types.specs.error.declared.error.ErrorKind.TheVariants.{Other};
 ghost use Rattle.wasm_types.specs.limits.Settings.{Settings};
 ghost use Rattle.wasm_sections_payloads.specs.Payloads.{Counts};
 ghost use Rattle.wasm_module_validator_code.specs.declared.bodies.Body.{Body as TheBody};
@@ -15,6 +16,14 @@ use wasm_module_validator_adding::add_items;
 use wasm_operators_bodies::FunctionBody;
 use wasm_sections_limited::SectionLimited;
 use wasm_types::{Error, Result};
+
+// The refusal of a body that is that of no function.
+#[cold]
+fn too_many_bodies(offset: u64) -> Error
+    ensures { result.kind ≡ Other }
+{
+    Error::new("code section entry exceeds number of functions", offset)
+}
 
 impl InProgress {
     // Refuses a section whose place is not behind that of the last.
@@ -47,11 +56,11 @@ impl InProgress {
             Ok(()) => (),
             Err(error) => return Err(error),
         }
-        match T::check_count(&self.state, section.count(), offset) {
+        match T::check_count(&self.collected.state, section.count(), offset) {
             Ok(()) => (),
             Err(error) => return Err(error),
         }
-        add_items(self, section)
+        add_items(&mut self.collected, section)
     }
 
     /// Takes the start of the code section.
@@ -64,6 +73,20 @@ impl InProgress {
         ensures added { OnOk result ((z : Settings) (p : SoFar) (bodies : List TheBody) → IsAt z self.old bodies p → IsAt z self.new bodies (record p { last = code_place })) }
     {
         self.begin_section(12, offset)
+    }
+
+    // The index of the function that the body behind so many others is of, and that of its type.
+    fn function_behind(&self, bodies: usize) -> Option<(u32, u32)>
+        ensures { option_map (λ x. x.1) result ≡ option_map (λ f. f.type_index) (slice_get self.now.kept.items.spaces.functions (self.now.kept.items.spaces.imported_functions + bodies)) }
+    {
+        let module = self.collected.state.module();
+        let Ok(index) = u32::try_from(module.imported_functions() as usize + bodies) else {
+            return None;
+        };
+        match module.function_at(index) {
+            Some(function) => Some((index, function.type_index)),
+            None => None,
+        }
     }
 
     /// Takes a body: it is kept with the index of its function and of its type.
@@ -82,12 +105,12 @@ impl InProgress {
         if self.last != 12 {
             return Err(Error::new("code section entry out of order", offset));
         }
-        let most = self.state.settings().limits().body_bytes;
+        let most = self.collected.state.settings().limits().body_bytes;
         if reader.bytes_remaining() > most as usize {
             return Err(Error::new("function body size is out of bounds", offset));
         }
-        let Some((index, type_index)) = self.state.next_code_index_and_type() else {
-            return Err(Error::new("code section entry exceeds number of functions", offset));
+        let Some((index, type_index)) = self.function_behind(bodies.len()) else {
+            return Err(too_many_bodies(offset));
         };
         bodies.push(Body {
             index,

@@ -1,25 +1,22 @@
 //! The items of a section, whatever they are.
 
-ghost use Rattle.std.specs.Prelude.{◌≡◌, ◌↔◌, ◌×◌, ℕ, List, OnOk, true};
+ghost use Rattle.std.specs.Prelude.{◌≡◌, List, OnOk, true};
 ghost use Rattle.wasm_types.specs.decoding.Decoder.{State, Done};
-ghost use Rattle.wasm_types.specs.decoding.Leb.{u32};
 ghost use Rattle.wasm_types.specs.error.Denials.{Tells};
 ghost use Rattle.wasm_types.specs.limits.Limits.{IsWithinCeilings};
 ghost use Rattle.wasm_types.specs.limits.Settings.{Settings};
-ghost use Rattle.wasm_module_validator_adding.specs.Adding.{AreAdded, Spelled};
 ghost use Rattle.wasm_module_validator_resources.specs.Named.{IsReadOver};
 ghost use Rattle.wasm_module_validator_type_trees.specs.Groups.{Group};
-ghost use Rattle.wasm_module_validator_items.specs.Items.{Items};
 ghost use Rattle.wasm_module_validator_steps.specs.contexts.rules.Syntax.{ModuleTree};
-ghost use Rattle.wasm_module_validator_steps.specs.contexts.rules.Spaces.{module_of};
-ghost use Rattle.wasm_module_validator_steps.specs.contexts.rules.Valid.{IsWithinLimits};
 ghost use Rattle.wasm_module_validator_steps.specs.Sections.{Section, place, IsUnread};
 ghost use Rattle.wasm_module_validator_steps.specs.Adding.{Fits};
 ghost use Rattle.wasm_module_validator_steps.specs.Texts.{ItemRead, AddsRead};
 ghost use Rattle.wasm_module_validator_standing.specs.Standing.{Stands};
-ghost use Rattle.wasm_module_validator_progress.specs.Progress.{Reads, Read, IsRead, AddsTo, MayBegin, IsSectionRead};
+ghost use Rattle.wasm_module_validator_texts.specs.Sections.{Reading, AddsIn, RefusesIn, MayBegin};
+ghost use Rattle.wasm_module_validator_texts.specs.Kinds.{WalksTell};
+ghost use Rattle.wasm_module_validator_progress.specs.Progress.{Reads, IsRead};
 
-use crate::InProgress;
+use crate::Collected;
 use std::alloc::Global;
 use wasm_module_validator_adding::AddItem;
 use wasm_module_validator_items::ModuleState;
@@ -61,35 +58,36 @@ pub trait SectionItem<'a>: FromReader<'a> {
             → Reads section types.new.groups state.new groups.new z n) }
         ensures over { OnOk result (IsReadOver types.new.groups state.new.spaces) }
         ensures interning { OnOk result (types.new.can_intern ≡ true) }
-        ensures kept { (state.new.spaces.settings ≡ state.old.spaces.settings) × (state.new.next_code ≡ state.old.next_code) };
+        ensures kept { state.new.spaces.settings ≡ state.old.spaces.settings };
 
     /// Items whose bytes are read alike are the same.
     ghost alike: { (x y : Self) → Self.FromReader.view x ≡ Self.FromReader.view y → of x ≡ of y };
 
-    /// Behind a module within its limits, contents bring a section of these items exactly where they spell one that is valid, within the
-    /// limits.
-    ghost brings: { (z : Settings) (b r : State) (count : ℕ) (m n : ModuleTree) → b.settings ≡ z → u32 b ≡ Done count r → IsUnread section m → IsWithinLimits z (module_of m) m
-        → ((MayBegin z section × Fits z section m count) × AreAdded (Spelled Self.FromReader.view of (Self.FromReader.grammar r.settings)) (AddsRead z section) count r.rest m n)
-        ↔ IsSectionRead z section m b.rest n };
+    /// What a walk over the items of a section tells of the section.
+    ghost tells: { WalksTell section Self.FromReader.view of Self.FromReader.decoder Self.FromReader.grammar };
 }
 
-impl<'a, T: SectionItem<'a>> AddItem<'a, T> for InProgress {
-    ghost use Rattle.std.specs.Prelude.{Unit};
-
-    ghost Tree = { Read };
+impl<'a, T: SectionItem<'a>> AddItem<'a, T> for Collected {
+    ghost Tree = { Reading };
 
     ghost Item = { ItemRead T.section };
 
     ghost of = { T.of };
 
-    ghost reads = { λ r a. IsRead T.section r a };
+    ghost reads = { λ k u. IsRead T.section k u };
 
-    ghost adds = { λ a x b. AddsTo T.section a x b };
+    ghost adds = { λ u x v. AddsIn T.section u x v };
 
-    ghost refuses = { λ a x p e. Unit {0} };
+    ghost refuses = { λ u x p e. RefusesIn T.section u x p e };
 
     fn add(&mut self, item: T, offset: u64) -> Result<()> {
-        match item.add_to(self.alloc, &mut self.state, &mut self.types, &mut self.groups, offset) {
+        match item.add_to(
+            self.alloc,
+            &mut self.state,
+            &mut self.types,
+            &mut self.groups,
+            offset,
+        ) {
             Ok(()) => Ok(()),
             Err(error) => {
                 self.clear();

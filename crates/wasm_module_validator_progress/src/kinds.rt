@@ -16,12 +16,12 @@ use wasm_types::{Error, MemoryType, RecGroup, Result, TagType, WasmFeatures};
 
 impl<'a> SectionItem<'a> for RecGroup {
     ghost use Rattle.wasm_module_validator_steps.specs.Sections as section;
-    ghost use Rattle.wasm_module_validator_interning.specs.Interned.{written_group};
-    ghost use Rattle.wasm_module_validator_progress.specs.laws.Kinds.{types-alike, types-bring};
+    ghost use Rattle.wasm_module_validator_texts.specs.Kinds.{group_read};
+    ghost use Rattle.wasm_module_validator_progress.specs.laws.Kinds.{types-alike, types-tell};
 
     ghost section = { section.types };
 
-    ghost of = { λ g. written_group g };
+    ghost of = { group_read };
 
     fn place() -> u32 {
         1
@@ -50,16 +50,17 @@ impl<'a> SectionItem<'a> for RecGroup {
 
     ghost alike = { types-alike };
 
-    ghost brings = { types-bring };
+    ghost tells = { types-tell };
 }
 
 impl<'a> SectionItem<'a> for Import<'a> {
     ghost use Rattle.wasm_module_validator_steps.specs.Sections as section;
-    ghost use Rattle.wasm_module_validator_progress.specs.laws.Kinds.{imports-alike, imports-bring};
+    ghost use Rattle.wasm_module_validator_texts.specs.Kinds.{import_read};
+    ghost use Rattle.wasm_module_validator_progress.specs.laws.Kinds.{imports-alike, imports-tell};
 
     ghost section = { section.imports };
 
-    ghost of = { λ i. record { module_name = i.«module».now; field_name = i.name.now; ty = i.ty } };
+    ghost of = { import_read };
 
     fn place() -> u32 {
         2
@@ -82,16 +83,17 @@ impl<'a> SectionItem<'a> for Import<'a> {
 
     ghost alike = { imports-alike };
 
-    ghost brings = { imports-bring };
+    ghost tells = { imports-tell };
 }
 
 impl<'a> SectionItem<'a> for u32 {
     ghost use Rattle.wasm_module_validator_steps.specs.Sections as section;
-    ghost use Rattle.wasm_module_validator_progress.specs.laws.Kinds.{functions-alike, functions-bring};
+    ghost use Rattle.wasm_module_validator_texts.specs.Kinds.{index_read};
+    ghost use Rattle.wasm_module_validator_progress.specs.laws.Kinds.{functions-alike, functions-tell};
 
     ghost section = { section.functions };
 
-    ghost of = { λ x. x };
+    ghost of = { index_read };
 
     fn place() -> u32 {
         3
@@ -114,17 +116,17 @@ impl<'a> SectionItem<'a> for u32 {
 
     ghost alike = { functions-alike };
 
-    ghost brings = { functions-bring };
+    ghost tells = { functions-tell };
 }
 
 impl<'a> SectionItem<'a> for TableOf<ConstExpr<'a>> {
     ghost use Rattle.wasm_module_validator_steps.specs.Sections as section;
-    ghost use Rattle.wasm_module_validator_segments.specs.Trees.{table_read};
-    ghost use Rattle.wasm_module_validator_progress.specs.laws.Kinds.{tables-alike, tables-bring};
+    ghost use Rattle.wasm_module_validator_texts.specs.Kinds.{table_read};
+    ghost use Rattle.wasm_module_validator_progress.specs.laws.Kinds.{tables-alike, tables-tell};
 
     ghost section = { section.tables };
 
-    ghost of = { λ t. table_read t };
+    ghost of = { table_read };
 
     fn place() -> u32 {
         4
@@ -147,16 +149,17 @@ impl<'a> SectionItem<'a> for TableOf<ConstExpr<'a>> {
 
     ghost alike = { tables-alike };
 
-    ghost brings = { tables-bring };
+    ghost tells = { tables-tell };
 }
 
 impl<'a> SectionItem<'a> for MemoryType {
     ghost use Rattle.wasm_module_validator_steps.specs.Sections as section;
-    ghost use Rattle.wasm_module_validator_progress.specs.laws.Kinds.{memories-alike, memories-bring};
+    ghost use Rattle.wasm_module_validator_texts.specs.Kinds.{memory_read};
+    ghost use Rattle.wasm_module_validator_progress.specs.laws.Kinds.{memories-alike, memories-tell};
 
     ghost section = { section.memories };
 
-    ghost of = { λ t. t };
+    ghost of = { memory_read };
 
     fn place() -> u32 {
         5
@@ -179,16 +182,17 @@ impl<'a> SectionItem<'a> for MemoryType {
 
     ghost alike = { memories-alike };
 
-    ghost brings = { memories-bring };
+    ghost tells = { memories-tell };
 }
 
 impl<'a> SectionItem<'a> for TagType {
     ghost use Rattle.wasm_module_validator_steps.specs.Sections as section;
-    ghost use Rattle.wasm_module_validator_progress.specs.laws.Kinds.{tags-alike, tags-bring};
+    ghost use Rattle.wasm_module_validator_texts.specs.Kinds.{tag_read};
+    ghost use Rattle.wasm_module_validator_progress.specs.laws.Kinds.{tags-alike, tags-tell};
 
     ghost section = { section.tags };
 
-    ghost of = { λ t. t };
+    ghost of = { tag_read };
 
     fn place() -> u32 {
         6
@@ -218,17 +222,17 @@ impl<'a> SectionItem<'a> for TagType {
 
     ghost alike = { tags-alike };
 
-    ghost brings = { tags-bring };
+    ghost tells = { tags-tell };
 }
 
 impl<'a> SectionItem<'a> for GlobalOf<ConstExpr<'a>> {
     ghost use Rattle.wasm_module_validator_steps.specs.Sections as section;
-    ghost use Rattle.wasm_module_validator_segments.specs.Trees.{global_read};
-    ghost use Rattle.wasm_module_validator_progress.specs.laws.Kinds.{globals-alike, globals-bring};
+    ghost use Rattle.wasm_module_validator_texts.specs.Kinds.{global_read};
+    ghost use Rattle.wasm_module_validator_progress.specs.laws.Kinds.{globals-alike, globals-tell};
 
     ghost section = { section.globals };
 
-    ghost of = { λ x. global_read x };
+    ghost of = { global_read };
 
     fn place() -> u32 {
         7
@@ -251,16 +255,17 @@ impl<'a> SectionItem<'a> for GlobalOf<ConstExpr<'a>> {
 
     ghost alike = { globals-alike };
 
-    ghost brings = { globals-bring };
+    ghost tells = { globals-tell };
 }
 
 impl<'a> SectionItem<'a> for Export<'a> {
     ghost use Rattle.wasm_module_validator_steps.specs.Sections as section;
-    ghost use Rattle.wasm_module_validator_progress.specs.laws.Kinds.{exports-alike, exports-bring};
+    ghost use Rattle.wasm_module_validator_texts.specs.Kinds.{export_read};
+    ghost use Rattle.wasm_module_validator_progress.specs.laws.Kinds.{exports-alike, exports-tell};
 
     ghost section = { section.exports };
 
-    ghost of = { λ e. record { name = e.name.now; kind = e.kind; index = e.index } };
+    ghost of = { export_read };
 
     fn place() -> u32 {
         8
@@ -283,17 +288,17 @@ impl<'a> SectionItem<'a> for Export<'a> {
 
     ghost alike = { exports-alike };
 
-    ghost brings = { exports-bring };
+    ghost tells = { exports-tell };
 }
 
 impl<'a> SectionItem<'a> for ElementOf<'a, ConstExpr<'a>> {
     ghost use Rattle.wasm_module_validator_steps.specs.Sections as section;
-    ghost use Rattle.wasm_module_validator_elements.specs.Trees.{element_read};
-    ghost use Rattle.wasm_module_validator_progress.specs.laws.Kinds.{elements-alike, elements-bring};
+    ghost use Rattle.wasm_module_validator_texts.specs.Kinds.{element_read};
+    ghost use Rattle.wasm_module_validator_progress.specs.laws.Kinds.{elements-alike, elements-tell};
 
     ghost section = { section.element_segments };
 
-    ghost of = { λ x. element_read x };
+    ghost of = { element_read };
 
     fn place() -> u32 {
         10
@@ -316,17 +321,17 @@ impl<'a> SectionItem<'a> for ElementOf<'a, ConstExpr<'a>> {
 
     ghost alike = { elements-alike };
 
-    ghost brings = { elements-bring };
+    ghost tells = { elements-tell };
 }
 
 impl<'a> SectionItem<'a> for DataOf<'a, ConstExpr<'a>> {
     ghost use Rattle.wasm_module_validator_steps.specs.Sections as section;
-    ghost use Rattle.wasm_module_validator_initialising.specs.Here.{data_tree};
-    ghost use Rattle.wasm_module_validator_progress.specs.laws.Kinds.{data-alike, data-bring};
+    ghost use Rattle.wasm_module_validator_texts.specs.Kinds.{data_read};
+    ghost use Rattle.wasm_module_validator_progress.specs.laws.Kinds.{segments-alike, segments-tell};
 
     ghost section = { section.data_segments };
 
-    ghost of = { λ x. data_tree x };
+    ghost of = { data_read };
 
     fn place() -> u32 {
         13
@@ -347,8 +352,8 @@ impl<'a> SectionItem<'a> for DataOf<'a, ConstExpr<'a>> {
         check_data_item(alloc, state, types, self, offset)
     }
 
-    ghost alike = { data-alike };
+    ghost alike = { segments-alike };
 
-    ghost brings = { data-bring };
+    ghost tells = { segments-tell };
 }
 

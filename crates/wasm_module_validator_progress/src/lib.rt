@@ -1,17 +1,20 @@
-//! A module that is being read, section by section (WebAssembly 3.0, validation, modules).
+//! A module that is being read, payload by payload (WebAssembly 3.0, validation, modules).
 //!
-//! [`InProgress`] keeps the state of a module and the list of its types. A section of items is taken by
-//! [`InProgress::take_section`], whatever its items are: a [`SectionItem`] says which section it stands in, how many of it there may be,
-//! and how one is added. `specs/Progress.antt` says when what is kept stands for what was judged: each call is Ok exactly where its
-//! frame may come next by the rules, and what is kept then stands for whatever was judged with it.
+//! [`InProgress`] keeps the state of a module and the list of its types. [`InProgress::take_payload`] takes what comes next: a section is
+//! checked item by item, a body is kept with the index of its type. A section of items is taken alike whatever its items are: a
+//! [`SectionItem`] says which section it stands in, how many of it there may be, and how one is added. `specs/Progress.antt` says when what
+//! is kept stands for what was judged: each call is Ok exactly where its frame may come next by the rules, and what is kept then stands
+//! for whatever was judged with it.
 #![tactic(auto)]
 
+mod collected;
 mod frames;
 mod items;
 mod kinds;
 mod payloads;
 mod progress;
 
+pub use collected::Collected;
 pub use items::SectionItem;
 pub use progress::InProgress;
 pub use wasm_module_validator_code::Body;

@@ -11,7 +11,8 @@ ghost use Rattle.wasm_sections_payloads.specs.Payloads.{only_number, IsPayloadOf
 ghost use Rattle.wasm_module_validator_code.specs.declared.bodies.Body.{Body as TheBody};
 ghost use Rattle.wasm_module_validator_steps.specs.Sections as section;
 ghost use Rattle.wasm_module_validator_steps.specs.Steps.{SoFar, JudgesSection, JudgesShape};
-ghost use Rattle.wasm_module_validator_progress.specs.Progress.{IsAt, HasSettings};
+ghost use Rattle.wasm_module_validator_fronts.specs.Walks.{HasSettings};
+ghost use Rattle.wasm_module_validator_progress.specs.Progress.{IsAt};
 
 use crate::{Body, InProgress};
 use wasm_module_validator_declaring::{take_data_count, take_start};
@@ -73,7 +74,7 @@ impl InProgress {
             Ok(()) => (),
             Err(error) => return Err(error),
         }
-        take_start(&self.state, &self.types, func, offset)
+        take_start(&self.collected.state, &self.collected.types, func, offset)
     }
 
     // Takes the data count section.
@@ -87,7 +88,7 @@ impl InProgress {
             Ok(()) => (),
             Err(error) => return Err(error),
         }
-        take_data_count(&mut self.state, count, offset)
+        take_data_count(&mut self.collected.state, count, offset)
     }
 
     /// Takes the next payload of a module: a section is checked item by item, and a body is kept with the index of its function and of

@@ -1,46 +1,36 @@
 -- A section is taken exactly where it comes next by the rules, and what is kept then stands for what was judged.
-use Rattle.std.proofs.Common.{◌≡◌, ◌∙◌, ◌<◌, ◌≤◌, ◌+◌, ◌⊎◌, ℕ, zero, suc, List, [], ◌∷◌, length, map, take, refl, sym, ap, subst, arith, inl, inr, Some}
+use Rattle.std.proofs.Common.{◌≡◌, ◌∙◌, ◌<◌, ◌≤◌, ◌⊎◌, ℕ, List, [], ◌∷◌, length, map, take, refl, sym, ap, subst, arith, inl, inr}
 use Rattle.std.proofs.lemmas.Bool.{cases_order}
+use Rattle.std.proofs.lemmas.List.{length-map}
+use Rattle.wasm_types.specs.decoding.Decoder.{State, Done, Decoder, Grammar}
+use Rattle.wasm_types.specs.decoding.Leb.{u32}
 use Rattle.wasm_types.specs.limits.Settings.{Settings}
 use Rattle.wasm_types.specs.error.Denials.{Denies}
 use Rattle.wasm_types.specs.error.DenialLaws.{denies_from}
+use Rattle.wasm_types.specs.error.ErrorValue.{ErrorValue}
 use Rattle.wasm_types.specs.error.declared.error.ErrorKind.{ErrorKind}
 use Rattle.wasm_sections_parser.specs.Steps as frame
 use Rattle.wasm_module_validator_code.specs.declared.bodies.Body.{Body}
-use Rattle.wasm_module_validator_steps.specs.contexts.rules.Syntax.{ModuleTree}
-use Rattle.wasm_module_validator_steps.specs.contexts.rules.Spaces.{imported, function_of}
-use Rattle.wasm_module_validator_steps.specs.Sections.{Section, number, place, code_place}
+use Rattle.wasm_module_validator_adding.specs.Adding.{Spelled, AreAdded, StopsAdding}
+use Rattle.wasm_module_validator_steps.specs.Sections.{Section, number, place, code_place, IsUnread}
 use Rattle.wasm_module_validator_steps.specs.Sections as section
+use Rattle.wasm_module_validator_steps.specs.Adding.{Fits}
+use Rattle.wasm_module_validator_steps.specs.Texts.{ItemRead}
 use Rattle.wasm_module_validator_steps.specs.Steps.{SoFar, JudgesSection}
 use Rattle.wasm_module_validator_steps.specs.laws.Fronts.{items_stay}
 use Rattle.wasm_module_validator_steps.specs.laws.Judged.{shape_keeps}
-use Rattle.wasm_module_validator_standing.specs.laws.Counts.{unread_is_last}
-use Rattle.wasm_module_validator_progress.specs.Progress.{Reading, Read, Reads, IsRead, IsSectionRead, IsAt, text_of, type_of, code_behind}
+use Rattle.wasm_module_validator_standing.specs.laws.Beginning.{unread_is_last}
+use Rattle.wasm_module_validator_texts.specs.Sections.{Reading, reading, AddsIn, RefusesIn, MayBegin, behind}
+use Rattle.wasm_module_validator_texts.specs.Kinds.{WalksTell, AreTold}
+use Rattle.wasm_module_validator_progress.specs.Progress.{Kept, Progress, IsRead, IsAt, text_of, type_of}
 
--- ---- what depends on the number of bodies alone, where there are some
-
-same_behind : (i j n : ℕ) → (n ≡ 0) ⊎ (i ≡ j) → code_behind i n ≡ code_behind j n
-same_behind i j zero h = refl
-same_behind i j (suc n) (inl e) = absurd (omega (arith, e))
-same_behind i j (suc n) (inr e) = ap (λ (k : ℕ). Some (k + suc n)) e
-
+-- what depends on the number of bodies alone, where there are some
 same_taken : (n : ℕ) (xs ys : List ℕ) → (n ≡ 0) ⊎ (xs ≡ ys) → take n xs ≡ take n ys
 same_taken n xs ys (inl e) = ap (λ (k : ℕ). take k xs) e ∙ ap (λ (k : ℕ). take k ys) (sym e)
 same_taken n xs ys (inr e) = ap (take n) e
 
-counted : (bodies : List Body) → length (map text_of bodies) ≡ length bodies
-counted [] = refl
-counted (b ∷ bs) = ap suc (counted bs)
-
-module _ (z : Settings) (p : SoFar) (r : Reading) (bodies : List Body) (at : IsAt z r bodies p) (s : Section) where
+module _ (z : Settings) (p : SoFar) (r : Progress) (bodies : List Body) (at : IsAt z r bodies p) (s : Section) where
   -- ---- where a section begins
-
-  -- what is kept, and what it stands for
-  abbrev pub begun : Reading
-  begun = record r { last = place s }
-
-  abbrev pub start : Read
-  start = record { settings = z; tree = p.tree; next = r.items.next_code; last = place s }
 
   pub is_behind : r.last < place s → p.last < place s
   is_behind o = subst (λ (n : ℕ). n < place s) at.placed o
@@ -48,48 +38,63 @@ module _ (z : Settings) (p : SoFar) (r : Reading) (bodies : List Body) (at : IsA
   pub not_behind : (k : ErrorKind) (text : List ℕ) → Denies k (r.last < place s) → Denies k ((q : SoFar) × JudgesSection z p s text q)
   not_behind k text d = denies_from k _ _ (λ h. subst (λ (n : ℕ). n < place s) (sym at.placed) h.1.ordered) d
 
-  pub starts : p.last < place s → IsRead s begun start
-  starts o = (record { reading = record { stands = at.stands; last = unread_is_last s p.tree (at.judged.unread s o) }; counted = at.counted }, refl, refl)
+  pub unread : p.last < place s → IsUnread s p.tree
+  unread o = at.judged.unread s o
 
-  pub judged_of : (text : List ℕ) (n : ModuleTree) → p.last < place s → IsSectionRead z s p.tree text n
-      → JudgesSection z p s text (record { last = place s; tree = n; bodies = p.bodies })
-  judged_of text n o h = record { ordered = o; added = h.added; spelled = h.spelled; valid = h.valid; within = h.within; last = refl; bodies = refl }
-
-  pub of_judged : (text : List ℕ) (q : SoFar) → JudgesSection z p s text q → IsSectionRead z s p.tree text q.tree
-  of_judged text q j = record { added = j.added; spelled = j.spelled; valid = j.valid; within = j.within }
+  pub starts : p.last < place s → IsRead s r.kept (reading z p.tree)
+  starts o = record { reading = record { stands = at.stands; last = unread_is_last s p.tree (unread o) }; counted = at.counted }
 
   -- ---- behind it
 
   module _ (text : List ℕ) (q : SoFar) (j : JudgesSection z p s text q) where
     none_yet : p.last < code_place → length bodies ≡ 0
-    none_yet l = sym (counted bodies) ∙ (ap length at.bodies ∙ ap length (at.judged.none l))
-
-    -- there is no body, or functions and imports stay
-    stay : (A : Type 0) (f : ModuleTree → A) → (code_place ≤ p.last → f p.tree ≡ f q.tree) → (length bodies ≡ 0) ⊎ (f p.tree ≡ f q.tree)
-    stay A f same = go (cases_order p.last code_place)
-      where
-        go : (p.last ≡ code_place) ⊎ ((p.last < code_place) ⊎ (code_place < p.last)) → (length bodies ≡ 0) ⊎ (f p.tree ≡ f q.tree)
-        go (inl e) = inr (same (omega (arith, e)))
-        go (inr (inl l)) = inl (none_yet l)
-        go (inr (inr l)) = inr (same (omega (arith, l)))
+    none_yet l = sym (length-map text_of bodies) ∙ (ap length at.bodies ∙ ap length (at.judged.none l))
 
     functions_stay : code_place ≤ p.last → p.tree.functions ≡ q.tree.functions
     functions_stay l = items_stay section.functions s p.tree q.tree (omega (arith, l, j.ordered)) j.added
 
-    imports_stay : code_place ≤ p.last → length (imported function_of p.tree) ≡ length (imported function_of q.tree)
-    imports_stay l = ap (λ is. length (imported function_of (record p.tree { imports = is })))
-        (items_stay section.imports s p.tree q.tree (omega (arith, l, j.ordered)) j.added)
+    -- there is no body, or functions stay
+    stay : (length bodies ≡ 0) ⊎ (p.tree.functions ≡ q.tree.functions)
+    stay = go (cases_order p.last code_place)
+      where
+        go : (p.last ≡ code_place) ⊎ ((p.last < code_place) ⊎ (code_place < p.last)) → (length bodies ≡ 0) ⊎ (p.tree.functions ≡ q.tree.functions)
+        go (inl e) = inr (functions_stay (omega (arith, e)))
+        go (inr (inl l)) = inl (none_yet l)
+        go (inr (inr l)) = inr (functions_stay (omega (arith, l)))
 
-    pub at_behind : (r' : Reading) → IsRead s r' (record start { tree = q.tree }) → IsAt z r' bodies q
-    at_behind r' (h, next, last) = record {
+    pub at_behind : (k : Kept) → IsRead s k (reading z q.tree) → IsAt z (record { kept = k; last = place s }) bodies q
+    at_behind k h = record {
       stands = h.reading.stands;
       judged = shape_keeps z (frame.section (number s) text) p q at.judged (s, refl, j);
       counted = h.counted;
-      placed = last ∙ sym j.last;
-      next = next ∙ (at.next ∙ (ap (λ (i : ℕ). code_behind i (length bodies)) at.stands.read.imported_functions
-          ∙ (same_behind _ _ (length bodies) (stay ℕ (λ m. length (imported function_of m)) imports_stay)
-          ∙ ap (λ (i : ℕ). code_behind i (length bodies)) (sym h.reading.stands.read.imported_functions))));
+      placed = sym j.last;
       bodies = at.bodies ∙ sym j.bodies;
-      types = at.types ∙ same_taken (length bodies) p.tree.functions q.tree.functions (stay (List ℕ) (λ m. m.functions) functions_stay);
+      types = at.types ∙ same_taken (length bodies) p.tree.functions q.tree.functions stay;
       read = at.read;
     }
+
+  -- ---- what a walk over the items tells
+
+  module _ {T V : Type 0} (view : T → V) (of : T → ItemRead s) (d : Settings → Decoder V) (g : Settings → Grammar V) (tells : WalksTell s view of d g)
+    (b c : State) (n : ℕ) (same : b.settings ≡ z) (counts : u32 b ≡ Done n c) where
+    told : AreTold s view of d g z p b c n
+    told = tells z p b c n at.judged same counts
+
+    pub too_many : (k : ErrorKind) → Denies k (MayBegin z s × Fits z s p.tree n) → Denies k ((q : SoFar) × JudgesSection z p s b.rest q)
+    too_many k no = denies_from k _ _ (λ h. (told.allowed h.0 h.1, told.fits h.0 h.1)) no
+
+    pub stopped : (e : ErrorValue) → StopsAdding view of (d c.settings) (AddsIn s) (RefusesIn s) n c (reading z p.tree) e → Denies e.kind ((q : SoFar) × JudgesSection z p s b.rest q)
+    stopped e h = told.refused e h
+
+    module _ (o : p.last < place s) (may : MayBegin z s × Fits z s p.tree n) (u : Reading)
+      (all : AreAdded (Spelled view of (g c.settings)) (AddsIn s) n c.rest (reading z p.tree) u) where
+      pub judged : JudgesSection z p s b.rest (behind s p u.tree)
+      judged = (told.added o may.0 may.1 u all).0
+
+      settings_stay : u.settings ≡ z
+      settings_stay = (told.added o may.0 may.1 u all).1
+
+      pub stands : (k : Kept) → IsRead s k u → (q : SoFar) → JudgesSection z p s b.rest q → IsAt z (record { kept = k; last = place s }) bodies q
+      stands k h q j =
+          subst (IsAt z (record { kept = k; last = place s }) bodies) (sym (told.one u q all j))
+          (at_behind b.rest (behind s p u.tree) judged k (subst (λ (y : Settings). IsRead s k (reading y u.tree)) settings_stay h))

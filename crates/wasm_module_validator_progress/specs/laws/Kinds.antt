@@ -1,0 +1,1 @@
+-- What the items of each kind of section have to tell.

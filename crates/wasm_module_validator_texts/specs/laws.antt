@@ -1,0 +1,13 @@
+pub mod Linked
+pub mod Groups
+pub mod Constants
+pub mod Elements
+pub mod Items
+pub mod Once
+pub mod Counts
+pub mod Judged
+pub mod Walks
+pub mod Numbers
+pub mod Kinds
+pub mod Telling
+pub mod Shapes

@@ -1,0 +1,51 @@
+-- What the answer of a walk over the items of a section tells, as the contract of `add_items` says it.
+use Rattle.std.proofs.Common.{◌≡◌, ◌∙◌, ℕ, Result, Ok, Err, refl, sym, ap, subst}
+use Rattle.std.specs.Prelude.{◌↔◌, ◌<◌, OnOk, IfErr}
+use Rattle.wasm_types.specs.decoding.Decoder.{State, Decoder, Grammar}
+use Rattle.wasm_types.specs.error.ErrorValue.{ErrorValue}
+use Rattle.wasm_types.specs.error.Denials.{Tells}
+use Rattle.wasm_types.specs.error.DenialLaws.{denies_from}
+use Rattle.wasm_types.specs.limits.Settings.{Settings}
+use Rattle.wasm_module_validator_adding.specs.Adding.{Spelled, AreAdded, StopsAdding}
+use Rattle.wasm_module_validator_steps.specs.contexts.rules.Syntax.{ModuleTree}
+use Rattle.wasm_module_validator_steps.specs.Sections.{Section, place}
+use Rattle.wasm_module_validator_steps.specs.Adding.{Fits}
+use Rattle.wasm_module_validator_steps.specs.Texts.{ItemRead, AddsRead}
+use Rattle.wasm_module_validator_steps.specs.Steps.{SoFar, JudgesSection}
+use Rattle.wasm_module_validator_texts.specs.Sections.{Reading, reading, AddsIn, RefusesIn, MayBegin, behind}
+use Rattle.wasm_module_validator_texts.specs.Kinds.{AreTold}
+
+-- ---- one item
+
+-- an item that is added to a tree is added under the settings that stay
+pub added_in : (s : Section) (u : Reading) (t : ItemRead s) → ((n : ModuleTree) × AddsRead u.settings s u.tree t n) ↔ ((v : Reading) × AddsIn s u t v)
+added_in s u t = (λ h. (reading u.settings h.0, (h.1, refl)), λ h. (h.0.tree, h.1.0))
+
+-- so what an answer tells of the one it tells of the other
+pub tells_in : {X : Type 0} (s : Section) (u : Reading) (t : ItemRead s) (result : Result X ErrorValue) → Tells result ((n : ModuleTree) × AddsRead u.settings s u.tree t n)
+    → Tells result ((v : Reading) × AddsIn s u t v)
+tells_in s u t (Ok x) h = (added_in s u t).0 h
+tells_in s u t (Err e) h = denies_from e.kind ((n : ModuleTree) × AddsRead u.settings s u.tree t n) ((v : Reading) × AddsIn s u t v) (added_in s u t).1 h
+
+-- ---- a section of them
+
+module _ (s : Section) {T V : Type 0} (view : T → V) (of : T → ItemRead s) (d : Settings → Decoder V) (g : Settings → Grammar V) (z : Settings) (p : SoFar) (b r : State) (n : ℕ)
+    (told : AreTold s view of d g z p b r n) where
+  abbrev Added : Reading → Type 0
+  Added u = AreAdded (Spelled view of (g r.settings)) (AddsIn s) n r.rest (reading z p.tree) u
+
+  -- where the section may begin, the answer tells whether it is judged
+  pub section_told : {X : Type 0} (result : Result X ErrorValue) → p.last < place s → MayBegin z s → Fits z s p.tree n → Tells result ((u : Reading) × Added u)
+      → IfErr result (λ e. StopsAdding view of (d r.settings) (AddsIn s) (RefusesIn s) n r (reading z p.tree) e) → Tells result ((q : SoFar) × JudgesSection z p s b.rest q)
+  section_told (Ok x) l m f h k = (behind s p h.0.tree, (told.added l m f h.0 h.1).0)
+  section_told (Err e) l m f h k = told.refused e k
+
+  -- and what holds of whatever the items lead to holds of all that is judged
+  pub each_told : {X : Type 0} (P : Reading → Type 0) (result : Result X ErrorValue) → p.last < place s → MayBegin z s → Fits z s p.tree n → Tells result ((u : Reading) × Added u)
+      → OnOk result ((u : Reading) → Added u → P u) → OnOk result ((q : SoFar) → JudgesSection z p s b.rest q → P (reading z q.tree))
+  each_told P (Ok x) l m f h k = λ q j.
+      let settings : h.0.settings ≡ z = (told.added l m f h.0 h.1).1 in
+      let tree : q.tree ≡ h.0.tree = ap (λ (o : SoFar). o.tree) (told.one h.0 q h.1 j) in
+      let same : h.0 ≡ reading z q.tree = (λ i. record { settings = settings i; tree = sym tree i }) in
+      subst P same (k h.0 h.1)
+  each_told P (Err e) l m f h k = tt
