@@ -1,3 +1,4 @@
+pub mod Kinds
 pub mod Taking
 pub mod Bodies
 pub mod Shapes

@@ -17,7 +17,8 @@ use wasm_types::{Error, MemoryType, RecGroup, Result, TagType, WasmFeatures};
 impl<'a> SectionItem<'a> for RecGroup {
     ghost use Rattle.wasm_module_validator_steps.specs.Sections as section;
     ghost use Rattle.wasm_module_validator_texts.specs.Kinds.{group_read};
-    ghost use Rattle.wasm_module_validator_progress.specs.laws.Kinds.{types-alike, types-tell};
+    ghost use Rattle.wasm_module_validator_texts.specs.laws.Kinds.{types_tell};
+    ghost use Rattle.wasm_module_validator_progress.specs.laws.Kinds.{groups_alike};
 
     ghost section = { section.types };
 
@@ -48,15 +49,15 @@ impl<'a> SectionItem<'a> for RecGroup {
         }
     }
 
-    ghost alike = { types-alike };
+    ghost alike = { groups_alike };
 
-    ghost tells = { types-tell };
+    ghost tells = { types_tell };
 }
 
 impl<'a> SectionItem<'a> for Import<'a> {
     ghost use Rattle.wasm_module_validator_steps.specs.Sections as section;
     ghost use Rattle.wasm_module_validator_texts.specs.Kinds.{import_read};
-    ghost use Rattle.wasm_module_validator_progress.specs.laws.Kinds.{imports-alike, imports-tell};
+    ghost use Rattle.wasm_module_validator_texts.specs.laws.Kinds.{imports_tell};
 
     ghost section = { section.imports };
 
@@ -81,15 +82,15 @@ impl<'a> SectionItem<'a> for Import<'a> {
         add_import_item(state, types, self, offset)
     }
 
-    ghost alike = { imports-alike };
+    ghost alike = { λ x y is. is };
 
-    ghost tells = { imports-tell };
+    ghost tells = { imports_tell };
 }
 
 impl<'a> SectionItem<'a> for u32 {
     ghost use Rattle.wasm_module_validator_steps.specs.Sections as section;
     ghost use Rattle.wasm_module_validator_texts.specs.Kinds.{index_read};
-    ghost use Rattle.wasm_module_validator_progress.specs.laws.Kinds.{functions-alike, functions-tell};
+    ghost use Rattle.wasm_module_validator_texts.specs.laws.Kinds.{functions_tell};
 
     ghost section = { section.functions };
 
@@ -114,15 +115,15 @@ impl<'a> SectionItem<'a> for u32 {
         add_function_item(state, types, self, offset)
     }
 
-    ghost alike = { functions-alike };
+    ghost alike = { λ x y is. is };
 
-    ghost tells = { functions-tell };
+    ghost tells = { functions_tell };
 }
 
 impl<'a> SectionItem<'a> for TableOf<ConstExpr<'a>> {
     ghost use Rattle.wasm_module_validator_steps.specs.Sections as section;
     ghost use Rattle.wasm_module_validator_texts.specs.Kinds.{table_read};
-    ghost use Rattle.wasm_module_validator_progress.specs.laws.Kinds.{tables-alike, tables-tell};
+    ghost use Rattle.wasm_module_validator_texts.specs.laws.Kinds.{tables_tell};
 
     ghost section = { section.tables };
 
@@ -147,15 +148,15 @@ impl<'a> SectionItem<'a> for TableOf<ConstExpr<'a>> {
         add_table(alloc, state, types, self, offset)
     }
 
-    ghost alike = { tables-alike };
+    ghost alike = { λ x y is. is };
 
-    ghost tells = { tables-tell };
+    ghost tells = { tables_tell };
 }
 
 impl<'a> SectionItem<'a> for MemoryType {
     ghost use Rattle.wasm_module_validator_steps.specs.Sections as section;
     ghost use Rattle.wasm_module_validator_texts.specs.Kinds.{memory_read};
-    ghost use Rattle.wasm_module_validator_progress.specs.laws.Kinds.{memories-alike, memories-tell};
+    ghost use Rattle.wasm_module_validator_texts.specs.laws.Kinds.{memories_tell};
 
     ghost section = { section.memories };
 
@@ -180,15 +181,15 @@ impl<'a> SectionItem<'a> for MemoryType {
         add_memory_item(state, self, offset)
     }
 
-    ghost alike = { memories-alike };
+    ghost alike = { λ x y is. is };
 
-    ghost tells = { memories-tell };
+    ghost tells = { memories_tell };
 }
 
 impl<'a> SectionItem<'a> for TagType {
     ghost use Rattle.wasm_module_validator_steps.specs.Sections as section;
     ghost use Rattle.wasm_module_validator_texts.specs.Kinds.{tag_read};
-    ghost use Rattle.wasm_module_validator_progress.specs.laws.Kinds.{tags-alike, tags-tell};
+    ghost use Rattle.wasm_module_validator_texts.specs.laws.Kinds.{tags_tell};
 
     ghost section = { section.tags };
 
@@ -220,15 +221,15 @@ impl<'a> SectionItem<'a> for TagType {
         add_tag_item(state, types, self, offset)
     }
 
-    ghost alike = { tags-alike };
+    ghost alike = { λ x y is. is };
 
-    ghost tells = { tags-tell };
+    ghost tells = { tags_tell };
 }
 
 impl<'a> SectionItem<'a> for GlobalOf<ConstExpr<'a>> {
     ghost use Rattle.wasm_module_validator_steps.specs.Sections as section;
     ghost use Rattle.wasm_module_validator_texts.specs.Kinds.{global_read};
-    ghost use Rattle.wasm_module_validator_progress.specs.laws.Kinds.{globals-alike, globals-tell};
+    ghost use Rattle.wasm_module_validator_texts.specs.laws.Kinds.{globals_tell};
 
     ghost section = { section.globals };
 
@@ -253,15 +254,15 @@ impl<'a> SectionItem<'a> for GlobalOf<ConstExpr<'a>> {
         add_global(alloc, state, types, self, offset)
     }
 
-    ghost alike = { globals-alike };
+    ghost alike = { λ x y is. is };
 
-    ghost tells = { globals-tell };
+    ghost tells = { globals_tell };
 }
 
 impl<'a> SectionItem<'a> for Export<'a> {
     ghost use Rattle.wasm_module_validator_steps.specs.Sections as section;
     ghost use Rattle.wasm_module_validator_texts.specs.Kinds.{export_read};
-    ghost use Rattle.wasm_module_validator_progress.specs.laws.Kinds.{exports-alike, exports-tell};
+    ghost use Rattle.wasm_module_validator_texts.specs.laws.Kinds.{exports_tell};
 
     ghost section = { section.exports };
 
@@ -286,15 +287,15 @@ impl<'a> SectionItem<'a> for Export<'a> {
         add_export_item(state, types, self, offset)
     }
 
-    ghost alike = { exports-alike };
+    ghost alike = { λ x y is. is };
 
-    ghost tells = { exports-tell };
+    ghost tells = { exports_tell };
 }
 
 impl<'a> SectionItem<'a> for ElementOf<'a, ConstExpr<'a>> {
     ghost use Rattle.wasm_module_validator_steps.specs.Sections as section;
     ghost use Rattle.wasm_module_validator_texts.specs.Kinds.{element_read};
-    ghost use Rattle.wasm_module_validator_progress.specs.laws.Kinds.{elements-alike, elements-tell};
+    ghost use Rattle.wasm_module_validator_texts.specs.laws.Kinds.{elements_tell};
 
     ghost section = { section.element_segments };
 
@@ -319,15 +320,15 @@ impl<'a> SectionItem<'a> for ElementOf<'a, ConstExpr<'a>> {
         add_element(alloc, state, types, self, offset)
     }
 
-    ghost alike = { elements-alike };
+    ghost alike = { λ x y is. is };
 
-    ghost tells = { elements-tell };
+    ghost tells = { elements_tell };
 }
 
 impl<'a> SectionItem<'a> for DataOf<'a, ConstExpr<'a>> {
     ghost use Rattle.wasm_module_validator_steps.specs.Sections as section;
     ghost use Rattle.wasm_module_validator_texts.specs.Kinds.{data_read};
-    ghost use Rattle.wasm_module_validator_progress.specs.laws.Kinds.{segments-alike, segments-tell};
+    ghost use Rattle.wasm_module_validator_texts.specs.laws.Kinds.{segments_tell};
 
     ghost section = { section.data_segments };
 
@@ -352,8 +353,8 @@ impl<'a> SectionItem<'a> for DataOf<'a, ConstExpr<'a>> {
         check_data_item(alloc, state, types, self, offset)
     }
 
-    ghost alike = { segments-alike };
+    ghost alike = { λ x y is. is };
 
-    ghost tells = { segments-tell };
+    ghost tells = { segments_tell };
 }
 
