@@ -1,4 +1,4 @@
-/* The same as the program leb_bench, as one writes it in C. */
+/* The same as the program `wasm_bench numbers`, as one writes it in C. */
 #include <stdint.h>
 #include <stdio.h>
 #include <stdlib.h>

@@ -1,20 +1,14 @@
-//! Reads or visits the operators of a module over and over, for `bench/operators`: `operators_bench walk|read|visit FILE PASSES`
-//! goes so many times over the module in FILE, and prints how many operators its bodies have (`walk`: how many bodies it has).
-//! Without words it visits a module without bodies once.
-#![tactic(auto)]
+//! The operators of a module, read or visited over and over.
 
 use anyhow::{Context, Result};
 use std::alloc::Global;
-use std::{env, fs};
 use wasm_operators_counter::{Counter, count_expression};
 use wasm_operators_visiting::OperatorsReader;
 use wasm_sections::{FunctionBody, Parser, Payload};
 
-static HEADER: [u8; 8] = [0x00, 0x61, 0x73, 0x6d, 0x01, 0x00, 0x00, 0x00];
-
 /// What is done with each body.
 #[derive(Clone, Copy)]
-enum Mode {
+pub(crate) enum Mode {
     Walk,
     Read,
     Visit,
@@ -79,31 +73,17 @@ fn walk(alloc: Global, mode: Mode, bytes: &[u8]) -> Option<u64> {
     Some(count)
 }
 
-fn run(rt: &(impl AllocGlobal + Print), mode: Mode, bytes: &[u8], passes: u32) -> Result<()> {
+/// Goes so many times over the module, and prints how many operators its bodies have (`Walk`: how many bodies it has).
+pub(crate) fn run(
+    rt: &(impl AllocGlobal + Print),
+    mode: Mode,
+    bytes: &[u8],
+    passes: u32,
+) -> Result<()> {
     let mut count: u64 = 0;
     for _ in 0..passes {
         count = walk(rt.alloc(), mode, bytes).context("reading the module")?;
     }
     println!(rt; "{count}")?;
     Ok(())
-}
-
-fn main(rt: HostRuntime) -> Result<()> {
-    let words: Vec<String> = env::args(&rt)?.collect(rt.alloc())?;
-    let mode = match words.get(1) {
-        Some(word) if word.as_str() == "walk" => Mode::Walk,
-        Some(word) if word.as_str() == "read" => Mode::Read,
-        _ => Mode::Visit,
-    };
-    let passes = match words.get(3) {
-        Some(word) => word.as_str().parse::<u32>().context("reading PASSES")?,
-        None => 1,
-    };
-    match words.get(2) {
-        Some(path) => {
-            let bytes = fs::read(&rt, path.as_str()).context("reading FILE")?;
-            run(&rt, mode, bytes.as_slice(), passes)
-        }
-        None => run(&rt, mode, &HEADER, passes),
-    }
 }

@@ -1,10 +1,7 @@
-//! Reads numbers in LEB128 over and over, for `bench/leb`: `leb_bench PASSES` reads a buffer of 100,000 numbers so many
-//! times, and prints the sum of all that was read.
-#![tactic(auto)]
+//! Numbers in LEB128, read over and over.
 
 use anyhow::{Context, Result};
 use std::alloc::{AllocError, Global};
-use std::env;
 use wasm_types::BinaryReader;
 
 /// Puts a number at the end of a buffer.
@@ -56,7 +53,8 @@ fn total(buffer: &[u8]) -> Option<u32> {
     Some(sum)
 }
 
-fn run(rt: &(impl AllocGlobal + Print), passes: u32) -> Result<()> {
+/// Reads a buffer of 100,000 numbers so many times, and prints its length and the sum of all that was read.
+pub(crate) fn run(rt: &(impl AllocGlobal + Print), passes: u32) -> Result<()> {
     let buffer = numbers(rt.alloc())?;
     let mut sum: u32 = 0;
     for _ in 0..passes {
@@ -66,13 +64,4 @@ fn run(rt: &(impl AllocGlobal + Print), passes: u32) -> Result<()> {
     let length = buffer.len();
     println!(rt; "{length} {sum}")?;
     Ok(())
-}
-
-fn main(rt: HostRuntime) -> Result<()> {
-    let words: Vec<String> = env::args(&rt)?.collect(rt.alloc())?;
-    let passes = match words.get(1) {
-        Some(word) => word.as_str().parse::<u32>().context("reading PASSES")?,
-        None => 1,
-    };
-    run(&rt, passes)
 }
