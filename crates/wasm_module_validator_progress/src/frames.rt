@@ -17,6 +17,17 @@ use wasm_operators_bodies::FunctionBody;
 use wasm_sections_limited::SectionLimited;
 use wasm_types::{Error, Result};
 
+// The refusal of a body of more bytes than the limit.
+#[cold]
+fn long_body(most: u32, offset: u64) -> Error
+    ensures { result.kind ≡ Other }
+{
+    Error::fmt(
+        format_args!("function body size count exceeds limit of {most}"),
+        offset,
+    )
+}
+
 // The refusal of a body that is that of no function.
 #[cold]
 fn too_many_bodies(offset: u64) -> Error
@@ -107,7 +118,7 @@ impl InProgress {
         }
         let most = self.collected.state.settings().limits().body_bytes;
         if reader.bytes_remaining() > most as usize {
-            return Err(Error::new("function body size is out of bounds", offset));
+            return Err(long_body(most, offset));
         }
         let Some((index, type_index)) = self.function_behind(bodies.len()) else {
             return Err(too_many_bodies(offset));
