@@ -1,5 +1,6 @@
 -- A module that is being read, as contracts see it, and when it stands for what was judged (WebAssembly 3.0, validation, modules).
-use Rattle.std.specs.Prelude.{◌≡◌, ℕ, List, [], length, map, take}
+use Rattle.std.specs.Prelude.{◌≡◌, ◌≤◌, ℕ, List, [], length, map, take}
+use Rattle.wasm_types.specs.limits.Limits.{default_limits}
 use Rattle.wasm_types.specs.limits.Settings.{Settings}
 use Rattle.wasm_module_validator_type_trees.specs.Groups.{Group}
 use Rattle.wasm_module_validator_items.specs.Items.{Items, no_items}
@@ -49,8 +50,9 @@ abbrev pub type_of : Body → ℕ
 type_of b = b.type_index
 
 -- What is kept stands for what was judged: the state for the tree, the bodies for the bytes of bodies, each read by these settings and
--- with the type of its function.
+-- with the type of its function. A function may have no more locals than by default, as the validator of bodies has it.
 pub record IsAt (z : Settings) (r : Progress) (bodies : List Body) (p : SoFar) : Type 0 where
+  pub locals : z.limits.locals ≤ default_limits.locals
   pub stands : Stands r.kept.groups r.kept.items z p.tree
   pub judged : IsJudged z p
   pub counted : r.kept.count ≡ length p.tree.types

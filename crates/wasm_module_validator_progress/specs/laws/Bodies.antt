@@ -73,6 +73,7 @@ module _ (z : Settings) (p : SoFar) (r : Progress) (bodies : List Body) (at : Is
 
   pub code_behind : p.last < code_place → IsAt z (record r { last = code_place }) bodies (record p { last = code_place })
   code_behind o = record {
+    locals = at.locals;
     stands = at.stands;
     judged = shape_keeps z (frame.code 0 0) p (record p { last = code_place }) at.judged (o, refl);
     counted = at.counted;
@@ -97,8 +98,13 @@ module _ (z : Settings) (p : SoFar) (r : Progress) (bodies : List Body) (at : Is
     pub judges : JudgesBody z p (text_of b) (record p { bodies = p.bodies ++ text_of b ∷ [] })
     judges = record { begun = begun; within = within; type = type_of b; function = function; added = refl }
 
-    pub body_behind : IsReadBy z z.features b.body → (q : SoFar) → JudgesBody z p (text_of b) q → IsAt z r (bodies ++ b ∷ []) q
-    body_behind read q j = subst (IsAt z r (bodies ++ b ∷ [])) (sym j.added) (record {
+    -- it is read by these settings
+    pub read_by : b.body.settings ≡ z → IsReadBy z z.features b.body
+    read_by same = record { settings = same; features = refl; few_locals = at.locals; within = within }
+
+    pub body_behind : b.body.settings ≡ z → (q : SoFar) → JudgesBody z p (text_of b) q → IsAt z r (bodies ++ b ∷ []) q
+    body_behind same q j = subst (IsAt z r (bodies ++ b ∷ [])) (sym j.added) (record {
+      locals = at.locals;
       stands = at.stands;
       judged = shape_keeps z (frame.entry (text_of b)) p (record p { bodies = p.bodies ++ text_of b ∷ [] }) at.judged judges;
       counted = at.counted;
@@ -109,5 +115,5 @@ module _ (z : Settings) (p : SoFar) (r : Progress) (bodies : List Body) (at : Is
           ∙ (ap (λ ts. ts ++ type_of b ∷ []) at.types
           ∙ (one_more p.tree.functions (length bodies) (type_of b) (ap (slice_get p.tree.functions) (sym as_many) ∙ function)
           ∙ ap (λ (n : ℕ). take n p.tree.functions) (sym (length_push bodies b))));
-      read = each_joined (λ (x : Body). IsReadBy z z.features x.body) bodies (b ∷ []) at.read (read, tt);
+      read = each_joined (λ (x : Body). IsReadBy z z.features x.body) bodies (b ∷ []) at.read (read_by same, tt);
     })

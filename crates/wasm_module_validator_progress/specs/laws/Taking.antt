@@ -64,6 +64,7 @@ module _ (z : Settings) (p : SoFar) (r : Progress) (bodies : List Body) (at : Is
 
     pub at_behind : (k : Kept) → IsRead s k (reading z q.tree) → IsAt z (record { kept = k; last = place s }) bodies q
     at_behind k h = record {
+      locals = at.locals;
       stands = h.reading.stands;
       judged = shape_keeps z (frame.section (number s) text) p q at.judged (s, refl, j);
       counted = h.counted;
