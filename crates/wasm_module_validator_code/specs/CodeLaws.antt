@@ -1,5 +1,5 @@
 -- What the validation of one body tells of it, and what the bodies that were judged tell of all.
-use Rattle.std.proofs.Common.{◌≡◌, ◌∙◌, ◌≤◌, ℕ, zero, suc, List, [], ◌∷◌, length, Result, Ok, Err, Option, Some, None, slice_get, refl, sym, ap, subst, arith}
+use Rattle.std.proofs.Common.{◌≡◌, ◌∙◌, ◌≤◌, ℕ, zero, suc, ◌+◌, List, [], ◌∷◌, length, drop, Result, Ok, Err, Option, Some, None, slice_get, refl, sym, ap, subst, add-one, arith}
 use Rattle.wasm_types.specs.decoding.Decoder.{State as Bytes}
 use Rattle.wasm_types.specs.limits.Settings.{Settings}
 use Rattle.wasm_types.specs.error.Denials.{Denies, Tells}
@@ -21,15 +21,20 @@ tells_same (Err e) P Q to from h = denies_from e.kind P Q from h
 
 module _ (z : Settings) (m : Meaning) (bits x : ℕ) (s : Bytes) (r : IsReadBy z bits s) where
   may_begin : IsFunctionOf z m.«module» x s.rest → MayBegin m x
-  may_begin (f, spelled, (t, at, v)) = (t, v.signature, record { at = at; function = v.function }, omega (arith, v.within, r.few_locals))
+  may_begin (f, spelled, (t, at, v)) =
+      let within = v.within in
+      let few = r.few_locals in
+      (t, v.signature, record { at = at; function = v.function }, omega (arith, within, few))
 
-  -- where its validator is refused, the body is none of a valid function
+  -- where no validator begins, the bytes spell no valid function
   pub none_begins : (k : ErrorKind) → Denies k (MayBegin m x) → Denies k (IsFunctionOf z m.«module» x s.rest)
   none_begins k d = denies_from k _ _ may_begin d
 
-  -- what a validator that was just made answers
-  pub judged : (σ τ : State) (answer : Result (Unit {0}) ErrorValue) → Begins m bits x σ → ValidatesFunction m s σ answer τ → Tells answer (IsFunctionOf z m.«module» x s.rest)
-  judged σ τ answer b v =
+  -- what a validator that was just made answers, at the same module
+  pub judged : (n : Meaning) (σ τ : State) (answer : Result (Unit {0}) ErrorValue) → n ≡ m → Begins m bits x σ → ValidatesFunction n s σ answer τ
+      → Tells answer (IsFunctionOf z m.«module» x s.rest)
+  judged n σ τ answer same b w =
+      let v : ValidatesFunction m s σ answer τ = subst (λ (k : Meaning). ValidatesFunction k s σ answer τ) same w in
       let same_bits : σ.given.bits ≡ bits = ap (λ (ν : State). ν.given.bits) b.state in
       let begun : Begins m σ.given.bits x σ = subst (λ (n : ℕ). Begins m n x σ) (sym same_bits) b in
       let under : judged_by σ.given.bits s.settings ≡ z
@@ -39,7 +44,7 @@ module _ (z : Settings) (m : Meaning) (bits x : ℕ) (s : Bytes) (r : IsReadBy z
 
 -- ---- all of them
 
-got : {A : Type 0} → A → Option A → A
+abbrev got : {A : Type 0} → A → Option A → A
 got d None = d
 got d (Some x) = x
 
@@ -50,7 +55,18 @@ module _ {A : Type 0} (P : A → Type 0) where
   each_at (y ∷ xs) zero x e all = subst P (ap (got y) e) all.0
   each_at (y ∷ xs) (suc i) x e all = each_at xs i x e all.1
 
-  -- what holds of the one at every index holds of each
-  pub each_from : (xs : List A) → ((i : ℕ) (x : A) → slice_get xs i ≡ Some x → P x) → Each P xs
-  each_from [] f = tt
-  each_from (x ∷ xs) f = (f zero x refl, each_from xs (λ i y e. f (suc i) y e))
+  each_from : (xs : List A) (i : ℕ) (x : A) → slice_get xs i ≡ Some x → P x → Each P (drop (suc i) xs) → Each P (drop i xs)
+  each_from [] i x e h rest = absurd cc
+  each_from (y ∷ xs) zero x e h rest = (subst P (sym (ap (got y) e)) h, rest)
+  each_from (y ∷ xs) (suc i) x e h rest = each_from xs i x e h rest
+
+  -- what holds of the one at an index and of each behind it holds of each from there
+  pub each_next : (xs : List A) (i : ℕ) (x : A) → slice_get xs i ≡ Some x → P x → Each P (drop (i + 1) xs) → Each P (drop i xs)
+  each_next xs i x e h rest = each_from xs i x e h (subst (λ (n : ℕ). Each P (drop n xs)) (add-one i) rest)
+
+  -- behind the last there is none
+  pub each_none : (xs : List A) (i : ℕ) → length xs ≤ i → Each P (drop i xs)
+  each_none [] zero h = tt
+  each_none [] (suc i) h = tt
+  each_none (x ∷ xs) zero h = absurd (omega (arith, h))
+  each_none (x ∷ xs) (suc i) h = each_none xs i (omega (arith, h))

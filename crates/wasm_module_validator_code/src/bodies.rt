@@ -36,7 +36,7 @@ pub fn judge_bodies<R: WasmModuleResources>(
     features: WasmFeatures,
     bodies: &[Body<'_>],
 ) -> Result<()>
-    ensures answer { (z : Settings) → Each (λ b. IsReadBy z features.0 b.body) bodies.now
+    ensures { (z : Settings) → Each (λ b. IsReadBy z features.0 b.body) bodies.now
         → Tells result (Each (λ b. IsFunctionOf z (R.meaning resources.now).«module» b.type_index b.body.rest) bodies.now) }
 {
     let mut allocs = FuncValidatorAllocations::new(alloc);
@@ -56,7 +56,7 @@ fn judge_body<R: WasmModuleResources>(
     body: &Body<'_>,
     allocs: FuncValidatorAllocations,
 ) -> Result<FuncValidatorAllocations>
-    ensures answer { (z : Settings) → IsReadBy z features.0 body.now.body
+    ensures { (z : Settings) → IsReadBy z features.0 body.now.body
         → Tells result (IsFunctionOf z (R.meaning resources.now).«module» body.now.type_index body.now.body.rest) }
 {
     let function = FuncToValidate {

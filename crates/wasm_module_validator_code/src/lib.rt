@@ -5,6 +5,8 @@
 #![tactic(auto)]
 
 mod bodies;
+mod laws;
 
 pub use bodies::{Body, judge_bodies};
+pub use laws::bodies_are_worked;
 pub use wasm_module_validator_functions::{FunctionBody, WasmModuleResources};

@@ -21,6 +21,7 @@ use Rattle.wasm_sections_parser_laws.specs.CallLaws.{call_cases, calls_run}
 use Rattle.wasm_sections_parser_laws.specs.Advance.{is_end, parsed_is_over}
 use Rattle.wasm_sections_parser_laws.specs.Modules.{IsModule}
 use Rattle.wasm_sections_parser_laws.specs.ModuleLaws.{end_given}
+use Rattle.wasm_sections_parser_laws.specs.RefusalLaws.{IsStuck}
 use Rattle.wasm_sections_parser_laws.specs.RunsComplete.{module_run}
 use Rattle.wasm_module_validator_fronts.specs.Walks.{HasSettings}
 
@@ -28,10 +29,6 @@ abbrev given : Next → State → Outcome Next
 given y t = Done y t
 
 -- ---- runs
-
--- no step succeeds here
-abbrev IsStuck : Settings → Progress → State → Type 0
-IsStuck z p s = (y : Next) (t : State) → step z p s ≡ given y t → ⊥
 
 -- no section begins without a byte
 no_section : (z : Settings) (p : Progress) (s : State) → between p.stage s.place ≡ true → s.rest ≡ [] → IsStuck z p s

@@ -2,7 +2,8 @@
 pub mod Walks
 -- Laws: frames that calls gave come first among those of a module.
 pub mod FrontLaws
--- Laws of walks.
+-- Laws of walks, and of walks whose frames are judged.
 pub mod WalkLaws
+pub mod JudgedLaws
 -- Worked walks.
 pub mod Worked

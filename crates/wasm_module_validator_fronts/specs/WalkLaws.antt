@@ -65,7 +65,7 @@ module _ (p : Parser) (text : List ℕ) (fs : List Frame) (s t : Standing) (h : 
       no_payload (frames.Section id b) k r =
           let n = frame_next (frames.Section id b) k in
           let left = calls_first p t.parser text t.rest (fs ++ frames.Section id b ∷ []) ys first room m n.1 n.2 in
-          (id, b, left.0, shapes_before fs (frames.Section id b) ys left.0 left.1, n.0, r)
+          (id, b, left.0, shapes_before fs (frames.Section id b) ys left.0 left.1, n.0, next.2, r)
       no_payload (frames.Version n v k) i r = absurd r
       no_payload (frames.Custom c) k r = absurd r
       no_payload (frames.CodeStart n v l) k r = absurd r

@@ -3,7 +3,7 @@ use Rattle.std.specs.Prelude.{◌≡◌, ℕ, List, ◌∷◌, ◌++◌}
 use Rattle.wasm_types.specs.limits.Settings.{Settings}
 use Rattle.wasm_types.specs.decoding.Decoder.{State}
 use Rattle.wasm_types.specs.error.ErrorValue.{ErrorValue}
-use Rattle.wasm_types.specs.reader.Reading.{Fails}
+use Rattle.wasm_types.specs.reader.Reading.{Fails, IsNotMemory}
 use Rattle.wasm_sections_parser.specs.declared.frame.Frame.{Frame}
 use Rattle.wasm_sections_parser.specs.declared.frame.Frame.TheVariants as frames
 use Rattle.wasm_sections_parser.specs.declared.parser.Parser.{Parser}
@@ -28,6 +28,7 @@ pub record IsBehind (p : Parser) (text : List ℕ) (fs : List Frame) (s : Standi
   pub over : is_over s.parser.progress ≡ s.over
 
 -- Of these frames of a module the one that comes behind those is refused: it is a section, read by the settings of the parser, whose
--- contents don't begin with a count, or are not the one number that they are to be.
+-- contents don't begin with a count, or are not the one number that they are to be. It is never for memory.
 abbrev pub RefusesNext : Parser → List Frame → List Shape → ErrorValue → Type 0
-RefusesNext p fs ys e = (id : ℕ) × (b : State) × (zs : List Shape) × (ys ≡ shapes_of fs ++ section id b.rest ∷ zs) × (b.settings ≡ settings_of p) × Fails e (front_of id b)
+RefusesNext p fs ys e = (id : ℕ) × (b : State) × (zs : List Shape) × (ys ≡ shapes_of fs ++ section id b.rest ∷ zs) × (b.settings ≡ settings_of p)
+    × IsNotMemory e.kind × Fails e (front_of id b)

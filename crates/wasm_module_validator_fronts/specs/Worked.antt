@@ -86,7 +86,7 @@ no_refusal w h =
     let text : 0x05 ∷ [] ≡ h.1.rest = text_is 8 h.0 (0x05 ∷ []) h.1.rest [] h.2 h.3 in
     one_number h.1
     (subst (λ (x : List ℕ). Fails error (front_of 8 (record { rest = x; place = h.1.place; settings = h.1.settings; start = h.1.start }))) (sym text)
-    (subst (λ (i : ℕ). Fails error (front_of i h.1)) (sym id) h.5))
+    (subst (λ (i : ℕ). Fails error (front_of i h.1)) (sym id) h.6))
 
 pub walk_rows : WalkRows
 unfolding unsigned
@@ -105,6 +105,6 @@ walk_rows = record {
         (0, parser w 8 stages.Ended, record { piece = []; later = []; eof = true; whole = refl; told = λ e. refl; parses = (refl, refl, refl, refl, refl) }, (refl, refl)));
     over = refl;
   };
-  refused = λ w. (8, record { rest = 0x05 ∷ 0x00 ∷ []; place = 10; settings = record { features = w.0; limits = default_limits }; start = 10 }, [], refl, refl, refl);
+  refused = λ w. (8, record { rest = 0x05 ∷ 0x00 ∷ []; place = 10; settings = record { features = w.0; limits = default_limits }; start = 10 }, [], refl, refl, tt, refl);
   not_refused = no_refusal;
 }

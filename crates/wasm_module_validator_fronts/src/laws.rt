@@ -14,6 +14,7 @@ ghost use Rattle.wasm_sections_parser_laws.specs.Modules.{IsModule};
 ghost use Rattle.wasm_sections_payloads.specs.declared.payload.Payload.{Payload};
 ghost use Rattle.wasm_sections_payloads.specs.Payloads.{IsPayloadOf};
 ghost use Rattle.wasm_sections_payloads.specs.Walking.{Standing, IsFrameOf, NextPayload};
+ghost use Rattle.wasm_module_validator_steps.specs.Steps.{SoFar, nothing, JudgesShape, JudgesShapes};
 ghost use Rattle.wasm_module_validator_fronts.specs.Walks.{HasSettings, IsBehind, RefusesNext};
 ghost use Rattle.wasm_module_validator_fronts.specs.Worked.{WalkRows};
 
@@ -49,6 +50,24 @@ pub const fn walks_go_along_modules()
         → IsModule (settings_of p) text ys → IsBehind p text fs s → (zs : List Shape) × (ys ++ the_end ∷ [] ≡ shapes_of fs ++ zs) }
     ensures refused { (p : Parser) (text : List ℕ) (fs : List Frame) (ys : List Shape) (s t : Standing) (e : ErrorValue) → p.progress ≡ fresh
         → p.offset + length text < 2 ^ 64 → IsModule (settings_of p) text ys → IsBehind p text fs s → NextPayload s (Some (Err e)) t → RefusesNext p fs ys e }
+{}
+
+/// What was judged behind a frame more is what that frame does behind those before it. Where the bytes are a module whose frames are judged,
+/// so is each frame that a walk gave behind those before it, the end too, and nothing is refused. Behind the end of any walk, what was
+/// judged are the frames of the module that the bytes are.
+pub const fn walks_are_judged()
+    ensures more { (z : Settings) (fs : List Frame) (f : Frame) (q r : SoFar) → JudgesShapes z nothing (shapes_of fs) q → JudgesShape z q (shape_of f) r
+        → JudgesShapes z nothing (shapes_of (fs ++ f ∷ [])) r }
+    ensures less { (z : Settings) (fs : List Frame) (f : Frame) (r : SoFar) → JudgesShapes z nothing (shapes_of (fs ++ f ∷ [])) r
+        → (q : SoFar) × JudgesShapes z nothing (shapes_of fs) q × JudgesShape z q (shape_of f) r }
+    ensures next { (p : Parser) (text : List ℕ) (fs : List Frame) (f : Frame) (ys : List Shape) (t : Standing) (r : SoFar) → p.progress ≡ fresh
+        → p.offset + length text < 2 ^ 64 → IsModule (settings_of p) text ys → JudgesShapes (settings_of p) nothing ys r → IsBehind p text (fs ++ f ∷ []) t
+        → (q s : SoFar) × JudgesShapes (settings_of p) nothing (shapes_of fs) q × JudgesShape (settings_of p) q (shape_of f) s }
+    ensures accepted { (p : Parser) (text : List ℕ) (fs : List Frame) (ys : List Shape) (s t : Standing) (r : SoFar) (e : ErrorValue) → p.progress ≡ fresh
+        → p.offset + length text < 2 ^ 64 → IsModule (settings_of p) text ys → JudgesShapes (settings_of p) nothing ys r → IsBehind p text fs s
+        → NextPayload s (Some (Err e)) t → ⊥ }
+    ensures ended { (p : Parser) (text : List ℕ) (fs : List Frame) (s : Standing) (q : SoFar) → p.progress ≡ fresh → IsBehind p text fs s → s.over ≡ true
+        → JudgesShapes (settings_of p) nothing (shapes_of fs) q → (ys : List Shape) × IsModule (settings_of p) text ys × JudgesShapes (settings_of p) nothing ys q }
 {}
 
 /// Worked settings and walks, each with a yes and a no.

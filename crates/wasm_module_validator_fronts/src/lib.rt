@@ -3,10 +3,13 @@
 //! Whoever walks over a module by `parse_all` has its frames one by one, and a module has one list of frames
 //! ([`fronts_are_of_modules`]). [`walks_go_along_modules`] says what each `next` of the walk gives, in the terms of the frames before it:
 //! one frame more, whose payload came and which is read by the settings of the parser; and where the bytes are a module, the frames so
-//! far come first among its own, and nothing is refused but a section that is no payload. `specs/Walks.antt` defines where a walk
-//! stands. There is no code here: each law is the contract of a function that does nothing.
+//! far come first among its own, and nothing is refused but a section that is no payload. [`walks_are_judged`] says what follows where
+//! its frames are judged (`wasm_module_validator_steps`): each frame behind those before it, and nothing is refused. `specs/Walks.antt`
+//! defines where a walk stands. There is no code here: each law is the contract of a function that does nothing.
 #![tactic(auto)]
 
 mod laws;
 
-pub use laws::{fronts_are_of_modules, walks_are_worked, walks_go_along_modules};
+pub use laws::{
+    fronts_are_of_modules, walks_are_judged, walks_are_worked, walks_go_along_modules,
+};
