@@ -32,12 +32,5 @@ pub fn add_export_item(
     ensures stays { OnErr result (state.new ≡ state.old) }
     ensures refused { IfErr result (λ e. UnlessMemory e.kind (e.offset ≡ offset)) }
 {
-    state.add_export(
-        export.name,
-        export.kind,
-        export.index,
-        types,
-        offset,
-        false,
-    )
+    state.add_export(export.name, export.kind, export.index, types, offset, false)
 }

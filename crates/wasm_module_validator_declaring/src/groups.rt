@@ -24,10 +24,7 @@ fn too_many(most: u32, offset: u64) -> Error
     ensures kind { result.kind ≡ Other }
     ensures at { result.offset ≡ offset }
 {
-    Error::fmt(
-        format_args!("types count exceeds limit of {most}"),
-        offset,
-    )
+    Error::fmt(format_args!("types count exceeds limit of {most}"), offset)
 }
 
 // Refuses a group behind as many as the limit of types.

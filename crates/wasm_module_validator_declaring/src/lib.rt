@@ -6,12 +6,17 @@
 //! stands for says `Standing.antt` of `wasm_module_validator_standing`. Items with constants are added above.
 #![tactic(auto)]
 
+mod counts;
 mod exports;
 mod groups;
 mod imports;
 mod numbers;
 mod own;
 
+pub use counts::{
+    begin_data, begin_elements, begin_exports, begin_functions, begin_globals, begin_imports,
+    begin_memories, begin_tables, begin_tags, begin_types,
+};
 pub use exports::add_export_item;
 pub use groups::add_group;
 pub use imports::add_import_item;

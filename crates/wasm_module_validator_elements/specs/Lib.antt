@@ -11,3 +11,4 @@ pub mod Worked
 pub use Rattle.wasm_module_validator_segments.specs as segments
 pub use Rattle.wasm_module_validator_segments.specs.rules as rules
 pub use Rattle.wasm_module_validator_referring.specs as referring
+pub use Rattle.wasm_operators_bodies.specs as bodies

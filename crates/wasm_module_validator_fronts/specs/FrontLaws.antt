@@ -54,6 +54,9 @@ nothing_left : (z : Settings) (xs : List Shape) (p q : Progress) (s t : State) �
 nothing_left z [] p q s t h stuck = refl
 nothing_left z (x ∷ xs) p q s t h stuck = absurd (stuck (x, h.0) h.1 h.2)
 
+no_more : (xs ys zs : List Shape) → ys ≡ xs ++ zs → zs ≡ [] → xs ≡ ys
+no_more xs ys zs e none = sym (e ∙ ap (λ (vs : List Shape). xs ++ vs) none ∙ append-nil xs)
+
 -- a text is a module of one list of frames
 pub modules_one : (z : Settings) (text : List ℕ) (xs ys : List Shape) → length text < 2 ^ 64 → IsModule z text xs → IsModule z text ys → xs ≡ ys
 modules_one z text xs ys room m n =
@@ -64,7 +67,7 @@ modules_one z text xs ys room m n =
     let second = module_run z n.outer text ys s t n.frames n.ordered n.counted taken room in
     let left = run_prefix z xs ys fresh first.0 second.0 s t t first.1 second.1 (no_section z second.0 t second.3 refl) in
     let none = nothing_left z left.0 first.0 second.0 t t left.2 (no_section z first.0 t first.3 refl) in
-    sym (left.1 ∙ ap (λ (zs : List Shape). xs ++ zs) none ∙ append-nil xs)
+    no_more xs ys left.0 left.1 none
 
 -- ---- calls
 
@@ -139,7 +142,7 @@ pub record HaveEnded (p : Parser) (text : List ℕ) (fs : List Frame) (q : Parse
   pub left : List ℕ
   pub size : ℕ
   pub place : ℕ
-  pub frames : fs ≡ before ++ frames.End place ∷ []
+  pub whole : fs ≡ before ++ frames.End place ∷ []
   pub calls : Calls p text before last left
   pub called : Called last left (Ok (Parsed size (frames.End place))) q
 
@@ -163,7 +166,7 @@ calls_end (f ∷ []) p q text rest going h over =
       left = text;
       size = h.0;
       place = end.0;
-      frames = ap (λ (g : Frame). g ∷ []) end.1;
+      whole = ap (λ (g : Frame). g ∷ []) end.1;
       calls = (refl, refl);
       called = subst (λ (g : Frame). Called p text (Ok (Parsed h.0 g)) q) end.1 c;
     }
@@ -176,7 +179,7 @@ calls_end (f ∷ (g ∷ gs)) p q text rest going h over =
       left = e.left;
       size = e.size;
       place = e.place;
-      frames = ap (λ (xs : List Frame). f ∷ xs) e.frames;
+      whole = ap (λ (xs : List Frame). f ∷ xs) e.whole;
       calls = (h.0, h.1, h.2, e.calls);
       called = e.called;
     }
@@ -187,7 +190,7 @@ pub calls_ended : (p q : Parser) (text rest : List ℕ) (fs : List Frame) → p.
 calls_ended p q text rest fs first calls over =
     let e = calls_end fs p q text rest (ap is_over first) calls over in
     let m = end_given e.before p e.last q text e.left e.size e.place first e.calls e.called in
-    (shapes_of e.before, ap shapes_of e.frames ∙ shapes_joined e.before (frames.End e.place), m.0)
+    (shapes_of e.before, ap shapes_of e.whole ∙ shapes_joined e.before (frames.End e.place), m.0)
 
 -- with the end, the frames that calls gave are a front of those of the module
 pub calls_with_end : (p q : Parser) (text rest : List ℕ) (fs : List Frame) (ys : List Shape) → p.progress ≡ fresh → p.offset + length text < 2 ^ 64

@@ -50,11 +50,11 @@ error = record { kind = Other; offset = 11; message = [] }
 -- header stands at its start, behind the header, behind the end; it is not over at its start, and no byte was taken there. Behind the
 -- header a start section with a byte behind its number is refused, and one that is one number is not.
 pub record WalkRows : Type 0 where
-  pub section : HasSettings no_features (frames.Section 1 (under 0 []))
+  pub contents : HasSettings no_features (frames.Section 1 (under 0 []))
   pub not_under_one : HasSettings no_features (frames.Section 1 (under 1 [])) → ⊥
   pub body : HasSettings no_features (frames.CodeEntry (under 0 []))
   pub no_body : HasSettings no_features (frames.CodeEntry (under 1 [])) → ⊥
-  pub header : (z : Settings) → HasSettings z version_1
+  pub any_header : (z : Settings) → HasSettings z version_1
   pub starts : (w : WasmFeatures) → IsBehind (begun w) first_eight [] (standing (begun w) first_eight false)
   pub not_over : (w : WasmFeatures) → IsBehind (begun w) first_eight [] (standing (begun w) first_eight true) → ⊥
   pub none_taken : (w : WasmFeatures) → IsBehind (begun w) first_eight [] (standing (begun w) [] false) → ⊥
@@ -91,11 +91,11 @@ no_refusal w h =
 pub walk_rows : WalkRows
 unfolding unsigned
 walk_rows = record {
-  section = refl;
+  contents = refl;
   not_under_one = λ h. let n : 1 ≡ 0 = ap (λ (z : Settings). z.features) h in omega (arith, n);
   body = refl;
   no_body = λ h. let n : 1 ≡ 0 = ap (λ (z : Settings). z.features) h in omega (arith, n);
-  header = λ z. tt;
+  any_header = λ z. tt;
   starts = λ w. record { calls = (refl, refl); over = refl };
   not_over = λ w h. let e : false ≡ true = h.over in cc;
   none_taken = λ w h. let e = h.calls.1 in cc;

@@ -1,0 +1,7 @@
+mod Refusals
+mod Marking
+mod Named
+mod Globals
+mod Tables
+mod Elements
+mod Data

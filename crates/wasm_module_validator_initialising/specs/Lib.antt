@@ -2,3 +2,5 @@
 pub mod Here
 -- Why items are refused, and where.
 pub mod Refusals
+-- Worked rows.
+pub mod Worked

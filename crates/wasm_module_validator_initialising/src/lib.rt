@@ -11,6 +11,7 @@
 mod data;
 mod elements;
 mod globals;
+pub mod laws;
 mod marking;
 mod naming;
 mod tables;

@@ -1,17 +1,23 @@
 -- The state of a module that is being read stands for the tree of what was read (WebAssembly 3.0, structure, modules; validation, modules).
-use Rattle.std.specs.Prelude.{◌≡◌, ◌≤◌, ℕ, List, Result, length, map}
+use Rattle.std.specs.Prelude.{◌≡◌, ◌+◌, ◌<◌, ◌≤◌, ℕ, true, IsTrue, List, Result, length, map}
 use Rattle.wasm_types.specs.error.ErrorValue.{ErrorValue}
 use Rattle.wasm_types.specs.error.Denials.{Tells}
 use Rattle.wasm_types.specs.limits.Settings.{Settings}
+use Rattle.wasm_types.specs.trees.ValidGroup.{Written, IsValidGroup}
 use Rattle.wasm_module_validator_type_trees.specs.Groups.{Group, count}
+use Rattle.wasm_module_validator_types.specs.List.{HasRoom}
+use Rattle.wasm_module_validator_interning.specs.Interned.{space_of}
 use Rattle.wasm_module_validator_module.specs.Spaces.{Spaces}
+use Rattle.wasm_operator_validator_resources.specs.Meaning.{Meaning}
+use Rattle.wasm_module_validator_resources.specs.Reading.{meaning_of}
+use Rattle.wasm_module_validator_referring.specs.Referring.{meaning_with_all}
 use Rattle.wasm_module_validator_so_far.specs.SoFar.{IsReadAs}
 use Rattle.wasm_module_validator_so_far.specs.Referring.{IsReferredAs, referring_to_each}
 use Rattle.wasm_module_validator_items.specs.Items.{Items}
 use Rattle.wasm_module_validator_steps.specs.contexts.imports.Spells.{ExportTree}
 use Rattle.wasm_module_validator_steps.specs.contexts.rules.Syntax.{ModuleTree}
 use Rattle.wasm_module_validator_steps.specs.Sections.{Section, up_to, IsUnread}
-use Rattle.wasm_module_validator_steps.specs.Adding.{size_so_far}
+use Rattle.wasm_module_validator_steps.specs.Adding.{Fits, size_so_far}
 use Rattle.wasm_module_validator_steps.specs.Texts.{ItemRead, AddsRead}
 
 -- It was made with these settings; its spaces are those of the tree, and the functions that are marked those that the tree refers to; the
@@ -25,9 +31,21 @@ pub record Stands (groups : List Group) (s : Items) (z : Settings) (m : ModuleTr
   pub few_types : count groups ≤ length s.spaces.types
   pub few_groups : length groups ≤ length m.types
 
+-- what look-ups mean while constants are judged: there each function may be referred to
+abbrev pub constants_of : List Group → Spaces → Meaning
+constants_of groups s = meaning_with_all (meaning_of groups s)
+
 -- code may refer to each of these functions that there is, as it is where a table, a global or an element segment names them
 abbrev pub marking : List ℕ → Spaces → Spaces
 marking xs s = record s { functions = referring_to_each xs s.functions }
+
+-- ---- groups of types
+
+-- A group of n types comes behind so many groups: there are fewer than the limit of types, and at most as many types with it; it is valid
+-- behind the types that there are; and the list has room for it, as it has where all else holds.
+abbrev pub MayGrow : List Group → Items → ℕ → ℕ → Written → Type 0
+MayGrow groups s many n g = (many < s.spaces.settings.limits.types) × ((IsTrue true → length s.spaces.types + n ≤ s.spaces.settings.limits.types)
+    × IsValidGroup s.spaces.settings (space_of groups s.spaces.types) g × HasRoom groups n)
 
 -- ---- while a section is read
 
@@ -49,3 +67,7 @@ TellsItem s groups i x result = (z : Settings) (m : ModuleTree) → IsReading s 
 -- And what it leaves, where it is Ok: the state stands for each tree that has the item more. The list of types may have grown.
 abbrev pub AddsItem : (s : Section) → List Group → Items → ItemRead s → List Group → Items → Type 0
 AddsItem s groups i x grown j = (z : Settings) (m n : ModuleTree) → IsReading s groups i z m → AddsRead z s m x n → IsReading s grown j z n
+
+-- What is tested where a section begins: Ok exactly where so many items fit, for each such tree.
+abbrev pub TellsFit : {X : Type 0} → (s : Section) → List Group → Items → ℕ → Result X ErrorValue → Type 0
+TellsFit s groups i n result = (z : Settings) (m : ModuleTree) → IsBefore s groups i z m → Tells result (Fits z s m n)

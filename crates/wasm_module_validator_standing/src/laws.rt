@@ -1,9 +1,12 @@
 //! Laws of the state of a module that stands for a tree, each on the contract of a function that does nothing.
 
 ghost use Rattle.std.specs.Prelude.{◌≡◌, ◌↔◌, ◌+◌, ◌<◌, ◌≤◌, ◌++◌, ◌∷◌, ℕ, false, [], List, None, length};
+ghost use Rattle.wasm_types.specs.limits.Limits.{IsWithinCeilings};
 ghost use Rattle.wasm_types.specs.limits.Settings.{Settings};
+ghost use Rattle.wasm_types.specs.indices.declared.index.CoreTypeId.{CoreTypeId};
 ghost use Rattle.wasm_types.specs.features.Features.{BulkMemory};
 ghost use Rattle.wasm_types.specs.trees.Gates.{Has};
+ghost use Rattle.wasm_types.specs.trees.ValidGroup.{Written, types_of};
 ghost use Rattle.wasm_types.specs.values.Reference.{Reference};
 ghost use Rattle.wasm_types.specs.externs.declared.table.TableType.{TableType};
 ghost use Rattle.wasm_types.specs.externs.declared.memory.MemoryType.{MemoryType};
@@ -11,11 +14,11 @@ ghost use Rattle.wasm_types.specs.externs.declared.global.GlobalType.{GlobalType
 ghost use Rattle.wasm_types.specs.externs.declared.tag.TagType.{TagType};
 ghost use Rattle.wasm_operator_validator_resources.specs.Meaning.{table_in, global_in, reference_in};
 ghost use Rattle.wasm_module_validator_type_trees.specs.Groups.{Group};
-ghost use Rattle.wasm_module_validator_resources.specs.Reading.{names_in, context_of, meaning_of};
+ghost use Rattle.wasm_module_validator_interning.specs.Interned.{AddsGroup, space_of};
+ghost use Rattle.wasm_module_validator_resources.specs.Reading.{context_of};
 ghost use Rattle.wasm_module_validator_so_far.specs.SoFar.{IsReadAs};
-ghost use Rattle.wasm_module_validator_referring.specs.Referring.{meaning_with_all};
 ghost use Rattle.wasm_module_validator_items.specs.Adding.{adding_function, adding_table, adding_memory, adding_global, adding_tag, adding_element, counting_data, exporting};
-ghost use Rattle.wasm_module_validator_items.specs.Items.{Items, IsImportable, IsExportable, no_items};
+ghost use Rattle.wasm_module_validator_items.specs.Items.{Items, IsImportable, IsImported, IsExportable, no_items};
 ghost use Rattle.wasm_module_validator_steps.specs.contexts.imports.Spells.{ImportTree, ExportTree};
 ghost use Rattle.wasm_module_validator_steps.specs.contexts.segments.Spells.{GlobalTree, DataTree};
 ghost use Rattle.wasm_module_validator_steps.specs.contexts.segments.Tables.{TableTree};
@@ -23,22 +26,24 @@ ghost use Rattle.wasm_module_validator_steps.specs.contexts.elements.Spells.{Ele
 ghost use Rattle.wasm_module_validator_steps.specs.contexts.rules.constant_rules.expression.Code.{Code};
 ghost use Rattle.wasm_module_validator_steps.specs.contexts.rules.Syntax.{ModuleTree};
 ghost use Rattle.wasm_module_validator_steps.specs.contexts.rules.Spaces as tree;
-ghost use Rattle.wasm_module_validator_steps.specs.contexts.rules.Spaces.{types_behind, element_type, referred_in, referred_in_option, referred_in_mode, referred_in_items};
+ghost use Rattle.wasm_module_validator_steps.specs.contexts.rules.Spaces.{element_type, referred_in, referred_in_option, referred_in_mode, referred_in_items};
 ghost use Rattle.wasm_module_validator_steps.specs.contexts.rules.Valid.{IsFunctionIndex, IsValidMemoryType, IsValidTagType, IsValidStart, IsValidTable, IsValidGlobal, IsValidElement, IsValidData, export_size, most_tables, most_memories};
 ghost use Rattle.wasm_module_validator_steps.specs.contexts.InOrder as tree_so_far;
 ghost use Rattle.wasm_module_validator_steps.specs.contexts.InOrder.{context_so_far};
 ghost use Rattle.wasm_module_validator_steps.specs.Sections as section;
-ghost use Rattle.wasm_module_validator_steps.specs.Sections.{Section, Item, adding, up_to};
+ghost use Rattle.wasm_module_validator_steps.specs.Sections.{Section, Item, IsUnread, adding, up_to};
 ghost use Rattle.wasm_module_validator_steps.specs.Adding.{Adds, Fits};
-ghost use Rattle.wasm_module_validator_standing.specs.Standing.{Stands, marking};
+ghost use Rattle.wasm_module_validator_standing.specs.Standing.{Stands, IsBefore, IsReading, MayGrow, constants_of, marking};
 
 /// The context of constants, in which each function may be referred to, is that of the tree so far.
 pub fn constants_see_the_tree()
-    ensures { (groups : List Group) (s : Items) (m : ModuleTree) → IsReadAs groups s.spaces m → (meaning_with_all (meaning_of groups s.spaces)).«module» ≡ context_so_far m }
+    ensures { (groups : List Group) (s : Items) (m : ModuleTree) → IsReadAs groups s.spaces m → (constants_of groups s.spaces).«module» ≡ context_so_far m }
 {}
 
 /// What a call of the state decides of an item is what the rules ask of the tree with the item more.
 pub fn items_are_decided_alike()
+    ensures groups { (groups : List Group) (s : Items) (z : Settings) (m : ModuleTree) → Stands groups s z m → IsWithinCeilings s.spaces.settings.limits → (many : ℕ) → many ≡ length m.types
+        → (g : Written) (n : ℕ) → n ≡ length g.types → MayGrow groups s many n g ↔ ((k : ModuleTree) × Adds z section.types m g k) }
     ensures imports { (groups : List Group) (s : Items) (z : Settings) (m : ModuleTree) → Stands groups s z m → (i : ImportTree) → IsImportable groups s i.ty ↔ ((n : ModuleTree) × Adds z section.imports m i n) }
     ensures functions { (groups : List Group) (s : Items) (z : Settings) (m : ModuleTree) → Stands groups s z m → (x : ℕ)
         → (IsFunctionIndex (context_of groups s.spaces) x × (length s.spaces.functions < s.spaces.settings.limits.functions)) ↔ ((n : ModuleTree) × Adds z section.functions m x n) }
@@ -57,20 +62,30 @@ pub fn items_are_decided_alike()
 /// The same of items with constants, which are judged where each function may be referred to.
 pub fn items_with_constants_are_decided_alike()
     ensures tables { (groups : List Group) (s : Items) (z : Settings) (m : ModuleTree) → Stands groups s z m → (x : TableTree Code)
-        → (IsValidTable s.spaces.settings (meaning_with_all (meaning_of groups s.spaces)).«module» s.spaces.imported_globals x × (length s.spaces.tables < most_tables s.spaces.settings))
+        → (IsValidTable s.spaces.settings (constants_of groups s.spaces).«module» s.spaces.imported_globals x × (length s.spaces.tables < most_tables s.spaces.settings))
         ↔ ((n : ModuleTree) × Adds z section.tables m x n) }
     ensures globals { (groups : List Group) (s : Items) (z : Settings) (m : ModuleTree) → Stands groups s z m → (x : GlobalTree Code)
-        → (IsValidGlobal s.spaces.settings (meaning_with_all (meaning_of groups s.spaces)).«module» s.spaces.imported_globals (length (meaning_with_all (meaning_of groups s.spaces)).«module».globals) x
+        → (IsValidGlobal s.spaces.settings (constants_of groups s.spaces).«module» s.spaces.imported_globals (length (constants_of groups s.spaces).«module».globals) x
         × (length s.spaces.globals < s.spaces.settings.limits.globals)) ↔ ((n : ModuleTree) × Adds z section.globals m x n) }
     ensures elements { (groups : List Group) (s : Items) (z : Settings) (m : ModuleTree) → Stands groups s z m → (x : ElementTree Code)
-        → (IsValidElement s.spaces.settings (meaning_with_all (meaning_of groups s.spaces)).«module» s.spaces.imported_globals x × (length s.spaces.elements < s.spaces.settings.limits.element_segments))
+        → (IsValidElement s.spaces.settings (constants_of groups s.spaces).«module» s.spaces.imported_globals x × (length s.spaces.elements < s.spaces.settings.limits.element_segments))
         ↔ ((n : ModuleTree) × Adds z section.element_segments m x n) }
     ensures data { (groups : List Group) (s : Items) (z : Settings) (m : ModuleTree) → Stands groups s z m → (x : DataTree Code)
-        → IsValidData s.spaces.settings (meaning_with_all (meaning_of groups s.spaces)).«module» s.spaces.imported_globals x.mode ↔ ((n : ModuleTree) × Adds z section.data_segments m x n) }
+        → IsValidData s.spaces.settings (constants_of groups s.spaces).«module» s.spaces.imported_globals x.mode ↔ ((n : ModuleTree) × Adds z section.data_segments m x n) }
+{}
+
+/// Where nothing was read of a section, nothing was read behind it.
+pub fn sections_begin()
+    ensures last { (s : Section) (m : ModuleTree) → IsUnread s m → m ≡ up_to s m }
+    ensures reading { (s : Section) (groups : List Group) (i : Items) (z : Settings) (m : ModuleTree) → IsBefore s groups i z m → IsReading s groups i z m }
 {}
 
 /// A section of so many items fits the state exactly where it fits the tree.
 pub fn sections_fit_alike()
+    ensures types { (groups : List Group) (s : Items) (z : Settings) (m : ModuleTree) → Stands groups s z m → IsUnread section.types m → (n : ℕ)
+        → (length s.spaces.types + n ≤ s.spaces.settings.limits.types) ↔ Fits z section.types m n }
+    ensures imports { (groups : List Group) (s : Items) (z : Settings) (m : ModuleTree) → Stands groups s z m → (n : ℕ)
+        → (0 + n ≤ s.spaces.settings.limits.imports) ↔ Fits z section.imports m n }
     ensures functions { (groups : List Group) (s : Items) (z : Settings) (m : ModuleTree) → Stands groups s z m → (n : ℕ)
         → (length s.spaces.functions + n ≤ s.spaces.settings.limits.functions) ↔ Fits z section.functions m n }
     ensures tables { (groups : List Group) (s : Items) (z : Settings) (m : ModuleTree) → Stands groups s z m → (n : ℕ)
@@ -81,11 +96,22 @@ pub fn sections_fit_alike()
         → (length s.spaces.tags + n ≤ s.spaces.settings.limits.tags) ↔ Fits z section.tags m n }
     ensures globals { (groups : List Group) (s : Items) (z : Settings) (m : ModuleTree) → Stands groups s z m → (n : ℕ)
         → (length s.spaces.globals + n ≤ s.spaces.settings.limits.globals) ↔ Fits z section.globals m n }
+    ensures exports { (groups : List Group) (s : Items) (z : Settings) (m : ModuleTree) → Stands groups s z m → IsUnread section.exports m → (n : ℕ)
+        → (length s.export_names + n ≤ s.spaces.settings.limits.exports) ↔ Fits z section.exports m n }
+    ensures elements { (groups : List Group) (s : Items) (z : Settings) (m : ModuleTree) → Stands groups s z m → IsUnread section.element_segments m → (n : ℕ)
+        → (length s.spaces.elements + n ≤ s.spaces.settings.limits.element_segments) ↔ Fits z section.element_segments m n }
+    ensures data { (groups : List Group) (s : Items) (z : Settings) (m : ModuleTree) → Stands groups s z m → (n : ℕ)
+        → (n ≤ s.spaces.settings.limits.data_segments) ↔ Fits z section.data_segments m n }
 {}
 
 /// What a call leaves stands for every tree with the item more. Sections before exports are added while nothing behind them was read.
 pub fn items_stand()
     ensures last { (s : Section) (m : ModuleTree) (x : Item s) → m ≡ up_to s m → adding s m x ≡ up_to s (adding s m x) }
+    ensures groups { (groups : List Group) (s : Items) (z : Settings) (m : ModuleTree) → Stands groups s z m → m ≡ up_to section.types m → (g : Written) (n : ModuleTree)
+        → Adds z section.types m g n → (more : List Group) (ids : List CoreTypeId) (k : Group) → AddsGroup groups more s.spaces.types ids k
+        → space_of more ids ≡ space_of groups s.spaces.types ++ types_of (space_of groups s.spaces.types) g → Stands more (record s { spaces = record s.spaces { types = ids } }) z n }
+    ensures imports { (groups : List Group) (s : Items) (z : Settings) (m : ModuleTree) → Stands groups s z m → m ≡ up_to section.imports m → (i : ImportTree) (n : ModuleTree)
+        → Adds z section.imports m i n → (after : Items) → IsImported groups i.ty s after → Stands groups after z n }
     ensures functions { (groups : List Group) (s : Items) (z : Settings) (m : ModuleTree) → Stands groups s z m → m ≡ up_to section.functions m → (x : ℕ) (n : ModuleTree)
         → Adds z section.functions m x n → Stands groups (record s { spaces = adding_function x s.spaces }) z n }
     ensures memories { (groups : List Group) (s : Items) (z : Settings) (m : ModuleTree) → Stands groups s z m → m ≡ up_to section.memories m → (x : MemoryType) (n : ModuleTree)
@@ -103,18 +129,21 @@ pub fn items_stand()
 /// The same of items with constants, which are kept by types over ids; code may refer to the functions that they name.
 pub fn items_with_constants_stand()
     ensures tables { (groups : List Group) (s : Items) (z : Settings) (m : ModuleTree) → Stands groups s z m → m ≡ up_to section.tables m → (x : TableTree Code) (kept : TableType)
-        → table_in (meaning_of groups s.spaces) kept ≡ tree.table_in (context_of groups s.spaces).types x.ty → (n : ModuleTree) → Adds z section.tables m x n
+        → table_in (constants_of groups s.spaces) kept ≡ tree.table_in (context_of groups s.spaces).types x.ty → (n : ModuleTree) → Adds z section.tables m x n
         → Stands groups (record s { spaces = marking (referred_in_option x.init) (adding_table kept s.spaces) }) z n }
     ensures globals { (groups : List Group) (s : Items) (z : Settings) (m : ModuleTree) → Stands groups s z m → m ≡ up_to section.globals m → (x : GlobalTree Code) (kept : GlobalType)
-        → global_in (meaning_of groups s.spaces) kept ≡ tree.global_in (context_of groups s.spaces).types x.ty → (n : ModuleTree) → Adds z section.globals m x n
+        → global_in (constants_of groups s.spaces) kept ≡ tree.global_in (context_of groups s.spaces).types x.ty → (n : ModuleTree) → Adds z section.globals m x n
         → Stands groups (record s { spaces = marking (referred_in x.init) (adding_global kept s.spaces) }) z n }
     ensures elements { (groups : List Group) (s : Items) (z : Settings) (m : ModuleTree) → Stands groups s z m → (x : ElementTree Code) (kept : Reference)
-        → reference_in (names_in groups s.spaces.types) kept ≡ element_type (types_behind [] m.types) x.items → (n : ModuleTree) → Adds z section.element_segments m x n
+        → reference_in (constants_of groups s.spaces) kept ≡ element_type (context_of groups s.spaces).types x.items → (n : ModuleTree) → Adds z section.element_segments m x n
         → Stands groups (record s { spaces = marking (referred_in_mode x.mode ++ referred_in_items x.items) (adding_element kept s.spaces) }) z n }
 {}
 
-/// Worked states: a module of which nothing was read stands for nothing, and for no tree that exports something.
+/// Worked states: a module of which nothing was read stands for nothing, and for no tree that exports something; types may be read then,
+/// and imports no longer where something is exported.
 pub fn states_are_worked()
     ensures nothing { (z : Settings) → Stands [] (no_items z) z tree_so_far.no_items }
     ensures exported { (z : Settings) (e : ExportTree) → Stands [] (no_items z) z (record tree_so_far.no_items { exports = e ∷ [] }) → ⊥ }
+    ensures begun { (z : Settings) → IsBefore section.types [] (no_items z) z tree_so_far.no_items }
+    ensures late { (groups : List Group) (i : Items) (z : Settings) (e : ExportTree) → IsReading section.imports groups i z (record tree_so_far.no_items { exports = e ∷ [] }) → ⊥ }
 {}

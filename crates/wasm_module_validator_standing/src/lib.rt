@@ -9,7 +9,7 @@ mod laws;
 
 pub use laws::{
     constants_see_the_tree, items_are_decided_alike, items_stand,
-    items_with_constants_are_decided_alike, items_with_constants_stand, sections_fit_alike,
-    states_are_worked,
+    items_with_constants_are_decided_alike, items_with_constants_stand, sections_begin,
+    sections_fit_alike, states_are_worked,
 };
 pub use wasm_module_validator_items::ModuleState;

@@ -1,6 +1,6 @@
 -- Which bytes give what is read of an item, with the bytes of constant expressions in the place of their code; and which spell the item
 -- (WebAssembly 3.0, binary format, modules).
-use Rattle.std.specs.Prelude.{ℕ, List, Option, Some, None}
+use Rattle.std.specs.Prelude.{ℕ, List}
 use Rattle.wasm_types.specs.decoding.Leb.{IsUnsigned}
 use Rattle.wasm_types.specs.limits.Settings.{Settings}
 use Rattle.wasm_types.specs.externs.Spells.{SpelledMemory, SpelledTag}

@@ -81,16 +81,21 @@ group_of v = written v.is_explicit (map declared_by v.types)
 -- that it is; d and g are how its bytes are read and which they are. The count n was read at b, and r stands behind it; p was judged.
 -- Items that are added to the last byte make the section judged, with what they lead to; there is no other way to judge it; a walk that
 -- was refused denies that it is, unless memory ran out; and a section that is judged is one that may begin and has no more items than fit.
-pub record AreTold (s : Section) {T V : Type 0} (view : T → V) (of : T → ItemRead s) (d : Settings → Decoder V) (g : Settings → Grammar V) (z : Settings) (p : SoFar)
-    (b r : State) (n : ℕ) : Type 0 where
-  pub added : p.last < place s → MayBegin z s → Fits z s p.tree n → (u : Reading) → AreAdded (Spelled view of (g r.settings)) (AddsIn s) n r.rest (reading z p.tree) u
+pub record AreTold (s : Section) {T V : Type 0} (view : T → V) (of : T → ItemRead s) (d : Settings → Decoder V) (g : Settings → Grammar V)
+    (z : Settings) (p : SoFar) (b r : State) (n : ℕ) : Type 0 where
+  pub added : p.last < place s → MayBegin z s → Fits z s p.tree n → (u : Reading)
+      → AreAdded (Spelled view of (g r.settings)) (AddsIn s) n r.rest (reading z p.tree) u
       → JudgesSection z p s b.rest (behind s p u.tree) × (u.settings ≡ z)
-  pub one : (u : Reading) (q : SoFar) → AreAdded (Spelled view of (g r.settings)) (AddsIn s) n r.rest (reading z p.tree) u → JudgesSection z p s b.rest q → q ≡ behind s p u.tree
-  pub refused : (e : ErrorValue) → StopsAdding view of (d r.settings) (AddsIn s) (RefusesIn s) n r (reading z p.tree) e → Denies e.kind ((q : SoFar) × JudgesSection z p s b.rest q)
+  pub one : (u : Reading) (q : SoFar) → AreAdded (Spelled view of (g r.settings)) (AddsIn s) n r.rest (reading z p.tree) u
+      → JudgesSection z p s b.rest q → q ≡ behind s p u.tree
+  pub refused : (e : ErrorValue) → StopsAdding view of (d r.settings) (AddsIn s) (RefusesIn s) n r (reading z p.tree) e
+      → Denies e.kind ((q : SoFar) × JudgesSection z p s b.rest q)
   pub ordered : (q : SoFar) → JudgesSection z p s b.rest q → p.last < place s
   pub allowed : (q : SoFar) → JudgesSection z p s b.rest q → MayBegin z s
   pub fits : (q : SoFar) → JudgesSection z p s b.rest q → Fits z s p.tree n
 
 -- so it is wherever the count was read at the front of the contents, by these settings
-abbrev pub WalksTell : (s : Section) → {T V : Type 0} → (T → V) → (T → ItemRead s) → (Settings → Decoder V) → (Settings → Grammar V) → Type 0
-WalksTell s view of d g = (z : Settings) (p : SoFar) (b r : State) (n : ℕ) → IsJudged z p → b.settings ≡ z → u32 b ≡ Done n r → AreTold s view of d g z p b r n
+abbrev pub WalksTell : (s : Section) → {T V : Type 0} → (T → V) → (T → ItemRead s) → (Settings → Decoder V) → (Settings → Grammar V)
+    → Type 0
+WalksTell s view of d g = (z : Settings) (p : SoFar) (b r : State) (n : ℕ) → IsJudged z p → b.settings ≡ z → u32 b ≡ Done n r
+    → AreTold s view of d g z p b r n

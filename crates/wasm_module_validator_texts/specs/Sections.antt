@@ -1,6 +1,5 @@
 -- Sections as they are read item by item (WebAssembly 3.0, binary format and validation, modules).
 use Rattle.std.specs.Prelude.{◌≡◌, ◌<◌, ℕ, List}
-use Rattle.wasm_types.specs.decoding.Decoder.{Grammar}
 use Rattle.wasm_types.specs.error.Denials.{Denies}
 use Rattle.wasm_types.specs.error.ErrorValue.{ErrorValue}
 use Rattle.wasm_types.specs.features.Features.{Exceptions}
@@ -8,7 +7,7 @@ use Rattle.wasm_types.specs.limits.Settings.{Settings}
 use Rattle.wasm_types.specs.trees.Gates.{Has}
 use Rattle.wasm_module_validator_adding.specs.Adding.{AreAdded}
 use Rattle.wasm_module_validator_steps.specs.contexts.rules.Syntax.{ModuleTree}
-use Rattle.wasm_module_validator_steps.specs.Sections.{Section, place}
+use Rattle.wasm_module_validator_steps.specs.Sections.{Section, Item, place}
 use Rattle.wasm_module_validator_steps.specs.Sections as section
 use Rattle.wasm_module_validator_steps.specs.Adding.{Fits, Adds}
 use Rattle.wasm_module_validator_steps.specs.Texts.{ItemRead, AddsRead}
@@ -75,16 +74,9 @@ pub record AddsSection (z : Settings) (s : Section) (p : SoFar) (n : ℕ) (text 
   pub last : q.last ≡ place s
   pub bodies : q.bodies ≡ p.bodies
 
--- the same of a section that is one number: the index of the start function
-pub record AddsStart (z : Settings) (p : SoFar) (n : ℕ) (q : SoFar) : Type 0 where
-  pub ordered : p.last < place section.start
-  pub added : Adds z section.start p.tree n q.tree
-  pub last : q.last ≡ place section.start
-  pub bodies : q.bodies ≡ p.bodies
-
--- and how many data segments there are to be
-pub record AddsDataCount (z : Settings) (p : SoFar) (n : ℕ) (q : SoFar) : Type 0 where
-  pub ordered : p.last < place section.data_count
-  pub added : Adds z section.data_count p.tree n q.tree
-  pub last : q.last ≡ place section.data_count
+-- the same of a section that is one number: the index of the start function, or how many data segments there are to be
+pub record AddsNumber (z : Settings) (s : Section) (p : SoFar) (n : Item s) (q : SoFar) : Type 0 where
+  pub ordered : p.last < place s
+  pub added : Adds z s p.tree n q.tree
+  pub last : q.last ≡ place s
   pub bodies : q.bodies ≡ p.bodies

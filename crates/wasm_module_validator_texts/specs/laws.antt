@@ -9,5 +9,5 @@ pub mod Judged
 pub mod Walks
 pub mod Numbers
 pub mod Kinds
-pub mod Telling
 pub mod Shapes
+pub mod Telling

@@ -24,7 +24,7 @@ ghost use Rattle.wasm_module_validator_steps.specs.Sections as section;
 ghost use Rattle.wasm_module_validator_steps.specs.Texts.{ItemRead, StandsFor, AddsRead, SpelledSection};
 ghost use Rattle.wasm_module_validator_steps.specs.Steps.{SoFar, JudgesSection, JudgesShape, IsJudged};
 ghost use Rattle.wasm_module_validator_texts.specs.Grammars.{SpelledRead, SpelledItem};
-ghost use Rattle.wasm_module_validator_texts.specs.Sections.{Reading, AddsIn, IsOfItems, MayBegin, AddsSection, AddsStart, AddsDataCount};
+ghost use Rattle.wasm_module_validator_texts.specs.Sections.{Reading, AddsIn, IsOfItems, MayBegin, AddsSection, AddsNumber};
 ghost use Rattle.wasm_module_validator_texts.specs.Kinds.{group_read, index_read, memory_read, tag_read, import_read, table_read, global_read, export_read, element_read};
 ghost use Rattle.wasm_module_validator_texts.specs.Kinds.{data_read, WalksTell};
 
@@ -51,9 +51,9 @@ pub fn sections_are_judged_by_items()
     ensures items { (z : Settings) (s : Section) → IsOfItems s → (p : SoFar) (b r : State) (n : ℕ) → IsJudged z p → u32_decoder b ≡ Done n r
         → (q : SoFar) → JudgesSection z p s b.rest q ↔ AddsSection z s p n r.rest q }
     ensures start { (z : Settings) (p : SoFar) (b r : State) (n : ℕ) → IsJudged z p → only_number b ≡ Done n r
-        → (q : SoFar) → JudgesSection z p section.start b.rest q ↔ AddsStart z p n q }
+        → (q : SoFar) → JudgesSection z p section.start b.rest q ↔ AddsNumber z section.start p n q }
     ensures data_count { (z : Settings) (p : SoFar) (b r : State) (n : ℕ) → IsJudged z p → only_number b ≡ Done n r
-        → (q : SoFar) → JudgesSection z p section.data_count b.rest q ↔ AddsDataCount z p n q }
+        → (q : SoFar) → JudgesSection z p section.data_count b.rest q ↔ AddsNumber z section.data_count p n q }
     ensures fronts { (z : Settings) (s : Section) (m : ModuleTree) (b : State) → SpelledSection z s m (Some b.rest) → (n : ℕ) × (r : State) × (front_of (number s) b ≡ Done n r) }
     ensures shapes { (z : Settings) (s : Section) (p q : SoFar) (text : List ℕ) → JudgesShape z p (frame.section (number s) text) q ↔ JudgesSection z p s text q }
     ensures unknown { (z : Settings) (id : ℕ) (p q : SoFar) (text : List ℕ) → JudgesShape z p (frame.section id text) q → is_unknown id ≡ false }

@@ -1,11 +1,12 @@
 -- A module that is spelled and valid has frames that are judged one after the other.
-use Rattle.std.proofs.Common.{◌≡◌, ◌⊎◌, ◌+◌, ◌<◌, ◌≤◌, ℕ, true, List, [], ◌∷◌, ◌++◌, length, Option, Some, None, refl, sym, ap, ◌∙◌, subst, inl, inr, arith}
+use Rattle.std.proofs.Common.{◌≡◌, ◌⊎◌, ◌+◌, ◌<◌, ◌≤◌, ℕ, true, List, [], ◌∷◌, ◌++◌, length, Option, Some, None, refl, sym, ap, ◌∙◌, subst}
+use Rattle.std.proofs.Common.{inl, inr, arith}
 use Rattle.std.specs.Prelude.{suc, get_or}
 use Rattle.std.specs.List.{AllZip}
 use Rattle.std.proofs.lemmas.List.{append-nil, append_assoc, length-append, length_push}
 use Rattle.std.proofs.lemmas.Slice.Zip.{AllZip-long}
 use Rattle.std.proofs.lemmas.Option.{slice_get-get_or}
-use Rattle.wasm_sections_frames.specs.Outer.{Part, SpelledPart, rank, with_rank, ranks, Ascends, Counts, AreKnown, IsCoreModule}
+use Rattle.wasm_sections_frames.specs.Outer.{Part, SpelledPart, rank, with_rank, ranks, Ascends, Counts, AreKnown}
 use Rattle.wasm_sections_frames.specs.Outer as outer
 use Rattle.wasm_sections_parser.specs.Steps.{Shape, or_zero, place_of, has_count}
 use Rattle.wasm_sections_parser.specs.Steps as frame
@@ -20,34 +21,38 @@ use Rattle.wasm_module_validator_steps.specs.contexts.rules.Valid.{Each, HasVali
 use Rattle.wasm_module_validator_steps.specs.contexts.InOrder.{IsValidInOrder}
 use Rattle.wasm_module_validator_steps.specs.contexts.laws.InOrder.{valid_in_order}
 use Rattle.wasm_module_validator_steps.specs.contexts.laws.Lists.{each_right}
-use Rattle.wasm_module_validator_steps.specs.Sections.{Section, number, place, code_place, front, before, up_to}
+use Rattle.wasm_module_validator_steps.specs.Sections.{Section, number, place, code_place, front, up_to}
 use Rattle.wasm_module_validator_steps.specs.Sections as section
 use Rattle.wasm_module_validator_steps.specs.Texts.{SpelledSection}
 use Rattle.wasm_module_validator_steps.specs.Steps.{SoFar, nothing, JudgesSection, JudgesShapes}
 use Rattle.wasm_module_validator_steps.specs.laws.Places.{no_other_places}
 use Rattle.wasm_module_validator_steps.specs.laws.Fronts.{absent_between}
-use Rattle.wasm_module_validator_steps.specs.laws.Judged.{judged_joined, text_by_sections, section_comes}
-use Rattle.wasm_module_validator_framed.specs.laws.Parts.{has_rank, some_place, same_place, contents_here, contents_behind, not_there, no_entries}
+use Rattle.wasm_module_validator_steps.specs.laws.Judged.{judged_joined, order_by_sections, text_by_sections, section_comes}
+use Rattle.wasm_module_validator_framed.specs.laws.Parts.{some_place, same_place, contents_here, contents_behind}
+use Rattle.wasm_module_validator_framed.specs.laws.Parts.{ascends_at, not_there, no_entries}
 use Rattle.wasm_module_validator_framed.specs.laws.Sound.{with_bodies}
 
 -- ---- bodies
 
 -- bodies that functions are spelled by are within their limit
-each_within : (z : Settings) (fs : List Function) (es : List (List ℕ)) → AllZip (SpelledFunction z) fs es → Each (λ (t : List ℕ). length t ≤ z.limits.body_bytes) es
+each_within : (z : Settings) (fs : List Function) (es : List (List ℕ)) → AllZip (SpelledFunction z) fs es
+    → Each (λ (t : List ℕ). length t ≤ z.limits.body_bytes) es
 each_within z [] [] h = tt
 each_within z [] (e ∷ es) h = absurd h
 each_within z (f ∷ fs) [] h = absurd h
 each_within z (f ∷ fs) (e ∷ es) h = (h.0.within, each_within z fs es h.1)
 
 -- bodies come behind p, where there are functions for all of them
-entries_come : (z : Settings) (es : List (List ℕ)) (p : SoFar) → p.last ≡ code_place → Each (λ (t : List ℕ). length t ≤ z.limits.body_bytes) es
+entries_come : (z : Settings) (es : List (List ℕ)) (p : SoFar) → p.last ≡ code_place
+    → Each (λ (t : List ℕ). length t ≤ z.limits.body_bytes) es
     → length p.bodies + length es ≤ length p.tree.functions → JudgesShapes z p (entries es) (record p { bodies = p.bodies ++ es })
 entries_come z [] p here within few = λ i. record p { bodies = sym (append-nil p.bodies) i }
 entries_come z (e ∷ es) p here within few =
     let r : SoFar = record p { bodies = p.bodies ++ e ∷ [] } in
     let rest : JudgesShapes z r (entries es) (record p { bodies = (p.bodies ++ e ∷ []) ++ es }) =
-        entries_come z es r here within.1 (omega (arith, few, length_push p.bodies e)) in
-    let there = subst (λ (b : List (List ℕ)). JudgesShapes z r (entries es) (record p { bodies = b })) (append_assoc p.bodies (e ∷ []) es) rest in
+    entries_come z es r here within.1 (omega (arith, few, length_push p.bodies e)) in
+    let there =
+    subst (λ (b : List (List ℕ)). JudgesShapes z r (entries es) (record p { bodies = b })) (append_assoc p.bodies (e ∷ []) es) rest in
     let type : ℕ = get_or p.tree.functions (length p.bodies) 0 in
     let function = slice_get-get_or p.tree.functions (length p.bodies) 0 (omega (arith, few)) in
     (r, record { begun = here; within = within.0; type = type; function = function; added = refl }, there)
@@ -74,10 +79,12 @@ record ComesPart (z : Settings) (m : ModuleTree) (p : SoFar) (x : Part) (fs : Li
 -- ---- the next part
 
 -- the contents of some sections begin with a count
-counted_section : (z : Settings) (s : Section) (m : ModuleTree) (c : List ℕ) → SpelledSection z s m (Some c) → has_count (number s) ≡ true → (k : ℕ) × Counts k c
+counted_section : (z : Settings) (s : Section) (m : ModuleTree) (c : List ℕ) → SpelledSection z s m (Some c)
+    → has_count (number s) ≡ true → (k : ℕ) × Counts k c
 counted_section z section.types m c h b = absurd cc
 counted_section z section.imports m c h b = absurd cc
-counted_section z section.functions m c h b = (length m.functions, record { count = h.count; items = h.values; counted = h.counted; whole = h.whole })
+counted_section z section.functions m c h b =
+    (length m.functions, record { count = h.count; items = h.values; counted = h.counted; whole = h.whole })
 counted_section z section.tables m c h b = absurd cc
 counted_section z section.memories m c h b = absurd cc
 counted_section z section.tags m c h b = absurd cc
@@ -85,12 +92,13 @@ counted_section z section.globals m c h b = absurd cc
 counted_section z section.exports m c h b = absurd cc
 counted_section z section.start m c h b = absurd cc
 counted_section z section.element_segments m c h b = absurd cc
-counted_section z section.data_count m c h b = number m.data_count h
+counted_section z section.data_count m c h b = itself m.data_count h
   where
-    number : (o : Option ℕ) → SpelledNumber o (Some c) → (k : ℕ) × Counts k c
-    number None k = absurd k
-    number (Some n) k = (n, record { count = c; items = []; counted = k; whole = sym (append-nil c) })
-counted_section z section.data_segments m c h b = (length m.data_segments, record { count = h.count; items = h.values; counted = h.counted; whole = h.whole })
+    itself : (o : Option ℕ) → SpelledNumber o (Some c) → (k : ℕ) × Counts k c
+    itself None k = absurd k
+    itself (Some n) k = (n, record { count = c; items = []; counted = k; whole = sym (append-nil c) })
+counted_section z section.data_segments m c h b =
+    (length m.data_segments, record { count = h.count; items = h.values; counted = h.counted; whole = h.whole })
 
 module _ (z : Settings) (m : ModuleTree) (v : IsValidInOrder z m) where
   custom_comes : (name c text : List ℕ) (fs : List Shape) (p : SoFar) (ps : List Part) → Framed z (outer.custom name c) text fs
@@ -103,9 +111,10 @@ module _ (z : Settings) (m : ModuleTree) (v : IsValidInOrder z m) where
   }
 
   -- a section that is there
-  module _ (id : ℕ) (c : List ℕ) (s : Section) (e : id ≡ number s) (p : SoFar) (ps : List Part) (h : Left z m p (outer.section id c ∷ ps)) where
+  module _ (id : ℕ) (c : List ℕ) (s : Section) (e : id ≡ number s) (p : SoFar) (ps : List Part)
+      (h : Left z m p (outer.section id c ∷ ps)) where
     order : (p.last < place s) × Ascends (place s) (ranks ps)
-    order = subst (λ (o : Option ℕ). Ascends p.last (with_rank o (ranks ps))) (ap rank e ∙ has_rank s) h.ordered
+    order = ascends_at s id p.last ps e h.ordered
 
     another : (t : Section) → (place s ≡ place t → ⊥) → contents (number t) (outer.section id c ∷ ps) ≡ contents (number t) ps
     another t f = contents_behind id c ps (number t) (λ g. f (same_place s t (sym e ∙ g)))
@@ -123,7 +132,9 @@ module _ (z : Settings) (m : ModuleTree) (v : IsValidInOrder z m) where
 
     judges_section : JudgesSection z p s c section_next
     unfolding section_next
-    judges_section = section_comes z s m p c v (h.tree ∙ absent_between z (suc p.last) (place s) m (omega (arith, order.0)) between) order.0 spelled
+    judges_section =
+        let tree = h.tree ∙ absent_between z (suc p.last) (place s) m (omega (arith, order.0)) between in
+        section_comes z s m p c v tree order.0 spelled
 
     section_left : Left z m section_next ps
     unfolding section_next
@@ -145,13 +156,16 @@ module _ (z : Settings) (m : ModuleTree) (v : IsValidInOrder z m) where
     }
 
   -- the section of an id
-  which : (id : ℕ) (c text : List ℕ) (p : SoFar) (ps : List Part) → SpelledPart z (outer.section id c) text → Left z m p (outer.section id c ∷ ps) → (s : Section) × (id ≡ number s)
+  which : (id : ℕ) (c text : List ℕ) (p : SoFar) (ps : List Part) → SpelledPart z (outer.section id c) text
+      → Left z m p (outer.section id c ∷ ps) → (s : Section) × (id ≡ number s)
   which id c text p ps f h = by (no_other_places id) h.known.0
     where
-      by : (place_of id ≡ 0) ⊎ ((id ≡ 10) ⊎ ((s : Section) × (id ≡ number s))) → (id ≡ outer.custom_id) ⊎ ((r : ℕ) × (rank id ≡ Some r)) → (s : Section) × (id ≡ number s)
+      by : (place_of id ≡ 0) ⊎ ((id ≡ 10) ⊎ ((s : Section) × (id ≡ number s)))
+          → (id ≡ outer.custom_id) ⊎ ((r : ℕ) × (rank id ≡ Some r)) → (s : Section) × (id ≡ number s)
       by a (inl e) = absurd (f.0 e)
       by (inl none) (inr k) =
-          let o : (p.last < k.0) × Ascends k.0 (ranks ps) = subst (λ (o : Option ℕ). Ascends p.last (with_rank o (ranks ps))) k.1 h.ordered in
+          let o : (p.last < k.0) × Ascends k.0 (ranks ps) =
+          subst (λ (o : Option ℕ). Ascends p.last (with_rank o (ranks ps))) k.1 h.ordered in
           let zero : 0 ≡ k.0 = sym none ∙ ap or_zero k.1 in
           absurd (omega (arith, zero, o.0))
       by (inr (inl e)) (inr k) = absurd (f.1 e)
@@ -159,6 +173,9 @@ module _ (z : Settings) (m : ModuleTree) (v : IsValidInOrder z m) where
 
   -- the code section
   module _ (es : List (List ℕ)) (p : SoFar) (ps : List Part) (h : Left z m p (outer.code es ∷ ps)) where
+    none : entries_of ps ≡ []
+    none = no_entries 12 ps (omega arith) h.ordered.1
+
     code_left : Left z m (with_bodies p es) ps
     code_left = record {
       tree = h.tree ∙ absent_between z (suc p.last) 13 m (omega (arith, h.ordered.0))
@@ -168,26 +185,34 @@ module _ (z : Settings) (m : ModuleTree) (v : IsValidInOrder z m) where
       known = h.known.1;
       sections = λ t l. h.sections t (omega (arith, l, h.ordered.0));
       bodies = subst (AllZip (SpelledFunction z) m.code)
-          (sym (ap (λ (x : List (List ℕ)). (p.bodies ++ es) ++ x) (no_entries 12 ps (omega arith) h.ordered.1) ∙ append-nil (p.bodies ++ es))) h.bodies;
+          (sym (ap (λ (x : List (List ℕ)). (p.bodies ++ es) ++ x) none ∙ append-nil (p.bodies ++ es)))
+          h.bodies;
     }
 
     code_judged : (count size : ℕ) → JudgesShapes z p (frame.code count size ∷ entries es) (with_bodies p es)
     code_judged count size =
-        let within = each_right (λ (t : List ℕ). length t ≤ z.limits.body_bytes) p.bodies es (each_within z m.code (p.bodies ++ es) h.bodies) in
+        let all = each_within z m.code (p.bodies ++ es) h.bodies in
+        let within = each_right (λ (t : List ℕ). length t ≤ z.limits.body_bytes) p.bodies es all in
         let spelled = AllZip-long (SpelledFunction z) m.code (p.bodies ++ es) h.bodies in
-        let functions : length p.tree.functions ≡ length m.functions = ap (λ (n : ModuleTree). length n.functions) code_left.tree in
-        (record p { last = code_place }, (h.ordered.0, refl), entries_come z es (record p { last = code_place }) refl within
-            (omega (arith, spelled, functions, AllZip-long (HasValidBody z (module_of m)) m.functions m.code v.code, length-append p.bodies es)))
+        let typed = AllZip-long (HasValidBody z (module_of m)) m.functions m.code ((order_by_sections z m).0 v).1 in
+        let functions : length p.tree.functions ≡ length m.functions = ap (λ (n : ModuleTree). length n.functions) code_left.tree in (
+          record p { last = code_place },
+          (h.ordered.0, refl),
+          entries_come z es (record p { last = code_place }) refl within
+              (omega (arith, spelled, typed, functions, length-append p.bodies es)),
+        )
 
     code_comes : (text : List ℕ) (fs : List Shape) → Framed z (outer.code es) text fs → ComesPart z m p (outer.code es) fs ps
     code_comes text fs f = record {
       next = with_bodies p es;
-      judged = subst (λ (ys : List Shape). JudgesShapes z p ys (with_bodies p es)) (sym f.1) (code_judged (length es) (length f.0.2.content));
+      judged =
+          subst (λ (ys : List Shape). JudgesShapes z p ys (with_bodies p es)) (sym f.1) (code_judged (length es) (length f.0.2.content));
       counted = tt;
       left = code_left;
     }
 
-  part_comes : (x : Part) (text : List ℕ) (fs : List Shape) (p : SoFar) (ps : List Part) → Framed z x text fs → Left z m p (x ∷ ps) → ComesPart z m p x fs ps
+  part_comes : (x : Part) (text : List ℕ) (fs : List Shape) (p : SoFar) (ps : List Part) → Framed z x text fs → Left z m p (x ∷ ps)
+      → ComesPart z m p x fs ps
   part_comes (outer.custom name c) text fs p ps f h = custom_comes name c text fs p ps f h
   part_comes (outer.section id c) text fs p ps f h = let s = which id c text p ps f.0 h in section_part id c s.0 s.1 p ps h text fs f
   part_comes (outer.code es) text fs p ps f h = code_comes es p ps h text fs f
@@ -216,23 +241,39 @@ module _ (z : Settings) (m : ModuleTree) (v : IsValidInOrder z m) where
       let rest = parts_come ps f.1 f.3 first.next f.5 first.left in
       record {
         last = rest.last;
-        judged = subst (λ (ys : List Shape). JudgesShapes z p ys rest.last) (sym f.7) (judged_joined z f.2 f.3 p first.next rest.last first.judged rest.judged);
+        judged =
+            subst (λ (ys : List Shape). JudgesShapes z p ys rest.last) (sym f.7)
+            (judged_joined z f.2 f.3 p first.next rest.last first.judged rest.judged);
         counted = (first.counted, rest.counted);
         tree = rest.tree;
         bodies = rest.bodies;
       }
 
-pub module_comes : (z : Settings) (m : ModuleTree) (text : List ℕ) → SpelledModule z m text → IsValid z m → (xs : List Shape) × IsModule z text xs
+pub module_comes : (z : Settings) (m : ModuleTree) (text : List ℕ) → SpelledModule z m text → IsValid z m
+    → (xs : List Shape) × IsModule z text xs
     × ((q : SoFar) × JudgesShapes z nothing xs q × (q.tree ≡ record m { code = [] }) × AllZip (SpelledFunction z) m.code q.bodies)
 module_comes z m text t v =
     let framed = spelled_frames z t.outer text t.framed in
     let xs = framed.0 in
     let frames = framed.1 in
     let sections = (text_by_sections z m t.outer.parts).0 t.sections in
-    let left : Left z m nothing t.outer.parts =
-    record { tree = refl; bound = omega arith; ordered = t.core.ordered; known = t.core.known; sections = λ s l. sections.0 s; bodies = sections.1 } in
+    let left : Left z m nothing t.outer.parts = record {
+      tree = refl;
+      bound = omega arith;
+      ordered = t.core.ordered;
+      known = t.core.known;
+      sections = λ s l. sections.0 s;
+      bodies = sections.1;
+    } in
     let h = parts_come z m (valid_in_order z m v) t.outer.parts frames.parts_text frames.shapes nothing frames.framed left in
-    let judged : JudgesShapes z nothing (frame.version t.outer.header ∷ frames.shapes) h.last = (nothing, (t.core.version, t.core.layer, refl), h.judged) in
-    let whole : IsModule z text xs =
-    record { outer = t.outer; spelled = t.framed; frames = frames; ordered = t.core.ordered; counted = h.counted; counts = t.core.counts } in
+    let judged : JudgesShapes z nothing (frame.version t.outer.header ∷ frames.shapes) h.last =
+    (nothing, (t.core.version, t.core.layer, refl), h.judged) in
+    let whole : IsModule z text xs = record {
+      outer = t.outer;
+      spelled = t.framed;
+      frames = frames;
+      ordered = t.core.ordered;
+      counted = h.counted;
+      counts = t.core.counts;
+    } in
     (xs, whole, (h.last, subst (λ (ys : List Shape). JudgesShapes z nothing ys h.last) (sym frames.frames) judged, h.tree, h.bodies))

@@ -1,5 +1,6 @@
 -- Where the contents of a section stand among the parts of a module, and which parts may still come behind a place.
-use Rattle.std.proofs.Common.{◌≡◌, ◌⊎◌, ◌<◌, ◌≤◌, ◌==◌, ℕ, Bool, true, false, if◌then◌else◌, List, [], ◌∷◌, length, Option, Some, None, refl, sym, ap, ◌∙◌, subst, inl, inr, arith, eqb-true}
+use Rattle.std.proofs.Common.{◌≡◌, ◌<◌, ◌≤◌, ◌==◌, ℕ, Bool, true, false, if◌then◌else◌, List, [], ◌∷◌, length, Option, Some, None}
+use Rattle.std.proofs.Common.{refl, sym, ap, ◌∙◌, subst, inl, inr, arith, eqb-true}
 use Rattle.std.proofs.lemmas.Bool.{eq-eqb}
 use Rattle.wasm_sections_frames.specs.Outer.{Part, rank, with_rank, ranks, Ascends, Counts, IsAbsent, Declares, Defines}
 use Rattle.wasm_sections_frames.specs.Outer as outer
@@ -64,6 +65,11 @@ behind_rank : (o : Option ℕ) (l : ℕ) (rs : List ℕ) → Ascends l (with_ran
 behind_rank None l rs a = (l, omega arith, a)
 behind_rank (Some r) l rs a = (r, omega (arith, a.0), a.1)
 
+-- a section stands above what is before it, and below what is behind it
+pub ascends_at : (s : Section) (id l : ℕ) (ps : List Part) → id ≡ number s → Ascends l (with_rank (rank id) (ranks ps))
+    → (l < place s) × Ascends (place s) (ranks ps)
+ascends_at s id l ps e a = subst (λ (o : Option ℕ). Ascends l (with_rank o (ranks ps))) (ap rank e ∙ has_rank s) a
+
 -- behind a place there is no section of it or of a lower one
 pub not_there : (t : Section) (l : ℕ) (ps : List Part) → place t ≤ l → Ascends l (ranks ps) → contents (number t) ps ≡ None
 not_there t l [] le a = refl
@@ -75,7 +81,7 @@ not_there t l (outer.section id c ∷ ps) le a =
   where
     another : id ≡ number t → ⊥
     another e =
-        let b : (l < place t) × Ascends (place t) (ranks ps) = subst (λ (o : Option ℕ). Ascends l (with_rank o (ranks ps))) (ap rank e ∙ has_rank t) a in
+        let b = ascends_at t id l ps e a in
         omega (arith, le, b.0)
 
 -- behind the place of the code section there are no bodies
@@ -117,6 +123,5 @@ declared_contents t n l (outer.section id c ∷ ps) a (inr h) =
   where
     once : (b : List ℕ) → contents (number t) ps ≡ Some b → id ≡ number t → ⊥
     once b e f =
-        let o : (l < place t) × Ascends (place t) (ranks ps) = subst (λ (o : Option ℕ). Ascends l (with_rank o (ranks ps))) (ap rank f ∙ has_rank t) a in
-        let none : None ≡ Some b = sym (not_there t (place t) ps (omega arith) o.1) ∙ e in
+        let none : None ≡ Some b = sym (not_there t (place t) ps (omega arith) (ascends_at t id l ps f a).1) ∙ e in
         absurd cc

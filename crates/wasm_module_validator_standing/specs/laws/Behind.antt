@@ -10,12 +10,11 @@ use Rattle.wasm_types.specs.externs.declared.global.GlobalType.{GlobalType}
 use Rattle.wasm_types.specs.externs.declared.tag.TagType.{TagType}
 use Rattle.wasm_module_validator_type_trees.specs.Groups.{Group, count}
 use Rattle.wasm_module_validator_module.specs.Spaces.{Spaces, own_function}
-use Rattle.wasm_module_validator_resources.specs.Reading.{context_of, meaning_of, names_in}
+use Rattle.wasm_module_validator_resources.specs.Reading.{context_of}
 use Rattle.wasm_module_validator_so_far.specs.SoFar.{IsReadAs}
 use Rattle.wasm_module_validator_so_far.specs.Referring.{referring_to_each}
 use Rattle.wasm_module_validator_so_far.specs.laws.Adding.{function_is_added, table_is_added, memory_is_added, tag_is_added, global_is_added, element_is_added, data_count_is_set, others_are_read, function_is_referred_to}
 use Rattle.wasm_module_validator_so_far.specs.laws.Referring.{function_is_not_referred_to, export_refers, table_refers, global_refers, element_refers}
-use Rattle.wasm_module_validator_so_far.specs.laws.Named.{table_is_named, global_is_named}
 use Rattle.wasm_module_validator_so_far.specs.laws.Limits.{import_size_is, export_size_is}
 use Rattle.wasm_module_validator_items.specs.Adding.{adding_function, adding_table, adding_memory, adding_global, adding_tag, adding_element, referring, counting_data, exporting}
 use Rattle.wasm_module_validator_items.specs.Items.{Items}
@@ -23,7 +22,7 @@ use Rattle.wasm_module_validator_steps.specs.contexts.imports.declared.kind.Exte
 use Rattle.wasm_module_validator_steps.specs.contexts.imports.declared.kind.ExternalKind.TheVariants as kind
 use Rattle.wasm_module_validator_steps.specs.contexts.imports.Spells.{ImportTree, ExportTree}
 use Rattle.wasm_module_validator_steps.specs.contexts.rules.Syntax.{ModuleTree}
-use Rattle.wasm_module_validator_steps.specs.contexts.rules.Spaces.{types_behind, element_type, module_of, referenced_in, exported_function, referred_in, referred_in_option, referred_in_mode, referred_in_items}
+use Rattle.wasm_module_validator_steps.specs.contexts.rules.Spaces.{element_type, module_of, referenced_in, exported_function, referred_in, referred_in_option, referred_in_mode, referred_in_items}
 use Rattle.wasm_module_validator_steps.specs.contexts.rules.Spaces as tree
 use Rattle.wasm_module_validator_steps.specs.contexts.rules.constant_rules.expression.Code.{Code}
 use Rattle.wasm_module_validator_steps.specs.contexts.segments.Spells.{GlobalTree}
@@ -37,8 +36,9 @@ use Rattle.wasm_module_validator_steps.specs.contexts.InOrder.{context_so_far}
 use Rattle.wasm_module_validator_steps.specs.Sections as section
 use Rattle.wasm_module_validator_steps.specs.Sections.{Section, Item, adding, up_to, IsUnread}
 use Rattle.wasm_module_validator_steps.specs.Adding.{Adds, sum_from, size_so_far}
-use Rattle.wasm_module_validator_standing.specs.Standing.{Stands, marking}
+use Rattle.wasm_module_validator_standing.specs.Standing.{Stands, constants_of, marking}
 use Rattle.wasm_module_validator_standing.specs.laws.Deciding.{exports_to, counts}
+use Rattle.wasm_module_validator_standing.specs.laws.Naming.{table_is_kept, global_is_kept, elements_are_kept}
 
 -- ---- nothing was read behind a section
 
@@ -59,7 +59,7 @@ still_last section.data_segments m x e = λ i. record (e i) { data_segments = m.
 
 -- ---- sizes
 
-import_sizes_are : (g h : Module) → AgreeOnTypes g h → (is : List ImportTree) → map (λ (i : ImportTree). import_size g i.ty) is ≡ map (λ (i : ImportTree). import_size h i.ty) is
+pub import_sizes_are : (g h : Module) → AgreeOnTypes g h → (is : List ImportTree) → map (λ (i : ImportTree). import_size g i.ty) is ≡ map (λ (i : ImportTree). import_size h i.ty) is
 import_sizes_are g h a [] = refl
 import_sizes_are g h a (i ∷ is) = λ k. import_size_is g h a i.ty k ∷ import_sizes_are g h a is k
 
@@ -83,13 +83,13 @@ sizes_with_exports : (g h : Module) → AgreeOnTypes g h → AgreeForExports g h
 sizes_with_exports g h a b is es = λ k. import_sizes_are g h a is k ++ export_sizes_are g h b es k
 
 -- a sum with one number more
-sum_pushed : (sum : ℕ) (ns : List ℕ) (n : ℕ) → sum_from sum (ns ++ n ∷ []) ≡ sum_from sum ns + n
+pub sum_pushed : (sum : ℕ) (ns : List ℕ) (n : ℕ) → sum_from sum (ns ++ n ∷ []) ≡ sum_from sum ns + n
 sum_pushed sum [] n = refl
 sum_pushed sum (k ∷ ns) n = sum_pushed (sum + k) ns n
 
 -- ---- exports
 
-kept_settings : (k : ExternalKind) (x : ℕ) (s : Spaces) → (exporting k x s).settings ≡ s.settings
+pub kept_settings : (k : ExternalKind) (x : ℕ) (s : Spaces) → (exporting k x s).settings ≡ s.settings
 kept_settings kind.Func x s = refl
 kept_settings kind.FuncExact x s = refl
 kept_settings kind.Table x s = refl
@@ -235,7 +235,7 @@ module _ (groups : List Group) (s : Items) (z : Settings) (m : ModuleTree) (r : 
       })
 
   pub tables_stand : m ≡ up_to section.tables m → (x : TableTree Code) (kept : TableType)
-      → table_in (meaning_of groups s.spaces) kept ≡ tree.table_in (context_of groups s.spaces).types x.ty → (n : ModuleTree) → Adds z section.tables m x n
+      → table_in (constants_of groups s.spaces) kept ≡ tree.table_in (context_of groups s.spaces).types x.ty → (n : ModuleTree) → Adds z section.tables m x n
       → Stands groups (record s { spaces = marking (referred_in_option x.init) (adding_table kept s.spaces) }) z n
   tables_stand u x kept e n a =
       let k : ModuleTree = adding section.tables m x in
@@ -243,7 +243,7 @@ module _ (groups : List Group) (s : Items) (z : Settings) (m : ModuleTree) (r : 
       subst (λ t. Stands groups (record s { spaces = after }) z t) (sym a.added) (record {
         settings = r.settings;
         read = marked_read groups (referred_in_option x.init) (adding_table kept s.spaces) k
-            (table_is_added groups s.spaces m r.read x kept (table_is_named groups s.spaces m r.read x.ty kept e));
+            (table_is_added groups s.spaces m r.read x kept (table_is_kept groups s.spaces m r.read x.ty kept e));
         referred = table_refers s.spaces m r.referred after x refl;
         names = r.names;
         size = r.size ∙ ap (sum_from 1) (sizes_without_exports (module_of m) (module_of k) (record { types = refl }) m.imports m.exports (ap (λ (t : ModuleTree). t.exports) u));
@@ -252,7 +252,7 @@ module _ (groups : List Group) (s : Items) (z : Settings) (m : ModuleTree) (r : 
       })
 
   pub globals_stand : m ≡ up_to section.globals m → (x : GlobalTree Code) (kept : GlobalType)
-      → global_in (meaning_of groups s.spaces) kept ≡ tree.global_in (context_of groups s.spaces).types x.ty → (n : ModuleTree) → Adds z section.globals m x n
+      → global_in (constants_of groups s.spaces) kept ≡ tree.global_in (context_of groups s.spaces).types x.ty → (n : ModuleTree) → Adds z section.globals m x n
       → Stands groups (record s { spaces = marking (referred_in x.init) (adding_global kept s.spaces) }) z n
   globals_stand u x kept e n a =
       let k : ModuleTree = adding section.globals m x in
@@ -260,7 +260,7 @@ module _ (groups : List Group) (s : Items) (z : Settings) (m : ModuleTree) (r : 
       subst (λ t. Stands groups (record s { spaces = after }) z t) (sym a.added) (record {
         settings = r.settings;
         read = marked_read groups (referred_in x.init) (adding_global kept s.spaces) k
-            (global_is_added groups s.spaces m r.read x kept (global_is_named groups s.spaces m r.read x.ty kept e));
+            (global_is_added groups s.spaces m r.read x kept (global_is_kept groups s.spaces m r.read x.ty kept e));
         referred = global_refers s.spaces m r.referred after x refl;
         names = r.names;
         size = r.size ∙ ap (sum_from 1) (sizes_without_exports (module_of m) (module_of k) (record { types = refl }) m.imports m.exports (ap (λ (t : ModuleTree). t.exports) u));
@@ -269,7 +269,7 @@ module _ (groups : List Group) (s : Items) (z : Settings) (m : ModuleTree) (r : 
       })
 
   pub elements_stand : (x : ElementTree Code) (kept : Reference)
-      → reference_in (names_in groups s.spaces.types) kept ≡ element_type (types_behind [] m.types) x.items → (n : ModuleTree) → Adds z section.element_segments m x n
+      → reference_in (constants_of groups s.spaces) kept ≡ element_type (context_of groups s.spaces).types x.items → (n : ModuleTree) → Adds z section.element_segments m x n
       → Stands groups (record s { spaces = marking (referred_in_mode x.mode ++ referred_in_items x.items) (adding_element kept s.spaces) }) z n
   elements_stand x kept e n a =
       let k : ModuleTree = adding section.element_segments m x in
@@ -277,7 +277,7 @@ module _ (groups : List Group) (s : Items) (z : Settings) (m : ModuleTree) (r : 
       let after : Spaces = marking named (adding_element kept s.spaces) in
       subst (λ t. Stands groups (record s { spaces = after }) z t) (sym a.added) (record {
         settings = r.settings;
-        read = marked_read groups named (adding_element kept s.spaces) k (element_is_added groups s.spaces m r.read x kept e);
+        read = marked_read groups named (adding_element kept s.spaces) k (element_is_added groups s.spaces m r.read x kept (elements_are_kept groups s.spaces m r.read x.items kept e));
         referred = element_refers s.spaces m r.referred after x refl;
         names = r.names;
         size = r.size ∙ ap (sum_from 1) (sizes_with_exports (module_of m) (module_of k) (record { types = refl })

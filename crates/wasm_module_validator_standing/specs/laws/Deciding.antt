@@ -66,7 +66,7 @@ module _ (groups : List Group) (s : Items) (z : Settings) (m : ModuleTree) (r : 
   types_to : AgreeOnTypes here there
   types_to = record { types = ap (λ (g : Module). g.types) both }
 
-  types_back : AgreeOnTypes there here
+  pub types_back : AgreeOnTypes there here
   types_back = record { types = sym (ap (λ (g : Module). g.types) both) }
 
   functions_to : AgreeOnFunctions here there
@@ -125,17 +125,17 @@ module _ (groups : List Group) (s : Items) (z : Settings) (m : ModuleTree) (r : 
   tags_counted : length s.spaces.tags ≡ length (tag_space m)
   tags_counted = sym counts.tags ∙ tags_many
 
-  elements_counted : length s.spaces.elements ≡ length m.element_segments
+  pub elements_counted : length s.spaces.elements ≡ length m.element_segments
   elements_counted = sym counts.elements ∙ length-map m.element_segments _
 
   -- what is below the limit that the state has is below that of the settings
-  below : (P : ℕ → Settings → Type 0) (n k : ℕ) → n ≡ k → P n s.spaces.settings → P k z
+  pub below : (P : ℕ → Settings → Type 0) (n k : ℕ) → n ≡ k → P n s.spaces.settings → P k z
   below P n k e h = subst (P k) r.settings (subst (λ i. P i s.spaces.settings) e h)
 
-  above : (P : ℕ → Settings → Type 0) (n k : ℕ) → n ≡ k → P k z → P n s.spaces.settings
+  pub above : (P : ℕ → Settings → Type 0) (n k : ℕ) → n ≡ k → P k z → P n s.spaces.settings
   above P n k e h = subst (λ i. P i s.spaces.settings) (sym e) (subst (P k) (sym r.settings) h)
 
-  room : (P : ℕ → Settings → Type 0) (n k : ℕ) → n ≡ k → P n s.spaces.settings ↔ P k z
+  pub room : (P : ℕ → Settings → Type 0) (n k : ℕ) → n ≡ k → P n s.spaces.settings ↔ P k z
   room P n k e = (below P n k e, above P n k e)
 
   -- ---- items

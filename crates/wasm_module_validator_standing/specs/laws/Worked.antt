@@ -1,14 +1,17 @@
--- Worked states: of a module of which nothing was read.
-use Rattle.std.proofs.Common.{◌≡◌, ℕ, List, [], ◌∷◌, refl, arith}
+-- Worked states: of a module of which nothing was read, and of one that has an export.
+use Rattle.std.proofs.Common.{◌≡◌, ℕ, List, [], ◌∷◌, refl, ap, arith}
 use Rattle.wasm_types.specs.limits.Settings.{Settings}
 use Rattle.wasm_types.specs.trees.Unfold.{type_count}
-use Rattle.wasm_module_validator_type_trees.specs.Groups.{count}
+use Rattle.wasm_module_validator_type_trees.specs.Groups.{Group, count}
 use Rattle.wasm_module_validator_so_far.specs.laws.Adding.{nothing_is}
 use Rattle.wasm_module_validator_so_far.specs.laws.Referring.{none_are_referred_to}
 use Rattle.wasm_module_validator_items.specs.Items as state
+use Rattle.wasm_module_validator_items.specs.Items.{Items}
 use Rattle.wasm_module_validator_steps.specs.contexts.imports.Spells.{ExportTree}
+use Rattle.wasm_module_validator_steps.specs.contexts.rules.Syntax.{ModuleTree}
 use Rattle.wasm_module_validator_steps.specs.contexts.InOrder.{no_items}
-use Rattle.wasm_module_validator_standing.specs.Standing.{Stands}
+use Rattle.wasm_module_validator_steps.specs.Sections as section
+use Rattle.wasm_module_validator_standing.specs.Standing.{Stands, IsReading, IsBefore}
 
 none_at_first : count [] ≡ 0
 unfolding type_count
@@ -34,3 +37,14 @@ worked_exported z e r = none e.name r.names
   where
     none : (n : List ℕ) → [] ≡ n ∷ [] → ⊥
     none n k = absurd cc
+
+-- any section may begin there
+pub worked_begun : (z : Settings) → IsBefore section.types [] (state.no_items z) z no_items
+worked_begun z = record { stands = worked_nothing z; unread = refl }
+
+-- and where something is exported, imports are no longer read
+pub worked_late : (groups : List Group) (i : Items) (z : Settings) (e : ExportTree) → IsReading section.imports groups i z (record no_items { exports = e ∷ [] }) → ⊥
+worked_late groups i z e r = none (ap (λ (m : ModuleTree). m.exports) r.last)
+  where
+    none : e ∷ [] ≡ [] → ⊥
+    none k = absurd cc

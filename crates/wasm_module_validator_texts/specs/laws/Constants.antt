@@ -10,7 +10,8 @@ use Rattle.wasm_sections_payloads.specs.bodies.ConstantDecoder.{ConstantText}
 use Rattle.wasm_sections_payloads.specs.bodies.reader.expression.Code.{Code, walk}
 use Rattle.wasm_sections_payloads.specs.bodies.reader.expression.Spelling.{SpelledExpression}
 use Rattle.wasm_sections_payloads.specs.bodies.reader.expression.SpellingLaws.{one_expression}
-use Rattle.wasm_module_validator_steps.specs.contexts.segments.Spells.{GlobalTree, SpelledGlobalItem, DataTree, DataMode, SpelledData, AfterFlag}
+use Rattle.wasm_module_validator_steps.specs.contexts.segments.Spells.{GlobalTree, SpelledGlobalItem, DataTree, DataMode, SpelledData}
+use Rattle.wasm_module_validator_steps.specs.contexts.segments.Spells.{AfterFlag}
 use Rattle.wasm_module_validator_steps.specs.contexts.segments.Spells as mode
 use Rattle.wasm_module_validator_steps.specs.contexts.segments.Tables.{TableTree, SpelledWith, SpelledTableItem}
 use Rattle.wasm_module_validator_steps.specs.contexts.rules.Binary.{SpelledConstant}
@@ -48,7 +49,8 @@ module _ (z : Settings) where
   abbrev TableOver : TableTree Bytes → TableTree Code → Type 0
   TableOver t x = (x.ty ≡ t.ty) × SpelledInit z t.init x.init
 
-  with_over : (t : TableType) (o : Option Bytes) (p : Option Code) (text : Bytes) → SpelledWith Text t o text → SpelledInit z o p → SpelledWith Spelled t p text
+  with_over : (t : TableType) (o : Option Bytes) (p : Option Code) (text : Bytes) → SpelledWith Text t o text → SpelledInit z o p
+      → SpelledWith Spelled t p text
   with_over t None None text h k = h
   with_over t None (Some c) text h k = absurd k
   with_over t (Some b) None text h k = absurd k
@@ -60,15 +62,23 @@ module _ (z : Settings) where
     whole = h.whole;
   }
 
-  with_down : (t : TableType) (p : Option Code) (text : Bytes) → SpelledWith Spelled t p text → (o : Option Bytes) × SpelledInit z o p × SpelledWith Text t o text
+  with_down : (t : TableType) (p : Option Code) (text : Bytes) → SpelledWith Spelled t p text
+      → (o : Option Bytes) × SpelledInit z o p × SpelledWith Text t o text
   with_down t None text h = (None, tt, h)
   with_down t (Some c) text h = (
     Some h.init_text,
     h.initialised.spelled,
-    record { type_text = h.type_text; init_text = h.init_text; typed = h.typed; initialised = up z c h.init_text h.initialised; whole = h.whole },
+    record {
+      type_text = h.type_text;
+      init_text = h.init_text;
+      typed = h.typed;
+      initialised = up z c h.init_text h.initialised;
+      whole = h.whole;
+    },
   )
 
-  table_down : (x : TableTree Code) (text : Bytes) → SpelledTableItem Spelled x text → (t : TableTree Bytes) × TableOver t x × SpelledTableItem Text t text
+  table_down : (x : TableTree Code) (text : Bytes) → SpelledTableItem Spelled x text
+      → (t : TableTree Bytes) × TableOver t x × SpelledTableItem Text t text
   table_down x text h = let w = with_down x.ty x.init text h in (record { ty = x.ty; init = w.0 }, (refl, w.1), w.2)
 
   pub tables : Linked TableOver (SpelledTableItem Text) (SpelledTableItem Spelled)
@@ -82,7 +92,8 @@ module _ (z : Settings) where
   abbrev GlobalOver : GlobalTree Bytes → GlobalTree Code → Type 0
   GlobalOver t x = (x.ty ≡ t.ty) × Over t.init x.init
 
-  global_over : (t : GlobalTree Bytes) (x : GlobalTree Code) (text : Bytes) → SpelledGlobalItem Text t text → GlobalOver t x → SpelledGlobalItem Spelled x text
+  global_over : (t : GlobalTree Bytes) (x : GlobalTree Code) (text : Bytes) → SpelledGlobalItem Text t text → GlobalOver t x
+      → SpelledGlobalItem Spelled x text
   global_over t x text h k = record {
     type_text = h.type_text;
     init_text = h.init_text;
@@ -91,11 +102,18 @@ module _ (z : Settings) where
     whole = h.whole;
   }
 
-  global_down : (x : GlobalTree Code) (text : Bytes) → SpelledGlobalItem Spelled x text → (t : GlobalTree Bytes) × GlobalOver t x × SpelledGlobalItem Text t text
+  global_down : (x : GlobalTree Code) (text : Bytes) → SpelledGlobalItem Spelled x text
+      → (t : GlobalTree Bytes) × GlobalOver t x × SpelledGlobalItem Text t text
   global_down x text h = (
     record { ty = x.ty; init = h.init_text },
     (refl, h.initialised.spelled),
-    record { type_text = h.type_text; init_text = h.init_text; typed = h.typed; initialised = up z x.init h.init_text h.initialised; whole = h.whole },
+    record {
+      type_text = h.type_text;
+      init_text = h.init_text;
+      typed = h.typed;
+      initialised = up z x.init h.init_text h.initialised;
+      whole = h.whole;
+    },
   )
 
   pub globals : Linked GlobalOver (SpelledGlobalItem Text) (SpelledGlobalItem Spelled)
@@ -110,11 +128,13 @@ module _ (z : Settings) where
   is_passive mode.passive k = refl
   is_passive (mode.active y c) k = absurd k
 
-  is_active : (n : ℕ) (b : Bytes) (m : DataMode Code) → SpelledDataMode z (mode.active n b) m → (c : Code) × (m ≡ mode.active n c) × Over b c
+  is_active : (n : ℕ) (b : Bytes) (m : DataMode Code) → SpelledDataMode z (mode.active n b) m
+      → (c : Code) × (m ≡ mode.active n c) × Over b c
   is_active n b mode.passive k = absurd k
   is_active n b (mode.active y c) k = (c, (λ i. mode.active (sym k.0 i) c), k.1)
 
-  flag_over : (f : ℕ) (t : DataTree Bytes) (x : DataTree Code) (text : Bytes) → AfterFlag Text f t text → DataOver t x → AfterFlag Spelled f x text
+  flag_over : (f : ℕ) (t : DataTree Bytes) (x : DataTree Code) (text : Bytes) → AfterFlag Text f t text → DataOver t x
+      → AfterFlag Spelled f x text
   flag_over f t x text (inl (e, p)) k =
       let m = is_active 0 p.offset x.mode (subst (λ (o : DataMode Bytes). SpelledDataMode z o x.mode) p.mode k.0) in
       inl (
@@ -130,7 +150,8 @@ module _ (z : Settings) where
         },
       )
   flag_over f t x text (inr (inl (e, p))) k =
-      inr (inl (e, record { mode = is_passive x.mode (subst (λ (o : DataMode Bytes). SpelledDataMode z o x.mode) p.mode k.0); filled = filled k.1 p.filled }))
+      let m = is_passive x.mode (subst (λ (o : DataMode Bytes). SpelledDataMode z o x.mode) p.mode k.0) in
+      inr (inl (e, record { mode = m; filled = filled k.1 p.filled }))
   flag_over f t x text (inr (inr (e, p))) k =
       let m = is_active p.memory p.offset x.mode (subst (λ (o : DataMode Bytes). SpelledDataMode z o x.mode) p.mode k.0) in
       inr (inr (
@@ -151,7 +172,8 @@ module _ (z : Settings) where
 
   data_over : (t : DataTree Bytes) (x : DataTree Code) (text : Bytes) → SpelledData Text t text → DataOver t x → SpelledData Spelled x text
   data_over t x text h k =
-      record { flag = h.flag; flag_text = h.flag_text; behind = h.behind; flagged = h.flagged; spelled = flag_over h.flag t x h.behind h.spelled k; whole = h.whole }
+      let spelled = flag_over h.flag t x h.behind h.spelled k in
+      record { flag = h.flag; flag_text = h.flag_text; behind = h.behind; flagged = h.flagged; spelled = spelled; whole = h.whole }
 
   -- what follows a flag gives a segment that is used so
   abbrev Down : ℕ → DataTree Code → Bytes → Type 0
@@ -199,7 +221,8 @@ module _ (z : Settings) where
     )),
   )
 
-  data_down : (x : DataTree Code) (text : Bytes) → SpelledData Spelled x text → (t : DataTree Bytes) × DataOver t x × SpelledData Text t text
+  data_down : (x : DataTree Code) (text : Bytes) → SpelledData Spelled x text
+      → (t : DataTree Bytes) × DataOver t x × SpelledData Text t text
   data_down x text h =
       let d = flag_down h.flag x h.behind h.spelled in (
         record { mode = d.0; content = x.content },

@@ -1,7 +1,6 @@
 -- A count that was read, and the items behind it.
-use Rattle.std.proofs.Common.{◌≡◌, ℕ, zero, suc, ◌+◌, List, [], ◌∷◌, length, refl, sym, ap, ◌∙◌, subst}
-use Rattle.wasm_types.specs.limits.Settings.{Settings}
-use Rattle.wasm_types.specs.decoding.Decoder.{State, Outcome, Done, Grammar, Many}
+use Rattle.std.proofs.Common.{◌≡◌, ℕ, zero, suc, ◌+◌, List, [], ◌∷◌, ◌++◌, length, refl, sym, ap, ◌∙◌, subst}
+use Rattle.wasm_types.specs.decoding.Decoder.{State, Outcome, Done, Grammar, Many, Takes}
 use Rattle.wasm_types.specs.decoding.Exact.{value_is, state_is}
 use Rattle.wasm_types.specs.decoding.Leb.{u32, IsUnsigned, IsListed}
 use Rattle.wasm_types.specs.decoding.LebLaws.{decides-u32}
@@ -9,6 +8,9 @@ use Rattle.wasm_types.specs.decoding.LebLaws.{decides-u32}
 -- where a reader stands behind some of its bytes
 abbrev pub past : State → List ℕ → List ℕ → State
 past s front back = record { rest = back; place = s.place + length front; settings = s.settings; start = s.start }
+
+pub takes_past : (s : State) (front back : List ℕ) → s.rest ≡ front ++ back → Takes s front (past s front back)
+takes_past s front back e = record { parts = e; place = refl; settings = refl; start = refl }
 
 abbrev done : {A : Type 0} → A → State → Outcome A
 done x s = Done x s
@@ -24,7 +26,8 @@ module _ {A : Type 0} (g : Grammar A) where
   pub items_behind : (xs : List A) (b r : State) (n : ℕ) → u32 b ≡ Done n r → IsListed g xs b.rest → (n ≡ length xs) × Many g n xs r.rest
   items_behind xs b r n c l =
       let t = past b l.count l.values in
-      let again : u32 b ≡ Done (length xs) t = decides-u32.complete b t (length xs) l.count (record { parts = l.whole; place = refl; settings = refl; start = refl }) l.counted in
+      let taken = takes_past b l.count l.values l.whole in
+      let again : u32 b ≡ Done (length xs) t = decides-u32.complete b t (length xs) l.count taken l.counted in
       let both : done n r ≡ done (length xs) t = sym c ∙ again in
       let many : n ≡ length xs = value_is n (length xs) r t both in
       let here : r ≡ t = state_is n (length xs) r t both in
@@ -47,4 +50,4 @@ module _ {A : Type 0} (g : Grammar A) where
   pub count_read : (xs : List A) (b : State) → IsListed g xs b.rest → (n : ℕ) × (r : State) × (u32 b ≡ Done n r)
   count_read xs b l =
       let t = past b l.count l.values in
-      (length xs, t, decides-u32.complete b t (length xs) l.count (record { parts = l.whole; place = refl; settings = refl; start = refl }) l.counted)
+      (length xs, t, decides-u32.complete b t (length xs) l.count (takes_past b l.count l.values l.whole) l.counted)

@@ -1,5 +1,6 @@
 -- Groups that are read of bytes are the groups that these spell over the indices of their module.
-use Rattle.std.proofs.Common.{◌≡◌, ◌∙◌, ℕ, zero, suc, ◌≤◌, Bool, true, false, List, [], ◌∷◌, length, map, Option, Some, None, refl, sym, ap, subst, arith, inl, inr, rules}
+use Rattle.std.proofs.Common.{◌≡◌, ◌∙◌, ℕ, zero, suc, ◌≤◌, Bool, true, false, List, [], ◌∷◌, length, map, Option, Some, None, refl, sym, ap}
+use Rattle.std.proofs.Common.{subst, arith, inl, inr, rules}
 use Rattle.std.specs.Prelude.{◌↔◌}
 use Rattle.std.specs.Option.{option_map}
 use Rattle.wasm_types.specs.limits.Settings.{Settings}
@@ -7,14 +8,16 @@ use Rattle.wasm_types.specs.decoding.Decoder.{Many}
 use Rattle.wasm_types.specs.indices.declared.index.UnpackedIndex.{UnpackedIndex}
 use Rattle.wasm_types.specs.indices.declared.index.UnpackedIndex.TheVariants.{Module, RecGroup, Id}
 use Rattle.wasm_types.specs.indices.Indices.{number_of}
-use Rattle.wasm_types.specs.trees.Types.{HeapOf, abstract, concrete, exact, ValueOf, number, ref, StorageOf, i8, i16, value, FieldOf, InnerOf, function, array_of, struct_of, continuation}
-use Rattle.wasm_types.specs.trees.Types.{SubtypeOf, EntryOf, heap_map, value_map, storage_map, field_map, inner_map, entry_map, entry_of_subtype}
+use Rattle.wasm_types.specs.trees.Types.{HeapOf, abstract, concrete, exact, ValueOf, number, ref, StorageOf, i8, i16, value, FieldOf}
+use Rattle.wasm_types.specs.trees.Types.{InnerOf, function, array_of, struct_of, continuation}
+use Rattle.wasm_types.specs.trees.Types.{SubtypeOf, EntryOf, heap_map, value_map, storage_map, field_map, inner_map, entry_map}
+use Rattle.wasm_types.specs.trees.Types.{entry_of_subtype}
 use Rattle.wasm_types.specs.trees.Each.{EachOption, EachEntry}
 use Rattle.wasm_types.specs.trees.ValidGroup.{Written}
 use Rattle.wasm_types.specs.trees.laws.Types.{each_entry, entry_twice, entry_agrees}
 use Rattle.wasm_types.specs.groups.declared.sub_type.SubType.{SubType}
 use Rattle.wasm_types.specs.groups.declared.rec_group.RecGroup.{RecGroup as Group}
-use Rattle.wasm_types.specs.groups.Entries.{Declared, first_of, declared_of, subtypes, declared_types}
+use Rattle.wasm_types.specs.groups.Entries.{Declared, first_of, declared_of, subtypes}
 use Rattle.wasm_types.specs.groups.Spells.{SpellsSub, SpellsGroup}
 use Rattle.wasm_types.specs.groups.SpellsTypes.{SubValue, GroupValue, sub_value, group_value}
 use Rattle.wasm_types.specs.groups.SpellsTypes as read
@@ -24,7 +27,7 @@ use Rattle.wasm_module_validator_canonical.specs.Written.{IsModuleIndex, AreModu
 use Rattle.wasm_module_validator_canonical.specs.laws.Statements.{written}
 use Rattle.wasm_module_validator_canonical.specs.laws.Spelled.{group_read as group_indices}
 use Rattle.wasm_module_validator_steps.specs.contexts.rules.Binary.{SpelledGroup, declared_by}
-use Rattle.wasm_module_validator_texts.specs.Kinds.{group_of}
+use Rattle.wasm_module_validator_texts.specs.Kinds.{group_of, group_read as written_group}
 
 -- ---- a map that changes nothing
 
@@ -83,7 +86,8 @@ index_back (Id j) m = absurd m
 
 entry_back : (x : EntryOf UnpackedIndex) → EachEntry IsModuleIndex x → entry_map Module (entry_map number_of x) ≡ x
 entry_back x m = entry_twice Module number_of x
-    ∙ (entry_agrees (λ i. Module (number_of i)) (λ i. i) x (each_entry IsModuleIndex (λ i. Module (number_of i) ≡ i) index_back x m) ∙ entry_stays x)
+    ∙ (entry_agrees (λ i. Module (number_of i)) (λ i. i) x (each_entry IsModuleIndex (λ i. Module (number_of i) ≡ i) index_back x m)
+    ∙ entry_stays x)
 
 entry_forth : (x : EntryOf ℕ) → entry_map number_of (entry_map Module x) ≡ x
 entry_forth x = entry_twice number_of Module x ∙ entry_stays x
@@ -155,7 +159,8 @@ types_back (d ∷ ds) m s =
 
 -- ---- a type that is spelled has one supertype at most
 
-one_supertype : (z : Settings) (d : Declared) (text : List ℕ) → SpellsSub z d text → (length d.supertypes ≤ 1) × (d.entry.supertype ≡ first_of d.supertypes)
+one_supertype : (z : Settings) (d : Declared) (text : List ℕ) → SpellsSub z d text
+    → (length d.supertypes ≤ 1) × (d.entry.supertype ≡ first_of d.supertypes)
 one_supertype z d text (inl h) = (omega (arith, ap length h.alone), h.none ∙ sym (ap first_of h.alone))
 one_supertype z d text (inr h) = (h.above.within, h.first)
 
@@ -176,7 +181,8 @@ value_spelled : (z : Settings) (v : GroupValue) (text : List ℕ) → read.Spell
 value_spelled z v text h =
     let ds = map read.declared_by v.types in
     let tree = group_to z v text h in
-    subst (λ (es : List Declared). SpellsGroup z v.is_explicit es text) (sym (types_back ds (group_indices z v.is_explicit ds text tree) (one_in_group z v.is_explicit ds text tree))) tree
+    let back = types_back ds (group_indices z v.is_explicit ds text tree) (one_in_group z v.is_explicit ds text tree) in
+    subst (λ (es : List Declared). SpellsGroup z v.is_explicit es text) (sym back) tree
 
 -- and bytes that spell a group give a value that is this group
 abbrev IsGiven : Settings → Written → List ℕ → Type 0
@@ -188,7 +194,7 @@ spelled_value z g text h =
     let types : written_types (map read.declared_by v.0.types) ≡ g.types = ap written_types v.2 ∙ types_forth g.types in
     let explicit = v.1 in
     let there = subst (λ (e : Bool). SpellsGroup z e (map read.declared_by v.0.types) text) (sym explicit)
-        (subst (λ (es : List Declared). SpellsGroup z g.is_explicit es text) (sym v.2) h) in
+    (subst (λ (es : List Declared). SpellsGroup z g.is_explicit es text) (sym v.2) h) in
     (v.0, (λ i. record { is_explicit = explicit i; types = types i }), group_from z v.0 text there)
 
 pub groups_given : (z : Settings) (g : Written) (text : List ℕ) → IsGiven z g text ↔ SpelledGroup z g text
@@ -202,5 +208,9 @@ values_declare (x ∷ xs) =
     let b = values_declare xs in
     cc
 
-pub group_is_of_value : (g : Group) → written g.is_explicit (declared_types g) ≡ group_of (group_value g)
+pub group_is_of_value : (g : Group) → written_group g ≡ group_of (group_value g)
 group_is_of_value g = ap (written g.is_explicit) (sym (values_declare (subtypes g)))
+
+-- groups whose values are the same are the same groups
+pub groups_alike : (g h : Group) → group_value g ≡ group_value h → written_group g ≡ written_group h
+groups_alike g h e = group_is_of_value g ∙ (ap group_of e ∙ sym (group_is_of_value h))

@@ -1,15 +1,14 @@
 -- A section is judged exactly where what is read of it leads item by item from what was read before it to what is read then.
 use Rattle.std.proofs.Common.{◌≡◌, ℕ, List, [], ◌∷◌, length, Some, refl, sym, ap, ◌∙◌, subst}
 use Rattle.std.specs.Prelude.{◌↔◌}
-use Rattle.std.specs.List.{AllZip}
 use Rattle.wasm_types.specs.limits.Settings.{Settings}
-use Rattle.wasm_types.specs.decoding.Decoder.{State, Done, Many}
+use Rattle.wasm_types.specs.decoding.Decoder.{State, Done}
 use Rattle.wasm_types.specs.decoding.Leb.{u32, IsListed}
 use Rattle.wasm_module_validator_adding.specs.Adding.{AddsEach}
 use Rattle.wasm_module_validator_steps.specs.contexts.rules.Syntax.{ModuleTree}
 use Rattle.wasm_module_validator_steps.specs.Sections.{Section, Item, items, IsUnread}
 use Rattle.wasm_module_validator_steps.specs.Sections as section
-use Rattle.wasm_module_validator_steps.specs.Adding.{Fits, Adds, IsWithItems}
+use Rattle.wasm_module_validator_steps.specs.Adding.{Fits, IsWithItems}
 use Rattle.wasm_module_validator_steps.specs.Adding.{AddsEach as AddsEachTree}
 use Rattle.wasm_module_validator_steps.specs.Texts.{ItemRead, StandsFor, AddsRead, SpelledSection}
 use Rattle.wasm_module_validator_steps.specs.Steps.{SoFar, JudgesSection, IsJudged}
@@ -24,7 +23,8 @@ use Rattle.wasm_module_validator_texts.specs.laws.Counts.{many_length, items_beh
 -- ---- under the settings that stay
 
 module _ (s : Section) where
-  each_in : (z : Settings) (m n : ModuleTree) (ts : List (ItemRead s)) → AddsEachTree (AddsRead z s) m ts n → AddsEach (AddsIn s) (reading z m) ts (reading z n)
+  each_in : (z : Settings) (m n : ModuleTree) (ts : List (ItemRead s)) → AddsEachTree (AddsRead z s) m ts n
+      → AddsEach (AddsIn s) (reading z m) ts (reading z n)
   each_in z m n [] h = ap (reading z) h
   each_in z m n (t ∷ ts) h = (reading z h.0, (h.1, refl), each_in z h.0 n ts h.2)
 
@@ -43,7 +43,8 @@ module _ (s : Section) where
 -- ---- the contents of a section of items
 
 abbrev IsSpelledSo : Settings → Section → Type 0
-IsSpelledSo z s = (m : ModuleTree) (text : List ℕ) → SpelledSection z s m (Some text) ↔ (MayBegin z s × IsListed (SpelledItem z s) (items s m) text)
+IsSpelledSo z s = (m : ModuleTree) (text : List ℕ)
+    → SpelledSection z s m (Some text) ↔ (MayBegin z s × IsListed (SpelledItem z s) (items s m) text)
 
 pub section_spelled : (z : Settings) (s : Section) → IsOfItems s → IsSpelledSo z s
 section_spelled z section.types k m text = (λ h. (tt, h), λ h. h.1)
@@ -61,7 +62,8 @@ section_spelled z section.data_segments k m text = (λ h. (tt, h), λ h. h.1)
 
 -- ---- a section
 
-module _ (z : Settings) (s : Section) (of_items : IsOfItems s) (p : SoFar) (b r : State) (n : ℕ) (j : IsJudged z p) (c : u32 b ≡ Done n r) where
+module _ (z : Settings) (s : Section) (of_items : IsOfItems s) (p : SoFar) (b r : State) (n : ℕ) (j : IsJudged z p)
+    (c : u32 b ≡ Done n r) where
   judged_to : (q : SoFar) → JudgesSection z p s b.rest q → AddsSection z s p n r.rest q
   judged_to q h =
       let both = (section_spelled z s of_items q.tree b.rest).0 h.spelled in
@@ -70,11 +72,12 @@ module _ (z : Settings) (s : Section) (of_items : IsOfItems s) (p : SoFar) (b r 
       let read = many_down (StandsFor z s) (SpelledRead z s) (SpelledItem z s) (linked z s) n xs r.rest behind.1 in
       let added : IsWithItems z s p.tree xs q.tree = record { added = h.added; holds = refl; valid = h.valid; within = h.within } in
       let adds = (section_added z s p.tree q.tree xs (j.unread s h.ordered) j.within).1 added in
+      let each = each_in s z p.tree q.tree read.0 ((items_read z s p.tree q.tree read.0).1 (xs, read.1, adds.1)) in
       record {
         ordered = h.ordered;
         allowed = both.0;
         fits = subst (Fits z s p.tree) (sym behind.0) adds.0;
-        items = record { items = read.0; spelled = read.2; each = each_in s z p.tree q.tree read.0 ((items_read z s p.tree q.tree read.0).1 (xs, read.1, adds.1)) };
+        items = record { items = read.0; spelled = read.2; each = each };
         last = h.last;
         bodies = h.bodies;
       }
@@ -89,10 +92,11 @@ module _ (z : Settings) (s : Section) (of_items : IsOfItems s) (p : SoFar) (b r 
       let added = (section_added z s p.tree q.tree xs (j.unread s h.ordered) j.within).0 (subst (Fits z s p.tree) many h.fits, read.2) in
       let spelled = many_over (StandsFor z s) (SpelledRead z s) (SpelledItem z s) (linked z s) n ts xs r.rest h.items.spelled read.1 in
       let listed = counted_before (SpelledItem z s) xs b r n c spelled in
+      let holds = subst (λ (ys : List (Item s)). IsListed (SpelledItem z s) ys b.rest) (sym added.holds) listed in
       record {
         ordered = h.ordered;
         added = added.added;
-        spelled = (section_spelled z s of_items q.tree b.rest).1 (h.allowed, subst (λ (ys : List (Item s)). IsListed (SpelledItem z s) ys b.rest) (sym added.holds) listed);
+        spelled = (section_spelled z s of_items q.tree b.rest).1 (h.allowed, holds);
         valid = added.valid;
         within = added.within;
         last = h.last;

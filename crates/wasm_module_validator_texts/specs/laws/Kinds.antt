@@ -1,5 +1,5 @@
 -- Walks over the items of each kind of section.
-use Rattle.std.proofs.Common.{◌≡◌, ◌∙◌, ℕ, zero, suc, List, [], ◌∷◌, refl, sym, ap, subst}
+use Rattle.std.proofs.Common.{◌≡◌, ◌∙◌, ℕ, zero, suc, List, [], ◌∷◌, refl, ap, subst}
 use Rattle.std.specs.Prelude.{◌↔◌, ◌<◌}
 use Rattle.wasm_types.specs.decoding.Decoder.{State, Done, Decoder, Grammar, Decides, Many}
 use Rattle.wasm_types.specs.decoding.Leb.{u32, IsUnsigned}
@@ -34,12 +34,13 @@ use Rattle.wasm_module_validator_steps.specs.Texts.{ItemRead}
 use Rattle.wasm_module_validator_steps.specs.Steps.{SoFar, JudgesSection, IsJudged}
 use Rattle.wasm_module_validator_adding.specs.Adding.{Spelled, AddsEach, AreAdded, StopsAdding}
 use Rattle.wasm_module_validator_texts.specs.Grammars.{SpelledRead}
-use Rattle.wasm_module_validator_texts.specs.Sections.{Reading, reading, AddsIn, RefusesIn, IsOfItems, MayBegin, AddsSection, behind}
-use Rattle.wasm_module_validator_texts.specs.Kinds.{group_of, group_read, index_read, memory_read, tag_read, import_read, table_read, global_read, export_read, element_read, data_read, AreTold, WalksTell}
+use Rattle.wasm_module_validator_texts.specs.Sections.{Reading, reading, AddsIn, RefusesIn, IsOfItems, MayBegin, behind}
+use Rattle.wasm_module_validator_texts.specs.Kinds.{group_of, group_read, index_read, memory_read, tag_read, import_read, table_read}
+use Rattle.wasm_module_validator_texts.specs.Kinds.{global_read, export_read, element_read, data_read, AreTold, WalksTell}
 use Rattle.wasm_module_validator_texts.specs.laws.Groups.{groups_given, group_is_of_value}
 use Rattle.wasm_module_validator_texts.specs.laws.Once.{adds_once}
 use Rattle.wasm_module_validator_texts.specs.laws.Judged.{section_judged, each_stays}
-use Rattle.wasm_module_validator_texts.specs.laws.Walks.{Given, many_given, items_once, each_once, stops_denies}
+use Rattle.wasm_module_validator_texts.specs.laws.Walks.{many_given, items_once, each_once, stops_denies}
 
 -- ---- any kind
 
@@ -54,7 +55,8 @@ module _ {A : Type 0} (g h : Grammar A) (to : (x : A) (text : List ℕ) → g x 
 is_behind : (s : Section) (p q : SoFar) → q.last ≡ place s → q.bodies ≡ p.bodies → q ≡ behind s p q.tree
 is_behind s p q l b = λ i. record { last = l i; tree = q.tree; bodies = b i }
 
-module _ (s : Section) (of_items : IsOfItems s) {T V : Type 0} (view : T → V) (of : T → ItemRead s) (item : V → ItemRead s) (same : (x : T) → of x ≡ item (view x))
+module _ (s : Section) (of_items : IsOfItems s) {T V : Type 0} (view : T → V) (of : T → ItemRead s) (item : V → ItemRead s)
+    (same : (x : T) → of x ≡ item (view x))
     (d : Settings → Decoder V) (g : Settings → Grammar V) (exact : (z : Settings) → Decides (d z) (g z))
     (given : (z : Settings) (a : ItemRead s) (text : List ℕ) → Spelled (λ (v : V). v) item (g z) a text ↔ SpelledRead z s a text) where
   module _ (p : SoFar) (b r : State) (n : ℕ) (j : IsJudged r.settings p) (c : u32 b ≡ Done n r) where
@@ -71,7 +73,9 @@ module _ (s : Section) (of_items : IsOfItems s) {T V : Type 0} (view : T → V) 
     Reads u = AreAdded (SpelledRead z s) (AddsIn s) n r.rest (reading z p.tree) u
 
     gives : (u : Reading) → Added u → Gives u
-    gives u a = record { items = a.items; spelled = many_given view of item same (d z) (g z) (exact z) n a.items r.rest a.spelled; each = a.each }
+    gives u a =
+        let spelled = many_given view of item same (d z) (g z) (exact z) n a.items r.rest a.spelled in
+        record { items = a.items; spelled = spelled; each = a.each }
 
     reads : (u : Reading) → Gives u → Reads u
     reads u a = record {
@@ -91,7 +95,8 @@ module _ (s : Section) (of_items : IsOfItems s) {T V : Type 0} (view : T → V) 
     stays : (u : Reading) → Added u → u ≡ reading z u.tree
     stays u a = let e : u.settings ≡ z = each_stays s (reading z p.tree) u a.items a.each in λ i. record { settings = e i; tree = u.tree }
 
-    is_judged : p.last < place s → MayBegin z s → Fits z s p.tree n → (u : Reading) → Added u → JudgesSection z p s b.rest (behind s p u.tree)
+    is_judged : p.last < place s → MayBegin z s → Fits z s p.tree n → (u : Reading) → Added u
+        → JudgesSection z p s b.rest (behind s p u.tree)
     is_judged l m f u a = (section_judged z s of_items p b r n j c (behind s p u.tree)).1 (record {
       ordered = l;
       allowed = m;
@@ -108,13 +113,18 @@ module _ (s : Section) (of_items : IsOfItems s) {T V : Type 0} (view : T → V) 
         let other = given_back (reading z q.tree) t.items in
         let items = items_once view of item same (d z) (g z) (exact z) n other.items first.items r.rest other.spelled first.spelled in
         let each = subst (λ (xs : List (ItemRead s)). AddsEach (AddsIn s) (reading z p.tree) xs (reading z q.tree)) items other.each in
-        let e : reading z q.tree ≡ u = each_once (AddsIn s) (adds_once s) (reading z p.tree) first.items (reading z q.tree) u each first.each in
+        let v = reading z q.tree in
+        let e : v ≡ u = each_once (AddsIn s) (adds_once s) (reading z p.tree) first.items v u each first.each in
         is_behind s p q t.last t.bodies ∙ ap (λ (v : Reading). behind s p v.tree) e
 
-    is_denied : (e : ErrorValue) → StopsAdding view of (d z) (AddsIn s) (RefusesIn s) n r (reading z p.tree) e → Denies e.kind ((q : SoFar) × JudgesSection z p s b.rest q)
-    is_denied e h = denies_from e.kind ((u : Reading) × Gives u) ((q : SoFar) × JudgesSection z p s b.rest q)
-        (λ q. (reading z q.0.tree, given_back (reading z q.0.tree) ((section_judged z s of_items p b r n j c q.0).0 q.1).items))
-        (stops_denies view of item same (d z) (g z) (exact z) (AddsIn s) (adds_once s) (RefusesIn s) n r (reading z p.tree) e (λ k a place why. why) h)
+    is_denied : (e : ErrorValue) → StopsAdding view of (d z) (AddsIn s) (RefusesIn s) n r (reading z p.tree) e
+        → Denies e.kind ((q : SoFar) × JudgesSection z p s b.rest q)
+    is_denied e h =
+        let start = reading z p.tree in
+        let why : (k : Reading) (a : ItemRead s) (place : ℕ) → RefusesIn s k a place e → RefusesIn s k a place e = λ k a place w. w in
+        let none = stops_denies view of item same (d z) (g z) (exact z) (AddsIn s) (adds_once s) (RefusesIn s) n r start e why h in
+        denies_from e.kind ((u : Reading) × Gives u) ((q : SoFar) × JudgesSection z p s b.rest q)
+        (λ q. (reading z q.0.tree, given_back (reading z q.0.tree) ((section_judged z s of_items p b r n j c q.0).0 q.1).items)) none
 
     told_here : AreTold s view of d g z p b r n
     told_here = record {
@@ -133,41 +143,56 @@ module _ (s : Section) (of_items : IsOfItems s) {T V : Type 0} (view : T → V) 
 
 -- ---- each kind
 
--- values that are the items themselves
-as_it_is : {A : Type 0} (g : Grammar A) (a : A) (text : List ℕ) → Spelled (λ (v : A). v) (λ v. v) g a text ↔ g a text
-as_it_is {A} g a text = (λ h. subst (λ (x : A). g x text) h.1 h.2, λ h. (a, refl, h))
-
 pub types_tell : WalksTell section.types group_value group_read rec_group SpelledGroup
-types_tell = walks_tell section.types tt group_value group_read group_of group_is_of_value rec_group SpelledGroup decides-rec_group groups_given
+types_tell =
+    walks_tell section.types tt group_value group_read group_of group_is_of_value rec_group SpelledGroup decides-rec_group groups_given
+
+-- values that are the items, whatever the code holds of them
+module _ (s : Section) (of_items : IsOfItems s) {T : Type 0} (view : T → ItemRead s) (d : Settings → Decoder (ItemRead s))
+    (g : Settings → Grammar (ItemRead s)) (exact : (z : Settings) → Decides (d z) (g z))
+    (given : (z : Settings) (a : ItemRead s) (text : List ℕ) → g z a text ↔ SpelledRead z s a text) where
+  plain_given : (z : Settings) (a : ItemRead s) (text : List ℕ)
+      → Spelled (λ (v : ItemRead s). v) (λ v. v) (g z) a text ↔ SpelledRead z s a text
+  plain_given z a text = (
+    λ h. (given z a text).0 (subst (λ (x : ItemRead s). g z x text) h.1 h.2),
+    λ h. (a, refl, (given z a text).1 h),
+  )
+
+  plainly : WalksTell s view view d g
+  plainly = walks_tell s of_items view view (λ v. v) (λ x. refl) d g exact plain_given
+
+itself : {P : Type 0} → P ↔ P
+itself = (λ h. h, λ h. h)
 
 pub imports_tell : WalksTell section.imports import_read import_read import SpelledImport
-imports_tell = walks_tell section.imports tt import_read import_read (λ v. v) (λ x. refl) import SpelledImport decides-import (λ z. as_it_is (SpelledImport z))
+imports_tell = plainly section.imports tt import_read import SpelledImport decides-import (λ z a text. itself)
 
 pub functions_tell : WalksTell section.functions index_read index_read (λ z. u32) (λ z. IsUnsigned 32)
-functions_tell = walks_tell section.functions tt index_read index_read (λ v. v) (λ x. refl) (λ z. u32) (λ z. IsUnsigned 32) (λ z. decides-u32) (λ z. as_it_is (IsUnsigned 32))
+functions_tell = plainly section.functions tt index_read (λ z. u32) (λ z. IsUnsigned 32) (λ z. decides-u32) (λ z a text. itself)
 
 pub tables_tell : WalksTell section.tables table_read table_read (λ z. table (constant z)) (λ z. SpelledTableItem (ConstantText z))
-tables_tell = walks_tell section.tables tt table_read table_read (λ v. v) (λ x. refl) (λ z. table (constant z)) (λ z. SpelledTableItem (ConstantText z))
-    (λ z. decides-table (constant z) (ConstantText z) (decides-constant z)) (λ z. as_it_is (SpelledTableItem (ConstantText z)))
+tables_tell = plainly section.tables tt table_read (λ z. table (constant z)) (λ z. SpelledTableItem (ConstantText z))
+    (λ z. decides-table (constant z) (ConstantText z) (decides-constant z)) (λ z a text. itself)
 
 pub memories_tell : WalksTell section.memories memory_read memory_read (λ z. memory_type) (λ z. SpelledMemory)
-memories_tell = walks_tell section.memories tt memory_read memory_read (λ v. v) (λ x. refl) (λ z. memory_type) (λ z. SpelledMemory) (λ z. decides-memory_type)
-    (λ z. as_it_is SpelledMemory)
+memories_tell =
+    plainly section.memories tt memory_read (λ z. memory_type) (λ z. SpelledMemory) (λ z. decides-memory_type) (λ z a text. itself)
 
 pub tags_tell : WalksTell section.tags tag_read tag_read (λ z. tag_type) (λ z. SpelledTag)
-tags_tell = walks_tell section.tags tt tag_read tag_read (λ v. v) (λ x. refl) (λ z. tag_type) (λ z. SpelledTag) (λ z. decides-tag_type) (λ z. as_it_is SpelledTag)
+tags_tell = plainly section.tags tt tag_read (λ z. tag_type) (λ z. SpelledTag) (λ z. decides-tag_type) (λ z a text. itself)
 
 pub globals_tell : WalksTell section.globals global_read global_read (λ z. global (constant z)) (λ z. SpelledGlobalItem (ConstantText z))
-globals_tell = walks_tell section.globals tt global_read global_read (λ v. v) (λ x. refl) (λ z. global (constant z)) (λ z. SpelledGlobalItem (ConstantText z))
-    (λ z. decides-global (constant z) (ConstantText z) (decides-constant z)) (λ z. as_it_is (SpelledGlobalItem (ConstantText z)))
+globals_tell = plainly section.globals tt global_read (λ z. global (constant z)) (λ z. SpelledGlobalItem (ConstantText z))
+    (λ z. decides-global (constant z) (ConstantText z) (decides-constant z)) (λ z a text. itself)
 
 pub exports_tell : WalksTell section.exports export_read export_read export SpelledExport
-exports_tell = walks_tell section.exports tt export_read export_read (λ v. v) (λ x. refl) export SpelledExport decides-export (λ z. as_it_is (SpelledExport z))
+exports_tell = plainly section.exports tt export_read export SpelledExport decides-export (λ z a text. itself)
 
-pub elements_tell : WalksTell section.element_segments element_read element_read (λ z. segment (constant z)) (λ z. SpelledSegment (ConstantText z))
-elements_tell = walks_tell section.element_segments tt element_read element_read (λ v. v) (λ x. refl) (λ z. segment (constant z)) (λ z. SpelledSegment (ConstantText z))
-    (λ z. decides-segment (constant z) (ConstantText z) (decides-constant z)) (λ z. as_it_is (SpelledSegment (ConstantText z)))
+pub elements_tell : WalksTell section.element_segments element_read element_read (λ z. segment (constant z))
+    (λ z. SpelledSegment (ConstantText z))
+elements_tell = plainly section.element_segments tt element_read (λ z. segment (constant z)) (λ z. SpelledSegment (ConstantText z))
+    (λ z. decides-segment (constant z) (ConstantText z) (decides-constant z)) (λ z a text. itself)
 
 pub segments_tell : WalksTell section.data_segments data_read data_read (λ z. data_segment (constant z)) (λ z. SpelledData (ConstantText z))
-segments_tell = walks_tell section.data_segments tt data_read data_read (λ v. v) (λ x. refl) (λ z. data_segment (constant z)) (λ z. SpelledData (ConstantText z))
-    (λ z. decides-data_segment (constant z) (ConstantText z) (decides-constant z)) (λ z. as_it_is (SpelledData (ConstantText z)))
+segments_tell = plainly section.data_segments tt data_read (λ z. data_segment (constant z)) (λ z. SpelledData (ConstantText z))
+    (λ z. decides-data_segment (constant z) (ConstantText z) (decides-constant z)) (λ z a text. itself)

@@ -1,25 +1,26 @@
 -- Sections that are one number.
-use Rattle.std.proofs.Common.{◌≡◌, ◌∙◌, ◌==◌, ℕ, Bool, true, false, if◌then◌else◌, List, [], ◌∷◌, ◌++◌, length, Option, Some, None, refl, sym, ap, subst, arith, eqb-true}
+use Rattle.std.proofs.Common.{◌≡◌, ◌∙◌, ◌==◌, ℕ, Bool, true, false, if◌then◌else◌, List, [], ◌∷◌, ◌++◌, length, Option, Some, None, refl}
+use Rattle.std.proofs.Common.{sym, ap, subst, arith, eqb-true}
 use Rattle.std.proofs.lemmas.List.{append-nil}
 use Rattle.std.specs.Prelude.{◌↔◌}
 use Rattle.wasm_types.specs.limits.Settings.{Settings}
 use Rattle.wasm_types.specs.decoding.declared.Refusal.TheVariants.{Other}
 use Rattle.wasm_types.specs.decoding.Decoder.{State, Outcome, Done, Short, Fault, ended}
-use Rattle.wasm_types.specs.decoding.Exact.{value_is, state_is}
+use Rattle.wasm_types.specs.decoding.Exact.{value_is}
 use Rattle.wasm_types.specs.decoding.Leb.{u32, IsUnsigned}
 use Rattle.wasm_types.specs.decoding.LebLaws.{decides-u32}
 use Rattle.wasm_sections_payloads.specs.Payloads.{only_number, cut, front_of}
 use Rattle.wasm_module_validator_steps.specs.contexts.rules.Syntax.{ModuleTree}
 use Rattle.wasm_module_validator_steps.specs.contexts.rules.Binary.{SpelledNumber}
-use Rattle.wasm_module_validator_steps.specs.Sections.{Section, number, items, as_list}
+use Rattle.wasm_module_validator_steps.specs.Sections.{Section, Item, number, items, as_list}
 use Rattle.wasm_module_validator_steps.specs.Sections as section
-use Rattle.wasm_module_validator_steps.specs.Adding.{Adds, AddsEach, IsWithItems}
+use Rattle.wasm_module_validator_steps.specs.Adding.{Fits, Adds, IsWithItems}
 use Rattle.wasm_module_validator_steps.specs.Texts.{SpelledSection}
 use Rattle.wasm_module_validator_steps.specs.Steps.{SoFar, JudgesSection, IsJudged}
 use Rattle.wasm_module_validator_steps.specs.laws.Adding.{section_added}
 use Rattle.wasm_module_validator_texts.specs.Grammars.{SpelledItem}
-use Rattle.wasm_module_validator_texts.specs.Sections.{IsOfItems, AddsStart, AddsDataCount}
-use Rattle.wasm_module_validator_texts.specs.laws.Counts.{past, count_read}
+use Rattle.wasm_module_validator_texts.specs.Sections.{IsOfItems, AddsNumber}
+use Rattle.wasm_module_validator_texts.specs.laws.Counts.{past, takes_past, count_read}
 use Rattle.wasm_module_validator_texts.specs.laws.Judged.{section_spelled}
 
 -- ---- a number that is all of the contents
@@ -31,7 +32,7 @@ number_done n s = Done n s
 pub number_read : (n : ℕ) (b : State) → IsUnsigned 32 n b.rest → only_number b ≡ Done n b
 number_read n b h =
     let t = past b b.rest [] in
-    let e : u32 b ≡ Done n t = decides-u32.complete b t n b.rest (record { parts = sym (append-nil b.rest); place = refl; settings = refl; start = refl }) h in
+    let e : u32 b ≡ Done n t = decides-u32.complete b t n b.rest (takes_past b b.rest [] (sym (append-nil b.rest))) h in
     ap (ended Other Other b) e
 
 -- a number with nothing behind it (true), or with bytes there
@@ -42,8 +43,10 @@ no_bytes : (text : List ℕ) → length text ≡ 0 → text ≡ []
 no_bytes [] e = refl
 no_bytes (x ∷ xs) e = absurd (omega (arith, e))
 
-nothing_left : (w : Bool) (m n : ℕ) (t b s : State) → (length t.rest == 0) ≡ w → ended_so w m t b ≡ Done n s → (number_done m t ≡ Done n t) × (t.rest ≡ [])
-nothing_left true m n t b s none e = (ap (λ (k : ℕ). number_done k t) (value_is m n b s e), no_bytes t.rest (eqb-true (length t.rest) 0 none))
+nothing_left : (w : Bool) (m n : ℕ) (t b s : State) → (length t.rest == 0) ≡ w → ended_so w m t b ≡ Done n s
+    → (number_done m t ≡ Done n t) × (t.rest ≡ [])
+nothing_left true m n t b s none e =
+    (ap (λ (k : ℕ). number_done k t) (value_is m n b s e), no_bytes t.rest (eqb-true (length t.rest) 0 none))
 nothing_left false m n t b s some e = absurd cc
 
 -- what is read so is spelled by all of the contents
@@ -71,52 +74,63 @@ is_listed : (o : Option ℕ) (n : ℕ) → as_list o ≡ n ∷ [] → o ≡ Some
 is_listed None n e = absurd cc
 is_listed (Some m) n e = cc
 
+-- a section that has this item alone where its contents spell it, and just there
+module _ (z : Settings) (s : Section) (x : Item s) (fits : (m : ModuleTree) → Fits z s m 1) (p : SoFar) (text : List ℕ) (j : IsJudged z p)
+    (has : (m : ModuleTree) → SpelledSection z s m (Some text) → items s m ≡ x ∷ [])
+    (is : (m : ModuleTree) → items s m ≡ x ∷ [] → SpelledSection z s m (Some text)) where
+  abbrev Added : SoFar → Type 0
+  Added q = IsWithItems z s p.tree (x ∷ []) q.tree
+
+  one_to : (q : SoFar) → JudgesSection z p s text q → AddsNumber z s p x q
+  one_to q h =
+      let added : Added q = record { added = h.added; holds = has q.tree h.spelled; valid = h.valid; within = h.within } in
+      let adds = ((section_added z s p.tree q.tree (x ∷ []) (j.unread s h.ordered) j.within).1 added).1 in
+      record { ordered = h.ordered; added = subst (Adds z s p.tree x) adds.2 adds.1; last = h.last; bodies = h.bodies }
+
+  one_from : (q : SoFar) → AddsNumber z s p x q → JudgesSection z p s text q
+  one_from q h =
+      let unread = j.unread s h.ordered in
+      let added = (section_added z s p.tree q.tree (x ∷ []) unread j.within).0 (fits p.tree, (q.tree, h.added, refl)) in
+      record {
+        ordered = h.ordered;
+        added = added.added;
+        spelled = is q.tree added.holds;
+        valid = added.valid;
+        within = added.within;
+        last = h.last;
+        bodies = h.bodies;
+      }
+
 module _ (z : Settings) (p : SoFar) (b s : State) (n : ℕ) (j : IsJudged z p) (c : only_number b ≡ Done n s) where
-  start_to : (q : SoFar) → JudgesSection z p section.start b.rest q → AddsStart z p n q
-  start_to q h =
-      let there = is_there q.tree.start n b s c h.spelled in
-      let added : IsWithItems z section.start p.tree (n ∷ []) q.tree = record { added = h.added; holds = ap as_list there; valid = h.valid; within = h.within } in
-      let adds = ((section_added z section.start p.tree q.tree (n ∷ []) (j.unread section.start h.ordered) j.within).1 added).1 in
-      record { ordered = h.ordered; added = subst (Adds z section.start p.tree n) adds.2 adds.1; last = h.last; bodies = h.bodies }
+  has_number : (o : Option ℕ) → SpelledNumber o (Some b.rest) → as_list o ≡ n ∷ []
+  has_number o h = ap as_list (is_there o n b s c h)
 
-  start_from : (q : SoFar) → AddsStart z p n q → JudgesSection z p section.start b.rest q
-  start_from q h =
-      let added = (section_added z section.start p.tree q.tree (n ∷ []) (j.unread section.start h.ordered) j.within).0 (tt, (q.tree, h.added, refl)) in
-      record {
-        ordered = h.ordered;
-        added = added.added;
-        spelled = subst (λ (o : Option ℕ). SpelledNumber o (Some b.rest)) (sym (is_listed q.tree.start n added.holds)) (number_spelled n b s c);
-        valid = added.valid;
-        within = added.within;
-        last = h.last;
-        bodies = h.bodies;
-      }
+  is_number : (o : Option ℕ) → as_list o ≡ n ∷ [] → SpelledNumber o (Some b.rest)
+  is_number o e = subst (λ (k : Option ℕ). SpelledNumber k (Some b.rest)) (sym (is_listed o n e)) (number_spelled n b s c)
 
-  pub start_judged : (q : SoFar) → JudgesSection z p section.start b.rest q ↔ AddsStart z p n q
-  start_judged q = (start_to q, start_from q)
+  start_has : (m : ModuleTree) → SpelledSection z section.start m (Some b.rest) → items section.start m ≡ n ∷ []
+  start_has m h = has_number m.start h
 
-  count_to : (q : SoFar) → JudgesSection z p section.data_count b.rest q → AddsDataCount z p n q
-  count_to q h =
-      let there = is_there q.tree.data_count n b s c h.spelled in
-      let added : IsWithItems z section.data_count p.tree (n ∷ []) q.tree = record { added = h.added; holds = ap as_list there; valid = h.valid; within = h.within } in
-      let adds = ((section_added z section.data_count p.tree q.tree (n ∷ []) (j.unread section.data_count h.ordered) j.within).1 added).1 in
-      record { ordered = h.ordered; added = subst (Adds z section.data_count p.tree n) adds.2 adds.1; last = h.last; bodies = h.bodies }
+  start_is : (m : ModuleTree) → items section.start m ≡ n ∷ [] → SpelledSection z section.start m (Some b.rest)
+  start_is m e = is_number m.start e
 
-  count_from : (q : SoFar) → AddsDataCount z p n q → JudgesSection z p section.data_count b.rest q
-  count_from q h =
-      let added = (section_added z section.data_count p.tree q.tree (n ∷ []) (j.unread section.data_count h.ordered) j.within).0 (tt, (q.tree, h.added, refl)) in
-      record {
-        ordered = h.ordered;
-        added = added.added;
-        spelled = subst (λ (o : Option ℕ). SpelledNumber o (Some b.rest)) (sym (is_listed q.tree.data_count n added.holds)) (number_spelled n b s c);
-        valid = added.valid;
-        within = added.within;
-        last = h.last;
-        bodies = h.bodies;
-      }
+  pub start_judged : (q : SoFar) → JudgesSection z p section.start b.rest q ↔ AddsNumber z section.start p n q
+  start_judged q =
+      let to = one_to z section.start n (λ m. tt) p b.rest j start_has start_is q in
+      let from = one_from z section.start n (λ m. tt) p b.rest j start_has start_is q in
+      (to, from)
 
-  pub data_count_judged : (q : SoFar) → JudgesSection z p section.data_count b.rest q ↔ AddsDataCount z p n q
-  data_count_judged q = (count_to q, count_from q)
+  count_has : (m : ModuleTree) → SpelledSection z section.data_count m (Some b.rest) → items section.data_count m ≡ n ∷ []
+  count_has m h = has_number m.data_count h
+
+  count_is : (m : ModuleTree) → items section.data_count m ≡ n ∷ [] → SpelledSection z section.data_count m (Some b.rest)
+  count_is m e = is_number m.data_count e
+
+  pub data_count_judged : (q : SoFar) → JudgesSection z p section.data_count b.rest q ↔ AddsNumber z section.data_count p n q
+  data_count_judged q =
+      let to = one_to z section.data_count n (λ m. tt) p b.rest j count_has count_is q in
+      let from = one_from z section.data_count n (λ m. tt) p b.rest j count_has count_is q in
+      (to, from)
 
 -- ---- contents that are spelled begin with a count, or are a number
 

@@ -1,17 +1,18 @@
 -- What is read stands for one item at most, so what is added is one module.
-use Rattle.std.proofs.Common.{◌≡◌, List, [], ◌∷◌, Option, Some, None, refl, sym, ap, ◌∙◌, subst}
+use Rattle.std.proofs.Common.{◌≡◌, List, [], ◌∷◌, Option, Some, None, refl, sym, ap, ◌∙◌}
 use Rattle.std.specs.List.{AllZip}
 use Rattle.wasm_types.specs.limits.Settings.{Settings}
 use Rattle.wasm_sections_payloads.specs.bodies.reader.expression.Code.{Code}
 use Rattle.wasm_sections_payloads.specs.bodies.reader.expression.SpellingLaws.{one_expression}
 use Rattle.wasm_module_validator_steps.specs.contexts.segments.Spells.{DataTree, DataMode}
 use Rattle.wasm_module_validator_steps.specs.contexts.segments.Spells as mode
-use Rattle.wasm_module_validator_steps.specs.contexts.elements.Spells.{ElementTree, ElementMode, ElementItems, passive, active, declared, functions, expressions}
-use Rattle.wasm_module_validator_steps.specs.contexts.rules.Syntax.{ModuleTree}
+use Rattle.wasm_module_validator_steps.specs.contexts.elements.Spells.{ElementTree, ElementMode, ElementItems, passive, active, declared}
+use Rattle.wasm_module_validator_steps.specs.contexts.elements.Spells.{functions, expressions}
 use Rattle.wasm_module_validator_steps.specs.contexts.rules.UniqueLaws.{Bytes}
 use Rattle.wasm_module_validator_steps.specs.Sections.{Section, Item, adding}
 use Rattle.wasm_module_validator_steps.specs.Sections as section
-use Rattle.wasm_module_validator_steps.specs.Texts.{ItemRead, SpelledInit, SpelledDataMode, SpelledMode, SpelledElements, SpelledElementRead, StandsFor}
+use Rattle.wasm_module_validator_steps.specs.Texts.{ItemRead, SpelledInit, SpelledDataMode, SpelledMode, SpelledElements}
+use Rattle.wasm_module_validator_steps.specs.Texts.{SpelledElementRead, StandsFor}
 use Rattle.wasm_module_validator_texts.specs.laws.Constants.{Over}
 use Rattle.wasm_module_validator_texts.specs.Sections.{Reading, AddsIn}
 

@@ -1,6 +1,7 @@
 -- What a walk over the items of a section tells, where each is added or refused: of the items that bytes give, whatever values the code
 -- holds of them.
-use Rattle.std.proofs.Common.{◌≡◌, ◌⊎◌, ℕ, zero, suc, ◌+◌, ◌<◌, ◌≤◌, List, [], ◌∷◌, ◌++◌, length, refl, sym, ap, ◌∙◌, subst, arith, inl, inr}
+use Rattle.std.proofs.Common.{◌≡◌, ◌⊎◌, ℕ, zero, suc, ◌+◌, ◌<◌, ◌≤◌, List, [], ◌∷◌, ◌++◌, length, sym, ap, ◌∙◌, subst, arith, inl}
+use Rattle.std.proofs.Common.{inr}
 use Rattle.wasm_types.specs.decoding.Decoder.{State, Outcome, Done, Decoder, Grammar, Decides, Many}
 use Rattle.wasm_types.specs.decoding.Exact.{value_is, state_is}
 use Rattle.wasm_types.specs.error.declared.error.ErrorKind.{ErrorKind}
@@ -11,7 +12,7 @@ use Rattle.wasm_types.specs.reader.Reading.{Fails, IsNotMemory}
 use Rattle.wasm_module_validator_steps.specs.contexts.elements.PassingLaws.{not_refused}
 use Rattle.wasm_module_validator_steps.specs.contexts.rules.UniqueLaws.{Unique, decided, lifted, many, on_whole}
 use Rattle.wasm_module_validator_adding.specs.Adding.{Spelled, AddsEach, AreAdded, IsRead, IsByteLeft, IsItemRefused, StopsAdding}
-use Rattle.wasm_module_validator_texts.specs.laws.Counts.{past}
+use Rattle.wasm_module_validator_texts.specs.laws.Counts.{past, takes_past}
 
 -- ---- denials
 
@@ -40,7 +41,8 @@ module _ {M A : Type 0} (adds : M → A → M → Type 0) (once : (m : M) (a : A
 
 -- ---- items by the values that are read of them, which `item` makes of each
 
-module _ {T V A : Type 0} (view : T → V) (of : T → A) (item : V → A) (same : (x : T) → of x ≡ item (view x)) (d : Decoder V) (g : Grammar V) (exact : Decides d g) where
+module _ {T V A : Type 0} (view : T → V) (of : T → A) (item : V → A) (same : (x : T) → of x ≡ item (view x))
+    (d : Decoder V) (g : Grammar V) (exact : Decides d g) where
   -- the bytes give a value of this item
   abbrev pub Given : Grammar A
   Given = Spelled (λ (v : V). v) item g
@@ -62,10 +64,11 @@ module _ {T V A : Type 0} (view : T → V) (of : T → A) (item : V → A) (same
   done v s = Done v s
 
   -- an item that was read here is the first that the bytes give
-  first_given : (s t : State) (x : T) (a : A) (front back : List ℕ) → d s ≡ Done (view x) t → s.rest ≡ front ++ back → Given a front → (of x ≡ a) × (t.rest ≡ back)
+  first_given : (s t : State) (x : T) (a : A) (front back : List ℕ) → d s ≡ Done (view x) t → s.rest ≡ front ++ back → Given a front
+      → (of x ≡ a) × (t.rest ≡ back)
   first_given s t x a front back e parts h =
       let u = past s front back in
-      let again : d s ≡ Done h.0 u = exact.complete s u h.0 front (record { parts = parts; place = refl; settings = refl; start = refl }) h.2 in
+      let again : d s ≡ Done h.0 u = exact.complete s u h.0 front (takes_past s front back parts) h.2 in
       let both : done (view x) t ≡ done h.0 u = sym e ∙ again in
       let v = value_is (view x) h.0 t u both in
       (same x ∙ (ap item v ∙ h.1), ap (λ (w : State). w.rest) (state_is (view x) h.0 t u both))
@@ -79,7 +82,8 @@ module _ {T V A : Type 0} (view : T → V) (of : T → A) (item : V → A) (same
       given : Many Given count others here.rest
       each : AddsEach adds now others t
 
-    left : (n : ℕ) (front ts : List A) (s here : State) (m now t : M) → length front ≤ n → AddsEach (IsRead view of d) s front here → AddsEach adds m front now
+    left : (n : ℕ) (front ts : List A) (s here : State) (m now t : M) → length front ≤ n → AddsEach (IsRead view of d) s front here
+        → AddsEach adds m front now
         → Many Given n ts s.rest → AddsEach adds m ts t → Left n front here now t
     left n [] ts s here m now t l read added given each = record {
       count = n;
@@ -90,11 +94,13 @@ module _ {T V A : Type 0} (view : T → V) (of : T → A) (item : V → A) (same
     }
     left zero (a ∷ front) ts s here m now t l read added given each = absurd (omega (arith, l))
     left (suc n) (a ∷ front) [] s here m now t l read added given each = absurd given
-    left (suc n) (a ∷ front) (b ∷ ts) s here m now t l (u, (x, is, done), read) (j, one, added) (text, back, first, given, parts) (k, other, each) =
+    left (suc n) (a ∷ front) (b ∷ ts) s here m now t l (u, (x, is, done), read) (j, one, added) (text, back, first, many, parts) (k, other, each) =
         let f = first_given s u x b text back done parts first in
         let e : a ≡ b = sym is ∙ f.0 in
         let moved : j ≡ k = once m b j k (subst (λ (c : A). adds m c j) e one) other in
-        let rest = left n front ts u here j now t (omega (arith, l)) read added (subst (Many Given n ts) (sym f.1) given) (subst (λ (o : M). AddsEach adds o ts t) (sym moved) each) in
+        let given = subst (Many Given n ts) (sym f.1) many in
+        let leads = subst (λ (o : M). AddsEach adds o ts t) (sym moved) each in
+        let rest = left n front ts u here j now t (omega (arith, l)) read added given leads in
         record { count = rest.count; others = rest.others; counted = omega (arith, rest.counted); given = rest.given; each = rest.each }
 
     -- the next of them, if there is one
@@ -103,9 +109,10 @@ module _ {T V A : Type 0} (view : T → V) (of : T → A) (item : V → A) (same
     next_read (suc k) [] here some h = absurd h
     next_read (suc k) (a ∷ ts) here some h =
         let u = past here h.0 h.1 in
-        (h.2.0, u, exact.complete here u h.2.0 h.0 (record { parts = h.4; place = refl; settings = refl; start = refl }) h.2.2)
+        (h.2.0, u, exact.complete here u h.2.0 h.0 (takes_past here h.0 h.1 h.4) h.2.2)
 
-    next_added : (k : ℕ) (ts : List A) (here u : State) (x : T) (now t : M) → 0 < k → d here ≡ Done (view x) u → Many Given k ts here.rest → AddsEach adds now ts t
+    next_added : (k : ℕ) (ts : List A) (here u : State) (x : T) (now t : M) → 0 < k → d here ≡ Done (view x) u → Many Given k ts here.rest
+        → AddsEach adds now ts t
         → (j : M) × adds now (of x) j
     next_added zero ts here u x now t some e h each = absurd (omega (arith, some))
     next_added (suc k) [] here u x now t some e h each = absurd h
@@ -124,9 +131,11 @@ module _ {T V A : Type 0} (view : T → V) (of : T → A) (item : V → A) (same
 
       -- why a walk stops behind these items, that were read up to here and lead to what is read now
       abbrev Why : List A → State → M → Type 0
-      Why items here now = ((length items ≡ n) × IsByteLeft here e) ⊎ ((length items < n) × (Fails e (d here) ⊎ IsItemRefused view of d refuses here now e))
+      Why items here now = ((length items ≡ n) × IsByteLeft here e)
+          ⊎ ((length items < n) × (Fails e (d here) ⊎ IsItemRefused view of d refuses here now e))
 
-      ends : (items : List A) (here : State) (now t : M) → AddsEach (IsRead view of d) s items here → AddsEach adds m items now → Why items here now → IsNotMemory e.kind → Added t → ⊥
+      ends : (items : List A) (here : State) (now t : M) → AddsEach (IsRead view of d) s items here → AddsEach adds m items now
+          → Why items here now → IsNotMemory e.kind → Added t → ⊥
       ends items here now t read each (inl (all, byte)) not a =
           let l = left n items a.items s here m now t (omega (arith, all)) read each a.spelled a.each in
           none_behind l.count l.others here.rest (omega (arith, l.counted, all)) byte.0 l.given
@@ -136,7 +145,8 @@ module _ {T V A : Type 0} (view : T → V) (of : T → A) (item : V → A) (same
           not_refused e.kind e.offset next.0 next.1 (d here) next.2 fails not
       ends items here now t read each (inr (some, inr (x, u, is, why))) not a =
           let l = left n items a.items s here m now t (omega (arith, some)) read each a.spelled a.each in
-          denied e.kind ((j : M) × adds now (of x) j) not (refused now (of x) here.place why) (next_added l.count l.others here u x now t (omega (arith, l.counted, some)) is l.given l.each)
+          let next = next_added l.count l.others here u x now t (omega (arith, l.counted, some)) is l.given l.each in
+          denied e.kind ((j : M) × adds now (of x) j) not (refused now (of x) here.place why) next
 
       -- a walk that was refused, for another cause than memory, denies that the items which the bytes give are added
       pub stops_denies : StopsAdding view of d adds refuses n s m e → Denies e.kind ((t : M) × Added t)

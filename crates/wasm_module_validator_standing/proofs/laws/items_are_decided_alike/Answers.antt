@@ -1,3 +1,4 @@
+use Rattle.wasm_module_validator_standing.specs.laws.Growing.{group_decided}
 use Rattle.wasm_module_validator_standing.specs.laws.Deciding.{imports_decided, functions_decided, memories_decided, tags_decided, exports_decided, start_decided, data_count_decided}
 use Rattle.wasm_module_validator_standing.proofs.laws.items_are_decided_alike.Goals as goal
 
@@ -21,3 +22,6 @@ returns-clause-start c = start_decided
 
 pub returns-clause-data_count : goal.returns-clause-data_count
 returns-clause-data_count c = data_count_decided
+
+pub returns-clause-groups : goal.returns-clause-groups
+returns-clause-groups c = group_decided

@@ -1,3 +1,5 @@
+use Rattle.wasm_module_validator_standing.specs.laws.Growing.{groups_stand}
+use Rattle.wasm_module_validator_standing.specs.laws.Importing.{imports_stand}
 use Rattle.wasm_module_validator_standing.specs.laws.Behind.{still_last, functions_stand, memories_stand, tags_stand, exports_stand, starts_stand, data_counts_stand, data_stand}
 use Rattle.wasm_module_validator_standing.proofs.laws.items_stand.Goals as goal
 
@@ -24,3 +26,9 @@ returns-clause-data_count c = data_counts_stand
 
 pub returns-clause-data : goal.returns-clause-data
 returns-clause-data c = data_stand
+
+pub returns-clause-groups : goal.returns-clause-groups
+returns-clause-groups c = groups_stand
+
+pub returns-clause-imports : goal.returns-clause-imports
+returns-clause-imports c = imports_stand

@@ -1,4 +1,4 @@
-use Rattle.wasm_module_validator_standing.specs.laws.Worked.{worked_nothing, worked_exported}
+use Rattle.wasm_module_validator_standing.specs.laws.Worked.{worked_nothing, worked_exported, worked_begun, worked_late}
 use Rattle.wasm_module_validator_standing.proofs.laws.states_are_worked.Goals as goal
 
 pub returns-clause-nothing : goal.returns-clause-nothing
@@ -6,3 +6,9 @@ returns-clause-nothing c = worked_nothing
 
 pub returns-clause-exported : goal.returns-clause-exported
 returns-clause-exported c = worked_exported
+
+pub returns-clause-begun : goal.returns-clause-begun
+returns-clause-begun c = worked_begun
+
+pub returns-clause-late : goal.returns-clause-late
+returns-clause-late c = worked_late

@@ -1,4 +1,5 @@
-use Rattle.wasm_module_validator_texts.specs.laws.Kinds.{types_tell, imports_tell, functions_tell, tables_tell, memories_tell, tags_tell, globals_tell, exports_tell, elements_tell, segments_tell}
+use Rattle.wasm_module_validator_texts.specs.laws.Kinds.{types_tell, imports_tell, functions_tell, tables_tell, memories_tell, tags_tell}
+use Rattle.wasm_module_validator_texts.specs.laws.Kinds.{globals_tell, exports_tell, elements_tell, segments_tell}
 use Rattle.wasm_module_validator_texts.proofs.laws.walks_tell_of_sections.Goals as goal
 
 pub returns-clause-types : goal.returns-clause-types

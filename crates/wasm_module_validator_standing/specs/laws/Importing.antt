@@ -1,0 +1,128 @@
+-- What an import leaves stands for every tree with the import more, while nothing but types and imports was read.
+use Rattle.std.proofs.Common.{◌≡◌, ◌∙◌, ◌+◌, ◌≤◌, ℕ, true, false, List, [], ◌∷◌, ◌++◌, length, map, refl, sym, ap, subst}
+use Rattle.std.proofs.lemmas.List.{append-nil, map_push}
+use Rattle.wasm_types.specs.indices.declared.index.CoreTypeId.{CoreTypeId}
+use Rattle.wasm_types.specs.limits.Settings.{Settings}
+use Rattle.wasm_types.specs.trees.ValidGroup.{Written}
+use Rattle.wasm_module_validator_type_trees.specs.Groups.{Group, count}
+use Rattle.wasm_module_validator_exports.specs.Imports.{IsNamedImport}
+use Rattle.wasm_module_validator_module.specs.Spaces.{Spaces, imported_function}
+use Rattle.wasm_module_validator_resources.specs.Reading.{context_of, meaning_of}
+use Rattle.wasm_module_validator_so_far.specs.SoFar.{IsReadAs}
+use Rattle.wasm_module_validator_so_far.specs.Referring.{IsReferredAs}
+use Rattle.wasm_module_validator_so_far.specs.laws.Importing.{imports_alone, function_is_imported, exact_function_is_imported, table_is_imported, memory_is_imported, global_is_imported, tag_is_imported}
+use Rattle.wasm_module_validator_so_far.specs.laws.Limits.{import_size_is}
+use Rattle.wasm_module_validator_so_far.specs.laws.Named.{table_is_named, global_is_named}
+use Rattle.wasm_module_validator_so_far.specs.laws.Referring.{function_is_not_referred_to}
+use Rattle.wasm_module_validator_items.specs.Adding.{importing}
+use Rattle.wasm_module_validator_items.specs.Items.{Items, HasItsType, IsImported}
+use Rattle.wasm_module_validator_items.specs.laws.Importing.{valid_typed}
+use Rattle.wasm_module_validator_steps.specs.contexts.imports.Spells.{ImportTree}
+use Rattle.wasm_module_validator_steps.specs.contexts.imports.declared.type_ref.TypeRef.{TypeRef}
+use Rattle.wasm_module_validator_steps.specs.contexts.imports.declared.type_ref.TypeRef.TheVariants as import
+use Rattle.wasm_module_validator_steps.specs.contexts.laws.Types.{import_agrees}
+use Rattle.wasm_module_validator_steps.specs.contexts.rules.Syntax.{ModuleTree}
+use Rattle.wasm_module_validator_steps.specs.contexts.rules.Spaces.{module_of}
+use Rattle.wasm_module_validator_steps.specs.contexts.rules.Valid.{import_size}
+use Rattle.wasm_module_validator_steps.specs.contexts.InOrder.{context_so_far}
+use Rattle.wasm_module_validator_steps.specs.Sections as section
+use Rattle.wasm_module_validator_steps.specs.Sections.{adding, up_to}
+use Rattle.wasm_module_validator_steps.specs.Adding.{Adds, sum_from, size_so_far}
+use Rattle.wasm_module_validator_standing.specs.Standing.{Stands}
+use Rattle.wasm_module_validator_standing.specs.laws.Deciding.{types_back}
+use Rattle.wasm_module_validator_standing.specs.laws.Behind.{import_sizes_are, sum_pushed}
+
+-- ---- what an import changes
+
+pub settings_stay : (u : TypeRef) (s : Spaces) → (importing u s).settings ≡ s.settings
+settings_stay (import.Func x) s = refl
+settings_stay (import.FuncExact x) s = refl
+settings_stay (import.Table t) s = refl
+settings_stay (import.Memory t) s = refl
+settings_stay (import.Global t) s = refl
+settings_stay (import.Tag t) s = refl
+
+types_stay : (u : TypeRef) (s : Spaces) → (importing u s).types ≡ s.types
+types_stay (import.Func x) s = refl
+types_stay (import.FuncExact x) s = refl
+types_stay (import.Table t) s = refl
+types_stay (import.Memory t) s = refl
+types_stay (import.Global t) s = refl
+types_stay (import.Tag t) s = refl
+
+module _ (groups : List Group) (s : Spaces) (gs : List Written) (is : List ImportTree) (i : ImportTree) where
+  -- no function is referred to
+  none_referred : IsReferredAs s (imports_alone gs is) → (u : TypeRef) → IsReferredAs (importing u s) (imports_alone gs (is ++ i ∷ []))
+  none_referred r (import.Func x) =
+      function_is_not_referred_to s (importing (import.Func x) s) (imports_alone gs is) (imports_alone gs (is ++ i ∷ [])) (imported_function false x) r refl refl refl refl
+  none_referred r (import.FuncExact x) =
+      function_is_not_referred_to s (importing (import.FuncExact x) s) (imports_alone gs is) (imports_alone gs (is ++ i ∷ [])) (imported_function true x) r refl refl refl refl
+  none_referred r (import.Table t) = r
+  none_referred r (import.Memory t) = r
+  none_referred r (import.Global t) = r
+  none_referred r (import.Tag t) = r
+
+  -- the import, by its type over ids in place of the one that is written, goes into its space
+  read_behind : IsReadAs groups s (imports_alone gs is) → (t u : TypeRef) → i.ty ≡ t → IsNamedImport (meaning_of groups s) t u → HasItsType t s
+      → IsReadAs groups (importing u s) (imports_alone gs (is ++ i ∷ []))
+  read_behind r (import.Func x) u e h w =
+      subst (λ k. IsReadAs groups (importing k s) (imports_alone gs (is ++ i ∷ []))) (sym h) (function_is_imported groups s gs is r i x e)
+  read_behind r (import.FuncExact x) u e h w =
+      subst (λ k. IsReadAs groups (importing k s) (imports_alone gs (is ++ i ∷ []))) (sym h) (exact_function_is_imported groups s gs is r i x e)
+  read_behind r (import.Memory t) u e h w = subst (λ k. IsReadAs groups (importing k s) (imports_alone gs (is ++ i ∷ []))) (sym h) (memory_is_imported groups s gs is r i t e)
+  read_behind r (import.Tag t) u e h w = subst (λ k. IsReadAs groups (importing k s) (imports_alone gs (is ++ i ∷ []))) (sym h) (tag_is_imported groups s gs is r i t e w)
+  read_behind r (import.Table t) (import.Table u) e h w = table_is_imported groups s gs is r i t u e (table_is_named groups s (imports_alone gs is) r t u h.0)
+  read_behind r (import.Table t) (import.Func x) e h w = absurd cc
+  read_behind r (import.Table t) (import.FuncExact x) e h w = absurd cc
+  read_behind r (import.Table t) (import.Memory u) e h w = absurd cc
+  read_behind r (import.Table t) (import.Global u) e h w = absurd cc
+  read_behind r (import.Table t) (import.Tag u) e h w = absurd cc
+  read_behind r (import.Global t) (import.Global u) e h w = global_is_imported groups s gs is r i t u e (global_is_named groups s (imports_alone gs is) r t u h)
+  read_behind r (import.Global t) (import.Func x) e h w = absurd cc
+  read_behind r (import.Global t) (import.FuncExact x) e h w = absurd cc
+  read_behind r (import.Global t) (import.Memory u) e h w = absurd cc
+  read_behind r (import.Global t) (import.Table u) e h w = absurd cc
+  read_behind r (import.Global t) (import.Tag u) e h w = absurd cc
+
+-- ---- the state
+
+module _ (groups : List Group) (s : Items) (z : Settings) where
+  -- with an import of this type, which is one over ids
+  abbrev with_import : TypeRef → TypeRef → Items
+  with_import t u = record s { spaces = importing u s.spaces; type_size = s.type_size + import_size (context_of groups s.spaces) t }
+
+  module _ (gs : List Written) (is : List ImportTree) (r : Stands groups s z (imports_alone gs is)) (i : ImportTree) where
+    abbrev behind : ModuleTree
+    behind = imports_alone gs (is ++ i ∷ [])
+
+    abbrev size_in : ModuleTree → ImportTree → ℕ
+    size_in t j = import_size (module_of t) j.ty
+
+    size_behind : s.type_size + import_size (context_of groups s.spaces) i.ty ≡ size_so_far behind
+    size_behind =
+        let f : ImportTree → ℕ = size_in behind in
+        let one : import_size (context_of groups s.spaces) i.ty ≡ f i = import_size_is (context_of groups s.spaces) (module_of behind) (record { types = r.read.types }) i.ty in
+        let same : map (size_in (imports_alone gs is)) is ≡ map f is = import_sizes_are (module_of (imports_alone gs is)) (module_of behind) (record { types = refl }) is in
+        let last : (map f is ++ []) ++ f i ∷ [] ≡ map f (is ++ i ∷ []) ++ [] =
+        (ap (λ ns. ns ++ f i ∷ []) (append-nil (map f is)) ∙ (sym (map_push f is i) ∙ sym (append-nil (map f (is ++ i ∷ []))))) in
+        (λ k. r.size k + one k) ∙ (ap (λ ns. sum_from 1 (ns ++ []) + f i) same ∙ (sym (sum_pushed 1 (map f is ++ []) (f i)) ∙ ap (sum_from 1) last))
+
+    stands_behind : (u : TypeRef) → IsNamedImport (meaning_of groups s.spaces) i.ty u → HasItsType i.ty s.spaces → Stands groups (with_import i.ty u) z behind
+    stands_behind u h w = record {
+      settings = settings_stay u s.spaces ∙ r.settings;
+      read = read_behind groups s.spaces gs is i r.read i.ty u refl h w;
+      referred = none_referred groups s.spaces gs is i r.referred u;
+      names = r.names;
+      size = size_behind;
+      few_types = subst (λ (ids : List CoreTypeId). count groups ≤ length ids) (sym (types_stay u s.spaces)) r.few_types;
+      few_groups = r.few_groups;
+    }
+
+  pub imports_stand : (m : ModuleTree) → Stands groups s z m → m ≡ up_to section.imports m → (i : ImportTree) (n : ModuleTree) → Adds z section.imports m i n
+      → (after : Items) → IsImported groups i.ty s after → Stands groups after z n
+  imports_stand m r u i n a after h =
+      let still : adding section.imports m i ≡ adding section.imports (up_to section.imports m) i = ap (λ t. adding section.imports t i) u in
+      let valid = import_agrees (context_so_far m) (context_of groups s.spaces) (types_back groups s z m r) z i.ty a.valid in
+      let typed : HasItsType i.ty s.spaces = valid_typed groups s.spaces z i.ty valid in
+      subst (λ x. Stands groups x z n) (sym h.added) (subst (λ t. Stands groups (with_import i.ty h.type) z t) (sym (a.added ∙ still))
+      (stands_behind m.types m.imports (subst (λ t. Stands groups s z t) u r) i h.type h.named typed))
