@@ -73,10 +73,10 @@ body_rows = record {
   not_longer = λ s long h. let few = h.within in omega (arith, few, long);
   no_more_locals = λ z s many h. let few = h.few_locals in omega (arith, few, many);
   empty = λ g x t at is. (
-      does [] end,
-      spelled,
-      (t, at, record { signature = procedure; function = is; locals = tt; within = lit≤ tt; body = record { expression = refl; typed = (tt, tt) } }),
-    );
+    does [] end,
+    spelled,
+    (t, at, record { signature = procedure; function = is; locals = tt; within = lit≤ tt; body = record { expression = refl; typed = (tt, tt) } }),
+  );
   nothing = λ z g x h. none_spelled z h.0 h.1;
   no_type = λ z g x text none h. some_type (slice_get g.types x) h.2.0 none h.2.1;
 }

@@ -1,14 +1,13 @@
 -- What a call of the state leaves stands for each tree that has the item more.
-use Rattle.std.proofs.Common.{◌≡◌, ◌∙◌, ◌+◌, ℕ, List, [], ◌∷◌, ◌++◌, Result, Ok, Err, OnOk, OnErr, refl, ap, sym, subst}
+use Rattle.std.proofs.Common.{◌≡◌, ◌∙◌, ℕ, List, ◌++◌, Result, Ok, Err, OnOk, OnErr, ap, sym, subst}
 use Rattle.wasm_types.specs.error.ErrorValue.{ErrorValue}
 use Rattle.wasm_types.specs.externs.declared.memory.MemoryType.{MemoryType}
 use Rattle.wasm_types.specs.externs.declared.tag.TagType.{TagType}
-use Rattle.wasm_types.specs.indices.declared.index.CoreTypeId.{CoreTypeId}
 use Rattle.wasm_types.specs.limits.Settings.{Settings}
 use Rattle.wasm_types.specs.trees.ValidGroup.{Written, types_of}
 use Rattle.wasm_module_validator_standing.specs.type_trees.Groups.{Group}
 use Rattle.wasm_module_validator_standing.specs.interning.Interned.{space_of, AddsGroup}
-use Rattle.wasm_module_validator_standing.specs.items.Adding.{adding_function, adding_memory, adding_tag, counting_data, importing}
+use Rattle.wasm_module_validator_standing.specs.items.Adding.{adding_function, adding_memory, adding_tag, counting_data}
 use Rattle.wasm_module_validator_standing.specs.items.Items.{Items, IsImported, IsExported}
 use Rattle.wasm_module_validator_standing.specs.steps.contexts.imports.Spells.{ImportTree, ExportTree}
 use Rattle.wasm_module_validator_standing.specs.steps.contexts.rules.Syntax.{ModuleTree}
@@ -26,6 +25,10 @@ use Rattle.wasm_module_validator_standing.specs.laws.Importing.{imports_stand, s
 pub on_ok : {X : Type 0} (r : Result X ErrorValue) (P Q : Type 0) → (P → Q) → OnOk r P → OnOk r Q
 on_ok (Ok x) P Q f h = f h
 on_ok (Err e) P Q f h = tt
+
+pub on_ok_both : {X : Type 0} (r : Result X ErrorValue) (P Q R : Type 0) → (P → Q → R) → OnOk r P → OnOk r Q → OnOk r R
+on_ok_both (Ok x) P Q R f p q = f p q
+on_ok_both (Err e) P Q R f p q = tt
 
 pub always : {X : Type 0} (r : Result X ErrorValue) (P : Type 0) → P → OnOk r P
 always (Ok x) P h = h

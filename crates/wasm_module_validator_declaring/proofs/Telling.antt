@@ -1,7 +1,6 @@
 -- What a call of the state tells is what is told of the tree.
 use Rattle.std.proofs.Common.{◌≡◌, ◌↔◌, ◌<◌, ◌≤◌, ◌+◌, ℕ, false, true, IsTrue, List, length, Result, Ok, Err, refl, ap, subst}
 use Rattle.wasm_types.specs.error.ErrorValue.{ErrorValue}
-use Rattle.wasm_types.specs.error.declared.error.ErrorKind.{ErrorKind}
 use Rattle.wasm_types.specs.error.Denials.{Denies, Tells}
 use Rattle.wasm_types.specs.error.DenialLaws.{denies_from}
 use Rattle.wasm_types.specs.externs.declared.memory.MemoryType.{MemoryType}
@@ -74,8 +73,8 @@ module _ (groups : List Group) (s : Items) (w : IsWithinCeilings s.spaces.settin
   decided z m h e = itself (MayGrow groups s many n g) (Adds z section.types m) g (group_decided groups s z m h.stands w many e g n same)
 
   -- where there are as many groups as the limit
-  pub group_refused : {X : Type 0} (e : ErrorValue) → Denies e.kind (many < s.spaces.settings.limits.types) → Told {X = X} (Err e)
-  group_refused e d z m h k = denies_from e.kind _ _ (λ a. ((decided z m h k).1 a).0) d
+  pub group_refused : (X : Type 0) (e : ErrorValue) → Denies e.kind (many < s.spaces.settings.limits.types) → Told {X = X} (Err e)
+  group_refused X e d z m h k = denies_from e.kind _ _ (λ a. ((decided z m h k).1 a).0) d
 
   -- and where there are fewer
   pub group_told : {X : Type 0} (r : Result X ErrorValue) → many < s.spaces.settings.limits.types

@@ -20,12 +20,12 @@ use wasm_types::Result;
 pub fn add_import_item(
     state: &mut ModuleState,
     types: &TypeList,
-    import: Import<'_>,
+    import: &Import<'_>,
     offset: u64,
 ) -> Result<()>
     requires { IsReadOver types.now.groups state.old.spaces }
-    ensures answer { TellsItem section.imports types.now.groups state.old (record { module_name = import.«module».now; field_name = import.name.now; ty = import.ty }) result }
-    ensures added { OnOk result (AddsItem section.imports types.now.groups state.old (record { module_name = import.«module».now; field_name = import.name.now; ty = import.ty })
+    ensures answer { TellsItem section.imports types.now.groups state.old (record { module_name = import.now.«module».now; field_name = import.now.name.now; ty = import.now.ty }) result }
+    ensures added { OnOk result (AddsItem section.imports types.now.groups state.old (record { module_name = import.now.«module».now; field_name = import.now.name.now; ty = import.now.ty })
         types.now.groups state.new) }
     ensures read { IsReadOver types.now.groups state.new.spaces }
     ensures settings { state.new.spaces.settings ≡ state.old.spaces.settings }

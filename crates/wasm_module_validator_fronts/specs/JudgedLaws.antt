@@ -1,11 +1,10 @@
 -- Walks over modules whose frames are judged: what is judged behind one frame more, that nothing of such a module is refused, and what is
 -- judged at the end.
-use Rattle.std.proofs.Common.{◌≡◌, ℕ, ◌+◌, ◌<◌, ◌^◌, List, [], ◌∷◌, ◌++◌, length, Option, Some, None, Ok, Err, true, refl, sym, ap, ◌∙◌, subst}
+use Rattle.std.proofs.Common.{◌≡◌, ℕ, ◌+◌, ◌<◌, ◌^◌, List, [], ◌∷◌, ◌++◌, length, Option, Some, None, Err, true, refl, sym, ap, ◌∙◌, subst}
 use Rattle.std.proofs.lemmas.List.{append-nil}
 use Rattle.wasm_types.specs.limits.Settings.{Settings}
 use Rattle.wasm_types.specs.decoding.declared.Refusal.TheVariants.{Other}
 use Rattle.wasm_types.specs.decoding.Decoder.{State, Outcome, Done, ended, Grammar}
-
 use Rattle.wasm_types.specs.decoding.Leb.{IsUnsigned, IsListed, u32}
 use Rattle.wasm_types.specs.decoding.LebLaws.{decides-u32}
 use Rattle.wasm_types.specs.error.declared.error.ErrorKind.{ErrorKind}

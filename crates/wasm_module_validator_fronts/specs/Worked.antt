@@ -1,5 +1,5 @@
 -- Worked settings of frames, and worked walks over a header, a start section and the end.
-use Rattle.std.proofs.Common.{◌≡◌, ℕ, ◌+◌, List, [], ◌∷◌, ◌++◌, refl, sym, ap, subst, arith, Bool, true, false, None, Ok, Some}
+use Rattle.std.proofs.Common.{◌≡◌, ℕ, List, [], ◌∷◌, refl, sym, ap, subst, arith, Bool, true, false, None}
 use Rattle.wasm_types.specs.limits.Limits.{default_limits}
 use Rattle.wasm_types.specs.limits.Settings.{Settings, no_features}
 use Rattle.wasm_types.specs.features.declared.WasmFeatures.{WasmFeatures}
@@ -101,8 +101,12 @@ walk_rows = record {
   none_taken = λ w h. let e = h.calls.1 in cc;
   headed = λ w. record { calls = (8, parser w 8 stages.Sections, record { piece = first_eight; later = []; eof = true; whole = refl; told = λ e. refl; parses = header_next w }, (refl, refl)); over = refl };
   ended = λ w. record {
-    calls = (8, parser w 8 stages.Sections, record { piece = first_eight; later = []; eof = true; whole = refl; told = λ e. refl; parses = header_next w },
-        (0, parser w 8 stages.Ended, record { piece = []; later = []; eof = true; whole = refl; told = λ e. refl; parses = (refl, refl, refl, refl, refl) }, (refl, refl)));
+    calls = (
+      8,
+      parser w 8 stages.Sections,
+      record { piece = first_eight; later = []; eof = true; whole = refl; told = λ e. refl; parses = header_next w },
+      (0, parser w 8 stages.Ended, record { piece = []; later = []; eof = true; whole = refl; told = λ e. refl; parses = (refl, refl, refl, refl, refl) }, (refl, refl)),
+    );
     over = refl;
   };
   refused = λ w. (8, record { rest = 0x05 ∷ 0x00 ∷ []; place = 10; settings = record { features = w.0; limits = default_limits }; start = 10 }, [], refl, refl, tt, refl);

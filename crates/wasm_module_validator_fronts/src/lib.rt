@@ -10,6 +10,4 @@
 
 mod laws;
 
-pub use laws::{
-    fronts_are_of_modules, walks_are_judged, walks_are_worked, walks_go_along_modules,
-};
+pub use laws::{fronts_are_of_modules, walks_are_judged, walks_are_worked, walks_go_along_modules};

@@ -51,12 +51,12 @@ type_of b = b.type_index
 
 -- What is kept stands for what was judged: the state for the tree, the bodies for the bytes of bodies, each read by these settings and
 -- with the type of its function. A function may have no more locals than by default, as the validator of bodies has it.
-pub record IsAt (z : Settings) (r : Progress) (bodies : List Body) (p : SoFar) : Type 0 where
+pub record IsAt (z : Settings) (r : Progress) (bs : List Body) (p : SoFar) : Type 0 where
   pub locals : z.limits.locals ≤ default_limits.locals
   pub stands : Stands r.kept.groups r.kept.items z p.tree
   pub judged : IsJudged z p
   pub counted : r.kept.count ≡ length p.tree.types
   pub placed : r.last ≡ p.last
-  pub bodies : map text_of bodies ≡ p.bodies
-  pub types : map type_of bodies ≡ take (length bodies) p.tree.functions
-  pub read : Each (λ (b : Body). IsReadBy z z.features b.body) bodies
+  pub bodies : map text_of bs ≡ p.bodies
+  pub types : map type_of bs ≡ take (length bs) p.tree.functions
+  pub read : Each (λ (b : Body). IsReadBy z z.features b.body) bs

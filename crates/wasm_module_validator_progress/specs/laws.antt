@@ -1,4 +1,4 @@
-pub mod Kinds
+pub mod Empty
 pub mod Taking
 pub mod Bodies
 pub mod Shapes

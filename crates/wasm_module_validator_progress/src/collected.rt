@@ -46,11 +46,4 @@ impl Collected {
             alloc,
         }
     }
-
-    // Forgets all items, where one was refused: the list may have grown without the module.
-    pub(crate) fn clear(&mut self) {
-        let settings = self.state.settings();
-        self.state = ModuleState::new(self.alloc, settings.features(), settings.limits());
-        self.types = TypeList::new(self.alloc);
-    }
 }

@@ -91,9 +91,11 @@ impl InProgress {
         ensures { option_map (λ x. x.1) result ≡ option_map (λ f. f.type_index) (slice_get self.now.kept.items.spaces.functions (self.now.kept.items.spaces.imported_functions + bodies)) }
     {
         let module = self.collected.state.module();
-        let Ok(index) = u32::try_from(module.imported_functions() as usize + bodies) else {
+        let first = module.imported_functions();
+        if bodies >= module.function_count().saturating_sub(first) as usize {
             return None;
-        };
+        }
+        let index = first + bodies as u32;
         match module.function_at(index) {
             Some(function) => Some((index, function.type_index)),
             None => None,
@@ -120,7 +122,8 @@ impl InProgress {
         if reader.bytes_remaining() > most as usize {
             return Err(long_body(most, offset));
         }
-        let Some((index, type_index)) = self.function_behind(bodies.len()) else {
+        let kept = bodies.as_slice();
+        let Some((index, type_index)) = self.function_behind(kept.len()) else {
             return Err(too_many_bodies(offset));
         };
         bodies.push(Body {

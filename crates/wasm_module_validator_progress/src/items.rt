@@ -67,6 +67,35 @@ pub trait SectionItem<'a>: FromReader<'a> {
     ghost tells: { WalksTell section Self.FromReader.view of Self.FromReader.decoder Self.FromReader.grammar };
 }
 
+// Adds an item. Where it is refused nothing is kept: the list may have grown without the module.
+fn add_or_forget<'a, T: SectionItem<'a>>(
+    item: T,
+    alloc: Global,
+    state: &mut ModuleState,
+    types: &mut TypeList,
+    groups: &mut u32,
+    offset: u64,
+) -> Result<()>
+    requires over { IsReadOver types.old.groups state.old.spaces }
+    requires interning { types.old.can_intern ≡ true }
+    requires ceilings { IsWithinCeilings state.old.spaces.settings.limits }
+    requires read { (z : Settings) × (s : State) × (t : State) × (T.FromReader.decoder z s ≡ Done (T.FromReader.view item) t) }
+    ensures answer { (z : Settings) (m : ModuleTree) → Reads T.section types.old.groups state.old groups.old z m → Tells result ((n : ModuleTree) × AddsRead z T.section m (T.of item) n) }
+    ensures added { OnOk result ((z : Settings) (m n : ModuleTree) → Reads T.section types.old.groups state.old groups.old z m → AddsRead z T.section m (T.of item) n
+        → Reads T.section types.new.groups state.new groups.new z n) }
+    ensures kept { IsReadOver types.new.groups state.new.spaces × (types.new.can_intern ≡ true) × IsWithinCeilings state.new.spaces.settings.limits }
+{
+    match item.add_to(alloc, state, types, groups, offset) {
+        Ok(()) => Ok(()),
+        Err(error) => {
+            let settings = state.settings();
+            *state = ModuleState::new(alloc, settings.features(), settings.limits());
+            *types = TypeList::new(alloc);
+            Err(error)
+        }
+    }
+}
+
 impl<'a, T: SectionItem<'a>> AddItem<'a, T> for Collected {
     ghost Tree = { Reading };
 
@@ -81,19 +110,14 @@ impl<'a, T: SectionItem<'a>> AddItem<'a, T> for Collected {
     ghost refuses = { λ u x p e. RefusesIn T.section u x p e };
 
     fn add(&mut self, item: T, offset: u64) -> Result<()> {
-        match item.add_to(
+        add_or_forget(
+            item,
             self.alloc,
             &mut self.state,
             &mut self.types,
             &mut self.groups,
             offset,
-        ) {
-            Ok(()) => Ok(()),
-            Err(error) => {
-                self.clear();
-                Err(error)
-            }
-        }
+        )
     }
 
     ghost alike = { T.alike };

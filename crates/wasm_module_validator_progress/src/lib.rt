@@ -10,8 +10,6 @@
 mod collected;
 mod frames;
 mod items;
-mod kinds;
-mod payloads;
 mod progress;
 
 pub use collected::Collected;

@@ -25,14 +25,16 @@ ghost use Rattle.wasm_module_validator_steps.specs.Texts.{ItemRead, StandsFor, A
 ghost use Rattle.wasm_module_validator_steps.specs.Steps.{SoFar, JudgesSection, JudgesShape, IsJudged};
 ghost use Rattle.wasm_module_validator_texts.specs.Grammars.{SpelledRead, SpelledItem};
 ghost use Rattle.wasm_module_validator_texts.specs.Sections.{Reading, AddsIn, IsOfItems, MayBegin, AddsSection, AddsNumber};
-ghost use Rattle.wasm_module_validator_texts.specs.Kinds.{group_read, index_read, memory_read, tag_read, import_read, table_read, global_read, export_read, element_read};
-ghost use Rattle.wasm_module_validator_texts.specs.Kinds.{data_read, WalksTell};
+ghost use Rattle.wasm_module_validator_texts.specs.Kinds.{group_read, import_read, index_read, table_read, memory_read, tag_read, global_read};
+ghost use Rattle.wasm_module_validator_texts.specs.Kinds.{export_read, element_read, data_read, WalksTell};
 
 /// What is read of an item stands for each item that its bytes spell, and for one item alone; and bytes that spell an item give what
 /// stands for it. A section that is no number is spelled by a list of its items, where it may begin.
 pub fn items_stand_for_trees()
-    ensures over { (z : Settings) (s : Section) (t : ItemRead s) (x : Item s) (text : List ℕ) → SpelledRead z s t text → StandsFor z s t x → SpelledItem z s x text }
-    ensures down { (z : Settings) (s : Section) (x : Item s) (text : List ℕ) → SpelledItem z s x text → (t : ItemRead s) × StandsFor z s t x × SpelledRead z s t text }
+    ensures over { (z : Settings) (s : Section) (t : ItemRead s) (x : Item s) (text : List ℕ)
+        → SpelledRead z s t text → StandsFor z s t x → SpelledItem z s x text }
+    ensures down { (z : Settings) (s : Section) (x : Item s) (text : List ℕ)
+        → SpelledItem z s x text → (t : ItemRead s) × StandsFor z s t x × SpelledRead z s t text }
     ensures once { (z : Settings) (s : Section) (t : ItemRead s) (x y : Item s) → StandsFor z s t x → StandsFor z s t y → x ≡ y }
     ensures listed { (z : Settings) (s : Section) → IsOfItems s → (m : ModuleTree) (text : List ℕ)
         → SpelledSection z s m (Some text) ↔ (MayBegin z s × IsListed (SpelledItem z s) (items s m) text) }
@@ -40,7 +42,8 @@ pub fn items_stand_for_trees()
 
 /// An item that is added to a tree is added under the settings that stay, and leads to one tree.
 pub fn items_add_to_trees()
-    ensures under { (s : Section) (u : Reading) (t : ItemRead s) → ((n : ModuleTree) × AddsRead u.settings s u.tree t n) ↔ ((v : Reading) × AddsIn s u t v) }
+    ensures under { (s : Section) (u : Reading) (t : ItemRead s)
+        → ((n : ModuleTree) × AddsRead u.settings s u.tree t n) ↔ ((v : Reading) × AddsIn s u t v) }
     ensures once { (s : Section) (u : Reading) (t : ItemRead s) (v w : Reading) → AddsIn s u t v → AddsIn s u t w → v ≡ w }
 {}
 
@@ -54,9 +57,12 @@ pub fn sections_are_judged_by_items()
         → (q : SoFar) → JudgesSection z p section.start b.rest q ↔ AddsNumber z section.start p n q }
     ensures data_count { (z : Settings) (p : SoFar) (b r : State) (n : ℕ) → IsJudged z p → only_number b ≡ Done n r
         → (q : SoFar) → JudgesSection z p section.data_count b.rest q ↔ AddsNumber z section.data_count p n q }
-    ensures fronts { (z : Settings) (s : Section) (m : ModuleTree) (b : State) → SpelledSection z s m (Some b.rest) → (n : ℕ) × (r : State) × (front_of (number s) b ≡ Done n r) }
-    ensures shapes { (z : Settings) (s : Section) (p q : SoFar) (text : List ℕ) → JudgesShape z p (frame.section (number s) text) q ↔ JudgesSection z p s text q }
-    ensures unknown { (z : Settings) (id : ℕ) (p q : SoFar) (text : List ℕ) → JudgesShape z p (frame.section id text) q → is_unknown id ≡ false }
+    ensures fronts { (z : Settings) (s : Section) (m : ModuleTree) (b : State) → SpelledSection z s m (Some b.rest)
+        → (n : ℕ) × (r : State) × (front_of (number s) b ≡ Done n r) }
+    ensures shapes { (z : Settings) (s : Section) (p q : SoFar) (text : List ℕ)
+        → JudgesShape z p (frame.section (number s) text) q ↔ JudgesSection z p s text q }
+    ensures unknown { (z : Settings) (id : ℕ) (p q : SoFar) (text : List ℕ)
+        → JudgesShape z p (frame.section id text) q → is_unknown id ≡ false }
 {}
 
 /// For each kind of section of items, what a walk over the items that its reader gives tells of the section.
@@ -67,8 +73,11 @@ pub fn walks_tell_of_sections()
     ensures tables { WalksTell section.tables table_read table_read (λ z. table (constant z)) (λ z. SpelledTableItem (ConstantText z)) }
     ensures memories { WalksTell section.memories memory_read memory_read (λ z. memory_type) (λ z. SpelledMemory) }
     ensures tags { WalksTell section.tags tag_read tag_read (λ z. tag_type) (λ z. SpelledTag) }
-    ensures globals { WalksTell section.globals global_read global_read (λ z. global (constant z)) (λ z. SpelledGlobalItem (ConstantText z)) }
+    ensures globals { WalksTell section.globals global_read global_read
+        (λ z. global (constant z)) (λ z. SpelledGlobalItem (ConstantText z)) }
     ensures exports { WalksTell section.exports export_read export_read export SpelledExport }
-    ensures elements { WalksTell section.element_segments element_read element_read (λ z. segment (constant z)) (λ z. SpelledSegment (ConstantText z)) }
-    ensures segments { WalksTell section.data_segments data_read data_read (λ z. data_segment (constant z)) (λ z. SpelledData (ConstantText z)) }
+    ensures elements { WalksTell section.element_segments element_read element_read
+        (λ z. segment (constant z)) (λ z. SpelledSegment (ConstantText z)) }
+    ensures segments { WalksTell section.data_segments data_read data_read
+        (λ z. data_segment (constant z)) (λ z. SpelledData (ConstantText z)) }
 {}

@@ -22,8 +22,10 @@ use Rattle.wasm_module_validator_progress.specs.Progress.{Progress, IsAt, text_o
 -- ---- lists
 
 past : {A : Type 0} (xs ys : List A) (n : ℕ) → slice_get (xs ++ ys) (length xs + n) ≡ slice_get ys n
-past [] ys n = refl
-past (x ∷ xs) ys n = past xs ys n
+past [] ys n = ap (slice_get ys) (omega arith)
+past (x ∷ xs) ys n =
+    let e : length (x ∷ xs) + n ≡ suc (length xs + n) = omega arith in
+    ap (slice_get (x ∷ (xs ++ ys))) e ∙ past xs ys n
 
 one_more : {A : Type 0} (xs : List A) (n : ℕ) (x : A) → slice_get xs n ≡ Some x → take n xs ++ x ∷ [] ≡ take (suc n) xs
 one_more [] n x e = absurd cc
@@ -37,7 +39,7 @@ one_more (y ∷ xs) (suc n) x e = ap (λ l. y ∷ l) (one_more xs n x e)
 -- ---- functions
 
 -- the type of a function of the space, if there is one
-type_in : Option FunctionEntry → Option ℕ
+abbrev type_in : Option FunctionEntry → Option ℕ
 type_in e = option_map (λ (f : FunctionEntry). f.type) e
 
 own_type : (xs : List ℕ) (n : ℕ) → type_in (slice_get (map (function_with true) xs) n) ≡ slice_get xs n
@@ -51,7 +53,7 @@ typed (Some f) = refl
 
 module _ (z : Settings) (p : SoFar) (r : Progress) (bodies : List Body) (at : IsAt z r bodies p) where
   as_many : length p.bodies ≡ length bodies
-  as_many = ap length (sym at.bodies) ∙ length-map text_of bodies
+  as_many = ap length (sym at.bodies) ∙ length-map bodies text_of
 
   -- the type of the function behind as many bodies is that which the tree has for the next body
   pub function_is : option_map (λ (f : Function). f.type_index) (slice_get r.kept.items.spaces.functions (r.kept.items.spaces.imported_functions + length bodies))
@@ -102,6 +104,9 @@ module _ (z : Settings) (p : SoFar) (r : Progress) (bodies : List Body) (at : Is
     pub read_by : b.body.settings ≡ z → IsReadBy z z.features b.body
     read_by same = record { settings = same; features = refl; few_locals = at.locals; within = within }
 
+    longer : suc (length bodies) ≡ length (bodies ++ b ∷ [])
+    longer = omega (arith, length_push bodies b)
+
     pub body_behind : b.body.settings ≡ z → (q : SoFar) → JudgesBody z p (text_of b) q → IsAt z r (bodies ++ b ∷ []) q
     body_behind same q j = subst (IsAt z r (bodies ++ b ∷ [])) (sym j.added) (record {
       locals = at.locals;
@@ -114,6 +119,6 @@ module _ (z : Settings) (p : SoFar) (r : Progress) (bodies : List Body) (at : Is
           map-append type_of bodies (b ∷ [])
           ∙ (ap (λ ts. ts ++ type_of b ∷ []) at.types
           ∙ (one_more p.tree.functions (length bodies) (type_of b) (ap (slice_get p.tree.functions) (sym as_many) ∙ function)
-          ∙ ap (λ (n : ℕ). take n p.tree.functions) (sym (length_push bodies b))));
+          ∙ ap (λ (n : ℕ). take n p.tree.functions) longer));
       read = each_joined (λ (x : Body). IsReadBy z z.features x.body) bodies (b ∷ []) at.read (read_by same, tt);
     })

@@ -22,7 +22,7 @@ use Rattle.wasm_module_validator_fronts.specs.Walks.{HasSettings}
 -- ---- payloads that are no section
 
 -- the frame that such a payload is that of
-pub frame_back : Payload → Option Frame
+abbrev pub frame_back : Payload → Option Frame
 frame_back (payloads.Version n e r) = Some (frames.Version n e r)
 frame_back (payloads.CodeSectionStart n r k) = Some (frames.CodeStart n r k)
 frame_back (payloads.CodeSectionEntry b) = Some (frames.CodeEntry b)
@@ -48,19 +48,22 @@ not_section (payloads.CodeSectionStart n r k) g back id b h = h
 not_section (payloads.CodeSectionEntry body) g back id b h = h
 not_section (payloads.CustomSection c) g back id b h = h
 not_section (payloads.End place) g back id b h = h
-not_section (payloads.TypeSection s) g back id b h = cc
-not_section (payloads.ImportSection s) g back id b h = cc
-not_section (payloads.FunctionSection s) g back id b h = cc
-not_section (payloads.TableSection s) g back id b h = cc
-not_section (payloads.MemorySection s) g back id b h = cc
-not_section (payloads.TagSection s) g back id b h = cc
-not_section (payloads.GlobalSection s) g back id b h = cc
-not_section (payloads.ExportSection s) g back id b h = cc
-not_section (payloads.StartSection n r) g back id b h = cc
-not_section (payloads.ElementSection s) g back id b h = cc
-not_section (payloads.DataCountSection n r) g back id b h = cc
-not_section (payloads.DataSection s) g back id b h = cc
-not_section (payloads.UnknownSection i c r) g back id b h = cc
+not_section (payloads.TypeSection s) g back id b h = absurd cc
+not_section (payloads.ImportSection s) g back id b h = absurd cc
+not_section (payloads.FunctionSection s) g back id b h = absurd cc
+not_section (payloads.TableSection s) g back id b h = absurd cc
+not_section (payloads.MemorySection s) g back id b h = absurd cc
+not_section (payloads.TagSection s) g back id b h = absurd cc
+not_section (payloads.GlobalSection s) g back id b h = absurd cc
+not_section (payloads.ExportSection s) g back id b h = absurd cc
+not_section (payloads.StartSection n r) g back id b h = absurd cc
+not_section (payloads.ElementSection s) g back id b h = absurd cc
+not_section (payloads.DataCountSection n r) g back id b h = absurd cc
+not_section (payloads.DataSection s) g back id b h = absurd cc
+not_section (payloads.UnknownSection i c r) g back id b h = absurd cc
+
+no_frame : {A : Type 0} (x : A) → None ≡ Some x → ⊥
+no_frame x e = absurd cc
 
 some_is : {A : Type 0} (x y : A) → Some x ≡ Some y → x ≡ y
 some_is {A} x y e = ap got e
@@ -85,12 +88,12 @@ of_frame P f x g back h p = subst P (sym (frame_is f x g back h)) p
 
 -- what is known of each section whose payload this is is known of each frame
 pub of_section : (P : Frame → Type 0) (f : Frame) (x : Payload) → frame_back x ≡ None → ((id : ℕ) (b : State) → IsSectionOf id b x → P (frames.Section id b)) → IsPayloadOf f x → P f
-of_section P (frames.Version n e r) x none given h = let no = sym none ∙ ap frame_back h in absurd cc
-of_section P (frames.Custom c) x none given h = let no = sym none ∙ ap frame_back h in absurd cc
+of_section P (frames.Version n e r) x none given h = absurd (no_frame _ (sym none ∙ ap frame_back h))
+of_section P (frames.Custom c) x none given h = absurd (no_frame _ (sym none ∙ ap frame_back h))
 of_section P (frames.Section id b) x none given h = given id b h
-of_section P (frames.CodeStart n r k) x none given h = let no = sym none ∙ ap frame_back h in absurd cc
-of_section P (frames.CodeEntry b) x none given h = let no = sym none ∙ ap frame_back h in absurd cc
-of_section P (frames.End place) x none given h = let no = sym none ∙ ap frame_back h in absurd cc
+of_section P (frames.CodeStart n r k) x none given h = absurd (no_frame _ (sym none ∙ ap frame_back h))
+of_section P (frames.CodeEntry b) x none given h = absurd (no_frame _ (sym none ∙ ap frame_back h))
+of_section P (frames.End place) x none given h = absurd (no_frame _ (sym none ∙ ap frame_back h))
 
 -- ---- sections as frames
 

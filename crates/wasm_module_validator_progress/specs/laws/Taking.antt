@@ -1,11 +1,12 @@
 -- A section is taken exactly where it comes next by the rules, and what is kept then stands for what was judged.
-use Rattle.std.proofs.Common.{◌≡◌, ◌∙◌, ◌<◌, ◌≤◌, ◌⊎◌, ℕ, List, [], ◌∷◌, length, map, take, refl, sym, ap, subst, arith, inl, inr}
+use Rattle.std.proofs.Common.{◌≡◌, ◌∙◌, ◌<◌, ◌≤◌, ◌⊎◌, ℕ, List, [], ◌∷◌, length, map, take, refl, sym, ap, subst, arith, inl, inr, Result, Ok, Err, IfErr}
+use Rattle.std.specs.Prelude.{OnOk}
 use Rattle.std.proofs.lemmas.Bool.{cases_order}
 use Rattle.std.proofs.lemmas.List.{length-map}
 use Rattle.wasm_types.specs.decoding.Decoder.{State, Done, Decoder, Grammar}
 use Rattle.wasm_types.specs.decoding.Leb.{u32}
 use Rattle.wasm_types.specs.limits.Settings.{Settings}
-use Rattle.wasm_types.specs.error.Denials.{Denies}
+use Rattle.wasm_types.specs.error.Denials.{Denies, Tells}
 use Rattle.wasm_types.specs.error.DenialLaws.{denies_from}
 use Rattle.wasm_types.specs.error.ErrorValue.{ErrorValue}
 use Rattle.wasm_types.specs.error.declared.error.ErrorKind.{ErrorKind}
@@ -48,7 +49,7 @@ module _ (z : Settings) (p : SoFar) (r : Progress) (bodies : List Body) (at : Is
 
   module _ (text : List ℕ) (q : SoFar) (j : JudgesSection z p s text q) where
     none_yet : p.last < code_place → length bodies ≡ 0
-    none_yet l = sym (length-map text_of bodies) ∙ (ap length at.bodies ∙ ap length (at.judged.none l))
+    none_yet l = sym (length-map bodies text_of) ∙ (ap length at.bodies ∙ ap length (at.judged.none l))
 
     functions_stay : code_place ≤ p.last → p.tree.functions ≡ q.tree.functions
     functions_stay l = items_stay section.functions s p.tree q.tree (omega (arith, l, j.ordered)) j.added
@@ -82,7 +83,7 @@ module _ (z : Settings) (p : SoFar) (r : Progress) (bodies : List Body) (at : Is
     told = tells z p b c n at.judged same counts
 
     pub too_many : (k : ErrorKind) → Denies k (MayBegin z s × Fits z s p.tree n) → Denies k ((q : SoFar) × JudgesSection z p s b.rest q)
-    too_many k no = denies_from k _ _ (λ h. (told.allowed h.0 h.1, told.fits h.0 h.1)) no
+    too_many k refused = denies_from k _ _ (λ h. (told.allowed h.0 h.1, told.fits h.0 h.1)) refused
 
     pub stopped : (e : ErrorValue) → StopsAdding view of (d c.settings) (AddsIn s) (RefusesIn s) n c (reading z p.tree) e → Denies e.kind ((q : SoFar) × JudgesSection z p s b.rest q)
     stopped e h = told.refused e h
@@ -99,3 +100,45 @@ module _ (z : Settings) (p : SoFar) (r : Progress) (bodies : List Body) (at : Is
       stands k h q j =
           subst (IsAt z (record { kept = k; last = place s }) bodies) (sym (told.one u q all j))
           (at_behind b.rest (behind s p u.tree) judged k (subst (λ (y : Settings). IsRead s k (reading y u.tree)) settings_stay h))
+
+    -- what a call that adds the items answers
+    pub section_told : {X : Type 0} (result : Result X ErrorValue) → p.last < place s → MayBegin z s × Fits z s p.tree n
+        → Tells result ((t : Reading) × AreAdded (Spelled view of (g c.settings)) (AddsIn s) n c.rest (reading z p.tree) t)
+        → IfErr result (λ e. StopsAdding view of (d c.settings) (AddsIn s) (RefusesIn s) n c (reading z p.tree) e) → Tells result ((q : SoFar) × JudgesSection z p s b.rest q)
+    section_told (Ok x) o may h stops = (behind s p h.0.tree, judged o may h.0 h.1)
+    section_told (Err e) o may h stops = stopped e stops
+
+-- ---- what it leaves
+
+module _ (r : Progress) (s : Section) {T V : Type 0} (view : T → V) (of : T → ItemRead s) (d : Settings → Decoder V) (g : Settings → Grammar V) (tells : WalksTell s view of d g)
+  (c : State) (n : ℕ) (first : Kept) (same_kept : first ≡ r.kept) (order : r.last < place s)
+  (fits : (z : Settings) (p : SoFar) (bodies : List Body) → IsAt z r bodies p → p.last < place s → MayBegin z s × Fits z s p.tree n) where
+  -- the items are added
+  abbrev All : Reading → Reading → Type 0
+  All u v = AreAdded (Spelled view of (g c.settings)) (AddsIn s) n c.rest u v
+
+  module _ (z : Settings) (p : SoFar) (bodies : List Body) (at : IsAt z r bodies p) where
+    o : p.last < place s
+    o = is_behind z p r bodies at s order
+
+    pub starts_here : IsRead s first (reading z p.tree)
+    starts_here = subst (λ (k : Kept). IsRead s k (reading z p.tree)) (sym same_kept) (starts z p r bodies at s o)
+
+    pub answered : {X : Type 0} (result : Result X ErrorValue) (b : State) → b.settings ≡ z → u32 b ≡ Done n c
+        → ((m : Reading) → IsRead s first m → Tells result ((t : Reading) × All m t))
+        → ((m : Reading) → IsRead s first m → IfErr result (λ e. StopsAdding view of (d c.settings) (AddsIn s) (RefusesIn s) n c m e))
+        → Tells result ((q : SoFar) × JudgesSection z p s b.rest q)
+    answered result b same counts answer stops =
+        section_told z p r bodies at s view of d g tells b c n same counts result o (fits z p bodies at o) (answer (reading z p.tree) starts_here) (stops (reading z p.tree) starts_here)
+
+  pub all_added : {X : Type 0} (result : Result X ErrorValue) (k : Kept) (last : ℕ) → last ≡ place s → ((m : Reading) → IsRead s first m → Tells result ((t : Reading) × All m t))
+      → OnOk result ((m t : Reading) → IsRead s first m → All m t → IsRead s k t)
+      → OnOk result ((z : Settings) (p q : SoFar) (bodies : List Body) (b : State) → IsAt z r bodies p → b.settings ≡ z → u32 b ≡ Done n c → JudgesSection z p s b.rest q
+      → IsAt z (record { kept = k; last = last }) bodies q)
+  all_added (Ok x) k last is answer added = λ z p q bodies b at same counts j.
+      let h = starts_here z p bodies at in
+      let a = answer (reading z p.tree) h in
+      let behind_all = o z p bodies at in
+      let there = stands z p r bodies at s view of d g tells b c n same counts behind_all (fits z p bodies at behind_all) a.0 a.1 k (added (reading z p.tree) a.0 h a.1) q j in
+      subst (λ (l : ℕ). IsAt z (record { kept = k; last = l }) bodies q) (sym is) there
+  all_added (Err e) k last is answer added = tt

@@ -28,7 +28,8 @@ tells_same (Err e) P Q to from h = denies_from e.kind P Q from h
 -- ---- one item
 
 -- an item that is added to a tree is added under the settings that stay
-pub added_in : (s : Section) (u : Reading) (t : ItemRead s) → ((n : ModuleTree) × AddsRead u.settings s u.tree t n) ↔ ((v : Reading) × AddsIn s u t v)
+pub added_in : (s : Section) (u : Reading) (t : ItemRead s)
+    → ((n : ModuleTree) × AddsRead u.settings s u.tree t n) ↔ ((v : Reading) × AddsIn s u t v)
 added_in s u t = (λ h. (reading u.settings h.0, (h.1, refl)), λ h. (h.0.tree, h.1.0))
 
 -- so what an answer tells of the one it tells of the other
@@ -42,14 +43,16 @@ tells_in s u t result h =
 
 -- a frame of the id of a section is told of as the section
 pub shape_told : {X : Type 0} (z : Settings) (s : Section) (p : SoFar) (text : List ℕ) (result : Result X ErrorValue)
-    → Tells result ((q : SoFar) × JudgesSection z p s text q) → Tells result ((q : SoFar) × JudgesShape z p (frame.section (number s) text) q)
+    → Tells result ((q : SoFar) × JudgesSection z p s text q)
+    → Tells result ((q : SoFar) × JudgesShape z p (frame.section (number s) text) q)
 shape_told z s p text result h =
     tells_same result ((q : SoFar) × JudgesSection z p s text q) ((q : SoFar) × JudgesShape z p (frame.section (number s) text) q)
     (λ j. (j.0, (shape_judged z s p j.0 text).1 j.1)) (λ j. (j.0, (shape_judged z s p j.0 text).0 j.1)) h
 
 -- and is refused for whatever holds of each section that is judged
 pub shape_denied : (z : Settings) (s : Section) (p : SoFar) (text : List ℕ) (k : ErrorKind) (P : Type 0)
-    → ((q : SoFar) → JudgesSection z p s text q → P) → Denies k P → Denies k ((q : SoFar) × JudgesShape z p (frame.section (number s) text) q)
+    → ((q : SoFar) → JudgesSection z p s text q → P) → Denies k P
+    → Denies k ((q : SoFar) × JudgesShape z p (frame.section (number s) text) q)
 shape_denied z s p text k P f d =
     denies_from k P ((q : SoFar) × JudgesShape z p (frame.section (number s) text) q) (λ j. f j.0 ((shape_judged z s p j.0 text).0 j.1)) d
 

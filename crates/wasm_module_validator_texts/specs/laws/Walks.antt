@@ -94,11 +94,11 @@ module _ {T V A : Type 0} (view : T → V) (of : T → A) (item : V → A) (same
     }
     left zero (a ∷ front) ts s here m now t l read added given each = absurd (omega (arith, l))
     left (suc n) (a ∷ front) [] s here m now t l read added given each = absurd given
-    left (suc n) (a ∷ front) (b ∷ ts) s here m now t l (u, (x, is, done), read) (j, one, added) (text, back, first, many, parts) (k, other, each) =
-        let f = first_given s u x b text back done parts first in
+    left (suc n) (a ∷ front) (b ∷ ts) s here m now t l (u, (x, is, done), read) (j, one, added) h (k, other, each) =
+        let f = first_given s u x b h.0 h.1 done h.4 h.2 in
         let e : a ≡ b = sym is ∙ f.0 in
         let moved : j ≡ k = once m b j k (subst (λ (c : A). adds m c j) e one) other in
-        let given = subst (Many Given n ts) (sym f.1) many in
+        let given = subst (Many Given n ts) (sym f.1) h.3 in
         let leads = subst (λ (o : M). AddsEach adds o ts t) (sym moved) each in
         let rest = left n front ts u here j now t (omega (arith, l)) read added given leads in
         record { count = rest.count; others = rest.others; counted = omega (arith, rest.counted); given = rest.given; each = rest.each }

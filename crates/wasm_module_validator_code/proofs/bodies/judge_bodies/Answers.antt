@@ -11,15 +11,15 @@ pub returns-in-Err : goal.returns-in-Err
 returns-in-Err g c =
     let at = slice_get_read c.args.bodies.now (length c.args.bodies.now) c.loop-i.i c.index-bodies-i.result refl c.loop-i-test.true c.index-bodies-i.is in
     λ z read. denies_from c.in-Err.error.kind _ _
-        (each_at (λ (b : Body). IsFunctionOf z (g.R.WasmModuleResources.meaning c.args.resources.now).«module» b.type_index b.body.rest) c.args.bodies.now c.loop-i.i c.index-bodies-i.result at)
-        (c.in-Err.ensures z (each_at (λ (b : Body). IsReadBy z c.args.features.0 b.body) c.args.bodies.now c.loop-i.i c.index-bodies-i.result at read))
+    (each_at (λ (b : Body). IsFunctionOf z (g.R.WasmModuleResources.meaning c.args.resources.now).«module» b.type_index b.body.rest) c.args.bodies.now c.loop-i.i c.index-bodies-i.result at)
+    (c.in-Err.ensures z (each_at (λ (b : Body). IsReadBy z c.args.features.0 b.body) c.args.bodies.now c.loop-i.i c.index-bodies-i.result at read))
 
 pub loop-i-preserved : goal.loop-i-preserved
 loop-i-preserved g c =
     let at = slice_get_read c.args.bodies.now (length c.args.bodies.now) c.loop-i.i c.index-bodies-i.result refl c.loop-i-test.true c.index-bodies-i.is in
     λ z read rest. c.loop-i.invariant z read
-        (each_next (λ (b : Body). IsFunctionOf z (g.R.WasmModuleResources.meaning c.args.resources.now).«module» b.type_index b.body.rest) c.args.bodies.now c.loop-i.i c.index-bodies-i.result at
-        (c.in-Ok.ensures z (each_at (λ (b : Body). IsReadBy z c.args.features.0 b.body) c.args.bodies.now c.loop-i.i c.index-bodies-i.result at read)) rest)
+    (each_next (λ (b : Body). IsFunctionOf z (g.R.WasmModuleResources.meaning c.args.resources.now).«module» b.type_index b.body.rest) c.args.bodies.now c.loop-i.i c.index-bodies-i.result at
+    (c.in-Ok.ensures z (each_at (λ (b : Body). IsReadBy z c.args.features.0 b.body) c.args.bodies.now c.loop-i.i c.index-bodies-i.result at read)) rest)
 
 pub returns : goal.returns
 returns g c = λ z read. c.loop-i.invariant z read

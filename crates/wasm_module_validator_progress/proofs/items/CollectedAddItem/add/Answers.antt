@@ -1,0 +1,18 @@
+use Rattle.std.proofs.Common.{refl, sym, subst}
+use Rattle.wasm_types.specs.limits.Settings.{Settings}
+use Rattle.wasm_module_validator_progress.specs.Progress.{Kept, Reads, IsRead}
+use Rattle.wasm_module_validator_progress.proofs.Adding.{added_one, told_one, refused_one}
+use Rattle.wasm_module_validator_progress.proofs.items.CollectedAddItem.add.Goals as goal
+
+pub returns-clause-answer : goal.returns-clause-answer
+returns-clause-answer g c = λ m h.
+    told_one m.settings m.tree g.T.SectionItem.section (g.T.SectionItem.of c.args.item) c.add_or_forget.result
+    (c.add_or_forget.ensures.answer m.settings m.tree (subst (λ (k : Kept). IsRead g.T.SectionItem.section k m) (sym c.self.view_is) h))
+
+pub returns-clause-added : goal.returns-clause-added
+returns-clause-added g c =
+    added_one g.T.SectionItem.section (g.T.SectionItem.of c.args.item) c.add_or_forget.result _ _ _ c.self.view_is c.add_or_forget.ensures.added
+
+pub returns-clause-refused : goal.returns-clause-refused
+returns-clause-refused g c =
+    refused_one g.T.SectionItem.section (g.T.SectionItem.of c.args.item) c.add_or_forget.result _ _ c.self.view_is c.args.offset c.add_or_forget.ensures.answer

@@ -1,0 +1,50 @@
+use Rattle.std.proofs.Common.{◌≡◌, ◌∙◌, ◌<◌, ℕ, List, sym, ap, subst}
+use Rattle.wasm_types.specs.limits.Settings.{Settings}
+use Rattle.wasm_module_validator_code.specs.declared.bodies.Body.{Body}
+use Rattle.wasm_types.specs.error.Denials.{Denies}
+use Rattle.wasm_module_validator_steps.specs.Adding.{Fits}
+use Rattle.wasm_module_validator_steps.specs.Steps.{SoFar}
+use Rattle.wasm_module_validator_texts.specs.Sections.{MayBegin}
+use Rattle.wasm_module_validator_standing.specs.Standing.{Stands}
+use Rattle.wasm_module_validator_progress.specs.Progress.{Kept, Progress, IsAt}
+use Rattle.wasm_module_validator_progress.specs.laws.Taking.{is_behind, unread, too_many, answered, all_added}
+use Rattle.wasm_module_validator_progress.proofs.progress.InProgress.take_section.Goals as goal
+
+pub returns-in-Err-check_count-clause-answer : goal.returns-in-Err-check_count-clause-answer
+returns-in-Err-check_count-clause-answer g c = λ z p bodies b at same counts.
+    let law = g.met.T.SectionItem c.lifetimes (assumption c) in
+    let s = g.T.SectionItem.section in
+    let r = c.args.self.now in
+    let kept = ap (λ x. x.collected) c.self-inside.view_is ∙ (ap (λ (q : Progress). q.kept) c.self.view_is ∙ ap (λ (q : Progress). q.kept) c.begin_section.ensures.begun) in
+    let order = subst (λ (n : ℕ). r.last < n) c.place.ensures c.in-Ok.ensures.answer in
+    let o = is_behind z p r bodies at s order in
+    let there = subst (λ (k : Kept). Stands k.groups k.items z p.tree) (sym kept) at.stands in
+    too_many z p r bodies at s g.T.FromReader.view g.T.SectionItem.of g.T.FromReader.decoder g.T.FromReader.grammar law.tells b c.args.section.reader c.args.section.count same counts
+    c.in-Err-check_count.error.kind (subst (λ (n : ℕ). Denies c.in-Err-check_count.error.kind (MayBegin z s × Fits z s p.tree n)) c.count.ensures (c.in-Err-check_count.ensures.answer _ z p.tree there (unread z p r bodies at s o)))
+
+pub returns-clause-answer : goal.returns-clause-answer
+returns-clause-answer g c = λ z p bodies b at same counts.
+    let law = g.met.T.SectionItem c.lifetimes (assumption c) in
+    let s = g.T.SectionItem.section in
+    let r = c.args.self.now in
+    let collected = ap (λ (q : Progress). q.kept) c.self.view_is ∙ ap (λ (q : Progress). q.kept) c.begin_section.ensures.begun in
+    let kept = ap (λ x. x.collected) c.self-inside.view_is ∙ collected in
+    let order = subst (λ (n : ℕ). r.last < n) c.place.ensures c.in-Ok.ensures.answer in
+    answered r s g.T.FromReader.view g.T.SectionItem.of g.T.FromReader.decoder g.T.FromReader.grammar law.tells c.args.section.reader c.args.section.count _ collected order
+    (λ y q bs w o. subst (λ (n : ℕ). MayBegin y s × Fits y s q.tree n) c.count.ensures
+    (c.in-Ok-check_count.ensures.answer _ y q.tree (subst (λ (k : Kept). Stands k.groups k.items y q.tree) (sym kept) w.stands) (unread y q r bs w s o)))
+    z p bodies at c.add_items.result b same counts c.add_items.ensures.answer c.add_items.ensures.refused
+
+pub returns-clause-added : goal.returns-clause-added
+returns-clause-added g c =
+    let law = g.met.T.SectionItem c.lifetimes (assumption c) in
+    let s = g.T.SectionItem.section in
+    let r = c.args.self.now in
+    let collected = ap (λ (q : Progress). q.kept) c.self.view_is ∙ ap (λ (q : Progress). q.kept) c.begin_section.ensures.begun in
+    let kept = ap (λ x. x.collected) c.self-inside.view_is ∙ collected in
+    let last = ap (λ (q : Progress). q.last) c.self.view_is ∙ (ap (λ (q : Progress). q.last) c.begin_section.ensures.begun ∙ c.place.ensures) in
+    let order = subst (λ (n : ℕ). r.last < n) c.place.ensures c.in-Ok.ensures.answer in
+    all_added r s g.T.FromReader.view g.T.SectionItem.of g.T.FromReader.decoder g.T.FromReader.grammar law.tells c.args.section.reader c.args.section.count _ collected order
+    (λ y q bs w o. subst (λ (n : ℕ). MayBegin y s × Fits y s q.tree n) c.count.ensures
+    (c.in-Ok-check_count.ensures.answer _ y q.tree (subst (λ (k : Kept). Stands k.groups k.items y q.tree) (sym kept) w.stands) (unread y q r bs w s o)))
+    c.add_items.result c.add_items.new.state _ last c.add_items.ensures.answer c.add_items.ensures.added

@@ -1,0 +1,33 @@
+-- A module of which nothing was read stands over a list with no types, within its ceilings.
+use Rattle.std.proofs.Common.{arith, ◌≡◌, refl, sym, ap, subst, ℕ, ◌<◌, List, [], length, true}
+use Rattle.wasm_types.specs.limits.Limits.{IsWithinCeilings}
+use Rattle.wasm_types.specs.limits.Settings.{Settings}
+use Rattle.wasm_types.specs.trees.Unfold.{type_count}
+use Rattle.wasm_module_validator_type_trees.specs.Groups.{Group, count}
+use Rattle.wasm_module_validator_module.specs.Spaces.{Spaces, nothing_read}
+use Rattle.wasm_module_validator_resources.specs.Named.{IsReadOver}
+use Rattle.wasm_module_validator_items.specs.Items.{Items, no_items}
+
+-- no id is below none
+none_below : (id : ℕ) → id < count [] → ⊥
+unfolding type_count
+none_below id h = go h
+  where
+    go : id < 0 → ⊥
+    go k = omega (arith, k)
+
+at_nothing : (z : Settings) → IsReadOver [] (nothing_read z)
+at_nothing z = record {
+  checked = record { canonical = λ h. tt; valid = λ id h. absurd (none_below id h) };
+  known = λ k d h. absurd (omega (arith, h));
+  tags = λ k d h. absurd (omega (arith, h));
+}
+
+pub nothing_over : (groups : List Group) (can : _) (items : Items) (z : Settings) → groups ≡ [] → can ≡ true → items ≡ no_items z → IsWithinCeilings z.limits
+    → IsReadOver groups items.spaces × (can ≡ true) × IsWithinCeilings items.spaces.settings.limits
+nothing_over groups can items z e c f w =
+    let read : IsReadOver groups (nothing_read z) = subst (λ (g : List Group). IsReadOver g (nothing_read z)) (sym e) (at_nothing z) in (
+      subst (λ (i : Items). IsReadOver groups i.spaces) (sym f) read,
+      c,
+      subst (λ (i : Items). IsWithinCeilings i.spaces.settings.limits) (sym f) w,
+    )
