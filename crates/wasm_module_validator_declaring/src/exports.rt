@@ -25,7 +25,8 @@ pub fn add_export_item(
 ) -> Result<()>
     requires { IsReadOver types.now.groups state.old.spaces }
     ensures answer { TellsItem section.exports types.now.groups state.old (record { name = export.entry.name.now; kind = export.entry.kind; index = export.entry.index }) result }
-    ensures added { OnOk result (AddsItem section.exports types.now.groups state.old (record { name = export.entry.name.now; kind = export.entry.kind; index = export.entry.index }) types.now.groups state.new) }
+    ensures added { OnOk result (AddsItem section.exports types.now.groups state.old (record { name = export.entry.name.now; kind = export.entry.kind; index = export.entry.index })
+        types.now.groups state.new) }
     ensures read { IsReadOver types.now.groups state.new.spaces }
     ensures settings { state.new.spaces.settings ≡ state.old.spaces.settings }
     ensures code { state.new.next_code ≡ state.old.next_code }

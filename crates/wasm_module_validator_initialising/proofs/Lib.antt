@@ -1,7 +1,7 @@
-mod Refusals
-mod Marking
-mod Named
-mod Globals
-mod Tables
-mod Elements
-mod Data
+mod TooMany
+mod Moved
+mod Marks
+mod NewGlobals
+mod NewTables
+mod NewElements
+mod NewData

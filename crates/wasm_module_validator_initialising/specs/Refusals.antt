@@ -10,20 +10,20 @@ use Rattle.wasm_module_validator_standing.specs.items.Items.{Items}
 use Rattle.wasm_module_validator_elements.specs.segments.rules.Valid.{most_tables}
 use Rattle.wasm_module_validator_elements.specs.segments.Refusals.{IsFault, RefusesGlobal, RefusesTable}
 use Rattle.wasm_module_validator_elements.specs.Refusals.{RefusesElement}
-use Rattle.wasm_module_validator_initialising.specs.Here.{here}
+use Rattle.wasm_module_validator_standing.specs.Standing.{constants_of}
 
 -- so many are there, which is the limit, and the item is refused where it begins
 abbrev pub IsOneTooMany : ℕ → ℕ → ℕ → ErrorValue → Type 0
 IsOneTooMany there most offset e = (most ≤ there) × IsFault offset e
 
 abbrev pub RefusesNewGlobal : List Group → Items → ℕ → GlobalOf State → ErrorValue → Type 0
-RefusesNewGlobal groups s offset x e = RefusesGlobal s.spaces.settings (here groups s) s.spaces.imported_globals offset x e
+RefusesNewGlobal groups s offset x e = RefusesGlobal s.spaces.settings (constants_of groups s.spaces) s.spaces.imported_globals offset x e
     ⊎ IsOneTooMany (length s.spaces.globals) s.spaces.settings.limits.globals offset e
 
 abbrev pub RefusesNewTable : List Group → Items → ℕ → TableOf State → ErrorValue → Type 0
-RefusesNewTable groups s offset x e = RefusesTable s.spaces.settings (here groups s) s.spaces.imported_globals offset x e
+RefusesNewTable groups s offset x e = RefusesTable s.spaces.settings (constants_of groups s.spaces) s.spaces.imported_globals offset x e
     ⊎ IsOneTooMany (length s.spaces.tables) (most_tables s.spaces.settings) offset e
 
 abbrev pub RefusesNewElement : List Group → Items → ℕ → ElementOf State → ErrorValue → Type 0
-RefusesNewElement groups s offset x e = RefusesElement s.spaces.settings (here groups s) s.spaces.imported_globals offset x e
+RefusesNewElement groups s offset x e = RefusesElement s.spaces.settings (constants_of groups s.spaces) s.spaces.imported_globals offset x e
     ⊎ IsOneTooMany (length s.spaces.elements) s.spaces.settings.limits.element_segments offset e

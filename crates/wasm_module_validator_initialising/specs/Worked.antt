@@ -1,12 +1,13 @@
 -- Worked modules that are being read, and refusals: for each definition one that is so and one that is not.
-use Rattle.std.specs.Prelude.{◌≡◌, ℕ, List, [], ◌∷◌, None}
+use Rattle.std.specs.Prelude.{◌≡◌, [], ◌∷◌, None}
 use Rattle.wasm_types.specs.limits.Settings.{Settings}
 use Rattle.wasm_types.specs.error.ErrorValue.{ErrorValue}
 use Rattle.wasm_types.specs.error.declared.error.ErrorKind.TheVariants.{Other, Failed}
 use Rattle.wasm_module_validator_standing.specs.items.Items.{Items, no_items}
 use Rattle.wasm_module_validator_standing.specs.items.Adding.{adding_function}
-use Rattle.wasm_module_validator_initialising.specs.Here.{here, NamesInit}
+use Rattle.wasm_module_validator_initialising.specs.Here.{NamesInit}
 use Rattle.wasm_module_validator_initialising.specs.Refusals.{IsOneTooMany}
+use Rattle.wasm_module_validator_standing.specs.Standing.{constants_of}
 
 -- two functions were read, which nothing refers to
 abbrev pub two_functions : Settings → Items
@@ -16,8 +17,8 @@ abbrev pub at_seven : ErrorValue
 at_seven = record { kind = Other; offset = 7; message = [] }
 
 pub record InitialisingWorked (z : Settings) : Type 0 where
-  pub referred : (here [] (two_functions z)).«module».referenced ≡ 0 ∷ 1 ∷ []
-  pub referred_in_none : (here [] (no_items z)).«module».referenced ≡ []
+  pub referred : (constants_of [] (two_functions z).spaces).«module».referenced ≡ 0 ∷ 1 ∷ []
+  pub referred_in_none : (constants_of [] (no_items z).spaces).«module».referenced ≡ []
   pub none_named : NamesInit z None (3 ∷ []) (3 ∷ [])
   pub none_named_more : NamesInit z None [] (3 ∷ []) → ⊥
   pub too_many : IsOneTooMany 1 1 7 at_seven

@@ -8,8 +8,8 @@ ghost use Rattle.wasm_module_validator_elements.specs.segments.Trees.{data_read}
 ghost use Rattle.wasm_module_validator_elements.specs.segments.Judged.{IsData};
 ghost use Rattle.wasm_module_validator_elements.specs.segments.Refusals.{RefusesData};
 ghost use Rattle.wasm_module_validator_standing.specs.steps.Sections as section;
-ghost use Rattle.wasm_module_validator_standing.specs.Standing.{AddsItem, TellsItem};
-ghost use Rattle.wasm_module_validator_initialising.specs.Here.{here, data_tree};
+ghost use Rattle.wasm_module_validator_standing.specs.Standing.{constants_of, AddsItem, TellsItem};
+ghost use Rattle.wasm_module_validator_initialising.specs.Here.{data_tree};
 
 use std::alloc::Global;
 use wasm_module_validator_elements::{
@@ -30,8 +30,8 @@ fn judge_data(
 ) -> Result<()>
     requires over { IsReadOver types.now.groups state.now.spaces }
     requires within { IsWithinCeilings state.now.spaces.settings.limits }
-    ensures answer { Tells result (IsData state.now.spaces.settings (here types.now.groups state.now).«module» state.now.spaces.imported_globals (data_read segment.now)) }
-    ensures refused { IfErr result (λ e. UnlessMemory e.kind (RefusesData state.now.spaces.settings (here types.now.groups state.now) state.now.spaces.imported_globals offset segment.now.kind e)) }
+    ensures answer { Tells result (IsData state.now.spaces.settings (constants_of types.now.groups state.now.spaces).«module» state.now.spaces.imported_globals (data_read segment.now)) }
+    ensures refused { IfErr result (λ e. UnlessMemory e.kind (RefusesData state.now.spaces.settings (constants_of types.now.groups state.now.spaces) state.now.spaces.imported_globals offset segment.now.kind e)) }
 {
     let module = state.resources(types);
     check_data(
@@ -66,7 +66,7 @@ pub fn check_data_item(
     ensures answer { TellsItem section.data_segments types.now.groups state.old (data_tree segment.entry) result }
     ensures added { OnOk result (AddsItem section.data_segments types.now.groups state.old (data_tree segment.entry) types.now.groups state.new) }
     ensures stays { state.new ≡ state.old }
-    ensures refused { IfErr result (λ e. UnlessMemory e.kind (RefusesData state.old.spaces.settings (here types.now.groups state.old) state.old.spaces.imported_globals offset segment.entry.kind e)) }
+    ensures refused { IfErr result (λ e. UnlessMemory e.kind (RefusesData state.old.spaces.settings (constants_of types.now.groups state.old.spaces) state.old.spaces.imported_globals offset segment.entry.kind e)) }
 {
     let mut allocs = state.take_const_expr_allocs(alloc);
     let answer = judge_data(alloc, &segment, state, types, &mut allocs, offset);

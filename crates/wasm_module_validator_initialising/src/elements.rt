@@ -11,8 +11,7 @@ ghost use Rattle.wasm_module_validator_elements.specs.Items.{item_type};
 ghost use Rattle.wasm_module_validator_elements.specs.Judged.{IsElementThere};
 ghost use Rattle.wasm_module_validator_elements.specs.Naming.{NamesElement};
 ghost use Rattle.wasm_module_validator_elements.specs.Refusals.{RefusesElement};
-ghost use Rattle.wasm_module_validator_standing.specs.Standing.{AddsItem, TellsItem};
-ghost use Rattle.wasm_module_validator_initialising.specs.Here.{here};
+ghost use Rattle.wasm_module_validator_standing.specs.Standing.{constants_of, AddsItem, TellsItem};
 ghost use Rattle.wasm_module_validator_initialising.specs.Refusals.{RefusesNewElement};
 
 use crate::marking::refer_to_each;
@@ -37,10 +36,10 @@ fn judge_element<'a>(
 ) -> Result<RefType>
     requires over { IsReadOver types.now.groups state.now.spaces }
     requires within { IsWithinCeilings state.now.spaces.settings.limits }
-    ensures answer { Tells result (IsElementThere state.now.spaces.settings (here types.now.groups state.now).«module» state.now.spaces.imported_globals (element_read element.entry)) }
-    ensures named { IfOk result (λ t. reference_in (here types.now.groups state.now) t ≡ item_type (here types.now.groups state.now).«module».types element.entry.items) }
+    ensures answer { Tells result (IsElementThere state.now.spaces.settings (constants_of types.now.groups state.now.spaces).«module» state.now.spaces.imported_globals (element_read element.entry)) }
+    ensures named { IfOk result (λ t. reference_in (constants_of types.now.groups state.now.spaces) t ≡ item_type (constants_of types.now.groups state.now.spaces).«module».types element.entry.items) }
     ensures names { IfOk result (λ _. NamesElement state.now.spaces.settings (element_read element.entry) names.old.items names.new.items) }
-    ensures refused { IfErr result (λ e. UnlessMemory e.kind (RefusesElement state.now.spaces.settings (here types.now.groups state.now) state.now.spaces.imported_globals offset element.entry e)) }
+    ensures refused { IfErr result (λ e. UnlessMemory e.kind (RefusesElement state.now.spaces.settings (constants_of types.now.groups state.now.spaces) state.now.spaces.imported_globals offset element.entry e)) }
 {
     let module = state.resources(types);
     check_element(
@@ -66,10 +65,10 @@ fn check_new_element<'a>(
 ) -> Result<RefType>
     requires over { IsReadOver types.now.groups state.old.spaces }
     requires within { IsWithinCeilings state.old.spaces.settings.limits }
-    ensures answer { Tells result (IsElementThere state.old.spaces.settings (here types.now.groups state.old).«module» state.old.spaces.imported_globals (element_read element.entry)) }
-    ensures named { IfOk result (λ t. reference_in (here types.now.groups state.old) t ≡ item_type (here types.now.groups state.old).«module».types element.entry.items) }
+    ensures answer { Tells result (IsElementThere state.old.spaces.settings (constants_of types.now.groups state.old.spaces).«module» state.old.spaces.imported_globals (element_read element.entry)) }
+    ensures named { IfOk result (λ t. reference_in (constants_of types.now.groups state.old.spaces) t ≡ item_type (constants_of types.now.groups state.old.spaces).«module».types element.entry.items) }
     ensures names { IfOk result (λ _. NamesElement state.old.spaces.settings (element_read element.entry) names.old.items names.new.items) }
-    ensures refused { IfErr result (λ e. UnlessMemory e.kind (RefusesElement state.old.spaces.settings (here types.now.groups state.old) state.old.spaces.imported_globals offset element.entry e)) }
+    ensures refused { IfErr result (λ e. UnlessMemory e.kind (RefusesElement state.old.spaces.settings (constants_of types.now.groups state.old.spaces) state.old.spaces.imported_globals offset element.entry e)) }
     ensures stays { state.new ≡ state.old }
 {
     let mut allocs = state.take_const_expr_allocs(alloc);

@@ -11,8 +11,7 @@ ghost use Rattle.wasm_module_validator_elements.specs.segments.Trees.{global_rea
 ghost use Rattle.wasm_module_validator_elements.specs.segments.Judged.{IsGlobal};
 ghost use Rattle.wasm_module_validator_elements.specs.segments.Refusals.{RefusesGlobal};
 ghost use Rattle.wasm_module_validator_standing.specs.steps.Sections as section;
-ghost use Rattle.wasm_module_validator_standing.specs.Standing.{AddsItem, TellsItem};
-ghost use Rattle.wasm_module_validator_initialising.specs.Here.{here};
+ghost use Rattle.wasm_module_validator_standing.specs.Standing.{constants_of, AddsItem, TellsItem};
 ghost use Rattle.wasm_module_validator_initialising.specs.Refusals.{RefusesNewGlobal};
 
 use crate::marking::refer_to_each;
@@ -74,10 +73,10 @@ fn judge_global_here(
 ) -> Result<GlobalType>
     requires over { IsReadOver types.now.groups state.now.spaces }
     requires within { IsWithinCeilings state.now.spaces.settings.limits }
-    ensures answer { Tells result (IsGlobal state.now.spaces.settings (here types.now.groups state.now).«module» state.now.spaces.imported_globals (global_read global.now)) }
-    ensures named { IfOk result (λ t. global_in (here types.now.groups state.now) t ≡ global_written (here types.now.groups state.now).«module».types global.now.ty) }
+    ensures answer { Tells result (IsGlobal state.now.spaces.settings (constants_of types.now.groups state.now.spaces).«module» state.now.spaces.imported_globals (global_read global.now)) }
+    ensures named { IfOk result (λ t. global_in (constants_of types.now.groups state.now.spaces) t ≡ global_written (constants_of types.now.groups state.now.spaces).«module».types global.now.ty) }
     ensures names { IfOk result (λ _. NamesMore state.now.spaces.settings global.now.init_expr.rest names.old.items names.new.items) }
-    ensures refused { IfErr result (λ e. UnlessMemory e.kind (RefusesGlobal state.now.spaces.settings (here types.now.groups state.now) state.now.spaces.imported_globals offset global.now e)) }
+    ensures refused { IfErr result (λ e. UnlessMemory e.kind (RefusesGlobal state.now.spaces.settings (constants_of types.now.groups state.now.spaces) state.now.spaces.imported_globals offset global.now e)) }
 {
     let module = state.resources(types);
     judge_global(
@@ -103,10 +102,10 @@ fn check_new_global(
 ) -> Result<GlobalType>
     requires over { IsReadOver types.now.groups state.old.spaces }
     requires within { IsWithinCeilings state.old.spaces.settings.limits }
-    ensures answer { Tells result (IsGlobal state.old.spaces.settings (here types.now.groups state.old).«module» state.old.spaces.imported_globals (global_read global.now)) }
-    ensures named { IfOk result (λ t. global_in (here types.now.groups state.old) t ≡ global_written (here types.now.groups state.old).«module».types global.now.ty) }
+    ensures answer { Tells result (IsGlobal state.old.spaces.settings (constants_of types.now.groups state.old.spaces).«module» state.old.spaces.imported_globals (global_read global.now)) }
+    ensures named { IfOk result (λ t. global_in (constants_of types.now.groups state.old.spaces) t ≡ global_written (constants_of types.now.groups state.old.spaces).«module».types global.now.ty) }
     ensures names { IfOk result (λ _. NamesMore state.old.spaces.settings global.now.init_expr.rest names.old.items names.new.items) }
-    ensures refused { IfErr result (λ e. UnlessMemory e.kind (RefusesGlobal state.old.spaces.settings (here types.now.groups state.old) state.old.spaces.imported_globals offset global.now e)) }
+    ensures refused { IfErr result (λ e. UnlessMemory e.kind (RefusesGlobal state.old.spaces.settings (constants_of types.now.groups state.old.spaces) state.old.spaces.imported_globals offset global.now e)) }
     ensures stays { state.new ≡ state.old }
 {
     let mut allocs = state.take_const_expr_allocs(alloc);

@@ -11,8 +11,8 @@ ghost use Rattle.wasm_module_validator_elements.specs.segments.Trees.{bytes_of, 
 ghost use Rattle.wasm_module_validator_elements.specs.segments.Judged.{IsTable};
 ghost use Rattle.wasm_module_validator_elements.specs.segments.Refusals.{RefusesTable};
 ghost use Rattle.wasm_module_validator_standing.specs.steps.Sections as section;
-ghost use Rattle.wasm_module_validator_standing.specs.Standing.{AddsItem, TellsItem};
-ghost use Rattle.wasm_module_validator_initialising.specs.Here.{here, NamesInit};
+ghost use Rattle.wasm_module_validator_standing.specs.Standing.{constants_of, AddsItem, TellsItem};
+ghost use Rattle.wasm_module_validator_initialising.specs.Here.{NamesInit};
 ghost use Rattle.wasm_module_validator_initialising.specs.Refusals.{RefusesNewTable};
 
 use crate::marking::refer_to_each;
@@ -76,11 +76,11 @@ fn judge_table_here(
 ) -> Result<TableType>
     requires over { IsReadOver types.now.groups state.now.spaces }
     requires within { IsWithinCeilings state.now.spaces.settings.limits }
-    ensures in_turn { length (here types.now.groups state.now).«module».globals ≤ state.now.spaces.imported_globals
-        → Tells result (IsTable state.now.spaces.settings (here types.now.groups state.now).«module» state.now.spaces.imported_globals (table_read table.now)) }
-    ensures named { IfOk result (λ t. table_in (here types.now.groups state.now) t ≡ table_written (here types.now.groups state.now).«module».types table.now.ty) }
+    ensures in_turn { length (constants_of types.now.groups state.now.spaces).«module».globals ≤ state.now.spaces.imported_globals
+        → Tells result (IsTable state.now.spaces.settings (constants_of types.now.groups state.now.spaces).«module» state.now.spaces.imported_globals (table_read table.now)) }
+    ensures named { IfOk result (λ t. table_in (constants_of types.now.groups state.now.spaces) t ≡ table_written (constants_of types.now.groups state.now.spaces).«module».types table.now.ty) }
     ensures names { IfOk result (λ _. NamesInit state.now.spaces.settings (init_of bytes_of table.now.init) names.old.items names.new.items) }
-    ensures refused { IfErr result (λ e. UnlessMemory e.kind (RefusesTable state.now.spaces.settings (here types.now.groups state.now) state.now.spaces.imported_globals offset table.now e)) }
+    ensures refused { IfErr result (λ e. UnlessMemory e.kind (RefusesTable state.now.spaces.settings (constants_of types.now.groups state.now.spaces) state.now.spaces.imported_globals offset table.now e)) }
 {
     let module = state.resources(types);
     judge_table(
@@ -106,11 +106,11 @@ fn check_new_table(
 ) -> Result<TableType>
     requires over { IsReadOver types.now.groups state.old.spaces }
     requires within { IsWithinCeilings state.old.spaces.settings.limits }
-    ensures in_turn { length (here types.now.groups state.old).«module».globals ≤ state.old.spaces.imported_globals
-        → Tells result (IsTable state.old.spaces.settings (here types.now.groups state.old).«module» state.old.spaces.imported_globals (table_read table.now)) }
-    ensures named { IfOk result (λ t. table_in (here types.now.groups state.old) t ≡ table_written (here types.now.groups state.old).«module».types table.now.ty) }
+    ensures in_turn { length (constants_of types.now.groups state.old.spaces).«module».globals ≤ state.old.spaces.imported_globals
+        → Tells result (IsTable state.old.spaces.settings (constants_of types.now.groups state.old.spaces).«module» state.old.spaces.imported_globals (table_read table.now)) }
+    ensures named { IfOk result (λ t. table_in (constants_of types.now.groups state.old.spaces) t ≡ table_written (constants_of types.now.groups state.old.spaces).«module».types table.now.ty) }
     ensures names { IfOk result (λ _. NamesInit state.old.spaces.settings (init_of bytes_of table.now.init) names.old.items names.new.items) }
-    ensures refused { IfErr result (λ e. UnlessMemory e.kind (RefusesTable state.old.spaces.settings (here types.now.groups state.old) state.old.spaces.imported_globals offset table.now e)) }
+    ensures refused { IfErr result (λ e. UnlessMemory e.kind (RefusesTable state.old.spaces.settings (constants_of types.now.groups state.old.spaces) state.old.spaces.imported_globals offset table.now e)) }
     ensures stays { state.new ≡ state.old }
 {
     let mut allocs = state.take_const_expr_allocs(alloc);

@@ -9,7 +9,10 @@
 
 mod collected;
 mod frames;
+mod imports;
 mod items;
+mod kinds;
+mod payloads;
 mod progress;
 
 pub use collected::Collected;

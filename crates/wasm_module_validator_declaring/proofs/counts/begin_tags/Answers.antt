@@ -3,4 +3,5 @@ use Rattle.wasm_module_validator_declaring.proofs.Telling.{tells_from}
 use Rattle.wasm_module_validator_declaring.proofs.counts.begin_tags.Goals as goal
 
 pub returns-clause-answer : goal.returns-clause-answer
-returns-clause-answer c = λ groups z m h. tells_from c.check_tag_count.result _ _ (tags_fit groups c.args.state.now z m h.stands c.args.count) c.check_tag_count.ensures.answer
+returns-clause-answer c =
+    λ groups z m h. tells_from c.check_tag_count.result _ _ (tags_fit groups c.args.state.now z m h.stands c.args.count) c.check_tag_count.ensures.answer

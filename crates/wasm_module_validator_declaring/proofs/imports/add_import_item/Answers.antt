@@ -5,15 +5,23 @@ use Rattle.wasm_module_validator_declaring.proofs.Leaving.{on_ok, in_both, impor
 use Rattle.wasm_module_validator_declaring.proofs.imports.add_import_item.Goals as goal
 
 pub returns-clause-answer : goal.returns-clause-answer
-returns-clause-answer c = import_told c.args.types.now.groups c.args.state.now c.add_import.result (record { module_name = c.args.import.now.«module».now; field_name = c.args.import.now.name.now; ty = c.args.import.now.ty }) c.add_import.ensures.answer
+returns-clause-answer c =
+    import_told c.args.types.now.groups c.args.state.now c.add_import.result
+    (record { module_name = c.args.import.now.«module».now; field_name = c.args.import.now.name.now; ty = c.args.import.now.ty }) c.add_import.ensures.answer
 
 pub returns-clause-added : goal.returns-clause-added
-returns-clause-added c = on_ok c.add_import.result _ _ (import_left c.args.types.now.groups c.args.state.now (record { module_name = c.args.import.now.«module».now; field_name = c.args.import.now.name.now; ty = c.args.import.now.ty }) c.add_import.new.self) c.add_import.ensures.imported
+returns-clause-added c =
+    on_ok c.add_import.result _ _ (import_left c.args.types.now.groups c.args.state.now
+    (record { module_name = c.args.import.now.«module».now; field_name = c.args.import.now.name.now; ty = c.args.import.now.ty }) c.add_import.new.self) c.add_import.ensures.imported
 
 pub returns-clause-settings : goal.returns-clause-settings
 returns-clause-settings c =
-    in_both c.add_import.result _ _ _ (import_settings c.args.types.now.groups c.args.state.now (record { module_name = c.args.import.now.«module».now; field_name = c.args.import.now.name.now; ty = c.args.import.now.ty }) c.add_import.new.self) (λ e. ap (λ (l : Items). l.spaces.settings) e)
+    in_both c.add_import.result _ _ _ (import_settings c.args.types.now.groups c.args.state.now
+    (record { module_name = c.args.import.now.«module».now; field_name = c.args.import.now.name.now; ty = c.args.import.now.ty }) c.add_import.new.self)
+    (λ e. ap (λ (l : Items). l.spaces.settings) e)
     c.add_import.ensures.imported c.add_import.ensures.stays
 
 pub returns-clause-code : goal.returns-clause-code
-returns-clause-code c = in_both c.add_import.result _ _ _ (λ k. ap (λ (l : Items). l.next_code) k.added) (λ e. ap (λ (l : Items). l.next_code) e) c.add_import.ensures.imported c.add_import.ensures.stays
+returns-clause-code c =
+    in_both c.add_import.result _ _ _ (λ k. ap (λ (l : Items). l.next_code) k.added)
+    (λ e. ap (λ (l : Items). l.next_code) e) c.add_import.ensures.imported c.add_import.ensures.stays

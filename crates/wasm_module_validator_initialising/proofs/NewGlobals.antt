@@ -1,7 +1,7 @@
 -- Globals that are checked, and added.
-use Rattle.std.proofs.Common.{◌≡◌, ◌∙◌, ◌<◌, ℕ, List, [], length, refl, sym, ap, subst, Result, Ok, Err}
+use Rattle.std.proofs.Common.{◌≡◌, ◌∙◌, ◌<◌, ℕ, List, [], length, refl, sym, ap, subst, Ok, Err}
 use Rattle.wasm_types.specs.limits.Settings.{Settings}
-use Rattle.wasm_types.specs.error.Denials.{Denies, Tells}
+use Rattle.wasm_types.specs.error.Denials.{Denies}
 use Rattle.wasm_types.specs.error.DenialLaws.{denies_from}
 use Rattle.wasm_types.specs.error.ErrorValue.{ErrorValue}
 use Rattle.wasm_types.specs.externs.declared.global.GlobalType.{GlobalType}
@@ -20,16 +20,14 @@ use Rattle.wasm_module_validator_standing.specs.steps.contexts.rules.Syntax.{Mod
 use Rattle.wasm_module_validator_standing.specs.steps.Sections as section
 use Rattle.wasm_module_validator_standing.specs.steps.Sections.{up_to}
 use Rattle.wasm_module_validator_standing.specs.steps.Texts.{AddsRead}
-use Rattle.wasm_module_validator_standing.specs.Standing.{Stands, IsReading, TellsItem, AddsItem, marking}
+use Rattle.wasm_module_validator_standing.specs.Standing.{constants_of, Stands, TellsItem, AddsItem, marking}
 use Rattle.wasm_module_validator_standing.specs.laws.Deciding.{globals_decided}
 use Rattle.wasm_module_validator_standing.specs.laws.Behind.{still_last, globals_stand}
-use Rattle.wasm_module_validator_initialising.specs.Here.{here}
-use Rattle.wasm_module_validator_initialising.proofs.Named.{global_means}
 
 module _ (groups : List Group) (s : Items) (t : GlobalTree (List ℕ)) where
   -- what the check and the state ask for
   abbrev Checks : Type 0
-  Checks = IsGlobal s.spaces.settings (here groups s).«module» s.spaces.imported_globals t
+  Checks = IsGlobal s.spaces.settings (constants_of groups s.spaces).«module» s.spaces.imported_globals t
 
   abbrev Fits : Type 0
   Fits = length s.spaces.globals < s.spaces.settings.limits.globals
@@ -42,32 +40,32 @@ module _ (groups : List Group) (s : Items) (t : GlobalTree (List ℕ)) where
     both_add (c, spelled, valid) room =
         let x : GlobalTree Code = record { ty = t.ty; init = c } in
         let a = (globals_decided groups s z m r x).0 (valid, room) in
-        (a.0, (x, ((refl, subst (λ (y : Settings). SpelledExpression y c t.init) r.settings spelled), a.1)))
+        (a.0, (x, (refl, subst (λ (y : Settings). SpelledExpression y c t.init) r.settings spelled), a.1))
 
     adds_both : Adds z m → Checks × Fits
-    adds_both (n, (x, ((e, spelled), adds))) =
+    adds_both (n, (x, (e, spelled), adds)) =
         let h = (globals_decided groups s z m r x).1 (n, adds) in
         let P : GlobalType → Type 0
-        = λ ty. IsValidGlobal s.spaces.settings (here groups s).«module» s.spaces.imported_globals (length (here groups s).«module».globals) (record { ty = ty; init = x.init }) in
+        = λ ty. IsValidGlobal s.spaces.settings (constants_of groups s.spaces).«module» s.spaces.imported_globals (length (constants_of groups s.spaces).«module».globals) (record { ty = ty; init = x.init }) in
         ((x.init, subst (λ (y : Settings). SpelledExpression y x.init t.init) (sym r.settings) spelled, subst P e h.0), h.1)
 
   -- the answers of the call
-  pub global_told : {X : Type 0} (v : X) → Checks → Fits → TellsItem {X = X} section.globals groups s t (Ok v)
+  pub global_told : (v : Unit {0}) → Checks → Fits → TellsItem {X = Unit {0}} section.globals groups s t (Ok v)
   global_told v p q z m r = both_add z m r.stands p q
 
-  pub global_denied : {X : Type 0} (e : ErrorValue) → Denies e.kind Checks → TellsItem {X = X} section.globals groups s t (Err e)
+  pub global_denied : (e : ErrorValue) → Denies e.kind Checks → TellsItem {X = Unit {0}} section.globals groups s t (Err e)
   global_denied e d z m r = denies_from e.kind Checks (Adds z m) (λ a. (adds_both z m r.stands a).0) d
 
-  pub global_full : {X : Type 0} (e : ErrorValue) → Denies e.kind Fits → TellsItem {X = X} section.globals groups s t (Err e)
+  pub global_full : (e : ErrorValue) → Denies e.kind Fits → TellsItem {X = Unit {0}} section.globals groups s t (Err e)
   global_full e d z m r = denies_from e.kind Fits (Adds z m) (λ a. (adds_both z m r.stands a).1) d
 
   -- and what it leaves
   pub global_added : (kept : GlobalType) (names : List ℕ) (j : Items)
-      → global_in (here groups s) kept ≡ global_written (here groups s).«module».types t.ty → NamesMore s.spaces.settings t.init [] names
+      → global_in (constants_of groups s.spaces) kept ≡ global_written (constants_of groups s.spaces).«module».types t.ty → NamesMore s.spaces.settings t.init [] names
       → j ≡ record s { spaces = marking names (adding_global kept s.spaces) } → AddsItem section.globals groups s t groups j
-  global_added kept names j named more e z m n r (x, ((ty, spelled), adds)) =
+  global_added kept names j named more e z m n r (x, (ty, spelled), adds) =
       let all : names ≡ referred_in x.init = more x.init (subst (λ (y : Settings). SpelledExpression y x.init t.init) (sym r.stands.settings) spelled) in
-      let means = sym (global_means groups s kept) ∙ named ∙ ap (global_written (here groups s).«module».types) (sym ty) in
+      let means = named ∙ ap (global_written (constants_of groups s.spaces).«module».types) (sym ty) in
       let stands = globals_stand groups s z m r.stands r.last x kept means n adds in
       let k : j ≡ record s { spaces = marking (referred_in x.init) (adding_global kept s.spaces) }
       = e ∙ ap (λ (xs : List ℕ). record s { spaces = marking xs (adding_global kept s.spaces) }) all in

@@ -1,5 +1,5 @@
 -- Element segments that are checked, and added.
-use Rattle.std.proofs.Common.{◌≡◌, ◌∙◌, ◌<◌, ℕ, List, [], ◌++◌, length, refl, sym, ap, subst, Bool, true, false, Option, Some, None, Result, Ok, Err}
+use Rattle.std.proofs.Common.{◌≡◌, ◌∙◌, ◌<◌, ℕ, List, [], ◌++◌, length, refl, sym, ap, subst, Bool, true, false, Option, Some, None, Ok, Err}
 use Rattle.std.specs.Prelude.{if◌then◌else◌}
 use Rattle.wasm_types.specs.limits.Settings.{Settings}
 use Rattle.wasm_module_validator_elements.specs.bodies.ConstantDecoder.{constant}
@@ -29,11 +29,9 @@ use Rattle.wasm_module_validator_standing.specs.steps.contexts.rules.Syntax.{Mod
 use Rattle.wasm_module_validator_standing.specs.steps.Sections as section
 use Rattle.wasm_module_validator_standing.specs.steps.Sections.{up_to}
 use Rattle.wasm_module_validator_standing.specs.steps.Texts.{SpelledElements, SpelledElementRead, AddsRead}
-use Rattle.wasm_module_validator_standing.specs.Standing.{Stands, IsReading, TellsItem, AddsItem, marking}
+use Rattle.wasm_module_validator_standing.specs.Standing.{constants_of, Stands, TellsItem, AddsItem, marking}
 use Rattle.wasm_module_validator_standing.specs.laws.Deciding.{elements_decided}
 use Rattle.wasm_module_validator_standing.specs.laws.Behind.{still_last, elements_stand}
-use Rattle.wasm_module_validator_initialising.specs.Here.{here}
-use Rattle.wasm_module_validator_initialising.proofs.Named.{reference_stands}
 
 -- ---- the type of the elements
 
@@ -64,7 +62,7 @@ element_named z (Some t) y names h s = h y s.0 s.1
 module _ (groups : List Group) (s : Items) (o : Option (ElementTree (List ℕ))) where
   -- what the check and the state ask for
   abbrev Checks : Type 0
-  Checks = IsElementThere s.spaces.settings (here groups s).«module» s.spaces.imported_globals o
+  Checks = IsElementThere s.spaces.settings (constants_of groups s.spaces).«module» s.spaces.imported_globals o
 
   abbrev Fits : Type 0
   Fits = length s.spaces.elements < s.spaces.settings.limits.element_segments
@@ -89,29 +87,28 @@ module _ (groups : List Group) (s : Items) (z : Settings) (m : ModuleTree) (r : 
 
 module _ (groups : List Group) (s : Items) (x : ElementOf State) where
   -- the answers of the call
-  pub element_told : {X : Type 0} (v : X) → Checks groups s (element_read x) → Fits groups s (element_read x)
-      → TellsItem {X = X} section.element_segments groups s (element_read x) (Ok v)
+  pub element_told : (v : Unit {0}) → Checks groups s (element_read x) → Fits groups s (element_read x)
+      → TellsItem {X = Unit {0}} section.element_segments groups s (element_read x) (Ok v)
   element_told v p q z m r = both_add groups s z m r.stands (element_read x) p q
 
-  pub element_denied : {X : Type 0} (e : ErrorValue) → Denies e.kind (Checks groups s (element_read x))
-      → TellsItem {X = X} section.element_segments groups s (element_read x) (Err e)
+  pub element_denied : (e : ErrorValue) → Denies e.kind (Checks groups s (element_read x))
+      → TellsItem {X = Unit {0}} section.element_segments groups s (element_read x) (Err e)
   element_denied e d z m r =
       denies_from e.kind (Checks groups s (element_read x)) (Adds groups s (element_read x) z m) (λ a. (adds_both groups s z m r.stands (element_read x) a).0) d
 
-  pub element_full : {X : Type 0} (e : ErrorValue) → Denies e.kind (Fits groups s (element_read x))
-      → TellsItem {X = X} section.element_segments groups s (element_read x) (Err e)
+  pub element_full : (e : ErrorValue) → Denies e.kind (Fits groups s (element_read x))
+      → TellsItem {X = Unit {0}} section.element_segments groups s (element_read x) (Err e)
   element_full e d z m r =
       denies_from e.kind (Fits groups s (element_read x)) (Adds groups s (element_read x) z m) (λ a. (adds_both groups s z m r.stands (element_read x) a).1) d
 
   -- and what it leaves
   pub element_added : (kept : Reference) (names : List ℕ) (j : Items)
-      → reference_in (here groups s) kept ≡ item_type (here groups s).«module».types x.items → NamesElement s.spaces.settings (element_read x) [] names
+      → reference_in (constants_of groups s.spaces) kept ≡ item_type (constants_of groups s.spaces).«module».types x.items → NamesElement s.spaces.settings (element_read x) [] names
       → j ≡ record s { spaces = marking names (adding_element kept s.spaces) } → AddsItem section.element_segments groups s (element_read x) groups j
   element_added kept names j named more e z m n r (y, spelled, adds) =
       let here_spelled = subst (λ (w : Settings). SpelledElementRead w (element_read x) y) (sym r.stands.settings) spelled in
       let all = element_named s.spaces.settings (element_read x) y names more here_spelled in
-      let means = sym (reference_stands groups s kept) ∙ named ∙ type_alike s.spaces.settings (here groups s).«module».types x y here_spelled
-          ∙ ap (λ (ts : List TypeTree). element_type ts y.items) r.stands.read.types in
+      let means = named ∙ type_alike s.spaces.settings (constants_of groups s.spaces).«module».types x y here_spelled in
       let stands = elements_stand groups s z m r.stands y kept means n adds in
       let k : j ≡ record s { spaces = marking (referred_in_mode y.mode ++ referred_in_items y.items) (adding_element kept s.spaces) }
       = e ∙ ap (λ (xs : List ℕ). record s { spaces = marking xs (adding_element kept s.spaces) }) all in

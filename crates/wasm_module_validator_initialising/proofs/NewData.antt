@@ -1,7 +1,7 @@
 -- Data segments that are checked.
 use Rattle.std.proofs.Common.{◌≡◌, ℕ, List, refl, sym, subst, Result, Ok, Err}
 use Rattle.wasm_types.specs.limits.Settings.{Settings}
-use Rattle.wasm_types.specs.error.Denials.{Denies, Tells}
+use Rattle.wasm_types.specs.error.Denials.{Tells}
 use Rattle.wasm_types.specs.error.DenialLaws.{denies_from}
 use Rattle.wasm_types.specs.error.ErrorValue.{ErrorValue}
 use Rattle.wasm_module_validator_elements.specs.segments.constants.expression.Code.{Code}
@@ -13,15 +13,14 @@ use Rattle.wasm_module_validator_standing.specs.steps.contexts.rules.Syntax.{Mod
 use Rattle.wasm_module_validator_standing.specs.steps.Sections as section
 use Rattle.wasm_module_validator_standing.specs.steps.Sections.{up_to}
 use Rattle.wasm_module_validator_standing.specs.steps.Texts.{SpelledDataMode, AddsRead}
-use Rattle.wasm_module_validator_standing.specs.Standing.{Stands, IsReading, TellsItem, AddsItem}
+use Rattle.wasm_module_validator_standing.specs.Standing.{constants_of, Stands, TellsItem, AddsItem}
 use Rattle.wasm_module_validator_standing.specs.laws.Deciding.{data_decided}
 use Rattle.wasm_module_validator_standing.specs.laws.Behind.{still_last, data_stand}
-use Rattle.wasm_module_validator_initialising.specs.Here.{here}
 
 module _ (groups : List Group) (s : Items) (t : DataTree (List ℕ)) where
   -- what the check asks for
   abbrev Checks : Type 0
-  Checks = IsData s.spaces.settings (here groups s).«module» s.spaces.imported_globals t.mode
+  Checks = IsData s.spaces.settings (constants_of groups s.spaces).«module» s.spaces.imported_globals t.mode
 
   abbrev Adds : Settings → ModuleTree → Type 0
   Adds z m = (n : ModuleTree) × AddsRead z section.data_segments m t n
@@ -34,17 +33,17 @@ module _ (groups : List Group) (s : Items) (t : DataTree (List ℕ)) where
         (a.0, (x, (subst (λ (w : Settings). SpelledDataMode w t.mode y) r.settings spelled, refl), a.1))
 
     adds_check : Adds z m → Checks
-    adds_check (n, (x, ((spelled, e), adds))) =
+    adds_check (n, (x, (spelled, e), adds)) =
         (x.mode, subst (λ (w : Settings). SpelledDataMode w t.mode x.mode) (sym r.settings) spelled, (data_decided groups s z m r x).1 (n, adds))
 
   -- the answer of the call
-  pub data_told : {X : Type 0} (r : Result X ErrorValue) → Tells r Checks → TellsItem section.data_segments groups s t r
+  pub data_told : (r : Result (Unit {0}) ErrorValue) → Tells r Checks → TellsItem section.data_segments groups s t r
   data_told (Ok v) h z m r = check_adds z m r.stands h
   data_told (Err e) h z m r = denies_from e.kind Checks (Adds z m) (adds_check z m r.stands) h
 
   -- and what it leaves
   pub data_added : (j : Items) → j ≡ s → AddsItem section.data_segments groups s t groups j
-  data_added j e z m n r (x, (spelled, adds)) = record {
+  data_added j e z m n r (x, spelled, adds) = record {
     stands = subst (λ (i : Items). Stands groups i z n) (sym e) (data_stand groups s z m r.stands x n adds);
     last = subst (λ (u : ModuleTree). u ≡ up_to section.data_segments u) (sym adds.added) (still_last section.data_segments m x r.last);
   }

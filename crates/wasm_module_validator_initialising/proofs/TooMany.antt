@@ -13,6 +13,6 @@ pub one_too_many : (e : ErrorValue) (there most offset : ℕ) (P : Type 0) → D
 one_too_many e there most offset P d h =
     unless_from e.kind ((e.kind ≡ Other) × (e.offset ≡ offset)) (P ⊎ IsOneTooMany there most offset e)
     (λ q. (
-      let no : there < most → ⊥ = subst (λ (k : ErrorKind). Denies k (there < most)) q.0 d in
-      inr (⊎_elim (λ lt. absurd (no lt)) (λ ge. ge) (cases_lt there most), (q.0, q.1))
+    let no : there < most → ⊥ = subst (λ (k : ErrorKind). Denies k (there < most)) q.0 d in
+    inr (⊎_elim (λ lt. absurd (no lt)) (λ ge. ge) (cases_lt there most), (q.0, q.1))
     )) h

@@ -1,0 +1,2 @@
+-- Laws of groups as they are read.
+pub mod GroupLaws

@@ -1,0 +1,65 @@
+//! The import section. An import is lent to what adds it: its value holds types that a call by value cannot pass on.
+
+ghost use Rattle.std.specs.Prelude.{◌≡◌, List, OnOk};
+ghost use Rattle.wasm_types.specs.decoding.Decoder.{State};
+ghost use Rattle.wasm_types.specs.error.Denials.{Tells};
+ghost use Rattle.wasm_types.specs.limits.Settings.{Settings};
+ghost use Rattle.wasm_sections_payloads.specs.Payloads.{Counts};
+ghost use Rattle.wasm_module_validator_code.specs.declared.bodies.Body.{Body as TheBody};
+ghost use Rattle.wasm_module_validator_steps.specs.Sections as section;
+ghost use Rattle.wasm_module_validator_steps.specs.Steps.{SoFar, JudgesSection};
+ghost use Rattle.wasm_module_validator_progress.specs.Progress.{IsAt};
+
+use crate::{Collected, InProgress};
+use wasm_module_validator_adding_lent::{AddLent, add_lent_items};
+use wasm_module_validator_declaring::add_import_item;
+use wasm_sections_imports::Import;
+use wasm_sections_payloads::ImportSectionReader;
+use wasm_types::Result;
+
+impl<'a> AddLent<'a, Import<'a>> for Collected {
+    ghost use Rattle.wasm_module_validator_steps.specs.Sections as section;
+    ghost use Rattle.wasm_module_validator_steps.specs.Texts.{ItemRead};
+    ghost use Rattle.wasm_module_validator_texts.specs.Sections.{Reading, AddsIn, RefusesIn};
+    ghost use Rattle.wasm_module_validator_texts.specs.Kinds.{import_read};
+    ghost use Rattle.wasm_module_validator_progress.specs.Progress.{IsRead};
+
+    ghost Tree = { Reading };
+
+    ghost Item = { ItemRead section.imports };
+
+    ghost of = { import_read };
+
+    ghost reads = { λ k u. IsRead section.imports k u };
+
+    ghost adds = { λ u x v. AddsIn section.imports u x v };
+
+    ghost refuses = { λ u x p e. RefusesIn section.imports u x p e };
+
+    fn add_lent(&mut self, item: &Import<'a>, offset: u64) -> Result<()> {
+        add_import_item(&mut self.state, &self.types, item, offset)
+    }
+
+    ghost alike = { λ x y is. is };
+}
+
+impl InProgress {
+    // Takes the import section.
+    pub(crate) fn take_imports<'a>(&mut self, imports: ImportSectionReader<'a>) -> Result<()>
+        ensures answer { (z : Settings) (p : SoFar) (bodies : List TheBody) (b : State) → IsAt z self.old bodies p → b.settings ≡ z
+            → Counts b imports.entry.count imports.entry.reader → Tells result ((q : SoFar) × JudgesSection z p section.imports b.rest q) }
+        ensures added { OnOk result ((z : Settings) (p q : SoFar) (bodies : List TheBody) (b : State) → IsAt z self.old bodies p → b.settings ≡ z
+            → Counts b imports.entry.count imports.entry.reader → JudgesSection z p section.imports b.rest q → IsAt z self.new bodies q) }
+    {
+        let offset = imports.range().start;
+        match self.begin_section(2, offset) {
+            Ok(()) => (),
+            Err(error) => return Err(error),
+        }
+        match self.collected.state.check_import_count(0, imports.count(), offset) {
+            Ok(()) => (),
+            Err(error) => return Err(error),
+        }
+        add_lent_items(&mut self.collected, imports)
+    }
+}
