@@ -6,6 +6,7 @@ ghost use Rattle.wasm_types.specs.error.declared.error.ErrorKind.TheVariants.{Ot
 ghost use Rattle.wasm_types.specs.groups.Entries.{declared_types};
 ghost use Rattle.wasm_types.specs.limits.Limits.{IsWithinCeilings};
 ghost use Rattle.wasm_types.specs.limits.Settings.{Settings};
+ghost use Rattle.wasm_module_validator_types.specs.List.{max_types};
 ghost use Rattle.wasm_module_validator_standing.specs.canonical.Written.{AreModuleIndices};
 ghost use Rattle.wasm_module_validator_standing.specs.interning.Interned.{written_group};
 ghost use Rattle.wasm_module_validator_standing.specs.resources.Named.{IsReadOver};
@@ -60,6 +61,7 @@ pub fn add_group(
         → Tells result ((n : ModuleTree) × AddsRead z section.types m (written_group rec_group) n) }
     ensures added { OnOk result (AddsItem section.types types.old.groups state.old (written_group rec_group) types.new.groups state.new) }
     ensures fewer { OnOk result (groups < state.old.spaces.settings.limits.types) }
+    ensures small { OnOk result (groups < max_types) }
     ensures read { OnOk result (IsReadOver types.new.groups state.new.spaces) }
     ensures settings { state.new.spaces.settings ≡ state.old.spaces.settings }
     ensures code { state.new.next_code ≡ state.old.next_code }

@@ -3,40 +3,16 @@
 ghost use Rattle.std.specs.Prelude.{◌≡◌, IfErr, OnErr, OnOk};
 ghost use Rattle.wasm_types.specs.error.Denials.{UnlessMemory};
 ghost use Rattle.wasm_module_validator_standing.specs.resources.Named.{IsReadOver};
-ghost use Rattle.wasm_module_validator_standing.specs.steps.contexts.imports.Spells.{ImportTree};
 ghost use Rattle.wasm_module_validator_standing.specs.steps.Sections as section;
 ghost use Rattle.wasm_module_validator_standing.specs.Standing.{AddsItem, TellsItem};
 
 use wasm_module_validator_standing::ModuleState;
 use wasm_module_validator_types::TypeList;
 use wasm_sections_imports::Import;
-use wasm_types::{FromReader, Result};
+use wasm_types::Result;
 
-/// An import: [`Import`] itself. The borrow checker takes no parameter of that type by value, since it holds a type with a view behind a
-/// variant of its `TypeRef`; what takes an import so is generic over this trait.
-pub trait AsImport<'a>: FromReader<'a> {
-    /// Its tree.
-    ghost tree: { Self → ImportTree };
-
-    /// The import.
-    fn as_import(&self) -> &Import<'a>
-        ensures { record { module_name = result.now.«module».now; field_name = result.now.name.now; ty = result.now.ty } ≡ tree self.now };
-
-    /// Imports whose bytes are read alike have one tree.
-    ghost alike: { (x y : Self) → Self.view x ≡ Self.view y → tree x ≡ tree y };
-}
-
-impl<'a> AsImport<'a> for Import<'a> {
-    ghost tree = { λ i. record { module_name = i.«module».now; field_name = i.name.now; ty = i.ty } };
-
-    fn as_import(&self) -> &Import<'a> {
-        self
-    }
-
-    ghost alike = { λ x y is. is };
-}
-
-/// Adds an import.
+/// Adds an import. It is lent: the borrow checker takes no parameter of this type by value, since a type with a view stands behind a variant
+/// of its `TypeRef`.
 ///
 /// # Errors
 ///

@@ -20,7 +20,7 @@ pub use counts::{
 };
 pub use exports::add_export_item;
 pub use groups::add_group;
-pub use imports::{AsImport, add_import_item};
+pub use imports::add_import_item;
 pub use laws::groups_are_read_alike;
 pub use numbers::{take_data_count, take_start};
 pub use own::{add_function_item, add_memory_item, add_tag_item};

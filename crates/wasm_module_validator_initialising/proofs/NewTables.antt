@@ -25,7 +25,7 @@ use Rattle.wasm_module_validator_standing.specs.steps.Texts.{SpelledInit, AddsRe
 use Rattle.wasm_module_validator_standing.specs.Standing.{constants_of, Stands, IsReading, TellsItem, AddsItem, marking}
 use Rattle.wasm_module_validator_standing.specs.laws.Deciding.{tables_decided}
 use Rattle.wasm_module_validator_standing.specs.laws.Behind.{still_last, tables_stand}
-use Rattle.wasm_module_validator_initialising.specs.Here.{NamesInit}
+use Rattle.wasm_module_validator_initialising.specs.Read.{NamesInit}
 
 -- while tables are read there are no globals but those that are imported
 few_globals : (groups : List Group) (s : Items) (z : Settings) (m : ModuleTree) → IsReading section.tables groups s z m

@@ -1,5 +1,5 @@
--- What constants are judged in, and items as they are read.
-pub mod Here
+-- Items as they are read, and what they name.
+pub mod Read
 -- Why items are refused, and where.
 pub mod Refusals
 -- Worked rows.

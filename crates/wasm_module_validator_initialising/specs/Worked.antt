@@ -1,12 +1,19 @@
 -- Worked modules that are being read, and refusals: for each definition one that is so and one that is not.
 use Rattle.std.specs.Prelude.{◌≡◌, [], ◌∷◌, None}
 use Rattle.wasm_types.specs.limits.Settings.{Settings}
+use Rattle.wasm_types.specs.limits.declared.Limits.{Limits}
+use Rattle.wasm_types.specs.decoding.Decoder.{State}
+-- for attributes that unfold it
+unfoldable pub use Rattle.wasm_types.specs.features.Features.{has}
 use Rattle.wasm_types.specs.error.ErrorValue.{ErrorValue}
 use Rattle.wasm_types.specs.error.declared.error.ErrorKind.TheVariants.{Other, Failed}
 use Rattle.wasm_module_validator_standing.specs.items.Items.{Items, no_items}
 use Rattle.wasm_module_validator_standing.specs.items.Adding.{adding_function}
-use Rattle.wasm_module_validator_initialising.specs.Here.{NamesInit}
-use Rattle.wasm_module_validator_initialising.specs.Refusals.{IsOneTooMany}
+use Rattle.wasm_module_validator_standing.specs.steps.contexts.segments.declared.global.GlobalOf.{GlobalOf}
+use Rattle.wasm_module_validator_standing.specs.steps.contexts.segments.declared.table.TableOf.{TableOf}
+use Rattle.wasm_module_validator_standing.specs.steps.contexts.elements.declared.element.ElementOf.{ElementOf}
+use Rattle.wasm_module_validator_initialising.specs.Read.{NamesInit}
+use Rattle.wasm_module_validator_initialising.specs.Refusals.{IsOneTooMany, RefusesNewGlobal, RefusesNewTable, RefusesNewElement}
 use Rattle.wasm_module_validator_standing.specs.Standing.{constants_of}
 
 -- two functions were read, which nothing refers to
@@ -15,6 +22,10 @@ two_functions z = record (no_items z) { spaces = adding_function 0 (adding_funct
 
 abbrev pub at_seven : ErrorValue
 at_seven = record { kind = Other; offset = 7; message = [] }
+
+-- nothing was read, and the limits are these
+abbrev pub nothing_under : Limits → Items
+nothing_under l = no_items (record { features = 0xfff_ffff; limits = l })
 
 pub record InitialisingWorked (z : Settings) : Type 0 where
   pub referred : (constants_of [] (two_functions z).spaces).«module».referenced ≡ 0 ∷ 1 ∷ []
@@ -25,3 +36,6 @@ pub record InitialisingWorked (z : Settings) : Type 0 where
   pub not_too_many : IsOneTooMany 0 1 7 at_seven → ⊥
   pub elsewhere : IsOneTooMany 1 1 6 at_seven → ⊥
   pub otherwise : IsOneTooMany 1 1 7 (record at_seven { kind = Failed }) → ⊥
+  pub no_global : (x : GlobalOf State) → RefusesNewGlobal [] (nothing_under (record z.limits { globals = 0 })) 7 x at_seven
+  pub no_table : (x : TableOf State) → RefusesNewTable [] (nothing_under (record z.limits { tables = 0 })) 7 x at_seven
+  pub no_element : (x : ElementOf State) → RefusesNewElement [] (nothing_under (record z.limits { element_segments = 0 })) 7 x at_seven

@@ -9,7 +9,7 @@ ghost use Rattle.wasm_module_validator_elements.specs.segments.Judged.{IsData};
 ghost use Rattle.wasm_module_validator_elements.specs.segments.Refusals.{RefusesData};
 ghost use Rattle.wasm_module_validator_standing.specs.steps.Sections as section;
 ghost use Rattle.wasm_module_validator_standing.specs.Standing.{constants_of, AddsItem, TellsItem};
-ghost use Rattle.wasm_module_validator_initialising.specs.Here.{data_tree};
+ghost use Rattle.wasm_module_validator_initialising.specs.Read.{data_tree};
 
 use std::alloc::Global;
 use wasm_module_validator_elements::{

@@ -9,7 +9,7 @@ ghost use Rattle.wasm_module_validator_elements.specs.segments.constants.express
 ghost use Rattle.wasm_module_validator_elements.specs.segments.Trees.{bytes_of};
 ghost use Rattle.wasm_module_validator_standing.specs.steps.Texts.{SpelledInit};
 ghost use Rattle.wasm_module_validator_elements.specs.referring.Naming.{NamesMore};
-ghost use Rattle.wasm_module_validator_initialising.specs.Here.{NamesInit};
+ghost use Rattle.wasm_module_validator_initialising.specs.Read.{NamesInit};
 
 use std::alloc::Global;
 use wasm_module_validator_elements::{

@@ -12,7 +12,7 @@ ghost use Rattle.wasm_module_validator_elements.specs.segments.Judged.{IsTable};
 ghost use Rattle.wasm_module_validator_elements.specs.segments.Refusals.{RefusesTable};
 ghost use Rattle.wasm_module_validator_standing.specs.steps.Sections as section;
 ghost use Rattle.wasm_module_validator_standing.specs.Standing.{constants_of, AddsItem, TellsItem};
-ghost use Rattle.wasm_module_validator_initialising.specs.Here.{NamesInit};
+ghost use Rattle.wasm_module_validator_initialising.specs.Read.{NamesInit};
 ghost use Rattle.wasm_module_validator_initialising.specs.Refusals.{RefusesNewTable};
 
 use crate::marking::refer_to_each;

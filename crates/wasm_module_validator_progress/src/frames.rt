@@ -56,7 +56,10 @@ impl InProgress {
     ///
     /// The section is out of order, or brings more items than there may be; an item cannot be read or is not valid, or a byte is left
     /// behind the last; or there is no memory: the first of these.
-    pub fn take_section<'a, T: SectionItem<'a>>(&mut self, section: SectionLimited<'a, T>) -> Result<()>
+    pub fn take_section<'a, T: SectionItem<'a>>(
+        &mut self,
+        section: SectionLimited<'a, T>,
+    ) -> Result<()>
         ensures answer { (z : Settings) (p : SoFar) (bodies : List TheBody) (b : State) → IsAt z self.old bodies p → b.settings ≡ z
             → Counts b section.entry.count section.entry.reader → Tells result ((q : SoFar) × JudgesSection z p T.section b.rest q) }
         ensures added { OnOk result ((z : Settings) (p q : SoFar) (bodies : List TheBody) (b : State) → IsAt z self.old bodies p → b.settings ≡ z
@@ -108,7 +111,11 @@ impl InProgress {
     ///
     /// The code section has not begun, or another section came behind it; the body is longer than a body may be; each function has
     /// its body; or there is no memory.
-    pub fn take_body<'a>(&mut self, body: FunctionBody<'a>, bodies: &mut Vec<Body<'a>>) -> Result<()>
+    pub fn take_body<'a>(
+        &mut self,
+        body: FunctionBody<'a>,
+        bodies: &mut Vec<Body<'a>>,
+    ) -> Result<()>
         ensures answer { (z : Settings) (p : SoFar) → IsAt z self.old bodies.old.items p → body.entry.settings ≡ z → Tells result ((q : SoFar) × JudgesBody z p body.entry.rest q) }
         ensures added { OnOk result ((z : Settings) (p q : SoFar) → IsAt z self.old bodies.old.items p → body.entry.settings ≡ z → JudgesBody z p body.entry.rest q
             → IsAt z self.new bodies.new.items q) }

@@ -56,7 +56,11 @@ impl InProgress {
             Ok(()) => (),
             Err(error) => return Err(error),
         }
-        match self.collected.state.check_import_count(0, imports.count(), offset) {
+        match self
+            .collected
+            .state
+            .check_import_count(0, imports.count(), offset)
+        {
             Ok(()) => (),
             Err(error) => return Err(error),
         }

@@ -1,5 +1,21 @@
 //! The items of each kind of section.
 
+ghost use Rattle.std.specs.Prelude.{◌≡◌, List, OnOk, true};
+ghost use Rattle.wasm_types.specs.error.Denials.{Tells};
+ghost use Rattle.wasm_types.specs.limits.Limits.{IsWithinCeilings};
+ghost use Rattle.wasm_types.specs.limits.Settings.{Settings};
+ghost use Rattle.wasm_module_validator_resources.specs.Named.{IsReadOver};
+ghost use Rattle.wasm_module_validator_type_trees.specs.Groups.{Group};
+ghost use Rattle.wasm_module_validator_steps.specs.contexts.rules.Syntax.{ModuleTree};
+ghost use Rattle.wasm_module_validator_steps.specs.Sections as section;
+ghost use Rattle.wasm_module_validator_steps.specs.Sections.{IsUnread, place};
+ghost use Rattle.wasm_module_validator_steps.specs.Adding.{Fits};
+ghost use Rattle.wasm_module_validator_steps.specs.Texts.{AddsRead};
+ghost use Rattle.wasm_module_validator_standing.specs.Standing.{Stands};
+ghost use Rattle.wasm_module_validator_texts.specs.Sections.{MayBegin};
+ghost use Rattle.wasm_module_validator_texts.specs.Kinds.{table_read, global_read, export_read, element_read, data_read};
+ghost use Rattle.wasm_module_validator_progress.specs.Progress.{Reads};
+
 use crate::SectionItem;
 use std::alloc::Global;
 use wasm_module_validator_declaring::{
@@ -96,11 +112,16 @@ impl<'a> SectionItem<'a> for TableOf<ConstExpr<'a>> {
 
     ghost of = { table_read };
 
-    fn place() -> u32 {
+    fn place() -> u32
+        ensures { result ≡ place section.tables }
+    {
         4
     }
 
-    fn check_count(state: &ModuleState, count: u32, offset: u64) -> Result<()> {
+    fn check_count(state: &ModuleState, count: u32, offset: u64) -> Result<()>
+        ensures answer { (groups : List Group) (z : Settings) (m : ModuleTree) → Stands groups state.now z m → IsUnread section.tables m
+            → Tells result (MayBegin z section.tables × Fits z section.tables m count) }
+    {
         state.check_table_count(count, offset)
     }
 
@@ -111,7 +132,17 @@ impl<'a> SectionItem<'a> for TableOf<ConstExpr<'a>> {
         types: &mut TypeList,
         groups: &mut u32,
         offset: u64,
-    ) -> Result<()> {
+    ) -> Result<()>
+        requires over { IsReadOver types.old.groups state.old.spaces }
+        requires interning { types.old.can_intern ≡ true }
+        requires ceilings { IsWithinCeilings state.old.spaces.settings.limits }
+        ensures answer { (z : Settings) (m : ModuleTree) → Reads section.tables types.old.groups state.old groups.old z m → Tells result ((n : ModuleTree) × AddsRead z section.tables m (table_read self.entry) n) }
+        ensures added { OnOk result ((z : Settings) (m n : ModuleTree) → Reads section.tables types.old.groups state.old groups.old z m → AddsRead z section.tables m (table_read self.entry) n
+            → Reads section.tables types.new.groups state.new groups.new z n) }
+        ensures over { OnOk result (IsReadOver types.new.groups state.new.spaces) }
+        ensures interning { OnOk result (types.new.can_intern ≡ true) }
+        ensures kept { state.new.spaces.settings ≡ state.old.spaces.settings }
+    {
         add_table(alloc, state, types, self, offset)
     }
 
@@ -202,11 +233,16 @@ impl<'a> SectionItem<'a> for GlobalOf<ConstExpr<'a>> {
 
     ghost of = { global_read };
 
-    fn place() -> u32 {
+    fn place() -> u32
+        ensures { result ≡ place section.globals }
+    {
         7
     }
 
-    fn check_count(state: &ModuleState, count: u32, offset: u64) -> Result<()> {
+    fn check_count(state: &ModuleState, count: u32, offset: u64) -> Result<()>
+        ensures answer { (groups : List Group) (z : Settings) (m : ModuleTree) → Stands groups state.now z m → IsUnread section.globals m
+            → Tells result (MayBegin z section.globals × Fits z section.globals m count) }
+    {
         state.check_global_count(count, offset)
     }
 
@@ -217,7 +253,17 @@ impl<'a> SectionItem<'a> for GlobalOf<ConstExpr<'a>> {
         types: &mut TypeList,
         groups: &mut u32,
         offset: u64,
-    ) -> Result<()> {
+    ) -> Result<()>
+        requires over { IsReadOver types.old.groups state.old.spaces }
+        requires interning { types.old.can_intern ≡ true }
+        requires ceilings { IsWithinCeilings state.old.spaces.settings.limits }
+        ensures answer { (z : Settings) (m : ModuleTree) → Reads section.globals types.old.groups state.old groups.old z m → Tells result ((n : ModuleTree) × AddsRead z section.globals m (global_read self.entry) n) }
+        ensures added { OnOk result ((z : Settings) (m n : ModuleTree) → Reads section.globals types.old.groups state.old groups.old z m → AddsRead z section.globals m (global_read self.entry) n
+            → Reads section.globals types.new.groups state.new groups.new z n) }
+        ensures over { OnOk result (IsReadOver types.new.groups state.new.spaces) }
+        ensures interning { OnOk result (types.new.can_intern ≡ true) }
+        ensures kept { state.new.spaces.settings ≡ state.old.spaces.settings }
+    {
         add_global(alloc, state, types, self, offset)
     }
 
@@ -235,11 +281,16 @@ impl<'a> SectionItem<'a> for Export<'a> {
 
     ghost of = { export_read };
 
-    fn place() -> u32 {
+    fn place() -> u32
+        ensures { result ≡ place section.exports }
+    {
         8
     }
 
-    fn check_count(state: &ModuleState, count: u32, offset: u64) -> Result<()> {
+    fn check_count(state: &ModuleState, count: u32, offset: u64) -> Result<()>
+        ensures answer { (groups : List Group) (z : Settings) (m : ModuleTree) → Stands groups state.now z m → IsUnread section.exports m
+            → Tells result (MayBegin z section.exports × Fits z section.exports m count) }
+    {
         state.check_export_count(count, offset)
     }
 
@@ -250,7 +301,17 @@ impl<'a> SectionItem<'a> for Export<'a> {
         types: &mut TypeList,
         groups: &mut u32,
         offset: u64,
-    ) -> Result<()> {
+    ) -> Result<()>
+        requires over { IsReadOver types.old.groups state.old.spaces }
+        requires interning { types.old.can_intern ≡ true }
+        requires ceilings { IsWithinCeilings state.old.spaces.settings.limits }
+        ensures answer { (z : Settings) (m : ModuleTree) → Reads section.exports types.old.groups state.old groups.old z m → Tells result ((n : ModuleTree) × AddsRead z section.exports m (export_read self.entry) n) }
+        ensures added { OnOk result ((z : Settings) (m n : ModuleTree) → Reads section.exports types.old.groups state.old groups.old z m → AddsRead z section.exports m (export_read self.entry) n
+            → Reads section.exports types.new.groups state.new groups.new z n) }
+        ensures over { OnOk result (IsReadOver types.new.groups state.new.spaces) }
+        ensures interning { OnOk result (types.new.can_intern ≡ true) }
+        ensures kept { state.new.spaces.settings ≡ state.old.spaces.settings }
+    {
         add_export_item(state, types, self, offset)
     }
 
@@ -268,11 +329,16 @@ impl<'a> SectionItem<'a> for ElementOf<'a, ConstExpr<'a>> {
 
     ghost of = { element_read };
 
-    fn place() -> u32 {
+    fn place() -> u32
+        ensures { result ≡ place section.element_segments }
+    {
         10
     }
 
-    fn check_count(state: &ModuleState, count: u32, offset: u64) -> Result<()> {
+    fn check_count(state: &ModuleState, count: u32, offset: u64) -> Result<()>
+        ensures answer { (groups : List Group) (z : Settings) (m : ModuleTree) → Stands groups state.now z m → IsUnread section.element_segments m
+            → Tells result (MayBegin z section.element_segments × Fits z section.element_segments m count) }
+    {
         state.check_element_segment_count(count, offset)
     }
 
@@ -283,7 +349,17 @@ impl<'a> SectionItem<'a> for ElementOf<'a, ConstExpr<'a>> {
         types: &mut TypeList,
         groups: &mut u32,
         offset: u64,
-    ) -> Result<()> {
+    ) -> Result<()>
+        requires over { IsReadOver types.old.groups state.old.spaces }
+        requires interning { types.old.can_intern ≡ true }
+        requires ceilings { IsWithinCeilings state.old.spaces.settings.limits }
+        ensures answer { (z : Settings) (m : ModuleTree) → Reads section.element_segments types.old.groups state.old groups.old z m → Tells result ((n : ModuleTree) × AddsRead z section.element_segments m (element_read self.entry) n) }
+        ensures added { OnOk result ((z : Settings) (m n : ModuleTree) → Reads section.element_segments types.old.groups state.old groups.old z m → AddsRead z section.element_segments m (element_read self.entry) n
+            → Reads section.element_segments types.new.groups state.new groups.new z n) }
+        ensures over { OnOk result (IsReadOver types.new.groups state.new.spaces) }
+        ensures interning { OnOk result (types.new.can_intern ≡ true) }
+        ensures kept { state.new.spaces.settings ≡ state.old.spaces.settings }
+    {
         add_element(alloc, state, types, self, offset)
     }
 
@@ -301,11 +377,16 @@ impl<'a> SectionItem<'a> for DataOf<'a, ConstExpr<'a>> {
 
     ghost of = { data_read };
 
-    fn place() -> u32 {
+    fn place() -> u32
+        ensures { result ≡ place section.data_segments }
+    {
         13
     }
 
-    fn check_count(state: &ModuleState, count: u32, offset: u64) -> Result<()> {
+    fn check_count(state: &ModuleState, count: u32, offset: u64) -> Result<()>
+        ensures answer { (groups : List Group) (z : Settings) (m : ModuleTree) → Stands groups state.now z m → IsUnread section.data_segments m
+            → Tells result (MayBegin z section.data_segments × Fits z section.data_segments m count) }
+    {
         state.check_data_segment_count(count, offset)
     }
 
@@ -316,7 +397,17 @@ impl<'a> SectionItem<'a> for DataOf<'a, ConstExpr<'a>> {
         types: &mut TypeList,
         groups: &mut u32,
         offset: u64,
-    ) -> Result<()> {
+    ) -> Result<()>
+        requires over { IsReadOver types.old.groups state.old.spaces }
+        requires interning { types.old.can_intern ≡ true }
+        requires ceilings { IsWithinCeilings state.old.spaces.settings.limits }
+        ensures answer { (z : Settings) (m : ModuleTree) → Reads section.data_segments types.old.groups state.old groups.old z m → Tells result ((n : ModuleTree) × AddsRead z section.data_segments m (data_read self.entry) n) }
+        ensures added { OnOk result ((z : Settings) (m n : ModuleTree) → Reads section.data_segments types.old.groups state.old groups.old z m → AddsRead z section.data_segments m (data_read self.entry) n
+            → Reads section.data_segments types.new.groups state.new groups.new z n) }
+        ensures over { OnOk result (IsReadOver types.new.groups state.new.spaces) }
+        ensures interning { OnOk result (types.new.can_intern ≡ true) }
+        ensures kept { state.new.spaces.settings ≡ state.old.spaces.settings }
+    {
         check_data_item(alloc, state, types, self, offset)
     }
 
@@ -324,4 +415,3 @@ impl<'a> SectionItem<'a> for DataOf<'a, ConstExpr<'a>> {
 
     ghost tells = { segments_tell };
 }
-

@@ -65,9 +65,9 @@ fn unknown_section(id: u8, offset: u64) -> Error
 impl InProgress {
     // Takes the start section.
     fn take_start_section(&mut self, func: u32, offset: u64) -> Result<()>
-        ensures answer { (z : Settings) (p : SoFar) (bodies : List TheBody) (b : State) → IsAt z self.old bodies p → only_number b ≡ Done func b
+        ensures answer { (z : Settings) (p : SoFar) (bodies : List TheBody) (b : State) → IsAt z self.old bodies p → b.settings ≡ z → only_number b ≡ Done func b
             → Tells result ((q : SoFar) × JudgesSection z p section.start b.rest q) }
-        ensures added { OnOk result ((z : Settings) (p q : SoFar) (bodies : List TheBody) (b : State) → IsAt z self.old bodies p → only_number b ≡ Done func b
+        ensures added { OnOk result ((z : Settings) (p q : SoFar) (bodies : List TheBody) (b : State) → IsAt z self.old bodies p → b.settings ≡ z → only_number b ≡ Done func b
             → JudgesSection z p section.start b.rest q → IsAt z self.new bodies q) }
     {
         match self.begin_section(9, offset) {
@@ -79,9 +79,9 @@ impl InProgress {
 
     // Takes the data count section.
     fn take_data_count_section(&mut self, count: u32, offset: u64) -> Result<()>
-        ensures answer { (z : Settings) (p : SoFar) (bodies : List TheBody) (b : State) → IsAt z self.old bodies p → only_number b ≡ Done count b
+        ensures answer { (z : Settings) (p : SoFar) (bodies : List TheBody) (b : State) → IsAt z self.old bodies p → b.settings ≡ z → only_number b ≡ Done count b
             → Tells result ((q : SoFar) × JudgesSection z p section.data_count b.rest q) }
-        ensures added { OnOk result ((z : Settings) (p q : SoFar) (bodies : List TheBody) (b : State) → IsAt z self.old bodies p → only_number b ≡ Done count b
+        ensures added { OnOk result ((z : Settings) (p q : SoFar) (bodies : List TheBody) (b : State) → IsAt z self.old bodies p → b.settings ≡ z → only_number b ≡ Done count b
             → JudgesSection z p section.data_count b.rest q → IsAt z self.new bodies q) }
     {
         match self.begin_section(11, offset) {
@@ -99,7 +99,11 @@ impl InProgress {
     ///
     /// It is the header of something else than a module of version 1, a section out of order or of no known id, or not a valid one behind
     /// what was read; or there is no memory. What is kept then stands for nothing.
-    pub fn take_payload<'a>(&mut self, payload: Payload<'a>, bodies: &mut Vec<Body<'a>>) -> Result<()>
+    pub fn take_payload<'a>(
+        &mut self,
+        payload: Payload<'a>,
+        bodies: &mut Vec<Body<'a>>,
+    ) -> Result<()>
         ensures answer { (z : Settings) (p : SoFar) (f : Frame) → IsAt z self.old bodies.old.items p → HasSettings z f → IsPayloadOf f payload.entry
             → Tells result ((q : SoFar) × JudgesShape z p (shape_of f) q) }
         ensures added { OnOk result ((z : Settings) (p q : SoFar) (f : Frame) → IsAt z self.old bodies.old.items p → HasSettings z f → IsPayloadOf f payload.entry

@@ -96,7 +96,7 @@ module _ (z : Settings) (p : SoFar) (r : Progress) (bodies : List Body) (at : Is
   -- ---- a body that is taken
 
   module _ (b : Body) (begun : p.last ≡ code_place) (within : length (text_of b) ≤ z.limits.body_bytes)
-    (function : slice_get p.tree.functions (length p.bodies) ≡ Some (type_of b)) where
+      (function : slice_get p.tree.functions (length p.bodies) ≡ Some (type_of b)) where
     pub judges : JudgesBody z p (text_of b) (record p { bodies = p.bodies ++ text_of b ∷ [] })
     judges = record { begun = begun; within = within; type = type_of b; function = function; added = refl }
 

@@ -1,6 +1,6 @@
 -- A section is taken exactly where it comes next by the rules, and what is kept then stands for what was judged.
 use Rattle.std.proofs.Common.{◌≡◌, ◌∙◌, ◌<◌, ◌≤◌, ◌⊎◌, ℕ, List, [], ◌∷◌, length, map, take, refl, sym, ap, subst, arith, inl, inr, Result, Ok, Err, IfErr}
-use Rattle.std.specs.Prelude.{OnOk}
+use Rattle.std.specs.Prelude.{OnOk, ◌↔◌}
 use Rattle.std.proofs.lemmas.Bool.{cases_order}
 use Rattle.std.proofs.lemmas.List.{length-map}
 use Rattle.wasm_types.specs.decoding.Decoder.{State, Done, Decoder, Grammar}
@@ -13,15 +13,18 @@ use Rattle.wasm_types.specs.error.declared.error.ErrorKind.{ErrorKind}
 use Rattle.wasm_sections_parser.specs.Steps as frame
 use Rattle.wasm_module_validator_code.specs.declared.bodies.Body.{Body}
 use Rattle.wasm_module_validator_adding.specs.Adding.{Spelled, AreAdded, StopsAdding}
-use Rattle.wasm_module_validator_steps.specs.Sections.{Section, number, place, code_place, IsUnread}
+use Rattle.wasm_module_validator_steps.specs.contexts.rules.Syntax.{ModuleTree}
+use Rattle.wasm_module_validator_steps.specs.Sections.{Section, Item, number, place, code_place, IsUnread}
 use Rattle.wasm_module_validator_steps.specs.Sections as section
-use Rattle.wasm_module_validator_steps.specs.Adding.{Fits}
+use Rattle.wasm_module_validator_steps.specs.Adding.{Fits, Adds}
 use Rattle.wasm_module_validator_steps.specs.Texts.{ItemRead}
-use Rattle.wasm_module_validator_steps.specs.Steps.{SoFar, JudgesSection}
+use Rattle.wasm_module_validator_steps.specs.Steps.{SoFar, JudgesSection, IsJudged}
 use Rattle.wasm_module_validator_steps.specs.laws.Fronts.{items_stay}
 use Rattle.wasm_module_validator_steps.specs.laws.Judged.{shape_keeps}
 use Rattle.wasm_module_validator_standing.specs.laws.Beginning.{unread_is_last}
-use Rattle.wasm_module_validator_texts.specs.Sections.{Reading, reading, AddsIn, RefusesIn, MayBegin, behind}
+use Rattle.wasm_module_validator_standing.specs.Standing.{IsBefore, IsReading}
+use Rattle.wasm_module_validator_texts.specs.Sections.{Reading, reading, AddsIn, RefusesIn, MayBegin, behind, AddsNumber}
+use Rattle.wasm_module_validator_texts.specs.laws.Telling.{number_told}
 use Rattle.wasm_module_validator_texts.specs.Kinds.{WalksTell, AreTold}
 use Rattle.wasm_module_validator_progress.specs.Progress.{Kept, Progress, IsRead, IsAt, text_of, type_of}
 
@@ -78,7 +81,7 @@ module _ (z : Settings) (p : SoFar) (r : Progress) (bodies : List Body) (at : Is
   -- ---- what a walk over the items tells
 
   module _ {T V : Type 0} (view : T → V) (of : T → ItemRead s) (d : Settings → Decoder V) (g : Settings → Grammar V) (tells : WalksTell s view of d g)
-    (b c : State) (n : ℕ) (same : b.settings ≡ z) (counts : u32 b ≡ Done n c) where
+      (b c : State) (n : ℕ) (same : b.settings ≡ z) (counts : u32 b ≡ Done n c) where
     told : AreTold s view of d g z p b c n
     told = tells z p b c n at.judged same counts
 
@@ -89,7 +92,7 @@ module _ (z : Settings) (p : SoFar) (r : Progress) (bodies : List Body) (at : Is
     stopped e h = told.refused e h
 
     module _ (o : p.last < place s) (may : MayBegin z s × Fits z s p.tree n) (u : Reading)
-      (all : AreAdded (Spelled view of (g c.settings)) (AddsIn s) n c.rest (reading z p.tree) u) where
+        (all : AreAdded (Spelled view of (g c.settings)) (AddsIn s) n c.rest (reading z p.tree) u) where
       pub judged : JudgesSection z p s b.rest (behind s p u.tree)
       judged = (told.added o may.0 may.1 u all).0
 
@@ -111,8 +114,8 @@ module _ (z : Settings) (p : SoFar) (r : Progress) (bodies : List Body) (at : Is
 -- ---- what it leaves
 
 module _ (r : Progress) (s : Section) {T V : Type 0} (view : T → V) (of : T → ItemRead s) (d : Settings → Decoder V) (g : Settings → Grammar V) (tells : WalksTell s view of d g)
-  (c : State) (n : ℕ) (first : Kept) (same_kept : first ≡ r.kept) (order : r.last < place s)
-  (fits : (z : Settings) (p : SoFar) (bodies : List Body) → IsAt z r bodies p → p.last < place s → MayBegin z s × Fits z s p.tree n) where
+    (c : State) (n : ℕ) (first : Kept) (same_kept : first ≡ r.kept) (order : r.last < place s)
+    (fits : (z : Settings) (p : SoFar) (bodies : List Body) → IsAt z r bodies p → p.last < place s → MayBegin z s × Fits z s p.tree n) where
   -- the items are added
   abbrev All : Reading → Reading → Type 0
   All u v = AreAdded (Spelled view of (g c.settings)) (AddsIn s) n c.rest u v
@@ -142,3 +145,29 @@ module _ (r : Progress) (s : Section) {T V : Type 0} (view : T → V) (of : T �
       let there = stands z p r bodies at s view of d g tells b c n same counts behind_all (fits z p bodies at behind_all) a.0 a.1 k (added (reading z p.tree) a.0 h a.1) q j in
       subst (λ (l : ℕ). IsAt z (record { kept = k; last = l }) bodies q) (sym is) there
   all_added (Err e) k last is answer added = tt
+
+-- ---- a section that is one number
+
+module _ (r : Progress) (s : Section) (n : Item s) (G : State → Type 0)
+    (told : (z : Settings) (p : SoFar) (b : State) → IsJudged z p → G b → (q : SoFar) → JudgesSection z p s b.rest q ↔ AddsNumber z s p n q) where
+  -- the state where the section begins
+  pub begins : (z : Settings) (p : SoFar) (bodies : List Body) → IsAt z r bodies p → r.last < place s → IsBefore s r.kept.groups r.kept.items z p.tree
+  begins z p bodies at o = record { stands = at.stands; unread = unread z p r bodies at s (is_behind z p r bodies at s o) }
+
+  pub number_answered : {X : Type 0} (result : Result X ErrorValue) → r.last < place s
+      → ((z : Settings) (m : ModuleTree) → IsBefore s r.kept.groups r.kept.items z m → Tells result ((k : ModuleTree) × Adds z s m n k))
+      → (z : Settings) (p : SoFar) (bodies : List Body) (b : State) → IsAt z r bodies p → b.settings ≡ z → G b → Tells result ((q : SoFar) × JudgesSection z p s b.rest q)
+  number_answered result o answer z p bodies b at same g =
+      number_told z s p b.rest n (told z p b at.judged g) result (is_behind z p r bodies at s o) (answer z p.tree (begins z p bodies at o))
+
+  pub number_added : {X : Type 0} (result : Result X ErrorValue) (k : Kept) (last : ℕ) → last ≡ place s → r.last < place s → k.count ≡ r.kept.count
+      → ((z : Settings) (m t : ModuleTree) → Adds z s m n t → t.types ≡ m.types)
+      → OnOk result ((z : Settings) (m t : ModuleTree) → IsBefore s r.kept.groups r.kept.items z m → Adds z s m n t → IsReading s k.groups k.items z t)
+      → OnOk result ((z : Settings) (p q : SoFar) (bodies : List Body) (b : State) → IsAt z r bodies p → b.settings ≡ z → G b → JudgesSection z p s b.rest q
+      → IsAt z (record { kept = k; last = last }) bodies q)
+  number_added (Ok x) k last is o count types added = λ z p q bodies b at same g j.
+      let adds = ((told z p b at.judged g q).0 j).added in
+      let there : IsRead s k (reading z q.tree)
+      = record { reading = added z p.tree q.tree (begins z p bodies at o) adds; counted = count ∙ (at.counted ∙ sym (ap length (types z p.tree q.tree adds))) } in
+      subst (λ (l : ℕ). IsAt z (record { kept = k; last = l }) bodies q) (sym is) (at_behind z p r bodies at s b.rest q j k there)
+  number_added (Err e) k last is o count types added = tt

@@ -21,7 +21,7 @@ use Rattle.wasm_module_validator_standing.specs.laws.Deciding.{may_be_added, cou
 
 -- ---- the list of types
 
-most_types : (z : Settings) → IsWithinCeilings z.limits → z.limits.types ≤ 0x10_0000
+pub most_types : (z : Settings) → IsWithinCeilings z.limits → z.limits.types ≤ 0x10_0000
 unfolding ceilings
 most_types z w = w.types
 

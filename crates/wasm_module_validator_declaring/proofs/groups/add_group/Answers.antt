@@ -1,10 +1,11 @@
-use Rattle.std.proofs.Common.{length, sym}
+use Rattle.std.proofs.Common.{length, sym, arith}
 use Rattle.std.proofs.lemmas.List.{length-map}
 use Rattle.wasm_types.specs.groups.Entries.{declared_types}
 use Rattle.wasm_module_validator_standing.specs.canonical.Written.{written_type}
 use Rattle.wasm_module_validator_standing.specs.interning.Interned.{written_group}
+use Rattle.wasm_module_validator_standing.specs.laws.Growing.{most_types}
 use Rattle.wasm_module_validator_declaring.proofs.Telling.{group_told}
-use Rattle.wasm_module_validator_declaring.proofs.Leaving.{on_ok_both, group_left}
+use Rattle.wasm_module_validator_declaring.proofs.Leaving.{always, on_ok_both, group_left}
 use Rattle.wasm_module_validator_declaring.proofs.groups.add_group.Goals as goal
 
 pub returns-clause-answer : goal.returns-clause-answer
@@ -18,3 +19,9 @@ returns-clause-added c =
     on_ok_both c.add_types.result _ _ _
     (λ a e. group_left c.args.types.now.groups c.args.state.now (written_group c.args.rec_group) c.add_types.new.types.groups c.add_types.new.self _ c.add_types.ensures.added a e)
     c.add_types.ensures.interned c.add_types.ensures.space
+
+pub returns-clause-small : goal.returns-clause-small
+returns-clause-small c =
+    let most = most_types c.args.state.now.spaces.settings c.requires.within in
+    let few = c.in-Ok.ensures.answer in
+    always c.add_types.result _ (omega (arith, most, few))

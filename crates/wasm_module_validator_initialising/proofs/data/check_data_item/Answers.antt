@@ -6,7 +6,7 @@ use Rattle.wasm_module_validator_elements.specs.segments.Judged.{IsData}
 use Rattle.wasm_module_validator_elements.specs.segments.Refusals.{RefusesData}
 use Rattle.wasm_module_validator_standing.specs.items.Items.{Items}
 use Rattle.wasm_module_validator_standing.specs.Standing.{constants_of}
-use Rattle.wasm_module_validator_initialising.specs.Here.{data_tree}
+use Rattle.wasm_module_validator_initialising.specs.Read.{data_tree}
 use Rattle.wasm_module_validator_initialising.proofs.Moved.{always}
 use Rattle.wasm_module_validator_initialising.proofs.NewData.{data_told, data_added}
 use Rattle.wasm_module_validator_initialising.proofs.data.check_data_item.Goals as goal

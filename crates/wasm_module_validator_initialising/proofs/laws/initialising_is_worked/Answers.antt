@@ -1,7 +1,9 @@
-use Rattle.std.proofs.Common.{refl, rules}
+use Rattle.std.proofs.Common.{refl, rules, arith, inr}
+use Rattle.wasm_types.specs.features.Features.{has}
 use Rattle.wasm_module_validator_initialising.proofs.laws.initialising_is_worked.Goals as goal
 
 pub returns : goal.returns
+unfolding has
 returns c z = record {
   referred = refl;
   referred_in_none = refl;
@@ -11,4 +13,7 @@ returns c z = record {
   not_too_many = search rules;
   elsewhere = search rules;
   otherwise = search rules;
+  no_global = λ x. inr (omega arith, (refl, refl));
+  no_table = λ x. inr (omega arith, (refl, refl));
+  no_element = λ x. inr (omega arith, (refl, refl));
 }

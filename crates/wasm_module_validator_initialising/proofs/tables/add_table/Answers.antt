@@ -7,7 +7,7 @@ use Rattle.wasm_module_validator_elements.specs.segments.Refusals.{RefusesTable}
 use Rattle.wasm_module_validator_standing.specs.items.Items.{Items}
 use Rattle.wasm_module_validator_standing.specs.items.Adding.{adding_table}
 use Rattle.wasm_module_validator_standing.specs.Standing.{constants_of, marking}
-use Rattle.wasm_module_validator_initialising.specs.Here.{NamesInit}
+use Rattle.wasm_module_validator_initialising.specs.Read.{NamesInit}
 use Rattle.wasm_module_validator_initialising.specs.Refusals.{RefusesNewTable}
 use Rattle.wasm_module_validator_initialising.proofs.TooMany.{one_too_many}
 use Rattle.wasm_module_validator_initialising.proofs.NewTables.{table_told, table_denied, table_full, table_added}

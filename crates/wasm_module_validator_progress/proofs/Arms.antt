@@ -1,0 +1,46 @@
+-- What each arm of a payload tells, from what the call in it promises of the section or the frame.
+use Rattle.std.proofs.Common.{◌≡◌, ℕ, List, refl, sym, subst, None, Some, Result, Ok, Err}
+use Rattle.std.specs.Prelude.{OnOk}
+use Rattle.wasm_types.specs.decoding.Decoder.{State}
+use Rattle.wasm_types.specs.error.Denials.{Tells}
+use Rattle.wasm_types.specs.error.ErrorValue.{ErrorValue}
+use Rattle.wasm_types.specs.error.DenialLaws.{denies_from}
+use Rattle.wasm_types.specs.limits.Settings.{Settings}
+use Rattle.wasm_sections_parser.specs.declared.frame.Frame.{Frame}
+use Rattle.wasm_sections_parser.specs.Parsing.{shape_of}
+use Rattle.wasm_sections_payloads.specs.declared.payload.Payload.{Payload}
+use Rattle.wasm_sections_payloads.specs.Payloads.{IsSectionOf, IsPayloadOf}
+use Rattle.wasm_module_validator_code.specs.declared.bodies.Body.{Body}
+use Rattle.wasm_module_validator_steps.specs.Sections.{Section, number}
+use Rattle.wasm_module_validator_steps.specs.Steps.{SoFar, JudgesSection, JudgesShape}
+use Rattle.wasm_module_validator_fronts.specs.Walks.{HasSettings}
+use Rattle.wasm_module_validator_progress.specs.Progress.{Progress, IsAt}
+use Rattle.wasm_module_validator_progress.specs.laws.Shapes.{frame_back, of_frame, of_section, of_shape, shape_told}
+
+-- what holds exactly where another does
+pub same_told : {X : Type 0} (result : Result X ErrorValue) (P Q : Type 0) → (P → Q) → (Q → P) → Tells result P → Tells result Q
+same_told (Ok u) P Q to from h = to h
+same_told (Err e) P Q to from h = denies_from e.kind P Q from h
+
+module _ {X : Type 0} (result : Result X ErrorValue) (x payload : Payload) (same : payload ≡ x) where
+  pub section_answer : (z : Settings) (p : SoFar) (f : Frame) (s : Section) → frame_back x ≡ None
+      → ((id : ℕ) (b : State) → IsSectionOf id b x → (id ≡ number s) × (b.settings ≡ z → Tells result ((q : SoFar) × JudgesSection z p s b.rest q)))
+      → HasSettings z f → IsPayloadOf f payload → Tells result ((q : SoFar) × JudgesShape z p (shape_of f) q)
+  section_answer z p f s none given has is =
+      of_section (λ g. HasSettings z g → Tells result ((q : SoFar) × JudgesShape z p (shape_of g) q)) f x none
+      (λ id b h st. let k = given id b h in shape_told z p s b.rest result id k.0 (k.1 st)) (subst (IsPayloadOf f) same is) has
+
+  pub frame_answer : (z : Settings) (p : SoFar) (f g : Frame) → frame_back x ≡ Some g → (HasSettings z g → Tells result ((q : SoFar) × JudgesShape z p (shape_of g) q))
+      → HasSettings z f → IsPayloadOf f payload → Tells result ((q : SoFar) × JudgesShape z p (shape_of f) q)
+  frame_answer z p f g back value has is =
+      of_frame (λ h. HasSettings z h → Tells result ((q : SoFar) × JudgesShape z p (shape_of h) q)) f x g back (subst (IsPayloadOf f) same is) value has
+
+-- what is left behind a section
+pub section_added : {X : Type 0} (result : Result X ErrorValue) (x payload : Payload) → payload ≡ x → frame_back x ≡ None → (r after : Progress) (bodies : List Body) (s : Section) (G : State → Type 0)
+    → ((id : ℕ) (b : State) → IsSectionOf id b x → (id ≡ number s) × G b)
+    → OnOk result ((z : Settings) (p q : SoFar) (bs : List Body) (b : State) → IsAt z r bs p → b.settings ≡ z → G b → JudgesSection z p s b.rest q → IsAt z after bs q)
+    → OnOk result ((z : Settings) (p q : SoFar) (f : Frame) → IsAt z r bodies p → HasSettings z f → IsPayloadOf f payload → JudgesShape z p (shape_of f) q → IsAt z after bodies q)
+section_added (Ok u) x payload same none r after bodies s G given h = λ z p q f at has is j.
+    of_section (λ g. HasSettings z g → JudgesShape z p (shape_of g) q → IsAt z after bodies q) f x none
+    (λ id b k st w. let m = given id b k in h z p q bodies b at st m.1 (of_shape z p s b.rest id m.0 q w)) (subst (IsPayloadOf f) same is) has j
+section_added (Err e) x payload same none r after bodies s G given h = tt

@@ -1,0 +1,10 @@
+use Rattle.std.proofs.Common.{ap}
+use Rattle.wasm_module_validator_steps.specs.contexts.rules.Syntax.{ModuleTree}
+use Rattle.wasm_module_validator_steps.specs.Sections as section
+use Rattle.wasm_module_validator_progress.proofs.Counting.{item_added, on_ok}
+use Rattle.wasm_module_validator_progress.proofs.kinds.MemoryTypeSectionItem.add_to.Goals as goal
+
+pub returns-clause-added : goal.returns-clause-added
+returns-clause-added c =
+    item_added section.memories c.args.self c.add_memory_item.result c.args.types.now.groups c.args.types.now.groups c.args.state.now c.add_memory_item.new.state c.args.groups.now
+    (λ z m n a. ap (λ (t : ModuleTree). t.types) a.2.added) (on_ok c.add_memory_item.result _ _ (λ h. h c.args.types.now.groups) c.add_memory_item.ensures.added)

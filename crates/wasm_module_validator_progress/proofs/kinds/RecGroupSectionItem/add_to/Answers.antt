@@ -1,0 +1,11 @@
+use Rattle.wasm_module_validator_standing.specs.canonical.laws.Spelled.{read_group}
+use Rattle.wasm_module_validator_texts.specs.Kinds.{group_read}
+use Rattle.wasm_module_validator_progress.proofs.Counting.{group_added}
+use Rattle.wasm_module_validator_progress.proofs.kinds.RecGroupSectionItem.add_to.Goals as goal
+
+pub add_group-requires-clause-indices : goal.add_group-requires-clause-indices
+add_group-requires-clause-indices c = let h = c.requires.read in read_group h.0 h.1 h.2 c.args.self h.3
+
+pub returns-in-Ok-clause-added : goal.returns-in-Ok-clause-added
+returns-in-Ok-clause-added c =
+    group_added (group_read c.args.self) c.args.types.now.groups c.add_group.new.types.groups c.args.state.now c.add_group.new.state c.args.groups.now c.in-Ok.ensures.added

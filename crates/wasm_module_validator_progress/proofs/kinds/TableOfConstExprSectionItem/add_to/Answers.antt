@@ -1,0 +1,14 @@
+use Rattle.std.proofs.Common.{ap}
+use Rattle.wasm_module_validator_steps.specs.contexts.rules.Syntax.{ModuleTree}
+use Rattle.wasm_module_validator_steps.specs.Sections as section
+use Rattle.wasm_module_validator_texts.specs.Kinds.{table_read}
+use Rattle.wasm_module_validator_progress.proofs.Counting.{item_added}
+use Rattle.wasm_module_validator_progress.proofs.kinds.TableOfConstExprSectionItem.add_to.Goals as goal
+
+pub returns-clause-added : goal.returns-clause-added
+returns-clause-added c =
+    item_added section.tables (table_read c.args.self) c.add_table.result c.args.types.now.groups c.args.types.now.groups c.args.state.now c.add_table.new.state c.args.groups.now
+    (λ z m n a. ap (λ (t : ModuleTree). t.types) a.2.added) c.add_table.ensures.added
+
+pub returns-clause-answer : goal.returns-clause-answer
+returns-clause-answer c = λ z m h. c.add_table.ensures.answer z m h.reading
