@@ -1,9 +1,22 @@
 -- What the validator accepts where no features are chosen (WebAssembly 3.0, binary format, modules; validation, modules): the rules of
 -- `wasm_module_validator_rules`, under the features and limits by default.
-use Rattle.std.specs.Prelude.{ℕ, List}
+use Rattle.std.specs.Prelude.{ℕ, List, []}
+use Rattle.wasm_types.specs.limits.Settings.{Settings}
 use Rattle.wasm_types.specs.features.Sets.{bits_of, default_features}
-use Rattle.wasm_module_validator_steps.specs.contexts.rules.Accepts.{AcceptsUnder}
+use Rattle.wasm_module_validator_steps.specs.contexts.rules.Accepts.{AcceptsUnder, Judges}
+use Rattle.wasm_module_validator_steps.specs.contexts.rules.Syntax.{ModuleTree}
+use Rattle.wasm_module_validator_standing.specs.Standing.{Stands}
+use Rattle.wasm_module_validator_progress.specs.Progress.{Progress}
 use Rattle.wasm_module_validator_reading.specs.Reading.{under}
 
+-- the features and limits that hold where none are chosen
+abbrev pub default_settings : Settings
+default_settings = under (bits_of default_features)
+
+-- the bytes spell some valid module by these
 abbrev pub Accepts : List ℕ → Type 0
-Accepts = AcceptsUnder (under (bits_of default_features))
+Accepts = AcceptsUnder default_settings
+
+-- the bytes spell a valid module, and this stands for all of it but its code
+abbrev pub IsShown : Settings → List ℕ → Progress → Type 0
+IsShown z bytes r = (m : ModuleTree) × Judges z bytes m × Stands r.kept.groups r.kept.items z (record m { code = [] })

@@ -3,6 +3,8 @@ use Rattle.std.specs.Prelude.{◌≡◌, ◌⊎◌, ℕ, List, Result, Ok, Err}
 use Rattle.std.specs.List.{AllZip}
 use Rattle.wasm_types.specs.error.Denials.{Denies}
 use Rattle.wasm_types.specs.error.ErrorValue.{ErrorValue}
+use Rattle.wasm_types.specs.error.declared.error.ErrorKind.{ErrorKind}
+use Rattle.wasm_types.specs.error.declared.error.ErrorKind.TheVariants.{OutOfMemory}
 use Rattle.wasm_types.specs.limits.Settings.{Settings}
 use Rattle.wasm_types.specs.reader.Reading.{IsNotMemory}
 use Rattle.wasm_module_validator_steps.specs.contexts.rules.Syntax.{Function}
@@ -16,15 +18,16 @@ use Rattle.wasm_module_validator.specs.declared.validator.State.TheVariants.{End
 
 -- each body of what was read is that of a valid function of its type
 abbrev pub AreBodies : Settings → SoFar → Type 0
-AreBodies z q = AllZip (λ x body. (f : Function) × SpelledFunction z f body × HasValidBody z (module_of q.tree) x f) q.tree.functions q.bodies
+AreBodies z q =
+    AllZip (λ x body. (f : Function) × SpelledFunction z f body × HasValidBody z (module_of q.tree) x f) q.tree.functions q.bodies
 
--- where bodies were judged, it has ended, but where there was no memory
-abbrev pub IsLeft : {X : Type 0} → Result X ErrorValue → State → Type 0
-IsLeft (Ok u) s = s ≡ Ended
-IsLeft (Err e) s = ((s ≡ Ended) × IsNotMemory e.kind) ⊎ ((s ≡ Failed) × ((P : Type 0) → Denies e.kind P))
+-- where a body was refused by an error of this kind, it has ended, but where there was no memory
+abbrev pub IsLeft : ErrorKind → State → Type 0
+IsLeft k s = ((s ≡ Ended) × IsNotMemory k) ⊎ ((s ≡ Failed) × (k ≡ OutOfMemory))
 
 -- It has ended where the module was accepted, and where its sections were read and only a function is refused. It has failed where they
 -- were not read, or there was no memory.
 abbrev pub Leaves : {X : Type 0} → Settings → List ℕ → Result X ErrorValue → State → Type 0
 Leaves z bytes (Ok types) s = s ≡ Ended
-Leaves z bytes (Err e) s = ((s ≡ Ended) × IsNotMemory e.kind × ((q : SoFar) × IsReadAs z bytes q)) ⊎ ((s ≡ Failed) × Denies e.kind ((q : SoFar) × IsReadAs z bytes q))
+Leaves z bytes (Err e) s = ((s ≡ Ended) × IsNotMemory e.kind × ((q : SoFar) × IsReadAs z bytes q))
+    ⊎ ((s ≡ Failed) × Denies e.kind ((q : SoFar) × IsReadAs z bytes q))

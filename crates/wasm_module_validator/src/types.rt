@@ -12,11 +12,14 @@ pub struct Types {
 }
 
 impl Model for Types {
-    ghost use Rattle.wasm_module_validator_progress.specs.Progress.{Reading};
+    ghost use Rattle.std.specs.Prelude.{◌<◌, ◌^◌, length};
+    ghost use Rattle.wasm_module_validator_progress.specs.Progress.{Progress};
 
-    ghost Value = { Reading };
+    ghost Value = { Progress };
 
     ghost view = { λ t. t.«module» };
+
+    ghost invariant = { λ t. length t.«module».kept.items.spaces.types < 2 ^ 32 };
 }
 
 impl Types {
@@ -35,9 +38,9 @@ pub struct TypesRef<'a> {
 }
 
 impl<'a> Model for TypesRef<'a> {
-    ghost use Rattle.wasm_module_validator_progress.specs.Progress.{Reading};
+    ghost use Rattle.wasm_module_validator_progress.specs.Progress.{Progress};
 
-    ghost Value = { Reading };
+    ghost Value = { Progress };
 
     ghost view = { λ r. r.types.now };
 }
@@ -45,7 +48,7 @@ impl<'a> Model for TypesRef<'a> {
 impl<'a> TypesRef<'a> {
     /// How many types the module has.
     pub fn core_type_count_in_module(&self) -> u32
-        ensures { result ≡ length self.now.items.spaces.types }
+        ensures { result ≡ length self.now.kept.items.spaces.types }
     {
         let types = self.types;
         types.module.state().module().type_ids().len() as u32
@@ -53,7 +56,7 @@ impl<'a> TypesRef<'a> {
 
     /// How many functions the module has, with those that are imported.
     pub fn function_count(&self) -> u32
-        ensures { result ≡ length self.now.items.spaces.functions }
+        ensures { result ≡ length self.now.kept.items.spaces.functions }
     {
         let types = self.types;
         types.module.state().module().function_count()

@@ -1,16 +1,15 @@
 //! The validator of whole modules.
 
-ghost use Rattle.std.specs.Prelude.{◌≡◌, ◌↔◌, IsTrue, IfOk};
+ghost use Rattle.std.specs.Prelude.{◌≡◌, ◌↔◌, IsTrue, IfOk, length};
 ghost use Rattle.wasm_types.specs.error.Denials.{Tells};
 ghost use Rattle.wasm_types.specs.features.Sets.{bits_of, default_features};
-ghost use Rattle.wasm_module_validator_steps.specs.contexts.rules.Syntax.{ModuleTree};
+ghost use Rattle.wasm_module_validator_steps.specs.contexts.rules.Accepts.{AcceptsUnder};
 ghost use Rattle.wasm_module_validator_steps.specs.Steps.{SoFar};
-ghost use Rattle.wasm_module_validator_standing.specs.Standing.{Stands};
-ghost use Rattle.wasm_module_validator_reading.specs.Reading.{under, IsReadAs};
+ghost use Rattle.wasm_module_validator_reading.specs.Reading.{under};
 ghost use Rattle.wasm_module_validator_progress.specs.Progress.{IsAt};
 ghost use Rattle.wasm_module_validator.specs.declared.validator.State.TheVariants as states;
-ghost use Rattle.wasm_module_validator.specs.Accepts.{AcceptsUnder, Accepts, Judges, default_settings};
-ghost use Rattle.wasm_module_validator.specs.States.{Leaves};
+ghost use Rattle.wasm_module_validator.specs.Accepts.{Accepts, IsShown, default_settings};
+ghost use Rattle.wasm_module_validator.specs.States.{AreBodies, IsLeft, Leaves};
 
 use crate::types::Types;
 use std::alloc::Global;
@@ -97,7 +96,7 @@ impl Validator {
     pub fn validate_all(&mut self, bytes: &[u8]) -> Result<Types>
         requires { self.old.state ≡ states.Unparsed }
         ensures verdict { Tells result (AcceptsUnder (under self.old.features.0) bytes.now) }
-        ensures shown { IfOk result (λ types. (m : ModuleTree) × Judges (under self.old.features.0) bytes.now m × Stands types.groups types.items (under self.old.features.0) (record m { code = [] })) }
+        ensures shown { IfOk result (IsShown (under self.old.features.0) bytes.now) }
         ensures state { Leaves (under self.old.features.0) bytes.now result self.new.state }
     {
         self.state = State::Failed;
@@ -105,33 +104,37 @@ impl Validator {
             Ok(read) => read,
             Err(error) => return Err(error),
         };
-        let judged = judge(self.alloc, self.features, &read);
-        self.state = state_after(&judged);
-        match judged {
-            Ok(()) => Ok(Types { module: read.progress }),
-            Err(error) => Err(error),
+        match judge(self.alloc, self.features, &read) {
+            Ok(()) => {
+                self.state = State::Ended;
+                Ok(Types {
+                    module: read.progress,
+                })
+            }
+            Err(error) => {
+                self.state = state_after(error.kind());
+                Err(error)
+            }
         }
     }
 }
 
-/// How far a validator is once it has read all sections and judged the functions.
-fn state_after(judged: &Result<()>) -> State
-    ensures { IsLeft judged.now result }
+/// How far a validator is once it has read all sections, and judging the functions gave an error of this kind.
+fn state_after(kind: ErrorKind) -> State
+    ensures { IsLeft kind result }
 {
-    match judged {
-        Ok(_) => State::Ended,
-        Err(error) => match error.kind() {
-            ErrorKind::OutOfMemory => State::Failed,
-            _ => State::Ended,
-        },
+    match kind {
+        ErrorKind::OutOfMemory => State::Failed,
+        _ => State::Ended,
     }
 }
 
 /// Judges the bodies of a module whose sections were read.
 fn judge(alloc: Global, features: WasmFeatures, read: &ReadModule<'_>) -> Result<()>
-    ensures { (q : SoFar) → IsAt (under features.0) read.now.progress read.now.bodies.items q → Tells result (AreBodies (under features.0) q) }
+    ensures { (q : SoFar) → IsAt (under features.0) read.now.progress read.now.bodies.items q → length q.bodies ≡ length q.tree.functions
+        → Tells result (AreBodies (under features.0) q) }
 {
-    let resources = read.progress.state().resources(read.progress.types());
+    let resources = read.progress.resources();
     judge_bodies(alloc, &resources, features, read.bodies.as_slice())
 }
 
@@ -142,7 +145,7 @@ fn judge(alloc: Global, features: WasmFeatures, read: &ReadModule<'_>) -> Result
 /// As `Validator::validate_all`.
 pub fn validate(alloc: Global, id: ValidatorId, bytes: &[u8]) -> Result<Types>
     ensures verdict { Tells result (Accepts bytes.now) }
-    ensures shown { IfOk result (λ types. (m : ModuleTree) × Judges default_settings bytes.now m × Stands types.groups types.items default_settings (record m { code = [] })) }
+    ensures shown { IfOk result (IsShown default_settings bytes.now) }
 {
     Validator::new(alloc, id).validate_all(bytes)
 }

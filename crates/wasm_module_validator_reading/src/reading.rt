@@ -25,7 +25,11 @@ pub struct ReadModule<'a> {
 /// # Errors
 ///
 /// The bytes are no module; or a section is not valid behind those before it: the first of these. Or there is no memory.
-pub fn read_module<'a>(alloc: Global, features: WasmFeatures, bytes: &'a [u8]) -> Result<ReadModule<'a>>
+pub fn read_module<'a>(
+    alloc: Global,
+    features: WasmFeatures,
+    bytes: &'a [u8],
+) -> Result<ReadModule<'a>>
     ensures answer { Tells result ((q : SoFar) × IsReadAs (under features.0) bytes.now q) }
     ensures stands { IfOk result (λ r. (q : SoFar) → IsReadAs (under features.0) bytes.now q → IsAt (under features.0) r.progress r.bodies.items q) }
 {

@@ -1,8 +1,9 @@
 -- A module is accepted exactly where it is read and each of its bodies is judged valid.
-use Rattle.std.proofs.Common.{◌≡◌, ◌∙◌, ℕ, List, [], ◌∷◌, length, map, take, Result, Ok, Err, refl, sym, ap, subst}
+use Rattle.std.proofs.Common.{◌≡◌, ◌∙◌, ℕ, List, [], ◌∷◌, length, map, take, Result, Ok, Err, sym, ap, subst}
 use Rattle.std.specs.Prelude.{◌↔◌}
 use Rattle.std.specs.List.{AllZip}
-use Rattle.std.proofs.lemmas.List.{take-length, length-map}
+use Rattle.std.proofs.Math.Seq.{take-length}
+use Rattle.std.proofs.lemmas.List.{length-map}
 use Rattle.wasm_types.specs.error.Denials.{Denies, Tells}
 use Rattle.wasm_types.specs.error.DenialLaws.{denies_from}
 use Rattle.wasm_types.specs.error.ErrorValue.{ErrorValue}
@@ -11,17 +12,19 @@ use Rattle.wasm_types.specs.error.declared.error.ErrorKind.TheVariants.{EndOfDat
 use Rattle.wasm_types.specs.limits.Settings.{Settings}
 use Rattle.wasm_operator_validator_stacks.specs.rules.Context.{Module}
 use Rattle.wasm_module_validator_resources.specs.Reading.{context_of}
-use Rattle.wasm_module_validator_so_far.specs.laws.Bodies.{bodies_alike}
+use Rattle.wasm_module_validator_so_far.specs.laws.Judging.{body_is_judged}
 use Rattle.wasm_module_validator_code.specs.Code.{IsFunctionOf}
 use Rattle.wasm_module_validator_code.specs.declared.bodies.Body.{Body}
-use Rattle.wasm_module_validator_steps.specs.contexts.rules.Accepts.{AcceptsUnder}
+use Rattle.wasm_module_validator_steps.specs.contexts.rules.Accepts.{AcceptsUnder, Judges}
 use Rattle.wasm_module_validator_steps.specs.contexts.rules.Syntax.{Function, ModuleTree}
 use Rattle.wasm_module_validator_steps.specs.contexts.rules.Spaces.{module_of}
 use Rattle.wasm_module_validator_steps.specs.contexts.rules.Binary.{SpelledFunction}
 use Rattle.wasm_module_validator_steps.specs.contexts.rules.Valid.{Each, HasValidBody}
 use Rattle.wasm_module_validator_steps.specs.Steps.{SoFar}
+use Rattle.wasm_module_validator_standing.specs.Standing.{Stands}
+use Rattle.wasm_module_validator_framed.specs.laws.Complete.{module_comes}
 use Rattle.wasm_module_validator_framed.specs.laws.Accepted.{accepted_comes, accepted_exactly, bodies_of_functions}
-use Rattle.wasm_module_validator_progress.specs.Progress.{Reading, IsAt, text_of, type_of}
+use Rattle.wasm_module_validator_progress.specs.Progress.{Progress, IsAt, text_of, type_of}
 use Rattle.wasm_module_validator_reading.specs.Reading.{IsReadAs}
 use Rattle.wasm_module_validator.specs.States.{AreBodies}
 
@@ -33,6 +36,11 @@ denies_each OutOfMemory P Q f d = tt
 denies_each Failed P Q f d = λ q. let a = f q in d a.0 a.1
 denies_each Other P Q f d = λ q. let a = f q in d a.0 a.1
 
+-- what tells of a fact tells of what holds exactly where that does
+pub tells_same : {X : Type 0} (answer : Result X ErrorValue) (P Q : Type 0) → P ↔ Q → Tells answer P → Tells answer Q
+tells_same (Ok x) P Q f h = f.0 h
+tells_same (Err e) P Q f h = denies_from e.kind P Q f.1 h
+
 -- ---- bodies that were kept
 
 module _ (z : Settings) (g h : Module) (alike : (x : ℕ) (f : Function) → HasValidBody z g x f ↔ HasValidBody z h x f) where
@@ -40,28 +48,45 @@ module _ (z : Settings) (g h : Module) (alike : (x : ℕ) (f : Function) → Has
   abbrev IsBody : ℕ → List ℕ → Type 0
   IsBody x text = (f : Function) × SpelledFunction z f text × HasValidBody z h x f
 
-  zip_of : (bodies : List Body) → Each (λ (b : Body). IsFunctionOf z g b.type_index b.body.rest) bodies → AllZip IsBody (map type_of bodies) (map text_of bodies)
+  -- each body spells a valid function of its type
+  abbrev AreFunctions : List Body → Type 0
+  AreFunctions bodies = Each (λ (b : Body). IsFunctionOf z g b.type_index b.body.rest) bodies
+
+  zip_of : (bodies : List Body) → AreFunctions bodies → AllZip IsBody (map type_of bodies) (map text_of bodies)
   zip_of [] e = tt
-  zip_of (b ∷ bs) e = ((e.0.0, e.0.1.0, (alike b.type_index e.0.0).0 e.0.1.1), zip_of bs e.1)
+  zip_of (b ∷ bs) e = ((e.0.0, e.0.1, (alike b.type_index e.0.0).0 e.0.2), zip_of bs e.1)
 
-  of_zip : (bodies : List Body) → AllZip IsBody (map type_of bodies) (map text_of bodies) → Each (λ (b : Body). IsFunctionOf z g b.type_index b.body.rest) bodies
+  of_zip : (bodies : List Body) → AllZip IsBody (map type_of bodies) (map text_of bodies) → AreFunctions bodies
   of_zip [] e = tt
-  of_zip (b ∷ bs) e = ((e.0.0, e.0.1.0, (alike b.type_index e.0.0).1 e.0.1.1), of_zip bs e.1)
+  of_zip (b ∷ bs) e = ((e.0.0, e.0.1, (alike b.type_index e.0.0).1 e.0.2), of_zip bs e.1)
 
-module _ (z : Settings) (r : Reading) (bodies : List Body) (q : SoFar) (at : IsAt z r bodies q) (as_many : length q.bodies ≡ length q.tree.functions) where
+module _ (z : Settings) (r : Progress) (bodies : List Body) (q : SoFar) (at : IsAt z r bodies q)
+    (as_many : length q.bodies ≡ length q.tree.functions) where
+  abbrev here : Module
+  here = context_of r.kept.groups r.kept.items.spaces
+
+  abbrev IsOne : ℕ → List ℕ → Type 0
+  IsOne x text = (f : Function) × SpelledFunction z f text × HasValidBody z (module_of q.tree) x f
+
   types_are : map type_of bodies ≡ q.tree.functions
   types_are =
-      at.types ∙ (ap (λ (n : ℕ). take n q.tree.functions) (sym (length-map text_of bodies) ∙ (ap length at.bodies ∙ as_many)) ∙ take-length q.tree.functions)
+      let count : length bodies ≡ length q.tree.functions = sym (length-map bodies text_of) ∙ (ap length at.bodies ∙ as_many) in
+      at.types ∙ (ap (λ (n : ℕ). take n q.tree.functions) count ∙ take-length q.tree.functions)
+
+  are_alike : (x : ℕ) (f : Function) → HasValidBody z here x f ↔ HasValidBody z (module_of q.tree) x f
+  are_alike x f = body_is_judged r.kept.groups r.kept.items.spaces q.tree at.stands.read at.stands.referred z x f
+
+  abbrev AreThose : List ℕ → List (List ℕ) → Type 0
+  AreThose xs ts = AllZip IsOne xs ts
 
   -- the bodies that were kept are judged valid exactly where those of what was read are
-  pub bodies_are : Each (λ (b : Body). IsFunctionOf z (context_of r.groups r.items.spaces) b.type_index b.body.rest) bodies ↔ AreBodies z q
+  pub bodies_are : Each (λ (b : Body). IsFunctionOf z here b.type_index b.body.rest) bodies ↔ AreBodies z q
   bodies_are = (
-    λ e. subst (λ ts. AllZip _ q.tree.functions ts) at.bodies (subst (λ xs. AllZip _ xs (map text_of bodies)) types_are (zip_of z _ _ alike bodies e)),
-    λ e. of_zip z _ _ alike bodies (subst (λ xs. AllZip _ xs (map text_of bodies)) (sym types_are) (subst (λ ts. AllZip _ q.tree.functions ts) (sym at.bodies) e)),
+    λ e. subst (λ ts. AreThose q.tree.functions ts) at.bodies
+        (subst (λ xs. AreThose xs (map text_of bodies)) types_are (zip_of z here (module_of q.tree) are_alike bodies e)),
+    λ e. of_zip z here (module_of q.tree) are_alike bodies
+        (subst (λ xs. AreThose xs (map text_of bodies)) (sym types_are) (subst (λ ts. AreThose q.tree.functions ts) (sym at.bodies) e)),
   )
-    where
-      alike : (x : ℕ) (f : Function) → HasValidBody z (context_of r.groups r.items.spaces) x f ↔ HasValidBody z (module_of q.tree) x f
-      alike x f = bodies_alike z r.groups r.items.spaces q.tree at.stands.read at.stands.referred x f
 
 -- ---- modules
 
@@ -74,3 +99,22 @@ module _ (z : Settings) (text : List ℕ) where
 
   pub read_is_accepted : (q : SoFar) → IsReadAs z text q → AreBodies z q → AcceptsUnder z text
   read_is_accepted q (xs, is, judged) bodies = (accepted_exactly z text xs is).1 (q, judged, bodies)
+
+-- What is kept of a module that was read; and an answer that tells whether bodies that were read are valid.
+module _ (z : Settings) (text : List ℕ) (r : Progress) (bodies : List Body) (read : (q : SoFar) × IsReadAs z text q)
+    (stands : (q : SoFar) → IsReadAs z text q → IsAt z r bodies q) where
+  -- it tells whether the module is accepted
+  pub tells_accepted : {X : Type 0} (answer : Result X ErrorValue)
+      → ((q : SoFar) → IsAt z r bodies q → length q.bodies ≡ length q.tree.functions → Tells answer (AreBodies z q))
+      → Tells answer (AcceptsUnder z text)
+  tells_accepted (Ok x) told =
+      read_is_accepted z text read.0 read.1 (told read.0 (stands read.0 read.1) (as_many_bodies z text read.0 read.1))
+  tells_accepted (Err e) told = denies_each {X = (q : SoFar) × IsReadAs z text q} e.kind (λ q. AreBodies z q.0) (AcceptsUnder z text)
+      (λ a. let h = accepted_is_read z text a in ((h.0, h.1), h.2))
+      (λ q. told q.0 (stands q.0 q.1) (as_many_bodies z text q.0 q.1))
+
+  -- where it is accepted, what is kept stands for it, without its code
+  pub stands_for_module : (m : ModuleTree) → Judges z text m → Stands r.kept.groups r.kept.items z (record m { code = [] })
+  stands_for_module m j =
+      let h = module_comes z m text j.spelled j.valid in
+      subst (λ (n : ModuleTree). Stands r.kept.groups r.kept.items z n) h.2.2 (stands h.2.0 (h.0, h.1, h.2.1)).stands

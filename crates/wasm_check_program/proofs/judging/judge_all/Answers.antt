@@ -1,12 +1,15 @@
-use Rattle.std.proofs.Common.{[], ◌∷◌, ◌∙◌, arith}
+use Rattle.std.proofs.Common.{[], ◌∷◌, ◌∙◌, refl, arith}
 use Rattle.std.proofs.lemmas.Iterator.Adapters.{YieldsList-from_vec}
 use Rattle.std.proofs.lemmas.Iterator.Consumers.{YieldsList-so_far, YieldsList-turn}
 use Rattle.std.proofs.lemmas.List.{map-append, length_push}
 use Rattle.std.proofs.lemmas.Result.{err_from_is_err_and}
 use Rattle.wasm_check_program.specs.Reports.{source_of, sources_of}
-use Rattle.wasm_check_program.proofs.ReportLemmas.{Stops-after, sources_so_far, source_at, IsReported-valid, IsReported-invalid}
+use Rattle.wasm_check_program.proofs.ReportLemmas.{IsReported-none, Stops-after, sources_so_far, source_at, IsReported-valid, IsReported-invalid}
 use Rattle.wasm_check_program.proofs.judging.judge_all.Goals as goal
 use Rattle.wasm_check_program.proofs.judging.judge_all.Goals.{then-not-branch, else-not-branch}
+
+pub loop-input-init : goal.loop-input-init
+loop-input-init g c = record { can = tt; finite = tt; counted = refl; reported = IsReported-none (g.W.Write.contents c.args.out.now) }
 
 pub returns-in_err-judge_input-clause-err : goal.returns-in_err-judge_input-clause-err
 returns-in_err-judge_input-clause-err g c =

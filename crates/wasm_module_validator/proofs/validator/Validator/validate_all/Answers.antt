@@ -1,0 +1,41 @@
+use Rattle.std.proofs.Common.{List, subst}
+use Rattle.wasm_types.specs.error.Denials.{Tells}
+use Rattle.wasm_types.specs.error.DenialLaws.{denies_from}
+use Rattle.wasm_types.specs.limits.Settings.{Settings}
+use Rattle.wasm_module_validator_code.specs.declared.bodies.Body.{Body}
+use Rattle.wasm_module_validator_steps.specs.contexts.rules.Accepts.{AcceptsUnder}
+use Rattle.wasm_module_validator_steps.specs.Steps.{SoFar}
+use Rattle.wasm_module_validator_progress.specs.Progress.{Progress}
+use Rattle.wasm_module_validator_reading.specs.Reading.{under, IsReadAs}
+use Rattle.wasm_module_validator.specs.laws.Verdict.{accepted_is_read, tells_accepted, stands_for_module}
+use Rattle.wasm_module_validator.proofs.validator.Validator.validate_all.Goals as goal
+
+pub returns-in-Err-clause-verdict : goal.returns-in-Err-clause-verdict
+returns-in-Err-clause-verdict c =
+    let z : Settings = under c.args.self.now.features.0 in
+    denies_from c.in-Err.error.kind ((q : SoFar) × IsReadAs z c.args.bytes.now q) (AcceptsUnder z c.args.bytes.now)
+    (λ a. let h = accepted_is_read z c.args.bytes.now a in (h.0, h.1)) c.in-Err.ensures.answer
+
+pub returns-in-Ok-judge-clause-verdict : goal.returns-in-Ok-judge-clause-verdict
+returns-in-Ok-judge-clause-verdict c =
+    let z : Settings = under c.args.self.now.features.0 in
+    let r : Progress = c.in-Ok.read.progress in
+    let bodies : List Body = c.in-Ok.read.bodies.items in
+    subst (λ answer. Tells answer (AcceptsUnder z c.args.bytes.now)) c.in-Ok-judge.is
+    (tells_accepted z c.args.bytes.now r bodies c.in-Ok.ensures.answer c.in-Ok.ensures.stands c.judge.result c.judge.ensures)
+
+pub returns-in-Ok-judge-clause-shown : goal.returns-in-Ok-judge-clause-shown
+returns-in-Ok-judge-clause-shown c =
+    let z : Settings = under c.args.self.now.features.0 in
+    let r : Progress = c.in-Ok.read.progress in
+    let bodies : List Body = c.in-Ok.read.bodies.items in
+    let a : AcceptsUnder z c.args.bytes.now = returns-in-Ok-judge-clause-verdict c in
+    (a.0, a.1, stands_for_module z c.args.bytes.now r bodies c.in-Ok.ensures.answer c.in-Ok.ensures.stands a.0 a.1)
+
+pub returns-in-Err-judge-clause-verdict : goal.returns-in-Err-judge-clause-verdict
+returns-in-Err-judge-clause-verdict c =
+    let z : Settings = under c.args.self.now.features.0 in
+    let r : Progress = c.in-Ok.read.progress in
+    let bodies : List Body = c.in-Ok.read.bodies.items in
+    subst (λ answer. Tells answer (AcceptsUnder z c.args.bytes.now)) c.in-Err-judge.is
+    (tells_accepted z c.args.bytes.now r bodies c.in-Ok.ensures.answer c.in-Ok.ensures.stands c.judge.result c.judge.ensures)

@@ -1,0 +1,26 @@
+use Rattle.std.proofs.Common.{◌≡◌, List, subst}
+use Rattle.wasm_types.specs.error.Denials.{Tells}
+use Rattle.wasm_types.specs.limits.Settings.{Settings}
+use Rattle.wasm_operator_validator_stacks.specs.rules.Context.{Module}
+use Rattle.wasm_module_validator_resources.specs.Reading.{context_of}
+use Rattle.wasm_module_validator_steps.specs.contexts.rules.Valid.{Each}
+use Rattle.wasm_module_validator_code.specs.Code.{IsReadBy, IsFunctionOf}
+use Rattle.wasm_module_validator_code.specs.declared.bodies.Body.{Body}
+use Rattle.wasm_module_validator_reading.specs.Reading.{under}
+use Rattle.wasm_module_validator.specs.States.{AreBodies}
+use Rattle.wasm_module_validator.specs.laws.Verdict.{tells_same, bodies_are}
+use Rattle.wasm_module_validator.proofs.validator.judge.Goals as goal
+
+pub returns : goal.returns
+returns c q at as_many =
+    let z : Settings = under c.args.features.0 in
+    let bs : List Body = c.args.read.now.bodies.items in
+    let there : Module = context_of c.resources-resources.result.types.now.groups c.resources-resources.result.«module».now in
+    let here : Module = context_of c.args.read.now.progress.kept.groups c.args.read.now.progress.kept.items.spaces in
+    let are_of = λ (m : Module) (xs : List Body). Each (λ (b : Body). IsFunctionOf z m b.type_index b.body.rest) xs in
+    let told : Tells c.judge_bodies.result (are_of there bs) =
+    subst (λ (xs : List Body). Each (λ (b : Body). IsReadBy z z.features b.body) xs → Tells c.judge_bodies.result (are_of there xs))
+    c.as_slice.ensures.value (c.judge_bodies.ensures z) at.read in
+    let same : there ≡ here = λ i. (c.resources-resources.ensures i).«module» in
+    tells_same c.judge_bodies.result (are_of here bs) (AreBodies z q) (bodies_are z c.args.read.now.progress bs q at as_many)
+    (subst (λ (m : Module). Tells c.judge_bodies.result (are_of m bs)) same told)

@@ -1,0 +1,59 @@
+use Rattle.std.proofs.Common.{false, ◌≡◌, ◌∙◌, ◌+◌, ◌<◌, ◌^◌, List, [], length, refl, sym, subst, arith, Some, Result}
+use Rattle.wasm_types.specs.error.ErrorValue.{ErrorValue}
+use Rattle.wasm_sections_parser_laws.specs.Runs.{fresh}
+use Rattle.wasm_sections_parser.specs.declared.parser.Parser.{Parser}
+use Rattle.wasm_sections_payloads.specs.declared.payload.Payload.{Payload}
+use Rattle.wasm_sections_payloads.specs.Walking.{NextPayload}
+use Rattle.wasm_module_validator_code.specs.declared.bodies.Body.{Body}
+use Rattle.wasm_module_validator_progress.specs.Progress.{Progress, IsAt}
+use Rattle.wasm_module_validator_steps.specs.Steps.{nothing}
+use Rattle.wasm_module_validator_reading.specs.Reading.{under}
+use Rattle.wasm_module_validator_reading.specs.laws.Walking.{Goes, goes_first, goes_on, refused_payload, refused_bytes, is_read, stands_for, nothing_is_at}
+use Rattle.wasm_module_validator_reading.proofs.reading.read_module.Goals as goal
+
+pub loop-payload-init : goal.loop-payload-init
+loop-payload-init c =
+    let p : Parser = record { offset = 0; features = c.args.features; progress = fresh } in
+    let room : 0 + length c.args.bytes.now < 2 ^ 64 = omega (arith, c) in
+    let made : c.set_features.new.self.frames ≡ p =
+    c.set_features.ensures ∙ (λ i. record { offset = c.new-parser.ensures.offset i; features = c.args.features; progress = c.new-parser.ensures.fresh i }) in
+    let here : c.into_iter-payload-iterator.result ≡ record { parser = p; rest = c.args.bytes.now; over = false } =
+    c.into_iter-payload-iterator.ensures.into_iter_gives ∙ c.parse_all-payload-items.ensures ∙ (λ i. record { parser = made i; rest = c.args.bytes.now; over = false }) in
+    let at = subst (λ (r : Progress). IsAt (under c.args.features.0) r [] nothing) (sym c.new-progress.ensures) (nothing_is_at c.args.features.0) in
+    subst (λ (bs : List Body). Goes p c.args.bytes.now c.into_iter-payload-iterator.result c.new-progress.result bs) (sym c.new-bodies.ensures.items)
+    (goes_first p c.args.bytes.now refl room c.into_iter-payload-iterator.result c.new-progress.result here at)
+
+pub returns-in-Err-clause-answer : goal.returns-in-Err-clause-answer
+returns-in-Err-clause-answer c =
+    let p : Parser = record { offset = 0; features = c.args.features; progress = fresh } in
+    let room : 0 + length c.args.bytes.now < 2 ^ 64 = omega (arith, c) in
+    let next = subst (λ (r : Result Payload ErrorValue). NextPayload c.loop-payload.payload-iterator (Some r) c.next.new.self) c.in-Err.is c.in-Some.ensures.steps in
+    refused_bytes p c.args.bytes.now refl room c.loop-payload.payload-iterator c.next.new.self c.loop-payload.progress c.loop-payload.bodies.items c.in-Err.error c.loop-payload.invariant next
+
+pub loop-payload-preserved : goal.loop-payload-preserved
+loop-payload-preserved c =
+    let p : Parser = record { offset = 0; features = c.args.features; progress = fresh } in
+    let room : 0 + length c.args.bytes.now < 2 ^ 64 = omega (arith, c) in
+    let next = subst (λ (r : Result Payload ErrorValue). NextPayload c.loop-payload.payload-iterator (Some r) c.next.new.self) c.in-Ok.is c.in-Some.ensures.steps in
+    goes_on p c.args.bytes.now refl room c.loop-payload.payload-iterator c.next.new.self c.loop-payload.progress c.loop-payload.bodies.items c.in-Ok.payload c.loop-payload.invariant next
+    c.take_payload.new.self _ c.in-Ok-take_payload.ensures.answer c.in-Ok-take_payload.ensures.added
+
+pub returns-in-Err-take_payload-clause-answer : goal.returns-in-Err-take_payload-clause-answer
+returns-in-Err-take_payload-clause-answer c =
+    let p : Parser = record { offset = 0; features = c.args.features; progress = fresh } in
+    let room : 0 + length c.args.bytes.now < 2 ^ 64 = omega (arith, c) in
+    let next = subst (λ (r : Result Payload ErrorValue). NextPayload c.loop-payload.payload-iterator (Some r) c.next.new.self) c.in-Ok.is c.in-Some.ensures.steps in
+    refused_payload p c.args.bytes.now refl room c.loop-payload.payload-iterator c.next.new.self c.loop-payload.progress c.loop-payload.bodies.items c.in-Ok.payload c.loop-payload.invariant next
+    c.in-Err-take_payload.error.kind c.in-Err-take_payload.ensures.answer
+
+pub returns-clause-answer : goal.returns-clause-answer
+returns-clause-answer c =
+    let p : Parser = record { offset = 0; features = c.args.features; progress = fresh } in
+    let room : 0 + length c.args.bytes.now < 2 ^ 64 = omega (arith, c) in
+    is_read p c.args.bytes.now refl room c.loop-payload.payload-iterator c.next.new.self c.loop-payload.progress c.loop-payload.bodies.items c.loop-payload.invariant c.in-None.ensures.steps
+
+pub returns-clause-stands : goal.returns-clause-stands
+returns-clause-stands c =
+    let p : Parser = record { offset = 0; features = c.args.features; progress = fresh } in
+    let room : 0 + length c.args.bytes.now < 2 ^ 64 = omega (arith, c) in
+    stands_for p c.args.bytes.now refl room c.loop-payload.payload-iterator c.next.new.self c.loop-payload.progress c.loop-payload.bodies.items c.loop-payload.invariant c.in-None.ensures.steps
