@@ -3,10 +3,10 @@
 use Rattle.std.specs.Prelude.{ℕ, List, []}
 use Rattle.wasm_types.specs.limits.Settings.{Settings}
 use Rattle.wasm_types.specs.features.Sets.{bits_of, default_features}
-use Rattle.wasm_module_validator_steps.specs.contexts.rules.Accepts.{AcceptsUnder, Judges}
-use Rattle.wasm_module_validator_steps.specs.contexts.rules.Syntax.{ModuleTree}
-use Rattle.wasm_module_validator_standing.specs.Standing.{Stands}
-use Rattle.wasm_module_validator_progress.specs.Progress.{Progress}
+use Rattle.wasm_module_validator_reading.specs.progress.standing.steps.contexts.rules.Accepts.{AcceptsUnder, Judges}
+use Rattle.wasm_module_validator_reading.specs.progress.standing.steps.contexts.rules.Syntax.{ModuleTree}
+use Rattle.wasm_module_validator_reading.specs.progress.standing.Standing.{Stands}
+use Rattle.wasm_module_validator_reading.specs.progress.Progress.{Progress}
 use Rattle.wasm_module_validator_reading.specs.Reading.{under}
 
 -- the features and limits that hold where none are chosen

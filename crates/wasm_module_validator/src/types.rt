@@ -13,7 +13,7 @@ pub struct Types {
 
 impl Model for Types {
     ghost use Rattle.std.specs.Prelude.{◌<◌, ◌^◌, length};
-    ghost use Rattle.wasm_module_validator_progress.specs.Progress.{Progress};
+    ghost use Rattle.wasm_module_validator_reading.specs.progress.Progress.{Progress};
 
     ghost Value = { Progress };
 
@@ -38,7 +38,7 @@ pub struct TypesRef<'a> {
 }
 
 impl<'a> Model for TypesRef<'a> {
-    ghost use Rattle.wasm_module_validator_progress.specs.Progress.{Progress};
+    ghost use Rattle.wasm_module_validator_reading.specs.progress.Progress.{Progress};
 
     ghost Value = { Progress };
 

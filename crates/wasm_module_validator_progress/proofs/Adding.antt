@@ -5,9 +5,9 @@ use Rattle.wasm_types.specs.error.Denials.{Tells}
 use Rattle.wasm_types.specs.error.DenialLaws.{denies_from}
 use Rattle.wasm_types.specs.error.ErrorValue.{ErrorValue}
 use Rattle.wasm_types.specs.limits.Settings.{Settings}
-use Rattle.wasm_module_validator_steps.specs.contexts.rules.Syntax.{ModuleTree}
-use Rattle.wasm_module_validator_steps.specs.Sections.{Section}
-use Rattle.wasm_module_validator_steps.specs.Texts.{ItemRead, AddsRead}
+use Rattle.wasm_module_validator_standing.specs.steps.contexts.rules.Syntax.{ModuleTree}
+use Rattle.wasm_module_validator_standing.specs.steps.Sections.{Section}
+use Rattle.wasm_module_validator_standing.specs.steps.Texts.{ItemRead, AddsRead}
 use Rattle.wasm_module_validator_texts.specs.Sections.{Reading, AddsIn, RefusesIn}
 use Rattle.wasm_module_validator_progress.specs.Progress.{Kept, IsRead}
 

@@ -11,8 +11,8 @@ use Rattle.wasm_sections_parser.specs.Parsing.{shape_of}
 use Rattle.wasm_sections_payloads.specs.declared.payload.Payload.{Payload}
 use Rattle.wasm_sections_payloads.specs.Payloads.{IsSectionOf, IsPayloadOf}
 use Rattle.wasm_module_validator_code.specs.declared.bodies.Body.{Body}
-use Rattle.wasm_module_validator_steps.specs.Sections.{Section, number}
-use Rattle.wasm_module_validator_steps.specs.Steps.{SoFar, JudgesSection, JudgesShape}
+use Rattle.wasm_module_validator_standing.specs.steps.Sections.{Section, number}
+use Rattle.wasm_module_validator_standing.specs.steps.Steps.{SoFar, JudgesSection, JudgesShape}
 use Rattle.wasm_module_validator_fronts.specs.Walks.{HasSettings}
 use Rattle.wasm_module_validator_progress.specs.Progress.{Progress, IsAt}
 use Rattle.wasm_module_validator_progress.specs.laws.Shapes.{frame_back, of_frame, of_section, of_shape, shape_told}

@@ -7,11 +7,11 @@ use Rattle.wasm_types.specs.error.DenialLaws.{denies_from}
 use Rattle.wasm_types.specs.error.ErrorValue.{ErrorValue}
 use Rattle.wasm_types.specs.limits.Settings.{Settings}
 use Rattle.wasm_module_validator_type_trees.specs.Groups.{Group}
-use Rattle.wasm_module_validator_items.specs.Items.{Items}
-use Rattle.wasm_module_validator_steps.specs.contexts.rules.Syntax.{ModuleTree}
-use Rattle.wasm_module_validator_steps.specs.Sections.{Section}
-use Rattle.wasm_module_validator_steps.specs.Sections as section
-use Rattle.wasm_module_validator_steps.specs.Texts.{ItemRead, AddsRead}
+use Rattle.wasm_module_validator_standing.specs.items.Items.{Items}
+use Rattle.wasm_module_validator_standing.specs.steps.contexts.rules.Syntax.{ModuleTree}
+use Rattle.wasm_module_validator_standing.specs.steps.Sections.{Section}
+use Rattle.wasm_module_validator_standing.specs.steps.Sections as section
+use Rattle.wasm_module_validator_standing.specs.steps.Texts.{ItemRead, AddsRead}
 use Rattle.wasm_module_validator_standing.specs.Standing.{AddsItem, IsReading}
 use Rattle.wasm_module_validator_progress.specs.Progress.{Reads}
 

@@ -2,3 +2,8 @@
 pub mod Progress
 -- Laws, with the proofs.
 pub mod laws
+-- The rules of the crates below, under their names: crates above cite them here.
+pub use Rattle.wasm_module_validator_standing.specs as standing
+pub use Rattle.wasm_module_validator_so_far.specs as so_far
+pub use Rattle.wasm_module_validator_fronts.specs as fronts
+pub use Rattle.wasm_module_validator_code.specs as code

@@ -3,11 +3,11 @@ use Rattle.std.specs.Prelude.{◌≡◌, ◌≤◌, ℕ, List, [], length, map, 
 use Rattle.wasm_types.specs.limits.Limits.{default_limits}
 use Rattle.wasm_types.specs.limits.Settings.{Settings}
 use Rattle.wasm_module_validator_type_trees.specs.Groups.{Group}
-use Rattle.wasm_module_validator_items.specs.Items.{Items, no_items}
-use Rattle.wasm_module_validator_steps.specs.contexts.rules.Syntax.{ModuleTree}
-use Rattle.wasm_module_validator_steps.specs.contexts.rules.Valid.{Each}
-use Rattle.wasm_module_validator_steps.specs.Sections.{Section}
-use Rattle.wasm_module_validator_steps.specs.Steps.{SoFar, IsJudged}
+use Rattle.wasm_module_validator_standing.specs.items.Items.{Items, no_items}
+use Rattle.wasm_module_validator_standing.specs.steps.contexts.rules.Syntax.{ModuleTree}
+use Rattle.wasm_module_validator_standing.specs.steps.contexts.rules.Valid.{Each}
+use Rattle.wasm_module_validator_standing.specs.steps.Sections.{Section}
+use Rattle.wasm_module_validator_standing.specs.steps.Steps.{SoFar, IsJudged}
 use Rattle.wasm_module_validator_standing.specs.Standing.{Stands, IsReading}
 use Rattle.wasm_module_validator_texts.specs.Sections.{Reading}
 use Rattle.wasm_module_validator_code.specs.Code.{IsReadBy}

@@ -7,7 +7,7 @@ ghost use Rattle.wasm_module_validator_progress.specs.Progress.{nothing_kept};
 
 use std::alloc::Global;
 use std::marker::Model;
-use wasm_module_validator_items::ModuleState;
+use wasm_module_validator_standing::ModuleState;
 use wasm_module_validator_types::TypeList;
 use wasm_types::{Limits, WasmFeatures};
 

@@ -6,8 +6,8 @@ ghost use Rattle.wasm_types.specs.error.Denials.{Tells};
 ghost use Rattle.wasm_types.specs.limits.Settings.{Settings};
 ghost use Rattle.wasm_sections_payloads.specs.Payloads.{Counts};
 ghost use Rattle.wasm_module_validator_code.specs.declared.bodies.Body.{Body as TheBody};
-ghost use Rattle.wasm_module_validator_steps.specs.Sections as section;
-ghost use Rattle.wasm_module_validator_steps.specs.Steps.{SoFar, JudgesSection};
+ghost use Rattle.wasm_module_validator_standing.specs.steps.Sections as section;
+ghost use Rattle.wasm_module_validator_standing.specs.steps.Steps.{SoFar, JudgesSection};
 ghost use Rattle.wasm_module_validator_progress.specs.Progress.{IsAt};
 
 use crate::{Collected, InProgress};
@@ -18,8 +18,8 @@ use wasm_sections_payloads::ImportSectionReader;
 use wasm_types::Result;
 
 impl<'a> AddLent<'a, Import<'a>> for Collected {
-    ghost use Rattle.wasm_module_validator_steps.specs.Sections as section;
-    ghost use Rattle.wasm_module_validator_steps.specs.Texts.{ItemRead};
+    ghost use Rattle.wasm_module_validator_standing.specs.steps.Sections as section;
+    ghost use Rattle.wasm_module_validator_standing.specs.steps.Texts.{ItemRead};
     ghost use Rattle.wasm_module_validator_texts.specs.Sections.{Reading, AddsIn, RefusesIn};
     ghost use Rattle.wasm_module_validator_texts.specs.Kinds.{import_read};
     ghost use Rattle.wasm_module_validator_progress.specs.Progress.{IsRead};

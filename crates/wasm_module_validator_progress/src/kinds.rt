@@ -6,11 +6,11 @@ ghost use Rattle.wasm_types.specs.limits.Limits.{IsWithinCeilings};
 ghost use Rattle.wasm_types.specs.limits.Settings.{Settings};
 ghost use Rattle.wasm_module_validator_resources.specs.Named.{IsReadOver};
 ghost use Rattle.wasm_module_validator_type_trees.specs.Groups.{Group};
-ghost use Rattle.wasm_module_validator_steps.specs.contexts.rules.Syntax.{ModuleTree};
-ghost use Rattle.wasm_module_validator_steps.specs.Sections as section;
-ghost use Rattle.wasm_module_validator_steps.specs.Sections.{IsUnread, place};
-ghost use Rattle.wasm_module_validator_steps.specs.Adding.{Fits};
-ghost use Rattle.wasm_module_validator_steps.specs.Texts.{AddsRead};
+ghost use Rattle.wasm_module_validator_standing.specs.steps.contexts.rules.Syntax.{ModuleTree};
+ghost use Rattle.wasm_module_validator_standing.specs.steps.Sections as section;
+ghost use Rattle.wasm_module_validator_standing.specs.steps.Sections.{IsUnread, place};
+ghost use Rattle.wasm_module_validator_standing.specs.steps.Adding.{Fits};
+ghost use Rattle.wasm_module_validator_standing.specs.steps.Texts.{AddsRead};
 ghost use Rattle.wasm_module_validator_standing.specs.Standing.{Stands};
 ghost use Rattle.wasm_module_validator_texts.specs.Sections.{MayBegin};
 ghost use Rattle.wasm_module_validator_texts.specs.Kinds.{table_read, global_read, export_read, element_read, data_read};
@@ -22,7 +22,7 @@ use wasm_module_validator_declaring::{
     add_export_item, add_function_item, add_group, add_memory_item, add_tag_item,
 };
 use wasm_module_validator_initialising::{add_element, add_global, add_table, check_data_item};
-use wasm_module_validator_items::ModuleState;
+use wasm_module_validator_standing::ModuleState;
 use wasm_module_validator_types::TypeList;
 use wasm_operators_bodies::ConstExpr;
 use wasm_sections_elements::ElementOf;
@@ -31,7 +31,7 @@ use wasm_sections_segments::{DataOf, GlobalOf, TableOf};
 use wasm_types::{Error, MemoryType, RecGroup, Result, TagType, WasmFeatures};
 
 impl<'a> SectionItem<'a> for RecGroup {
-    ghost use Rattle.wasm_module_validator_steps.specs.Sections as section;
+    ghost use Rattle.wasm_module_validator_standing.specs.steps.Sections as section;
     ghost use Rattle.wasm_module_validator_texts.specs.Kinds.{group_read};
     ghost use Rattle.wasm_module_validator_texts.specs.laws.Kinds.{types_tell};
     ghost use Rattle.wasm_module_validator_texts.specs.laws.Groups.{groups_alike};
@@ -71,7 +71,7 @@ impl<'a> SectionItem<'a> for RecGroup {
 }
 
 impl<'a> SectionItem<'a> for u32 {
-    ghost use Rattle.wasm_module_validator_steps.specs.Sections as section;
+    ghost use Rattle.wasm_module_validator_standing.specs.steps.Sections as section;
     ghost use Rattle.wasm_module_validator_texts.specs.Kinds.{index_read};
     ghost use Rattle.wasm_module_validator_texts.specs.laws.Kinds.{functions_tell};
 
@@ -104,7 +104,7 @@ impl<'a> SectionItem<'a> for u32 {
 }
 
 impl<'a> SectionItem<'a> for TableOf<ConstExpr<'a>> {
-    ghost use Rattle.wasm_module_validator_steps.specs.Sections as section;
+    ghost use Rattle.wasm_module_validator_standing.specs.steps.Sections as section;
     ghost use Rattle.wasm_module_validator_texts.specs.Kinds.{table_read};
     ghost use Rattle.wasm_module_validator_texts.specs.laws.Kinds.{tables_tell};
 
@@ -152,7 +152,7 @@ impl<'a> SectionItem<'a> for TableOf<ConstExpr<'a>> {
 }
 
 impl<'a> SectionItem<'a> for MemoryType {
-    ghost use Rattle.wasm_module_validator_steps.specs.Sections as section;
+    ghost use Rattle.wasm_module_validator_standing.specs.steps.Sections as section;
     ghost use Rattle.wasm_module_validator_texts.specs.Kinds.{memory_read};
     ghost use Rattle.wasm_module_validator_texts.specs.laws.Kinds.{memories_tell};
 
@@ -185,7 +185,7 @@ impl<'a> SectionItem<'a> for MemoryType {
 }
 
 impl<'a> SectionItem<'a> for TagType {
-    ghost use Rattle.wasm_module_validator_steps.specs.Sections as section;
+    ghost use Rattle.wasm_module_validator_standing.specs.steps.Sections as section;
     ghost use Rattle.wasm_module_validator_texts.specs.Kinds.{tag_read};
     ghost use Rattle.wasm_module_validator_texts.specs.laws.Kinds.{tags_tell};
 
@@ -225,7 +225,7 @@ impl<'a> SectionItem<'a> for TagType {
 }
 
 impl<'a> SectionItem<'a> for GlobalOf<ConstExpr<'a>> {
-    ghost use Rattle.wasm_module_validator_steps.specs.Sections as section;
+    ghost use Rattle.wasm_module_validator_standing.specs.steps.Sections as section;
     ghost use Rattle.wasm_module_validator_texts.specs.Kinds.{global_read};
     ghost use Rattle.wasm_module_validator_texts.specs.laws.Kinds.{globals_tell};
 
@@ -273,7 +273,7 @@ impl<'a> SectionItem<'a> for GlobalOf<ConstExpr<'a>> {
 }
 
 impl<'a> SectionItem<'a> for Export<'a> {
-    ghost use Rattle.wasm_module_validator_steps.specs.Sections as section;
+    ghost use Rattle.wasm_module_validator_standing.specs.steps.Sections as section;
     ghost use Rattle.wasm_module_validator_texts.specs.Kinds.{export_read};
     ghost use Rattle.wasm_module_validator_texts.specs.laws.Kinds.{exports_tell};
 
@@ -321,7 +321,7 @@ impl<'a> SectionItem<'a> for Export<'a> {
 }
 
 impl<'a> SectionItem<'a> for ElementOf<'a, ConstExpr<'a>> {
-    ghost use Rattle.wasm_module_validator_steps.specs.Sections as section;
+    ghost use Rattle.wasm_module_validator_standing.specs.steps.Sections as section;
     ghost use Rattle.wasm_module_validator_texts.specs.Kinds.{element_read};
     ghost use Rattle.wasm_module_validator_texts.specs.laws.Kinds.{elements_tell};
 
@@ -369,7 +369,7 @@ impl<'a> SectionItem<'a> for ElementOf<'a, ConstExpr<'a>> {
 }
 
 impl<'a> SectionItem<'a> for DataOf<'a, ConstExpr<'a>> {
-    ghost use Rattle.wasm_module_validator_steps.specs.Sections as section;
+    ghost use Rattle.wasm_module_validator_standing.specs.steps.Sections as section;
     ghost use Rattle.wasm_module_validator_texts.specs.Kinds.{data_read};
     ghost use Rattle.wasm_module_validator_texts.specs.laws.Kinds.{segments_tell};
 

@@ -18,4 +18,4 @@ mod progress;
 pub use collected::Collected;
 pub use items::SectionItem;
 pub use progress::InProgress;
-pub use wasm_module_validator_code::Body;
+pub use wasm_module_validator_code::{Body, judge_bodies};

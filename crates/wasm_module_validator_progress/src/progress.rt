@@ -10,8 +10,8 @@ ghost use Rattle.wasm_module_validator_progress.specs.Progress.{nothing_kept};
 use crate::Collected;
 use std::alloc::Global;
 use std::marker::Model;
-use wasm_module_validator_items::ModuleState;
 use wasm_module_validator_resources::OperatorValidatorResources;
+use wasm_module_validator_standing::ModuleState;
 use wasm_types::WasmFeatures;
 
 /// A module that is being read. A contract sees what is kept (`specs/Progress.antt`).

@@ -2,3 +2,5 @@
 pub mod Reading
 -- Laws, with the proofs.
 pub mod laws
+-- The rules of the crates below, under their names: crates above cite them here.
+pub use Rattle.wasm_module_validator_progress.specs as progress

@@ -4,7 +4,7 @@ use Rattle.wasm_types.specs.limits.Settings.{Settings}
 use Rattle.wasm_types.specs.limits.Limits.{default_limits}
 use Rattle.wasm_sections_parser.specs.Steps.{Shape}
 use Rattle.wasm_sections_parser_laws.specs.Modules.{IsModule}
-use Rattle.wasm_module_validator_steps.specs.Steps.{SoFar, nothing, JudgesShapes}
+use Rattle.wasm_module_validator_progress.specs.standing.steps.Steps.{SoFar, nothing, JudgesShapes}
 
 -- these features, and the limits that hold where none are chosen
 abbrev pub under : ℕ → Settings

@@ -7,4 +7,4 @@
 mod reading;
 
 pub use reading::{ReadModule, read_module};
-pub use wasm_module_validator_progress::{Body, InProgress};
+pub use wasm_module_validator_progress::{Body, InProgress, judge_bodies};

@@ -2,7 +2,7 @@
 
 ghost use Rattle.std.specs.Prelude.{IfOk};
 ghost use Rattle.wasm_types.specs.error.Denials.{Tells};
-ghost use Rattle.wasm_module_validator_steps.specs.Steps.{SoFar};
+ghost use Rattle.wasm_module_validator_progress.specs.standing.steps.Steps.{SoFar};
 ghost use Rattle.wasm_module_validator_progress.specs.Progress.{IsAt};
 ghost use Rattle.wasm_module_validator_reading.specs.Reading.{under, IsReadAs};
 

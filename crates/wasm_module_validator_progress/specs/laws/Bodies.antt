@@ -12,11 +12,11 @@ use Rattle.wasm_module_validator_module.specs.declared.module.Function.{Function
 use Rattle.wasm_module_validator_so_far.specs.SoFar.{entry_of}
 use Rattle.wasm_module_validator_code.specs.Code.{IsReadBy}
 use Rattle.wasm_module_validator_code.specs.declared.bodies.Body.{Body}
-use Rattle.wasm_module_validator_steps.specs.contexts.rules.Spaces.{FunctionEntry, imported, function_of, function_with, function_space}
-use Rattle.wasm_module_validator_steps.specs.contexts.laws.Lists.{each_joined}
-use Rattle.wasm_module_validator_steps.specs.Sections.{code_place}
-use Rattle.wasm_module_validator_steps.specs.Steps.{SoFar, JudgesBody}
-use Rattle.wasm_module_validator_steps.specs.laws.Judged.{shape_keeps}
+use Rattle.wasm_module_validator_standing.specs.steps.contexts.rules.Spaces.{FunctionEntry, imported, function_of, function_with, function_space}
+use Rattle.wasm_module_validator_standing.specs.steps.contexts.laws.Lists.{each_joined}
+use Rattle.wasm_module_validator_standing.specs.steps.Sections.{code_place}
+use Rattle.wasm_module_validator_standing.specs.steps.Steps.{SoFar, JudgesBody}
+use Rattle.wasm_module_validator_standing.specs.steps.laws.Judged.{shape_keeps}
 use Rattle.wasm_module_validator_progress.specs.Progress.{Progress, IsAt, text_of, type_of}
 
 -- ---- lists

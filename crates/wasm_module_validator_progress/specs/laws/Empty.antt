@@ -6,7 +6,7 @@ use Rattle.wasm_types.specs.trees.Unfold.{type_count}
 use Rattle.wasm_module_validator_type_trees.specs.Groups.{Group, count}
 use Rattle.wasm_module_validator_module.specs.Spaces.{Spaces, nothing_read}
 use Rattle.wasm_module_validator_resources.specs.Named.{IsReadOver}
-use Rattle.wasm_module_validator_items.specs.Items.{Items, no_items}
+use Rattle.wasm_module_validator_standing.specs.items.Items.{Items, no_items}
 
 -- no id is below none
 none_below : (id : ℕ) → id < count [] → ⊥

@@ -13,10 +13,10 @@ use Rattle.wasm_sections_parser.specs.Steps.{place_of}
 use Rattle.wasm_sections_payloads.specs.declared.payload.Payload.{Payload}
 use Rattle.wasm_sections_payloads.specs.declared.payload.Payload.TheVariants as payloads
 use Rattle.wasm_sections_payloads.specs.Payloads.{IsSectionOf, IsPayloadOf}
-use Rattle.wasm_module_validator_steps.specs.Sections.{Section, number}
-use Rattle.wasm_module_validator_steps.specs.Steps.{SoFar, JudgesSection, JudgesShape}
-use Rattle.wasm_module_validator_steps.specs.laws.Fronts.{one_place}
-use Rattle.wasm_module_validator_steps.specs.laws.Places.{has_place}
+use Rattle.wasm_module_validator_standing.specs.steps.Sections.{Section, number}
+use Rattle.wasm_module_validator_standing.specs.steps.Steps.{SoFar, JudgesSection, JudgesShape}
+use Rattle.wasm_module_validator_standing.specs.steps.laws.Fronts.{one_place}
+use Rattle.wasm_module_validator_standing.specs.steps.laws.Places.{has_place}
 use Rattle.wasm_module_validator_fronts.specs.Walks.{HasSettings}
 
 -- ---- payloads that are no section

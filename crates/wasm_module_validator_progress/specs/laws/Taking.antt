@@ -13,14 +13,14 @@ use Rattle.wasm_types.specs.error.declared.error.ErrorKind.{ErrorKind}
 use Rattle.wasm_sections_parser.specs.Steps as frame
 use Rattle.wasm_module_validator_code.specs.declared.bodies.Body.{Body}
 use Rattle.wasm_module_validator_adding.specs.Adding.{Spelled, AreAdded, StopsAdding}
-use Rattle.wasm_module_validator_steps.specs.contexts.rules.Syntax.{ModuleTree}
-use Rattle.wasm_module_validator_steps.specs.Sections.{Section, Item, number, place, code_place, IsUnread}
-use Rattle.wasm_module_validator_steps.specs.Sections as section
-use Rattle.wasm_module_validator_steps.specs.Adding.{Fits, Adds}
-use Rattle.wasm_module_validator_steps.specs.Texts.{ItemRead}
-use Rattle.wasm_module_validator_steps.specs.Steps.{SoFar, JudgesSection, IsJudged}
-use Rattle.wasm_module_validator_steps.specs.laws.Fronts.{items_stay}
-use Rattle.wasm_module_validator_steps.specs.laws.Judged.{shape_keeps}
+use Rattle.wasm_module_validator_standing.specs.steps.contexts.rules.Syntax.{ModuleTree}
+use Rattle.wasm_module_validator_standing.specs.steps.Sections.{Section, Item, number, place, code_place, IsUnread}
+use Rattle.wasm_module_validator_standing.specs.steps.Sections as section
+use Rattle.wasm_module_validator_standing.specs.steps.Adding.{Fits, Adds}
+use Rattle.wasm_module_validator_standing.specs.steps.Texts.{ItemRead}
+use Rattle.wasm_module_validator_standing.specs.steps.Steps.{SoFar, JudgesSection, IsJudged}
+use Rattle.wasm_module_validator_standing.specs.steps.laws.Fronts.{items_stay}
+use Rattle.wasm_module_validator_standing.specs.steps.laws.Judged.{shape_keeps}
 use Rattle.wasm_module_validator_standing.specs.laws.Beginning.{unread_is_last}
 use Rattle.wasm_module_validator_standing.specs.Standing.{IsBefore, IsReading}
 use Rattle.wasm_module_validator_texts.specs.Sections.{Reading, reading, AddsIn, RefusesIn, MayBegin, behind, AddsNumber}

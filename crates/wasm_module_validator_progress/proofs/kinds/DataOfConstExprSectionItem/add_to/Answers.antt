@@ -1,6 +1,6 @@
 use Rattle.std.proofs.Common.{ap}
-use Rattle.wasm_module_validator_steps.specs.contexts.rules.Syntax.{ModuleTree}
-use Rattle.wasm_module_validator_steps.specs.Sections as section
+use Rattle.wasm_module_validator_standing.specs.steps.contexts.rules.Syntax.{ModuleTree}
+use Rattle.wasm_module_validator_standing.specs.steps.Sections as section
 use Rattle.wasm_module_validator_texts.specs.Kinds.{data_read}
 use Rattle.wasm_module_validator_progress.proofs.Counting.{item_added}
 use Rattle.wasm_module_validator_progress.proofs.kinds.DataOfConstExprSectionItem.add_to.Goals as goal

@@ -4,7 +4,7 @@ use Rattle.wasm_types.specs.decoding.Decoder.{State}
 use Rattle.wasm_types.specs.limits.Settings.{Settings}
 use Rattle.wasm_module_validator_module.specs.declared.module.Function.{Function}
 use Rattle.wasm_module_validator_code.specs.declared.bodies.Body.{Body}
-use Rattle.wasm_module_validator_steps.specs.Steps.{SoFar}
+use Rattle.wasm_module_validator_standing.specs.steps.Steps.{SoFar}
 use Rattle.wasm_module_validator_progress.specs.Progress.{Kept, Progress, IsAt}
 use Rattle.wasm_module_validator_progress.specs.laws.Bodies.{function_is, judges, body_behind}
 use Rattle.wasm_module_validator_progress.proofs.progress.InProgress.take_body.Goals as goal

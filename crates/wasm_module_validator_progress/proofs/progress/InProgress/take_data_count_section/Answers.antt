@@ -5,10 +5,10 @@ use Rattle.wasm_types.specs.error.Denials.{Tells}
 use Rattle.wasm_types.specs.limits.Settings.{Settings}
 use Rattle.wasm_sections_payloads.specs.Payloads.{only_number}
 use Rattle.wasm_module_validator_code.specs.declared.bodies.Body.{Body}
-use Rattle.wasm_module_validator_steps.specs.contexts.rules.Syntax.{ModuleTree}
-use Rattle.wasm_module_validator_steps.specs.Sections as section
-use Rattle.wasm_module_validator_steps.specs.Adding.{Adds}
-use Rattle.wasm_module_validator_steps.specs.Steps.{SoFar, JudgesSection}
+use Rattle.wasm_module_validator_standing.specs.steps.contexts.rules.Syntax.{ModuleTree}
+use Rattle.wasm_module_validator_standing.specs.steps.Sections as section
+use Rattle.wasm_module_validator_standing.specs.steps.Adding.{Adds}
+use Rattle.wasm_module_validator_standing.specs.steps.Steps.{SoFar, JudgesSection}
 use Rattle.wasm_module_validator_standing.specs.Standing.{IsBefore, IsReading}
 use Rattle.wasm_module_validator_texts.specs.laws.Numbers.{data_count_judged}
 use Rattle.wasm_module_validator_progress.specs.Progress.{Kept, Progress, IsAt}

@@ -3,11 +3,11 @@ use Rattle.wasm_types.specs.limits.Settings.{Settings}
 use Rattle.wasm_module_validator_code.specs.declared.bodies.Body.{Body}
 use Rattle.wasm_types.specs.error.Denials.{Denies}
 use Rattle.wasm_types.specs.error.DenialLaws.{denies_from}
-use Rattle.wasm_module_validator_steps.specs.Adding.{Fits}
-use Rattle.wasm_module_validator_steps.specs.Steps.{SoFar}
-use Rattle.wasm_module_validator_steps.specs.Sections as section
-use Rattle.wasm_module_validator_steps.specs.contexts.imports.Decode.{import}
-use Rattle.wasm_module_validator_steps.specs.contexts.imports.Spells.{SpelledImport}
+use Rattle.wasm_module_validator_standing.specs.steps.Adding.{Fits}
+use Rattle.wasm_module_validator_standing.specs.steps.Steps.{SoFar}
+use Rattle.wasm_module_validator_standing.specs.steps.Sections as section
+use Rattle.wasm_module_validator_standing.specs.steps.contexts.imports.Decode.{import}
+use Rattle.wasm_module_validator_standing.specs.steps.contexts.imports.Spells.{SpelledImport}
 use Rattle.wasm_module_validator_standing.specs.laws.Beginning.{imports_fit}
 use Rattle.wasm_module_validator_texts.specs.Sections.{MayBegin}
 use Rattle.wasm_module_validator_texts.specs.Kinds.{import_read}

@@ -5,9 +5,9 @@ use Rattle.wasm_sections_parser.specs.declared.frame.Frame.TheVariants as frames
 use Rattle.wasm_sections_payloads.specs.declared.payload.Payload.TheVariants as payloads
 use Rattle.wasm_sections_parser.specs.Parsing.{shape_of}
 use Rattle.wasm_sections_payloads.specs.Payloads.{Counts, only_number, IsPayloadOf}
-use Rattle.wasm_module_validator_steps.specs.Steps.{SoFar, JudgesShape}
+use Rattle.wasm_module_validator_standing.specs.steps.Steps.{SoFar, JudgesShape}
 use Rattle.wasm_module_validator_progress.specs.laws.Shapes.{of_frame}
-use Rattle.wasm_module_validator_steps.specs.Sections as section
+use Rattle.wasm_module_validator_standing.specs.steps.Sections as section
 use Rattle.wasm_module_validator_progress.proofs.Arms.{same_told, section_answer, frame_answer, section_added}
 use Rattle.wasm_module_validator_progress.proofs.progress.InProgress.take_payload.Goals as goal
 

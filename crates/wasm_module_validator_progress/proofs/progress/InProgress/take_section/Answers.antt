@@ -2,8 +2,8 @@ use Rattle.std.proofs.Common.{◌≡◌, ◌∙◌, ◌<◌, ℕ, List, sym, ap,
 use Rattle.wasm_types.specs.limits.Settings.{Settings}
 use Rattle.wasm_module_validator_code.specs.declared.bodies.Body.{Body}
 use Rattle.wasm_types.specs.error.Denials.{Denies}
-use Rattle.wasm_module_validator_steps.specs.Adding.{Fits}
-use Rattle.wasm_module_validator_steps.specs.Steps.{SoFar}
+use Rattle.wasm_module_validator_standing.specs.steps.Adding.{Fits}
+use Rattle.wasm_module_validator_standing.specs.steps.Steps.{SoFar}
 use Rattle.wasm_module_validator_texts.specs.Sections.{MayBegin}
 use Rattle.wasm_module_validator_standing.specs.Standing.{Stands}
 use Rattle.wasm_module_validator_progress.specs.Progress.{Kept, Progress, IsAt}
