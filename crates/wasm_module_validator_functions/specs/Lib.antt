@@ -1,5 +1,6 @@
 -- The locals of a body, and its function: definitions, in the order in which they are read.
 pub mod Locals
 pub mod Functions
+pub mod Trying
 -- How a validation's promise follows from its steps: laws, with the proofs.
 pub mod laws

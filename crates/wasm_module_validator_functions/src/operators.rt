@@ -8,6 +8,8 @@ ghost use Rattle.wasm_operator_validator_stacks.specs.resources.Meaning.{Meaning
 ghost use Rattle.wasm_operator_validator_stacks.specs.state.Refusals.{kind_of, refused, refused_by};
 ghost use Rattle.wasm_operator_validator_stacks.specs.state.State.{Visits};
 
+ghost use Rattle.wasm_module_validator_functions.specs.Trying.{Tries};
+
 use crate::FuncValidator;
 use wasm_operator_validator_expression::TellOperator;
 use wasm_operator_validator_stacks::{OperatorValidator, Reason, Refusal, WasmModuleResources};
@@ -34,6 +36,31 @@ impl<R: WasmModuleResources> FuncValidator<R> {
         match judge(&mut self.validator, &self.resources, operator) {
             Ok(()) => Ok(()),
             Err(refusal) => Err(refusal.error(offset)),
+        }
+    }
+
+    /// Tries whether an operator may come next: not refused it is judged as by `op`, and refused it leaves no trace (WebAssembly 3.0,
+    /// validation, instructions).
+    ///
+    /// # Errors
+    ///
+    /// Something was refused before; or the operator may not come, or there is no memory. The validator is as it was.
+    pub fn try_op(&mut self, offset: u64, operator: Operator<'_>) -> Result<()>
+        ensures tries { Tries (R.meaning self.old.resources) self.old.validator (op_of operator.entry) (refused_by result) self.new.validator }
+        ensures at { RefusedAt offset result }
+        ensures resources { self.new.resources ≡ self.old.resources }
+        ensures index { self.new.index ≡ self.old.index }
+    {
+        self.validator.begin_try_op();
+        match judge(&mut self.validator, &self.resources, operator) {
+            Ok(()) => {
+                self.validator.commit();
+                Ok(())
+            }
+            Err(refusal) => {
+                self.validator.rollback();
+                Err(refusal.error(offset))
+            }
         }
     }
 }
