@@ -67,3 +67,12 @@ row(
     mod(types=[ft([], []), "5f00"], funcs=[0], tables=["63010001"], code=[body(i32(0), AT, "110000", E)]),
     "indirect calls must go through a table with type <= funcref",
 )
+
+# ---- what is deep, or large
+
+row("blocks-nested-deep", fn("0240" * 100000, E * 100000, E))
+row("group-of-ten-types", mod(types=[["4e0a", [["5f0163", leb((i + 1) % 10), "00"] for i in range(10)]]]))
+row(
+    "group-of-ten-types-and-its-like",
+    mod(types=[["4e0a", [["5f0163", leb(at + (i + 1) % 10), "00"] for i in range(10)]] for at in (0, 10)], globals=[["630300", "d00d", E]]),
+)
