@@ -1,0 +1,2 @@
+-- What contracts see of a module that was read.
+pub mod Shown
