@@ -1,8 +1,10 @@
 //! Types by their ids, and their groups.
 
 ghost use Rattle.std.specs.Prelude.{◌≡◌, ◌<◌, ◌-◌, ℕ, length, slice_get, option_map, Some, IfSome};
+ghost use Rattle.std.specs.Iterator.{YieldsFirst, item_count};
 ghost use Rattle.wasm_types.specs.groups.Entries.{declared_of};
-ghost use Rattle.wasm_module_validator_type_trees.specs.Groups.{count, declared_by_id, group_numbers, supertype_of};
+ghost use Rattle.wasm_module_validator_type_trees.specs.Groups.{count, declared_by_id, group_numbers};
+ghost use Rattle.wasm_module_validator_type_trees.specs.ByIds.{supertype_of};
 ghost use Rattle.wasm_module_validator_types.specs.Lookups.{HasIds};
 ghost use Rattle.wasm_module_validator_lookups.specs.Shown.{ids_from};
 
@@ -51,7 +53,7 @@ impl<'a> TypesRef<'a> {
 }
 
 /// The ids of the types of a group that are left, one by one. A contract sees them as a list.
-#[derive(Clone, Copy, Debug)]
+#[derive(Drop)]
 pub struct RecGroupElements {
     next: u32,
     remaining: u32,
@@ -71,6 +73,8 @@ impl Model for RecGroupElements {
 
 impl Iterator for RecGroupElements {
     type Item = CoreTypeId;
+
+    ghost use Rattle.std.specs.Prelude.{Some, IfSome};
 
     ghost next_gives = { YieldsFirst (λ rest. rest) };
 

@@ -20,7 +20,7 @@ impl ValidatorId {
 }
 
 /// What a validator learned of a module, borrowed: its index spaces, and the list of its types.
-#[derive(Clone, Copy, Drop)]
+#[derive(Drop)]
 pub struct TypesRef<'a> {
     id: ValidatorId,
     pub(crate) types: &'a TypeList,
