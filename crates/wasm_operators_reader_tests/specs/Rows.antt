@@ -6,7 +6,7 @@ use Rattle.wasm_types.specs.error.ErrorValue.{ErrorValue}
 use Rattle.wasm_types.specs.limits.Settings.{no_features}
 use Rattle.wasm_operators_reader.specs.immediates.declared.frames.FrameKind.TheVariants.{Block}
 use Rattle.wasm_operators_reader.specs.operator.Op as op
-use Rattle.wasm_operators_reader.specs.operator.control.declared.parametric.ParametricOperator.TheVariants as parametric
+use Rattle.wasm_operators_reader.specs.operator.Op.{Drop, Select}
 use Rattle.wasm_operators_reader.specs.operator.memory.declared.memory.MemoryOperator.TheVariants as memory
 use Rattle.wasm_operators_reader.specs.operator.vectors.declared.vector.SimdOperator.TheVariants as simd
 use Rattle.wasm_operators_visit_short.specs.Short.{IsTold}
@@ -56,8 +56,8 @@ pub record TellingRows : Type 0 where
   pub not_its_neighbour : IsTold 0 get_five 0 2 (λ o. o ≡ op.Memory (memory.LocalSet 5)) → ⊥
   pub not_another_local : IsTold 0 get_five 0 2 (λ o. o ≡ op.Memory (memory.LocalGet 4)) → ⊥
   pub not_a_byte_further : IsTold 0 get_five 0 3 (λ o. o ≡ op.Memory (memory.LocalGet 5)) → ⊥
-  pub selected : IsTold 0 choice 0 1 (λ o. o ≡ op.Parametric parametric.Select)
-  pub not_dropped : IsTold 0 choice 0 1 (λ o. o ≡ op.Parametric parametric.Drop) → ⊥
+  pub selected : IsTold 0 choice 0 1 (λ o. o ≡ op.Parametric Select)
+  pub not_dropped : IsTold 0 choice 0 1 (λ o. o ≡ op.Parametric Drop) → ⊥
 
 -- ---- iterators
 
