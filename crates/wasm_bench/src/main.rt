@@ -1,10 +1,12 @@
 //! What the scripts of `bench/` measure, done over and over: `wasm_bench MODE PASSES [FILE]`.
 //!
 //! MODE is `numbers` (a buffer of numbers in LEB128 is read, for `bench/leb`), `payloads` (the payloads of the module in FILE, for
-//! `bench/sections`), or `walk`, `read` or `visit` (the bodies of that module, which are passed over, or whose operators are read or
-//! visited, for `bench/operators`). Without a file the module is a bare header; without words its operators are visited once.
+//! `bench/sections`), or `walk`, `read`, `tell` or `judge` (the bodies of that module, which are passed over, or whose operators are
+//! read, told to a visitor that counts, or validated, for `bench/operators`). Without a file the module is a bare header; without words its
+//! operators are told once.
 #![tactic(auto)]
 
+mod counter;
 mod numbers;
 mod operators;
 mod payloads;
@@ -21,7 +23,8 @@ fn run(rt: &(impl AllocGlobal + Print), mode: &str, bytes: &[u8], passes: u32) -
         "payloads" => payloads::run(rt, bytes, passes),
         "walk" => operators::run(rt, Mode::Walk, bytes, passes),
         "read" => operators::run(rt, Mode::Read, bytes, passes),
-        _ => operators::run(rt, Mode::Visit, bytes, passes),
+        "judge" => operators::judge(rt, bytes, passes),
+        _ => operators::run(rt, Mode::Tell, bytes, passes),
     }
 }
 
@@ -29,7 +32,7 @@ fn main(rt: HostRuntime) -> Result<()> {
     let words: Vec<String> = env::args(&rt)?.collect(rt.alloc())?;
     let mode = match words.get(1) {
         Some(word) => word.as_str(),
-        None => "visit",
+        None => "tell",
     };
     let passes = match words.get(2) {
         Some(word) => word.as_str().parse::<u32>().context("reading PASSES")?,

@@ -1,17 +1,19 @@
-//! The operators of a module, read or visited over and over.
+//! The operators of a module, read, told to a visitor that counts, or validated, over and over.
 
+use crate::counter::Counter;
 use anyhow::{Context, Result};
 use std::alloc::Global;
-use wasm_operators_counter::{Counter, count_expression};
-use wasm_operators_visiting::OperatorsReader;
+use wasm_module_validator_reading::{ReadModule, judge_bodies, read_module};
+use wasm_operators_visiting::{OperatorsReader, tell_expression_with_offset};
 use wasm_sections::{FunctionBody, Parser, Payload};
+use wasm_types::WasmFeatures;
 
 /// What is done with each body.
 #[derive(Clone, Copy)]
 pub(crate) enum Mode {
     Walk,
     Read,
-    Visit,
+    Tell,
 }
 
 /// How many operators are read, if none is refused.
@@ -29,16 +31,13 @@ fn read(mut operators: OperatorsReader<'_>) -> Option<u64> {
     Some(count)
 }
 
-/// How many operators are visited, if none is refused.
-fn visit(alloc: Global, body: &FunctionBody<'_>) -> Option<u64> {
+/// How many operators are told, if none is refused.
+fn tell(alloc: Global, body: &FunctionBody<'_>) -> Option<u64> {
     let Ok(reader) = body.get_binary_reader_for_operators() else {
         return None;
     };
-    let mut counter = Counter {
-        left: u64::MAX,
-        frame: None,
-    };
-    let Ok(Ok(())) = count_expression(alloc, reader, &mut counter) else {
+    let mut counter = Counter { left: u64::MAX };
+    let Ok(Ok(())) = tell_expression_with_offset(alloc, reader, &mut counter) else {
         return None;
     };
     Some(u64::MAX - counter.left)
@@ -54,7 +53,7 @@ fn one(alloc: Global, mode: Mode, body: &FunctionBody<'_>) -> Option<u64> {
             };
             read(operators)
         }
-        Mode::Visit => visit(alloc, body),
+        Mode::Tell => tell(alloc, body),
     }
 }
 
@@ -84,6 +83,24 @@ pub(crate) fn run(
     for _ in 0..passes {
         count = walk(rt.alloc(), mode, bytes).context("reading the module")?;
     }
+    println!(rt; "{count}")?;
+    Ok(())
+}
+
+/// Reads the module once, judges its bodies so many times, and prints how many they are.
+pub(crate) fn judge(
+    rt: &(impl AllocGlobal + Print),
+    bytes: &[u8],
+    passes: u32,
+) -> Result<()> {
+    let alloc = rt.alloc();
+    let features = WasmFeatures::default();
+    let ReadModule { progress, bodies } = read_module(alloc, features, bytes)?;
+    let resources = progress.resources();
+    for _ in 0..passes {
+        judge_bodies(alloc, &resources, features, bodies.as_slice())?;
+    }
+    let count = bodies.len();
     println!(rt; "{count}")?;
     Ok(())
 }

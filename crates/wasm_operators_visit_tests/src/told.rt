@@ -1,5 +1,5 @@
 //! The counter told of three operators in each of the three ways.
-use crate::Counter;
+use crate::counter::Counter;
 use std::process::Abort;
 use std::test::Fail;
 use wasm_operators_visit_gc::{

@@ -1,6 +1,6 @@
 //! The visits of the counter.
 
-use crate::Counter;
+use crate::counter::Counter;
 use wasm_operators_visit_gc::VisitGc;
 use wasm_types::{HeapType, RefType};
 
