@@ -65,8 +65,21 @@ impl<T: Copy + Drop> Tape<T> {
     }
 
     /// Takes an item off.
-    #[inline]
+    #[inline(always)]
     pub fn pop(&mut self) -> Result<Option<T>, AllocError>
+        ensures saved { self.new.1 ≡ self.old.1 }
+        ensures popped { IfOk result (λ r. MatchOption r ((self.old.0 ≡ []) × (self.new.0 ≡ [])) (λ x. self.old.0 ≡ self.new.0 ++ x ∷ [])) }
+        ensures refused { IfErr result (λ _. self.new.0 ≡ self.old.0) }
+    {
+        if self.attempt {
+            return self.pop_in_attempt();
+        }
+        Ok(self.items.pop())
+    }
+
+    // The same in an attempt, which keeps what stood where it began.
+    #[inline(never)]
+    fn pop_in_attempt(&mut self) -> Result<Option<T>, AllocError>
         ensures saved { self.new.1 ≡ self.old.1 }
         ensures popped { IfOk result (λ r. MatchOption r ((self.old.0 ≡ []) × (self.new.0 ≡ [])) (λ x. self.old.0 ≡ self.new.0 ++ x ∷ [])) }
         ensures refused { IfErr result (λ _. self.new.0 ≡ self.old.0) }
