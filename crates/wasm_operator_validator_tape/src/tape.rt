@@ -1,6 +1,6 @@
 //! The stack.
 
-ghost use Rattle.std.specs.Prelude.{◌≡◌, true, false, [], ◌∷◌, ◌++◌, ◌+◌, ◌<◌, List, [], length, Option, Some, None, OnOk, IfOk, IfErr, MatchOption, MatchResult, reverse, take};
+ghost use Rattle.std.specs.Prelude.{◌≡◌, true, false, [], ◌∷◌, ◌++◌, ◌+◌, ◌<◌, List, [], length, Option, Some, None, OnOk, IfOk, IfErr, IfSome, IfNone, MatchOption, MatchResult, reverse, take};
 ghost use Rattle.std.specs.Vec.{vec_capacity};
 ghost use Rattle.wasm_operator_validator_tape.specs.Kept.{saved, IsKept, HasRoom, ReplacesLast};
 
@@ -54,7 +54,7 @@ impl<T: Copy + Drop> Tape<T> {
     }
 
     /// Puts an item on.
-    #[inline]
+    #[inline(always)]
     pub fn push(&mut self, item: T) -> Result<(), AllocError>
         ensures saved { self.new.1 ≡ self.old.1 }
         ensures pushed { OnOk result (self.new.0 ≡ self.old.0 ++ item ∷ []) }
@@ -77,7 +77,20 @@ impl<T: Copy + Drop> Tape<T> {
         Ok(self.items.pop())
     }
 
-    // The same in an attempt, which keeps what stood where it began.
+    /// Takes an item off, outside an attempt. In one there is none to take, and nothing changes.
+    #[inline(always)]
+    pub fn pop_outside(&mut self) -> Option<T>
+        ensures saved { self.new.1 ≡ self.old.1 }
+        ensures popped { IfSome result (λ x. self.old.0 ≡ self.new.0 ++ x ∷ []) }
+        ensures stays { IfNone result (self.new.0 ≡ self.old.0) }
+    {
+        if self.attempt {
+            return None;
+        }
+        self.items.pop()
+    }
+
+    // The same as `pop` in an attempt, which keeps what stood where it began.
     #[inline(never)]
     fn pop_in_attempt(&mut self) -> Result<Option<T>, AllocError>
         ensures saved { self.new.1 ≡ self.old.1 }
