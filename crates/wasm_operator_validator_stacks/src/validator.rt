@@ -159,10 +159,10 @@ impl OperatorValidator {
         if !is_same(top, expected) {
             return false;
         }
-        match self.operands.pop_outside() {
-            Some(_) => true,
-            None => false,
-        }
+        let Some(_taken) = self.operands.pop_outside() else {
+            return false;
+        };
+        true
     }
 
     /// Takes an operand off that may be taken for one of this type.
