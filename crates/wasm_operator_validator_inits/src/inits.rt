@@ -117,8 +117,21 @@ impl LocalInits {
     }
 
     /// Gives a local a value, which is noted where it has none yet. Where memory is refused nothing changes.
-    #[inline]
+    #[inline(always)]
     pub fn set_init(&mut self, local_index: u32) -> Result<(), AllocError>
+        requires { local_index < length self.old.first }
+        ensures set { OnOk result (self.new ≡ record self.old { set = with_set self.old local_index }) }
+        ensures refused { IfErr result (λ _. self.new ≡ self.old) }
+    {
+        if !self.is_uninit(local_index) {
+            return Ok(());
+        }
+        self.set_unset(local_index)
+    }
+
+    // The same, out of line: most locals have a value from the start.
+    #[inline(never)]
+    fn set_unset(&mut self, local_index: u32) -> Result<(), AllocError>
         requires { local_index < length self.old.first }
         ensures set { OnOk result (self.new ≡ record self.old { set = with_set self.old local_index }) }
         ensures refused { IfErr result (λ _. self.new ≡ self.old) }

@@ -125,6 +125,7 @@ impl Locals {
     }
 
     /// The type of a local, by its index.
+    #[inline(never)]
     pub fn get(&self, index: u32) -> Option<ValType>
         ensures { result ≡ slice_get self.now index }
     {

@@ -13,7 +13,7 @@ use wasm_types::ValType;
 
 /// An operator on numbers, which takes and gives these types; it is of this proposal, and has a float in its name or not (WebAssembly
 /// 3.0, validation, numeric instructions).
-#[inline]
+#[inline(always)]
 pub fn check_numbers<R: WasmModuleResources>(
     validator: &mut OperatorValidator,
     resources: &R,
@@ -35,7 +35,7 @@ pub fn check_numbers<R: WasmModuleResources>(
 }
 
 /// A constant, which gives this type (WebAssembly 3.0, validation, numeric instructions).
-#[inline]
+#[inline(always)]
 pub fn check_constant<R: WasmModuleResources>(
     validator: &mut OperatorValidator,
     resources: &R,

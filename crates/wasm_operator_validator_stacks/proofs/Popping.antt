@@ -1,12 +1,12 @@
 -- Several operands taken off and put on.
-use Rattle.std.proofs.Common.{◌≡◌, ◌↔◌, ◌<◌, ◌+◌, ℕ, List, [], ◌∷◌, ◌++◌, Bool, true, false, refl, sym, ◌∙◌, ap, subst, take, length, get_or, Result, Ok, Err, Option, Some, None, IsTrue, MatchOption}
-use Rattle.std.proofs.lemmas.List.{reverse-append, map-append, take_more}
+use Rattle.std.proofs.Common.{arith, ◌≡◌, ◌↔◌, ◌<◌, ◌+◌, ◌-◌, ℕ, List, [], ◌∷◌, ◌++◌, Bool, true, false, refl, sym, ◌∙◌, ap, subst, take, length, get_or, slice_get, Result, Ok, Err, Option, Some, None, IsTrue, MatchOption}
+use Rattle.std.proofs.lemmas.List.{reverse-append, map-append, take_more, length_push}
 use Rattle.wasm_types.specs.error.Denials.{Denies}
 use Rattle.wasm_operator_validator_state.specs.Refusals.{Does, kind_of, refused}
 use Rattle.wasm_operator_validator_state.specs.declared.refusal.Refusal.{Refusal}
 use Rattle.wasm_types.specs.values.declared.value.ValType.{ValType}
 use Rattle.wasm_operator_validator_state.specs.rules.Operands.{ValueType, Operand, known, AllBelow, stack}
-use Rattle.wasm_operator_validator_state.specs.laws.Operands.{all_below_refl, all_below_trans, all_below_under}
+use Rattle.wasm_operator_validator_state.specs.laws.Operands.{operand_refl, all_below_refl, all_below_trans, all_below_under}
 use Rattle.wasm_operator_validator_state.specs.resources.Meaning.{Meaning, type_in}
 use Rattle.wasm_types.specs.error.DenialLaws.{denies_from}
 use Rattle.wasm_operator_validator_state.specs.declared.operand.MaybeType.{MaybeType}
@@ -40,6 +40,25 @@ popped_known m σ τ a t b p i e = record {
 
 pub not_popped : (m : Meaning) (σ τ : State) (a : MaybeType) (t : ValueType) (b : Bool) → PoppedAny m σ a τ → IsTrue b ↔ Stands m a (known t) → b ≡ false → MayPop m σ (known t ∷ []) → ⊥
 not_popped m σ τ a t b p i e (s, c) = let x : b ≡ true = i.1 ((p.stacks (known t) s).0 c).0 in let y : false ≡ true = sym e ∙ x in cc
+
+-- one of this very type
+pub popped_same : (m : Meaning) (σ τ : State) (v : ValType) → PoppedAny m σ (maybe.Known v) τ → Popped m σ (known (type_in m v) ∷ []) τ
+popped_same m σ τ v p = record {
+  same = p.same;
+  stacks = λ s. (λ c. ((p.stacks (known (type_in m v)) s).0 c).1, λ c. (p.stacks (known (type_in m v)) s).1 (operand_refl (known (type_in m v)), c));
+}
+
+-- what stands last
+pushed_last : {X : Type 0} (ys : List X) (x : X) → slice_get (ys ++ x ∷ []) (length ys) ≡ Some x
+pushed_last [] x = refl
+pushed_last (z ∷ ys) x = pushed_last ys x
+
+pub last_is : {X : Type 0} (xs ys : List X) (x y : X) → xs ≡ ys ++ x ∷ [] → Some y ≡ slice_get xs (length xs - 1) → xs ≡ ys ++ y ∷ []
+last_is xs ys x y d e =
+    let k : length xs - 1 ≡ length ys = let l = ap length d ∙ length_push ys x in omega (arith, l) in
+    let f : Some y ≡ Some x = e ∙ rw (k, d) (pushed_last ys x) in
+    let h : x ≡ y = cc in
+    rw (← h) d
 
 pub nothing_to_pop : (m : Meaning) (σ : State) (t : ValueType) → (MayPopAny m σ → ⊥) → MayPop m σ (known t ∷ []) → ⊥
 nothing_to_pop m σ t n (s, c) = n (known t, s, c)

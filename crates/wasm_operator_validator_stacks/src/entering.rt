@@ -13,7 +13,7 @@ use wasm_types::WasmFeatures;
 impl OperatorValidator {
     /// Whether an operator may begin that this proposal brought, with a float in its name or not: nothing was refused before, a
     /// frame is open, and the features allow it, asked in this order.
-    #[inline]
+    #[inline(always)]
     pub fn begin(&self, proposal: Proposal, floats: bool) -> Result<(), Refusal>
         ensures begins { Does (refused result) (MayBegin self.now proposal floats) (MayBegin self.now proposal floats) }
         ensures stops { IfErr result (λ r. StopsWith self.now proposal floats r) }

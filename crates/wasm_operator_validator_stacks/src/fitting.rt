@@ -1,16 +1,32 @@
 //! Whether an operand fits a type.
 
-ghost use Rattle.std.specs.Prelude.{◌≡◌, ◌↔◌, IsTrue};
+ghost use Rattle.std.specs.Prelude.{◌≡◌, ◌↔◌, IsTrue, true};
 ghost use Rattle.wasm_types.specs.error.declared.error.ErrorKind.TheVariants.{Other};
 ghost use Rattle.wasm_operator_validator_state.specs.Refusals.{kind_of};
 ghost use Rattle.wasm_operator_validator_state.specs.rules.Operands.{known};
 ghost use Rattle.wasm_operator_validator_state.specs.resources.Meaning.{type_in};
 ghost use Rattle.wasm_operator_validator_state.specs.State.{Stands};
 ghost use Rattle.wasm_operator_validator_state.specs.declared.operand.MaybeType.{MaybeType};
+ghost use Rattle.wasm_operator_validator_state.specs.declared.operand.MaybeType.TheVariants.{Known};
 ghost use Rattle.wasm_operator_validator_stacks.specs.Layout.{IsAbstractFit};
 
 use wasm_operator_validator_state::{MaybeType, Refusal, WasmModuleResources};
-use wasm_types::{AbstractHeapType, HeapType, RefType, ValType};
+use wasm_types::{AbstractHeapType, HeapType, RefType, ValType, equality_is_identity};
+
+/// Whether an operand is known to have this very type.
+#[inline(always)]
+pub(crate) fn is_same(found: &MaybeType, expected: &ValType) -> bool
+    ensures { result ≡ true → found.now ≡ Known expected.now }
+{
+    match found {
+        MaybeType::Bottom => false,
+        MaybeType::UnknownRef(_) => false,
+        MaybeType::Known(actual) => {
+            equality_is_identity();
+            actual == expected
+        }
+    }
+}
 
 /// Whether what is known of an operand may be taken for one of this type.
 pub fn is_fit<R: WasmModuleResources>(resources: &R, found: &MaybeType, expected: &ValType) -> bool

@@ -88,7 +88,7 @@ impl OperatorValidator {
     }
 
     /// Whether a local has no value yet.
-    #[inline]
+    #[inline(always)]
     pub fn is_uninit(&self, local_index: u32) -> bool
         requires { local_index < length self.now.given.locals }
         ensures { (m : Meaning) → result ≡ not (initialised m self.now.given self.now.inits local_index) }
@@ -97,7 +97,7 @@ impl OperatorValidator {
     }
 
     /// Gives a local a value, which is noted where it has none yet. It is refused for memory alone, and nothing changes then.
-    #[inline]
+    #[inline(always)]
     pub fn set_init(&mut self, local_index: u32) -> Result<(), Refusal>
         requires { local_index < length self.old.given.locals }
         ensures set { (m : Meaning) → OnOk result (self.new ≡ with_init m self.old local_index) }
@@ -109,11 +109,14 @@ impl OperatorValidator {
         Ok(())
     }
 
-    /// The type of a local, by its index.
-    #[inline]
+    /// The type of a local, by its index. The first ones are found without a search.
+    #[inline(always)]
     pub fn local(&self, local_index: u32) -> Option<ValType>
         ensures { result ≡ slice_get self.now.given.locals local_index }
     {
+        if let Some(first) = self.locals.get_first(local_index) {
+            return Some(first);
+        }
         self.locals.get(local_index)
     }
     /// Whether the function is shared: then it may use what is shared alone (the proposal on shared everything).

@@ -1,15 +1,16 @@
 //! The stacks of a validator of operators, and what is done to them (WebAssembly 3.0, appendix, validation algorithm).
 
-ghost use Rattle.std.specs.Prelude.{◌≡◌, ◌↔◌, ◌∷◌, [], IsTrue, MatchResult, length, true};
+ghost use Rattle.std.specs.Prelude.{◌≡◌, ◌↔◌, ◌∷◌, [], IsTrue, MatchResult, length, true, false};
 ghost use Rattle.wasm_types.specs.error.Denials.{Denies};
 ghost use Rattle.wasm_operator_validator_state.specs.rules.Operands.{known, stack};
+ghost use Rattle.wasm_operator_validator_state.specs.declared.operand.MaybeType.TheVariants.{Known};
 ghost use Rattle.wasm_operator_validator_state.specs.resources.Meaning.{Meaning, type_in};
 ghost use Rattle.wasm_operator_validator_state.specs.Refusals.{Does, kind_of, refused};
 ghost use Rattle.wasm_operator_validator_state.specs.State.{State, types_in};
 ghost use Rattle.wasm_operator_validator_state.specs.Steps.{IsOpen, MayPopAny, PoppedAny, PushedAny, Popped, MayPop, Pushed, Jumped, Exchanged};
 ghost use Rattle.wasm_operator_validator_stacks.specs.Layout.{state_of, IsLayered, IsSavedLayered, AreFirst};
 
-use crate::fitting::{is_fit, not_taken, type_mismatch};
+use crate::fitting::{is_fit, is_same, not_taken, type_mismatch};
 use std::marker::Model;
 use wasm_operator_validator_inits::LocalInits;
 use wasm_operator_validator_locals::Locals;
@@ -84,7 +85,7 @@ impl OperatorValidator {
     }
 
     /// Puts an operand on. It is refused for memory alone.
-    #[inline]
+    #[inline(always)]
     pub fn push_operand(&mut self, operand: MaybeType) -> Result<(), Refusal>
         requires { IsOpen self.old.opens }
         ensures does { (m : Meaning) → Does (refused result) (PushedAny m self.old operand self.new) (Unit {0}) }
@@ -118,8 +119,55 @@ impl OperatorValidator {
         Ok(())
     }
 
-    /// Takes an operand off that may be taken for one of this type.
+    /// Takes an operand off that may be taken for one of this type. Nearly every operand has the very type: one comparison tells.
+    #[inline(always)]
     pub fn pop_operand<R: WasmModuleResources>(
+        &mut self,
+        resources: &R,
+        expected: &ValType,
+    ) -> Result<(), Refusal>
+        ensures does { Does (refused result) (Popped (R.meaning resources.now) self.old (known (type_in (R.meaning resources.now) expected.now) ∷ []) self.new) (MayPop (R.meaning resources.now) self.old (known (type_in (R.meaning resources.now) expected.now) ∷ [])) }
+        ensures given { self.new.given ≡ self.old.given }
+        ensures failed { self.new.failed ≡ self.old.failed }
+        ensures saved { self.new.saved ≡ self.old.saved }
+    {
+        if self.pop_same(expected) {
+            return Ok(());
+        }
+        self.pop_fitting(resources, expected)
+    }
+
+    /// Takes an operand off that is known to have this very type, outside an attempt. Else nothing changes.
+    #[inline(always)]
+    fn pop_same(&mut self, expected: &ValType) -> bool
+        ensures popped { result ≡ true → (m : Meaning) → PoppedAny m self.old (Known expected.now) self.new }
+        ensures stays { result ≡ false → self.new ≡ self.old }
+        ensures given { self.new.given ≡ self.old.given }
+        ensures failed { self.new.failed ≡ self.old.failed }
+        ensures saved { self.new.saved ≡ self.old.saved }
+    {
+        let Some(frame) = self.control.as_slice().last().copied() else {
+            return false;
+        };
+        let operands = self.operands.as_slice();
+        if operands.len() == frame.height {
+            return false;
+        }
+        let Some(top) = operands.last() else {
+            return false;
+        };
+        if !is_same(top, expected) {
+            return false;
+        }
+        let Some(_taken) = self.operands.pop_outside() else {
+            return false;
+        };
+        true
+    }
+
+    /// Takes an operand off that may be taken for one of this type.
+    #[inline(never)]
+    fn pop_fitting<R: WasmModuleResources>(
         &mut self,
         resources: &R,
         expected: &ValType,
@@ -140,6 +188,7 @@ impl OperatorValidator {
     }
 
     /// Takes operands off, the last first.
+    #[inline(always)]
     pub fn pop_operands<R: WasmModuleResources>(
         &mut self,
         resources: &R,
@@ -160,6 +209,7 @@ impl OperatorValidator {
     }
 
     /// Puts operands on, the last on top. It is refused for memory alone.
+    #[inline(always)]
     pub fn push_operands<R: WasmModuleResources>(
         &mut self,
         resources: &R,
@@ -179,6 +229,7 @@ impl OperatorValidator {
     }
 
     /// The ordinary operator: takes operands of the first types and gives some of the others.
+    #[inline(always)]
     pub fn exchange<R: WasmModuleResources>(
         &mut self,
         resources: &R,

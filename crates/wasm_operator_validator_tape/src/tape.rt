@@ -1,17 +1,18 @@
 //! The stack.
 
-ghost use Rattle.std.specs.Prelude.{◌≡◌, true, false, [], ◌∷◌, ◌++◌, ◌+◌, ◌<◌, List, [], length, Option, Some, None, OnOk, IfOk, IfErr, MatchOption, MatchResult, reverse, take};
-ghost use Rattle.std.specs.Vec.{vec_capacity};
+ghost use Rattle.std.specs.Prelude.{◌≡◌, true, false, [], ◌∷◌, ◌++◌, ◌+◌, ◌<◌, ◌≤◌, List, length, Option, Some, None, OnOk, IfOk, IfErr, IfSome, IfNone, MatchOption, MatchResult, reverse, take};
 ghost use Rattle.wasm_operator_validator_tape.specs.Kept.{saved, IsKept, HasRoom, ReplacesLast};
 
 use std::alloc::{AllocError, Global};
 use std::marker::Model;
 
 /// A stack. In an attempt it keeps the items that stood where the attempt began and were taken off since; those below
-/// `kept` still lie in place. A contract sees the items, the top last, and what stood where the attempt began.
+/// `kept` still lie in place. A contract sees the items, the top last, and what stood where the attempt began. Above the
+/// items lie places of items that were taken off: they are written again, so that an item is put on without a call.
 #[derive(Drop)]
 pub struct Tape<T: Copy + Drop> {
-    items: Vec<T>,
+    places: Vec<T>,
+    count: usize,
     attempt: bool,
     kept: usize,
     lost: Vec<T>,
@@ -20,9 +21,9 @@ pub struct Tape<T: Copy + Drop> {
 impl<T: Copy + Drop> Model for Tape<T> {
     ghost Value = { List T × Option (List T) };
 
-    ghost view = { λ t. (t.items.items, saved t.attempt t.kept t.items.items t.lost.items) };
+    ghost view = { λ t. (take t.count t.places.items, saved t.attempt t.kept t.places.items t.lost.items) };
 
-    ghost invariant = { λ t. IsKept t.attempt t.kept (length t.items.items) (length t.lost.items) (vec_capacity t.items) };
+    ghost invariant = { λ t. (t.count ≤ length t.places.items) × IsKept t.attempt t.kept t.count (length t.lost.items) (length t.places.items) };
 }
 
 impl<T: Copy + Drop> Tape<T> {
@@ -31,7 +32,8 @@ impl<T: Copy + Drop> Tape<T> {
         ensures { result ≡ ([], None) }
     {
         Tape {
-            items: Vec::new(alloc),
+            places: Vec::new(alloc),
+            count: 0,
             attempt: false,
             kept: 0,
             lost: Vec::new(alloc),
@@ -39,11 +41,11 @@ impl<T: Copy + Drop> Tape<T> {
     }
 
     /// The items, the top last.
-    #[inline]
+    #[inline(always)]
     pub fn as_slice(&self) -> &[T]
         ensures { result.now ≡ self.now.0 }
     {
-        self.items.as_slice()
+        &self.places.as_slice()[..self.count]
     }
 
     /// Whether an attempt has begun.
@@ -54,31 +56,69 @@ impl<T: Copy + Drop> Tape<T> {
     }
 
     /// Puts an item on.
-    #[inline]
+    #[inline(always)]
     pub fn push(&mut self, item: T) -> Result<(), AllocError>
         ensures saved { self.new.1 ≡ self.old.1 }
         ensures pushed { OnOk result (self.new.0 ≡ self.old.0 ++ item ∷ []) }
         ensures refused { IfErr result (λ _. self.new.0 ≡ self.old.0) }
     {
-        self.items.push(item)?;
+        if self.count == self.places.as_slice().len() {
+            grow(&mut self.places, item)?;
+            self.count += 1;
+            return Ok(());
+        }
+        self.places[self.count] = item;
+        self.count += 1;
         Ok(())
     }
 
     /// Takes an item off.
-    #[inline]
+    #[inline(always)]
     pub fn pop(&mut self) -> Result<Option<T>, AllocError>
         ensures saved { self.new.1 ≡ self.old.1 }
         ensures popped { IfOk result (λ r. MatchOption r ((self.old.0 ≡ []) × (self.new.0 ≡ [])) (λ x. self.old.0 ≡ self.new.0 ++ x ∷ [])) }
         ensures refused { IfErr result (λ _. self.new.0 ≡ self.old.0) }
     {
-        let Some(item) = self.items.last().copied() else {
+        if self.attempt {
+            return self.pop_in_attempt();
+        }
+        if self.count == 0 {
             return Ok(None);
-        };
-        if self.attempt && self.items.len() == self.kept {
+        }
+        self.count -= 1;
+        Ok(Some(self.places[self.count]))
+    }
+
+    /// Takes an item off, outside an attempt. In one there is none to take, and nothing changes.
+    #[inline(always)]
+    pub fn pop_outside(&mut self) -> Option<T>
+        ensures saved { self.new.1 ≡ self.old.1 }
+        ensures popped { IfSome result (λ x. self.old.0 ≡ self.new.0 ++ x ∷ []) }
+        ensures stays { IfNone result (self.new.0 ≡ self.old.0) }
+    {
+        if self.attempt || self.count == 0 {
+            return None;
+        }
+        self.count -= 1;
+        Some(self.places[self.count])
+    }
+
+    // The same as `pop` in an attempt, which keeps what stood where it began.
+    #[inline(never)]
+    fn pop_in_attempt(&mut self) -> Result<Option<T>, AllocError>
+        ensures saved { self.new.1 ≡ self.old.1 }
+        ensures popped { IfOk result (λ r. MatchOption r ((self.old.0 ≡ []) × (self.new.0 ≡ [])) (λ x. self.old.0 ≡ self.new.0 ++ x ∷ [])) }
+        ensures refused { IfErr result (λ _. self.new.0 ≡ self.old.0) }
+    {
+        if self.count == 0 {
+            return Ok(None);
+        }
+        let item = self.places[self.count - 1];
+        if self.attempt && self.count == self.kept {
             self.lost.push(item)?;
             self.kept -= 1;
         }
-        self.items.pop();
+        self.count -= 1;
         Ok(Some(item))
     }
 
@@ -90,17 +130,14 @@ impl<T: Copy + Drop> Tape<T> {
         ensures replaced { OnOk result (ReplacesLast item self.old.0 self.new.0) }
         ensures refused { IfErr result (λ _. self.new.0 ≡ self.old.0) }
     {
-        let Some(was) = self.items.last().copied() else {
-            unreachable!()
-        };
-        if self.attempt && self.items.len() == self.kept {
-            self.lost.push(was)?;
-            self.kept -= 1;
+        let last = self.count - 1;
+        if self.attempt && self.count == self.kept {
+            self.lost.push(self.places[last])?;
+            self.kept = last;
+            self.places[last] = item;
+            return Ok(());
         }
-        self.items.pop();
-        let Ok(()) = self.items.push(item) else {
-            unreachable!()
-        };
+        self.places[last] = item;
         Ok(())
     }
 
@@ -120,7 +157,7 @@ impl<T: Copy + Drop> Tape<T> {
     pub fn clear(&mut self)
         ensures { self.new ≡ ([], None) }
     {
-        self.items.clear();
+        self.count = 0;
         self.attempt = false;
     }
 
@@ -129,7 +166,7 @@ impl<T: Copy + Drop> Tape<T> {
         ensures { self.new ≡ (self.old.0, Some self.old.0) }
     {
         self.attempt = true;
-        self.kept = self.items.len();
+        self.kept = self.count;
         self.lost.clear();
     }
 
@@ -148,19 +185,30 @@ impl<T: Copy + Drop> Tape<T> {
             return;
         }
         self.attempt = false;
-        self.items.truncate(self.kept);
-        put_back(&mut self.items, &mut self.lost);
+        self.count = put_back(&mut self.places, self.kept, &mut self.lost);
     }
 }
 
-// Puts the items back that were taken off, the last first, in room that is there.
-fn put_back<T: Copy + Drop>(items: &mut Vec<T>, lost: &mut Vec<T>)
-    requires { HasRoom (length items.old.items) (length lost.old.items) (vec_capacity items.old) }
-    ensures items { items.new.items ≡ items.old.items ++ reverse lost.old.items }
+// Puts the items back that were taken off, the last first, in places that are there; and how many there are then.
+fn put_back<T: Copy + Drop>(places: &mut Vec<T>, kept: usize, lost: &mut Vec<T>) -> usize
+    requires { HasRoom kept (length lost.old.items) (length places.old.items) }
+    ensures items { take result places.new.items ≡ take kept places.old.items ++ reverse lost.old.items }
+    ensures within { result ≤ length places.new.items }
 {
+    let mut count = kept;
     while let Some(item) = lost.pop() {
-        let Ok(()) = items.push(item) else {
-            unreachable!()
-        };
+        places[count] = item;
+        count += 1;
     }
+    count
+}
+
+// One place more, with this item.
+#[inline(never)]
+fn grow<T: Copy + Drop>(places: &mut Vec<T>, item: T) -> Result<(), AllocError>
+    ensures grown { OnOk result (places.new.items ≡ places.old.items ++ item ∷ []) }
+    ensures refused { IfErr result (λ _. places.new.items ≡ places.old.items) }
+{
+    places.push(item)?;
+    Ok(())
 }

@@ -18,6 +18,7 @@ use wasm_operator_validator_determined::{
 use wasm_types::ValType;
 
 /// `local.get`, of a local that has a value (WebAssembly 3.0, validation, variable instructions).
+#[inline(always)]
 pub fn check_local_get<R: WasmModuleResources>(
     validator: &mut OperatorValidator,
     resources: &R,
@@ -41,6 +42,7 @@ pub fn check_local_get<R: WasmModuleResources>(
 }
 
 /// `local.set`: the local has a value from here on (WebAssembly 3.0, validation, variable instructions).
+#[inline(always)]
 pub fn check_local_set<R: WasmModuleResources>(
     validator: &mut OperatorValidator,
     resources: &R,
@@ -65,6 +67,7 @@ pub fn check_local_set<R: WasmModuleResources>(
 }
 
 /// `local.tee`: the same, and the value stays (WebAssembly 3.0, validation, variable instructions).
+#[inline(always)]
 pub fn check_local_tee<R: WasmModuleResources>(
     validator: &mut OperatorValidator,
     resources: &R,
@@ -89,7 +92,7 @@ pub fn check_local_tee<R: WasmModuleResources>(
 }
 
 // The type of a local, where the function may use it.
-#[inline]
+#[inline(always)]
 fn usable_local<R: WasmModuleResources>(
     validator: &OperatorValidator,
     resources: &R,

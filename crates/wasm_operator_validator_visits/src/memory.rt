@@ -21,6 +21,7 @@ use wasm_operators_visit_operator::VisitMemory;
 use wasm_types::{HeapType, Ieee32, Ieee64, ValType};
 
 impl<'a, 'v, 'r, R: WasmModuleResources> VisitMemory<'a> for ValidatingVisitor<'v, 'r, R> {
+    #[inline(always)]
     fn visit_local_get(&mut self, local_index: u32) -> Result<(), Refusal> {
         match check_local_get(self.inner, self.resources, local_index) {
             Ok(()) => Ok(()),
@@ -31,6 +32,7 @@ impl<'a, 'v, 'r, R: WasmModuleResources> VisitMemory<'a> for ValidatingVisitor<'
         }
     }
 
+    #[inline(always)]
     fn visit_local_set(&mut self, local_index: u32) -> Result<(), Refusal> {
         match check_local_set(self.inner, self.resources, local_index) {
             Ok(()) => Ok(()),
@@ -41,6 +43,7 @@ impl<'a, 'v, 'r, R: WasmModuleResources> VisitMemory<'a> for ValidatingVisitor<'
         }
     }
 
+    #[inline(always)]
     fn visit_local_tee(&mut self, local_index: u32) -> Result<(), Refusal> {
         match check_local_tee(self.inner, self.resources, local_index) {
             Ok(()) => Ok(()),
@@ -458,6 +461,7 @@ impl<'a, 'v, 'r, R: WasmModuleResources> VisitMemory<'a> for ValidatingVisitor<'
         }
     }
 
+    #[inline(always)]
     fn visit_i32_const(&mut self, value: i32) -> Result<(), Refusal> {
         match check_constant(
             self.inner,

@@ -15,7 +15,7 @@ use wasm_types::ValType;
 
 impl<'v, 'r, R: WasmModuleResources> ValidatingVisitor<'v, 'r, R> {
     /// An operator of this proposal on numbers that takes and gives these types, with a float among them or not.
-    #[inline]
+    #[inline(always)]
     pub(crate) fn numbers(
         &mut self,
         proposal: Proposal,
@@ -47,7 +47,7 @@ impl<'v, 'r, R: WasmModuleResources> ValidatingVisitor<'v, 'r, R> {
     }
 
     /// One that makes a number of another, both integers.
-    #[inline]
+    #[inline(always)]
     pub(crate) fn of_one(
         &mut self,
         op: NumericOperator,
@@ -63,7 +63,7 @@ impl<'v, 'r, R: WasmModuleResources> ValidatingVisitor<'v, 'r, R> {
     }
 
     /// One that makes a number of two of one type, all integers.
-    #[inline]
+    #[inline(always)]
     pub(crate) fn of_two(
         &mut self,
         op: NumericOperator,
@@ -85,7 +85,7 @@ impl<'v, 'r, R: WasmModuleResources> ValidatingVisitor<'v, 'r, R> {
     }
 
     /// One that makes a number of another, where one of them is a float.
-    #[inline]
+    #[inline(always)]
     pub(crate) fn float_of_one(
         &mut self,
         op: NumericOperator,
@@ -101,7 +101,7 @@ impl<'v, 'r, R: WasmModuleResources> ValidatingVisitor<'v, 'r, R> {
     }
 
     /// One that makes a number of two floats of one type.
-    #[inline]
+    #[inline(always)]
     pub(crate) fn float_of_two(
         &mut self,
         op: NumericOperator,

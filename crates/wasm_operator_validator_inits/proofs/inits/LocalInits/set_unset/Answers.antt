@@ -1,7 +1,7 @@
 use Rattle.std.proofs.Common.{◌<◌, length, map, refl, sym, ◌∙◌}
 use Rattle.wasm_operator_validator_inits.specs.Marks.{is_first}
 use Rattle.wasm_operator_validator_inits.proofs.Marking.{IsUnset, set_first, set_list, set_sound}
-use Rattle.wasm_operator_validator_inits.proofs.inits.LocalInits.set_init.Goals as goal
+use Rattle.wasm_operator_validator_inits.proofs.inits.LocalInits.set_unset.Goals as goal
 
 pub invariant_of-self-2 : goal.invariant_of-self-2
 invariant_of-self-2 c =
