@@ -40,7 +40,7 @@ fn tell(alloc: Global, body: &FunctionBody<'_>) -> Option<u64> {
     let Ok(Ok(())) = tell_expression_with_offset(alloc, reader, &mut counter) else {
         return None;
     };
-    Some(u64::MAX - counter.left)
+    Some(u64::MAX.wrapping_sub(counter.left))
 }
 
 /// How many operators a body has, or one where it is not looked into.
@@ -88,11 +88,7 @@ pub(crate) fn run(
 }
 
 /// Reads the module once, judges its bodies so many times, and prints how many they are.
-pub(crate) fn judge(
-    rt: &(impl AllocGlobal + Print),
-    bytes: &[u8],
-    passes: u32,
-) -> Result<()> {
+pub(crate) fn judge(rt: &(impl AllocGlobal + Print), bytes: &[u8], passes: u32) -> Result<()> {
     let alloc = rt.alloc();
     let features = WasmFeatures::default();
     let ReadModule { progress, bodies } = read_module(alloc, features, bytes)?;
