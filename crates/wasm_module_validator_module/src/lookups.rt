@@ -50,6 +50,41 @@ impl Module {
         self.functions.len() as u32
     }
 
+    /// Its tables, in the order of their indices.
+    pub fn tables(&self) -> &[TableType]
+        ensures { result.now ≡ self.now.tables }
+    {
+        self.tables.as_slice()
+    }
+
+    /// Its memories, in the order of their indices.
+    pub fn memories(&self) -> &[MemoryType]
+        ensures { result.now ≡ self.now.memories }
+    {
+        self.memories.as_slice()
+    }
+
+    /// Its globals, in the order of their indices.
+    pub fn globals(&self) -> &[GlobalType]
+        ensures { result.now ≡ self.now.globals }
+    {
+        self.globals.as_slice()
+    }
+
+    /// The ids of the types of its tags, in the order of their indices.
+    pub fn tags(&self) -> &[CoreTypeId]
+        ensures { result.now ≡ self.now.tags }
+    {
+        self.tags.as_slice()
+    }
+
+    /// The types of the elements of its element segments, in the order of their indices.
+    pub fn element_types(&self) -> &[RefType]
+        ensures { result.now ≡ self.now.elements }
+    {
+        self.element_types.as_slice()
+    }
+
     /// The table at an index.
     pub fn table_at(&self, at: u32) -> Option<TableType>
         ensures { result ≡ slice_get self.now.tables at }
