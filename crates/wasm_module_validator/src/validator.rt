@@ -15,6 +15,7 @@ use crate::types::Types;
 use std::alloc::Global;
 use std::marker::Model;
 use wasm_module_validator_reading::{ReadModule, judge_bodies, read_module};
+use wasm_module_validator_sharing::SharedProgress;
 use wasm_types::{Error, ErrorKind, Result, WasmFeatures};
 
 /// Tells a validator from others; the caller makes each number once.
@@ -35,7 +36,9 @@ impl ValidatorId {
 pub enum State {
     /// Nothing was read yet.
     Unparsed,
-    /// A module was accepted, or nothing but a function of it was refused.
+    /// A header was read, and sections may come.
+    Module,
+    /// A module was accepted, or nothing but a function of it was refused; or an end was told of none.
     Ended,
     /// The header or a section was refused, or memory ran out.
     Failed,
@@ -44,10 +47,12 @@ pub enum State {
 /// Validates one module.
 #[derive(Drop)]
 pub struct Validator {
-    alloc: Global,
-    id: ValidatorId,
-    state: State,
-    features: WasmFeatures,
+    pub(crate) alloc: Global,
+    pub(crate) id: ValidatorId,
+    pub(crate) state: State,
+    pub(crate) features: WasmFeatures,
+    // The module whose sections come one by one.
+    pub(crate) reached: SharedProgress,
 }
 
 impl Validator {
@@ -69,6 +74,7 @@ impl Validator {
             id,
             state: State::Unparsed,
             features,
+            reached: SharedProgress::new(alloc, features),
         }
     }
 
@@ -107,7 +113,7 @@ impl Validator {
             Ok(()) => {
                 self.state = State::Ended;
                 Ok(Types {
-                    module: read.progress,
+                    module: SharedProgress::of(self.alloc, read.progress),
                 })
             }
             Err(error) => {

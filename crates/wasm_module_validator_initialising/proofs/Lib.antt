@@ -4,4 +4,4 @@ mod Marks
 mod NewGlobals
 mod NewTables
 mod NewElements
-mod NewData
+pub mod NewData

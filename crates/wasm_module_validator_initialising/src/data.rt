@@ -19,8 +19,13 @@ use wasm_module_validator_standing::ModuleState;
 use wasm_module_validator_types::TypeList;
 use wasm_types::Result;
 
-// Checks a data segment in the module that is being read.
-fn judge_data(
+/// Checks a data segment in the module that is being read, with memory of the caller's. Where the state stands for a tree this is what
+/// `check_data_item` asks.
+///
+/// # Errors
+///
+/// As `check_data_item`.
+pub fn judge_data(
     alloc: Global,
     segment: &DataOf<'_, ConstExpr<'_>>,
     state: &ModuleState,

@@ -106,17 +106,17 @@ impl InProgress {
         }
     }
 
-    /// Checks where a body comes, and how long it is.
+    /// Checks where a body comes, behind a section of this place, and how long it is.
     ///
     /// # Errors
     ///
-    /// The code section has not begun, or another section came behind it; or the body is longer than a body may be: the first of these.
-    pub fn check_body(&self, body: &FunctionBody<'_>) -> Result<()>
-        ensures { Tells result ((self.now.last ≡ code_place) × (length body.now.rest ≤ self.now.kept.items.spaces.settings.limits.body_bytes)) }
+    /// That section is not the code section; or the body is longer than a body may be: the first of these.
+    pub fn check_body(&self, last: u32, body: &FunctionBody<'_>) -> Result<()>
+        ensures { Tells result ((last ≡ code_place) × (length body.now.rest ≤ self.now.kept.items.spaces.settings.limits.body_bytes)) }
     {
         let reader = body.get_binary_reader();
         let offset = reader.original_position();
-        if self.last != 12 {
+        if last != 12 {
             return Err(Error::new("code section entry out of order", offset));
         }
         let most = self.collected.state.settings().limits().body_bytes;
@@ -141,7 +141,7 @@ impl InProgress {
         ensures added { OnOk result ((z : Settings) (p q : SoFar) → IsAt z self.old bodies.old.items p → body.entry.settings ≡ z → JudgesBody z p body.entry.rest q
             → IsAt z self.new bodies.new.items q) }
     {
-        match self.check_body(&body) {
+        match self.check_body(self.last, &body) {
             Ok(()) => (),
             Err(error) => return Err(error),
         }

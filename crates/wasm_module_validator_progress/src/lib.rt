@@ -17,5 +17,7 @@ mod progress;
 
 pub use collected::Collected;
 pub use items::SectionItem;
+pub use payloads::check_header;
 pub use progress::InProgress;
 pub use wasm_module_validator_code::{Body, judge_bodies};
+pub use wasm_module_validator_standing::ModuleState;
