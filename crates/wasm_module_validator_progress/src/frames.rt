@@ -91,7 +91,7 @@ impl InProgress {
 
     /// The index of the function that the body behind so many others is of, and that of its type.
     pub fn function_behind(&self, bodies: usize) -> Option<(u32, u32)>
-        ensures type { option_map (λ x. x.1) result ≡ option_map (λ f. f.type_index) (slice_get self.now.kept.items.spaces.functions (self.now.kept.items.spaces.imported_functions + bodies)) }
+        ensures typed { option_map (λ x. x.1) result ≡ option_map (λ f. f.type_index) (slice_get self.now.kept.items.spaces.functions (self.now.kept.items.spaces.imported_functions + bodies)) }
         ensures index { IfSome result (λ x. x.0 ≡ self.now.kept.items.spaces.imported_functions + bodies) }
     {
         let module = self.collected.state.module();
