@@ -2,5 +2,6 @@
 pub mod Accepts
 pub mod States
 pub mod Methods
+pub mod Payloads
 -- Laws, with the proofs.
 pub mod laws

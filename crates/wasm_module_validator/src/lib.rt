@@ -9,9 +9,11 @@
 #![tactic(auto)]
 
 mod methods;
+mod payloads;
 mod types;
 mod validator;
 
+pub use payloads::ValidPayload;
 pub use types::{Types, TypesRef};
 pub use validator::{State, Validator, ValidatorId, validate};
 pub use wasm_module_validator_sharing::{FuncToValidate, ValidatorResources};
