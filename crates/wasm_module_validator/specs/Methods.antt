@@ -18,7 +18,7 @@ use Rattle.wasm_module_validator_reading.specs.progress.standing.steps.Sections.
 use Rattle.wasm_module_validator_reading.specs.progress.standing.steps.Steps.{SoFar, JudgesBody}
 use Rattle.wasm_module_validator_reading.specs.progress.Progress.{Progress}
 use Rattle.wasm_module_validator_reading.specs.Reading.{under}
-use Rattle.wasm_module_validator_sharing.specs.Sharing.{Reached, nothing_reached, body_count, IsReached, TellsNext, Follows, Handed, IsHandedOut, NoneLeft}
+use Rattle.wasm_module_validator_sharing.specs.Sharing.{nothing_reached, has_no_code, body_count, IsReached, TellsNext, Follows, Handed, IsHandedOut, NoneLeft}
 use Rattle.wasm_module_validator.specs.declared.validator.State.{State}
 use Rattle.wasm_module_validator.specs.declared.validator.State.TheVariants.{Unparsed, Module, Ended, Failed}
 use Rattle.wasm_module_validator.specs.declared.validator.Validator.{Validator}
@@ -73,11 +73,6 @@ IsTaken x v (Err e) w = w ≡ record v { state = Failed; reached = w.reached }
 -- a whole section, which fits or does not
 abbrev pub TakesWhere : {X : Type 0} → Bool → Payload → Validator → Result X ErrorValue → Validator → Type 0
 TakesWhere fits x v answer w = InTurn (refusal v.state fits) v answer w (TellsNext v.reached x answer) (IsTaken x v answer w)
-
--- no code has begun
-abbrev pub has_no_code : Option ℕ → Bool
-has_no_code None = true
-has_no_code (Some n) = false
 
 -- a section that comes before the code
 abbrev pub Takes : {X : Type 0} → Payload → Validator → Result X ErrorValue → Validator → Type 0

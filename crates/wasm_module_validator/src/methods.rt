@@ -148,7 +148,7 @@ impl Validator {
         requires { IsWhole payload.entry }
         ensures { Takes payload.entry self.old result self.new }
     {
-        let fits = !self.reached.has_code();
+        let fits = self.reached.is_own();
         match check_turn(self.state, fits, AFTER_CODE, offset) {
             Ok(()) => (),
             Err(error) => return Err(error),
@@ -293,7 +293,7 @@ impl Validator {
         ensures { BeginsCode self.old result self.new }
     {
         let offset = range.start;
-        let fits = !self.reached.has_code();
+        let fits = self.reached.is_own();
         match check_turn(self.state, fits, AFTER_CODE, offset) {
             Ok(()) => (),
             Err(error) => return Err(error),

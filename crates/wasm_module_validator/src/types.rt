@@ -1,6 +1,6 @@
 //! What a validator learned of a module.
 
-ghost use Rattle.std.specs.Prelude.{◌≡◌, length};
+ghost use Rattle.std.specs.Prelude.{◌≡◌, ◌^◌, ◌-◌, length, min};
 
 use std::marker::Model;
 use wasm_module_validator_sharing::SharedProgress;
@@ -12,14 +12,11 @@ pub struct Types {
 }
 
 impl Model for Types {
-    ghost use Rattle.std.specs.Prelude.{◌<◌, ◌^◌, length};
     ghost use Rattle.wasm_module_validator_reading.specs.progress.Progress.{Progress};
 
     ghost Value = { Progress };
 
     ghost view = { λ t. t.«module».progress };
-
-    ghost invariant = { λ t. length t.«module».progress.kept.items.spaces.types < 2 ^ 32 };
 }
 
 impl Types {
@@ -40,23 +37,20 @@ pub struct TypesRef<'a> {
 }
 
 impl<'a> Model for TypesRef<'a> {
-    ghost use Rattle.std.specs.Prelude.{◌<◌, ◌^◌, length};
     ghost use Rattle.wasm_module_validator_reading.specs.progress.Progress.{Progress};
 
     ghost Value = { Progress };
 
     ghost view = { λ r. r.«module».now.progress };
-
-    ghost invariant = { λ r. length r.«module».now.progress.kept.items.spaces.types < 2 ^ 32 };
 }
 
 impl<'a> TypesRef<'a> {
-    /// How many types the module has.
+    /// How many types the module has, ending at the largest number of 32 bits.
     pub fn core_type_count_in_module(&self) -> u32
-        ensures { result ≡ length self.now.kept.items.spaces.types }
+        ensures { result ≡ min (length self.now.kept.items.spaces.types) (2 ^ 32 - 1) }
     {
         let types = self.module;
-        types.state().module().type_ids().len() as u32
+        u32::try_from(types.state().module().type_ids().len()).unwrap_or(u32::MAX)
     }
 
     /// How many functions the module has, with those that are imported.

@@ -1,5 +1,5 @@
 -- A module that is being read, and that is shared once its code has begun (WebAssembly 3.0, binary format and validation, modules).
-use Rattle.std.specs.Prelude.{◌≡◌, ◌+◌, ℕ, List, length, Option, Some, None, Result, Ok, Err, option_map, slice_get}
+use Rattle.std.specs.Prelude.{◌≡◌, ◌+◌, ℕ, Bool, true, false, List, length, Option, Some, None, Result, Ok, Err, option_map, slice_get}
 use Rattle.wasm_types.specs.decoding.Decoder.{State}
 use Rattle.wasm_types.specs.error.Denials.{Denies, Tells}
 use Rattle.wasm_types.specs.error.ErrorValue.{ErrorValue}
@@ -33,6 +33,12 @@ abbrev pub reached : Progress → Option Progress → ℕ → ℕ → Reached
 reached own None last bodies = record { progress = own; code = None }
 reached own (Some shared) last bodies = record { progress = record { kept = shared.kept; last = last }; code = Some bodies }
 
+-- its code has not begun
+abbrev pub has_no_code : Option ℕ → Bool
+has_no_code None = true
+has_no_code (Some n) = false
+
+-- how many bodies came
 abbrev pub body_count : Option ℕ → ℕ
 body_count None = 0
 body_count (Some n) = n

@@ -8,7 +8,7 @@ ghost use Rattle.wasm_sections_payloads.specs.declared.payload.Payload.TheVarian
 ghost use Rattle.wasm_module_validator_interning.specs.Modules.{settings_of};
 ghost use Rattle.wasm_module_validator_progress.specs.standing.steps.Sections.{code_place};
 ghost use Rattle.wasm_module_validator_progress.specs.standing.steps.Steps.{SoFar};
-ghost use Rattle.wasm_module_validator_sharing.specs.Sharing.{nothing_reached, IsReached, IsWhole, TellsNext, Follows, IsNextFunction};
+ghost use Rattle.wasm_module_validator_sharing.specs.Sharing.{nothing_reached, has_no_code, IsReached, IsWhole, TellsNext, Follows, IsNextFunction};
 
 use crate::data::check_data_section;
 use crate::resources::ValidatorResources;
@@ -70,6 +70,13 @@ impl SharedProgress {
         ensures { result ≡ is_some self.now.code }
     {
         self.shared.is_some()
+    }
+
+    /// Whether its code has not begun.
+    pub fn is_own(&self) -> bool
+        ensures { result ≡ has_no_code self.now.code }
+    {
+        self.shared.is_none()
     }
 
     /// What was read so far. Of the place of the last section it tells only until the code begins.
