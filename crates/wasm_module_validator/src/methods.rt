@@ -377,7 +377,7 @@ impl Validator {
 }
 
 // A section that may not come behind the start of the code.
-const AFTER_CODE: &str = "unexpected section after the code section has begun";
+const AFTER_CODE: &str = "unexpected section behind the code section";
 
 // A body that no start of the code came before.
 const BEFORE_CODE: &str = "unexpected code section entry before the code section has begun";

@@ -138,7 +138,7 @@ fn refuses_calls_out_of_turn(rt: HostRuntime) -> std::result::Result<(), Fail> {
     same(
         &rt,
         text.as_str(),
-        "5 at 8: cannot call `end` before a header has been parsed\n5 at 0: wasm version header out of order\nok\nok\n5 at 14: unexpected section after the code section has begun\n5 at 20: malformed section id: 17\n4 at 26: the module was refused before\n",
+        "5 at 8: cannot call `end` before a header has been parsed\n5 at 0: wasm version header out of order\nok\nok\n5 at 14: unexpected section behind the code section\n5 at 20: malformed section id: 17\n4 at 26: the module was refused before\n",
     );
     Ok(())
 }
