@@ -4,15 +4,13 @@ use Rattle.std.specs.Prelude.{option_map}
 use Rattle.std.proofs.lemmas.List.{length_push}
 use Rattle.wasm_types.specs.decoding.Decoder.{State}
 use Rattle.wasm_types.specs.error.Denials.{Denies}
-use Rattle.wasm_types.specs.error.DenialLaws.{denies_from}
 use Rattle.wasm_types.specs.error.declared.error.ErrorKind.{ErrorKind}
 use Rattle.wasm_types.specs.limits.Settings.{Settings}
 use Rattle.wasm_module_validator_module.specs.declared.module.Function.{Function}
 use Rattle.wasm_module_validator_progress.specs.code.declared.bodies.Body.{Body}
-use Rattle.wasm_module_validator_progress.specs.standing.steps.Sections.{code_place}
 use Rattle.wasm_module_validator_progress.specs.standing.steps.Steps.{SoFar, JudgesBody}
 use Rattle.wasm_module_validator_progress.specs.Progress.{Progress, IsAt}
-use Rattle.wasm_module_validator_progress.specs.laws.Bodies.{function_is, judges, body_behind, no_function}
+use Rattle.wasm_module_validator_progress.specs.laws.Bodies.{FitsBehind, fits, not_fitting, function_is, judges, body_behind, no_function}
 use Rattle.wasm_module_validator_sharing.specs.Sharing.{Reached, IsReached, body_count}
 
 -- the type of the function at an index
@@ -28,10 +26,6 @@ module _ (r : Reached) (here : Progress) (n : ℕ) (same : r.progress ≡ here) 
   abbrev place : ℕ
   place = here.kept.items.spaces.imported_functions + n
 
-  -- the body is in order, and no longer than the limit
-  abbrev Fits : Type 0
-  Fits = (here.last ≡ code_place) × (length body.rest ≤ here.kept.items.spaces.settings.limits.body_bytes)
-
   at_here : (z : Settings) (p : SoFar) → IsReached z r p → (bodies : List Body) × (length bodies ≡ n) × IsAt z here bodies p
   at_here z p (bodies, count, at) = (bodies, count ∙ code, subst (λ (s : Progress). IsAt z s bodies p) same at)
 
@@ -39,13 +33,8 @@ module _ (r : Reached) (here : Progress) (n : ℕ) (same : r.progress ≡ here) 
   next_type z p bodies count at =
       ap (λ (m : ℕ). type_at here (here.kept.items.spaces.imported_functions + m)) (sym count) ∙ function_is z p here bodies at
 
-  within_limit : (z : Settings) (p : SoFar) (bodies : List Body) → IsAt z here bodies p → here.kept.items.spaces.settings.limits.body_bytes ≡ z.limits.body_bytes
-  within_limit z p bodies at = ap (λ (y : Settings). y.limits.body_bytes) at.stands.settings
-
-  pub body_denied : (k : ErrorKind) → Denies k Fits → (z : Settings) (p : SoFar) → IsReached z r p → Denies k ((q : SoFar) × JudgesBody z p body.rest q)
-  body_denied k d z p reached =
-      let (bodies, count, at) = at_here z p reached in
-      denies_from k Fits _ (λ h. (at.placed ∙ h.1.begun, subst (λ (m : ℕ). length body.rest ≤ m) (sym (within_limit z p bodies at)) h.1.within)) d
+  pub body_denied : (k : ErrorKind) → Denies k (FitsBehind here body.rest) → (z : Settings) (p : SoFar) → IsReached z r p → Denies k ((q : SoFar) × JudgesBody z p body.rest q)
+  body_denied k d z p reached = let (bodies, count, at) = at_here z p reached in not_fitting z p here bodies at k body.rest d
 
   pub no_body : type_at here place ≡ None → (z : Settings) (p : SoFar) → IsReached z r p → ((q : SoFar) × JudgesBody z p body.rest q) → ⊥
   no_body none z p reached =
@@ -59,12 +48,11 @@ module _ (r : Reached) (here : Progress) (n : ℕ) (same : r.progress ≡ here) 
     function : (z : Settings) (p : SoFar) (bodies : List Body) → length bodies ≡ n → IsAt z here bodies p → slice_get p.tree.functions (length p.bodies) ≡ Some ty
     function z p bodies count at = sym (next_type z p bodies count at) ∙ found
 
-    pub body_may_come : Fits → (z : Settings) (p : SoFar) → IsReached z r p → (q : SoFar) × JudgesBody z p body.rest q
-    body_may_come fits z p reached =
-        let (bodies, count, at) = at_here z p reached in (
-          record p { bodies = p.bodies ++ body.rest ∷ [] },
-          judges z p here bodies at taken (sym at.placed ∙ fits.0) (subst (λ (m : ℕ). length body.rest ≤ m) (within_limit z p bodies at) fits.1) (function z p bodies count at),
-        )
+    pub body_may_come : FitsBehind here body.rest → (z : Settings) (p : SoFar) → IsReached z r p → (q : SoFar) × JudgesBody z p body.rest q
+    body_may_come h z p reached =
+        let (bodies, count, at) = at_here z p reached in
+        let w = fits z p here bodies at body.rest h in
+        (record p { bodies = p.bodies ++ body.rest ∷ [] }, judges z p here bodies at taken w.0 w.1 (function z p bodies count at))
 
     one_more : (bodies : List Body) → length bodies ≡ n → length (bodies ++ taken ∷ []) ≡ n + 1
     one_more bodies count = omega (arith, length_push bodies taken, count)
