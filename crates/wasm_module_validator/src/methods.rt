@@ -145,7 +145,7 @@ impl Validator {
 
     // Takes a section that no code came before.
     fn take(&mut self, payload: Payload<'_>, offset: u64) -> Result<()>
-        requires { IsWhole payload.entry }
+        requires { IsWhole payload }
         ensures { Takes payload.entry self.old result self.new }
     {
         let fits = self.reached.is_own();
@@ -251,7 +251,7 @@ impl Validator {
 
     /// Takes the start section, which is the index of a function.
     pub fn start_section(&mut self, func: u32, range: Range<u64>) -> Result<()>
-        ensures { Takes (payloads.StartSection func range.entry) self.old result self.new }
+        ensures { Takes (payloads.StartSection func range) self.old result self.new }
     {
         let offset = range.start;
         self.take(Payload::StartSection { func, range }, offset)
@@ -267,7 +267,7 @@ impl Validator {
 
     /// Takes the data count section, which is how many data segments there are to be.
     pub fn data_count_section(&mut self, count: u32, range: Range<u64>) -> Result<()>
-        ensures { Takes (payloads.DataCountSection count range.entry) self.old result self.new }
+        ensures { Takes (payloads.DataCountSection count range) self.old result self.new }
     {
         let offset = range.start;
         self.take(Payload::DataCountSection { count, range }, offset)

@@ -38,7 +38,7 @@ fn hand_out<'a>(
     answer: Result<FuncToValidate<ValidatorResources>>,
     body: FunctionBody<'a>,
 ) -> Result<ValidPayload<'a>>
-    ensures { result ≡ with_body body.entry answer.entry }
+    ensures { result ≡ with_body body.entry answer }
 {
     match answer {
         Ok(function) => Ok(ValidPayload::Func(function, body)),
@@ -48,7 +48,7 @@ fn hand_out<'a>(
 
 // Where the module has ended.
 fn finish<'a>(answer: Result<Types>) -> Result<ValidPayload<'a>>
-    ensures { result ≡ ended answer.entry }
+    ensures { result ≡ ended answer }
 {
     match answer {
         Ok(types) => Ok(ValidPayload::End(types)),

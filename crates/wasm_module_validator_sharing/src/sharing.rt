@@ -103,7 +103,7 @@ impl SharedProgress {
     /// As `InProgress::take_payload`. What is kept then stands for nothing.
     pub fn take_payload(&mut self, payload: Payload<'_>) -> Result<()>
         requires own { self.old.code ≡ None }
-        requires whole { IsWhole payload.entry }
+        requires whole { IsWhole payload }
         ensures answer { TellsNext self.old payload.entry result }
         ensures added { OnOk result (Follows self.old payload.entry self.new) }
         ensures own { self.new.code ≡ None }
