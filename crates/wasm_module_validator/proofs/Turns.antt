@@ -1,10 +1,13 @@
 -- Calls in turn and out of turn.
-use Rattle.std.proofs.Common.{◌≡◌, ◌∙◌, ◌⊎◌, inl, inr, Option, Some, None, Result, Ok, Err, refl, sym}
+use Rattle.std.proofs.Common.{◌≡◌, ◌∙◌, ℕ, Bool, true, false, Option, Some, None, Result, Ok, Err, refl, sym}
+use Rattle.std.specs.Prelude.{is_some}
 use Rattle.wasm_types.specs.error.ErrorValue.{ErrorValue}
 use Rattle.wasm_types.specs.error.declared.error.ErrorKind.{ErrorKind}
-use Rattle.wasm_operator_validator_stacks.specs.state.Refusals.{refused_by}
 use Rattle.wasm_module_validator.specs.declared.validator.Validator.{Validator}
-use Rattle.wasm_module_validator.specs.Methods.{InTurn}
+use Rattle.wasm_module_validator_sharing.specs.Sharing.{has_no_code}
+use Rattle.wasm_module_validator.specs.declared.validator.State.{State}
+use Rattle.wasm_module_validator.specs.declared.validator.State.TheVariants.{Unparsed, Module, Ended, Failed}
+use Rattle.wasm_module_validator.specs.Methods.{InTurn, refusal}
 
 no_kind : (k : ErrorKind) → Some k ≡ None → ⊥
 no_kind k e = absurd cc
@@ -26,3 +29,22 @@ in_turn turn v answer w Told Left is told left = record {
   told = λ none. told;
   left = λ none. left;
 }
+
+-- ---- which turn it is
+
+pub turn_is : (s : State) (fits : Bool) → None ≡ refusal s fits → (s ≡ Module) × (fits ≡ true)
+turn_is Unparsed fits e = absurd cc
+turn_is Module true e = (refl, refl)
+turn_is Module false e = absurd cc
+turn_is Ended fits e = absurd cc
+turn_is Failed fits e = absurd cc
+
+-- ---- whether the code has begun
+
+pub no_code : (o : Option ℕ) → has_no_code o ≡ true → o ≡ None
+no_code None e = refl
+no_code (Some n) e = absurd cc
+
+pub not_begun : (o : Option ℕ) → is_some o ≡ false → has_no_code o ≡ true
+not_begun None e = refl
+not_begun (Some n) e = absurd cc
