@@ -1,9 +1,7 @@
 //! Payloads of a parser, each taken by the method that it is for.
 
-ghost use Rattle.std.specs.Prelude.{◌≡◌, IfErr};
+ghost use Rattle.std.specs.Prelude.{◌≡◌};
 ghost use Rattle.wasm_module_validator.specs.Payloads.{passed, with_body, ended, TakesPayload};
-ghost use Rattle.wasm_module_validator.specs.Methods.{failure};
-ghost use Rattle.wasm_operator_validator_stacks.specs.state.Refusals.{refused_by};
 
 use crate::methods::check_not_failed;
 use crate::types::Types;
