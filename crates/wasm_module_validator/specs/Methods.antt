@@ -14,10 +14,10 @@ use Rattle.wasm_sections_parser.specs.declared.frame.Encoding.{Encoding}
 use Rattle.wasm_sections_parser.specs.Parsing.{layer_of}
 use Rattle.wasm_sections_payloads.specs.declared.payload.Payload.{Payload}
 use Rattle.wasm_operator_validator_stacks.specs.state.Refusals.{refused_by}
-use Rattle.wasm_module_validator_reading.specs.progress.standing.steps.Sections.{code_place}
-use Rattle.wasm_module_validator_reading.specs.progress.standing.steps.Steps.{SoFar, JudgesBody}
-use Rattle.wasm_module_validator_reading.specs.progress.Progress.{Progress}
-use Rattle.wasm_module_validator_reading.specs.Reading.{under}
+use Rattle.wasm_module_validator_sharing.specs.reading.progress.standing.steps.Sections.{code_place}
+use Rattle.wasm_module_validator_sharing.specs.reading.progress.standing.steps.Steps.{SoFar, JudgesBody}
+use Rattle.wasm_module_validator_sharing.specs.reading.progress.Progress.{Progress}
+use Rattle.wasm_module_validator_sharing.specs.reading.Reading.{under}
 use Rattle.wasm_module_validator_sharing.specs.Sharing.{nothing_reached, has_no_code, body_count, IsReached, TellsNext, Follows, Handed, IsHandedOut, NoneLeft}
 use Rattle.wasm_module_validator.specs.declared.validator.State.{State}
 use Rattle.wasm_module_validator.specs.declared.validator.State.TheVariants.{Unparsed, Module, Ended, Failed}

@@ -5,7 +5,7 @@ use Rattle.wasm_types.specs.error.ErrorValue.{ErrorValue}
 use Rattle.wasm_sections_payloads.specs.declared.payload.Payload.{Payload}
 use Rattle.wasm_sections_payloads.specs.declared.payload.Payload.TheVariants as payloads
 use Rattle.wasm_operator_validator_stacks.specs.state.Refusals.{refused_by}
-use Rattle.wasm_module_validator_reading.specs.progress.Progress.{Progress}
+use Rattle.wasm_module_validator_sharing.specs.reading.progress.Progress.{Progress}
 use Rattle.wasm_module_validator_sharing.specs.Sharing.{Handed}
 use Rattle.wasm_module_validator.specs.declared.validator.Validator.{Validator}
 use Rattle.wasm_module_validator.specs.declared.payloads.ValidPayload.{ValidPayload}

@@ -4,7 +4,7 @@ ghost use Rattle.std.specs.Prelude.{◌≡◌, is_some, true};
 ghost use Rattle.wasm_types.specs.error.declared.error.ErrorKind.TheVariants as kinds;
 ghost use Rattle.wasm_sections_payloads.specs.declared.payload.Payload.TheVariants as payloads;
 ghost use Rattle.wasm_operator_validator_stacks.specs.state.Refusals.{refused_by};
-ghost use Rattle.wasm_module_validator_reading.specs.Reading.{under};
+ghost use Rattle.wasm_module_validator_sharing.specs.reading.Reading.{under};
 ghost use Rattle.wasm_module_validator_sharing.specs.Sharing.{IsWhole, nothing_reached};
 ghost use Rattle.wasm_module_validator.specs.declared.validator.State.TheVariants as states;
 ghost use Rattle.wasm_module_validator.specs.Methods.{failure, refusal, can_reset, types_so_far, ReadsHeader, Takes, TakesData, BeginsCode, TakesBody, RefusesUnknown, Ends};

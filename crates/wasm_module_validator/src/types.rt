@@ -12,7 +12,7 @@ pub struct Types {
 }
 
 impl Model for Types {
-    ghost use Rattle.wasm_module_validator_reading.specs.progress.Progress.{Progress};
+    ghost use Rattle.wasm_module_validator_sharing.specs.reading.progress.Progress.{Progress};
 
     ghost Value = { Progress };
 
@@ -37,7 +37,7 @@ pub struct TypesRef<'a> {
 }
 
 impl<'a> Model for TypesRef<'a> {
-    ghost use Rattle.wasm_module_validator_reading.specs.progress.Progress.{Progress};
+    ghost use Rattle.wasm_module_validator_sharing.specs.reading.progress.Progress.{Progress};
 
     ghost Value = { Progress };
 

@@ -3,10 +3,10 @@
 ghost use Rattle.std.specs.Prelude.{◌≡◌, ◌↔◌, IsTrue, IfOk, length};
 ghost use Rattle.wasm_types.specs.error.Denials.{Tells};
 ghost use Rattle.wasm_types.specs.features.Sets.{bits_of, default_features};
-ghost use Rattle.wasm_module_validator_reading.specs.progress.standing.steps.contexts.rules.Accepts.{AcceptsUnder};
-ghost use Rattle.wasm_module_validator_reading.specs.progress.standing.steps.Steps.{SoFar};
-ghost use Rattle.wasm_module_validator_reading.specs.Reading.{under};
-ghost use Rattle.wasm_module_validator_reading.specs.progress.Progress.{IsAt};
+ghost use Rattle.wasm_module_validator_sharing.specs.reading.progress.standing.steps.contexts.rules.Accepts.{AcceptsUnder};
+ghost use Rattle.wasm_module_validator_sharing.specs.reading.progress.standing.steps.Steps.{SoFar};
+ghost use Rattle.wasm_module_validator_sharing.specs.reading.Reading.{under};
+ghost use Rattle.wasm_module_validator_sharing.specs.reading.progress.Progress.{IsAt};
 ghost use Rattle.wasm_module_validator.specs.declared.validator.State.TheVariants as states;
 ghost use Rattle.wasm_module_validator.specs.Accepts.{Accepts, IsShown, default_settings};
 ghost use Rattle.wasm_module_validator.specs.States.{AreBodies, IsLeft, Leaves};
@@ -14,8 +14,7 @@ ghost use Rattle.wasm_module_validator.specs.States.{AreBodies, IsLeft, Leaves};
 use crate::types::Types;
 use std::alloc::Global;
 use std::marker::Model;
-use wasm_module_validator_reading::{ReadModule, judge_bodies, read_module};
-use wasm_module_validator_sharing::SharedProgress;
+use wasm_module_validator_sharing::{ReadModule, SharedProgress, judge_bodies, read_module};
 use wasm_types::{Error, ErrorKind, Result, WasmFeatures};
 
 /// Tells a validator from others; the caller makes each number once.

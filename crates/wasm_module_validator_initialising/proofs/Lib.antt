@@ -4,4 +4,4 @@ mod Marks
 mod NewGlobals
 mod NewTables
 mod NewElements
-pub mod NewData
+mod NewData

@@ -19,13 +19,8 @@ use wasm_module_validator_standing::ModuleState;
 use wasm_module_validator_types::TypeList;
 use wasm_types::Result;
 
-/// Checks a data segment in the module that is being read, with memory of the caller's. Where the state stands for a tree this is what
-/// `check_data_item` asks.
-///
-/// # Errors
-///
-/// As `check_data_item`.
-pub fn judge_data(
+// Checks a data segment in the module that is being read.
+fn judge_data(
     alloc: Global,
     segment: &DataOf<'_, ConstExpr<'_>>,
     state: &ModuleState,
@@ -48,6 +43,28 @@ pub fn judge_data(
         allocs,
         offset,
     )
+}
+
+/// Checks a data segment with memory of the caller's, in a state that is lent: nothing of a segment is kept. All else is as of
+/// `check_data_item`.
+///
+/// # Errors
+///
+/// As of `check_data_item`.
+pub fn check_data_with(
+    alloc: Global,
+    segment: &DataOf<'_, ConstExpr<'_>>,
+    state: &ModuleState,
+    types: &TypeList,
+    allocs: &mut OperatorValidatorAllocations,
+    offset: u64,
+) -> Result<()>
+    requires over { IsReadOver types.now.groups state.now.spaces }
+    requires within { IsWithinCeilings state.now.spaces.settings.limits }
+    ensures answer { TellsItem section.data_segments types.now.groups state.now (data_tree segment.now) result }
+    ensures added { OnOk result (AddsItem section.data_segments types.now.groups state.now (data_tree segment.now) types.now.groups state.now) }
+{
+    judge_data(alloc, segment, state, types, allocs, offset)
 }
 
 /// Checks a data segment, of which the state keeps nothing. Where the state stands for a tree it is Ok exactly where the segment may be

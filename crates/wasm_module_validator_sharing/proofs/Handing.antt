@@ -7,10 +7,10 @@ use Rattle.wasm_types.specs.error.Denials.{Denies}
 use Rattle.wasm_types.specs.error.declared.error.ErrorKind.{ErrorKind}
 use Rattle.wasm_types.specs.limits.Settings.{Settings}
 use Rattle.wasm_module_validator_module.specs.declared.module.Function.{Function}
-use Rattle.wasm_module_validator_progress.specs.code.declared.bodies.Body.{Body}
-use Rattle.wasm_module_validator_progress.specs.standing.steps.Steps.{SoFar, JudgesBody}
-use Rattle.wasm_module_validator_progress.specs.Progress.{Progress, IsAt}
-use Rattle.wasm_module_validator_progress.specs.laws.Bodies.{FitsBehind, fits, not_fitting, function_is, judges, body_behind, no_function}
+use Rattle.wasm_module_validator_reading.specs.progress.code.declared.bodies.Body.{Body}
+use Rattle.wasm_module_validator_reading.specs.progress.standing.steps.Steps.{SoFar, JudgesBody}
+use Rattle.wasm_module_validator_reading.specs.progress.Progress.{Progress, IsAt}
+use Rattle.wasm_module_validator_reading.specs.progress.laws.Bodies.{FitsBehind, fits, not_fitting, function_is, judges, body_behind, no_function}
 use Rattle.wasm_module_validator_sharing.specs.Sharing.{Reached, IsReached, body_count}
 
 -- the type of the function at an index

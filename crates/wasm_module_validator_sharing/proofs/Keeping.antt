@@ -12,13 +12,13 @@ use Rattle.wasm_sections_parser.specs.Parsing.{shape_of}
 use Rattle.wasm_sections_payloads.specs.declared.payload.Payload.{Payload}
 use Rattle.wasm_sections_payloads.specs.declared.payload.Payload.TheVariants as payloads
 use Rattle.wasm_sections_payloads.specs.Payloads.{IsSectionOf, IsPayloadOf}
-use Rattle.wasm_module_validator_progress.specs.code.declared.bodies.Body.{Body}
-use Rattle.wasm_module_validator_progress.specs.fronts.Walks.{HasSettings}
-use Rattle.wasm_module_validator_progress.specs.standing.steps.Sections.{code_place, number}
-use Rattle.wasm_module_validator_progress.specs.standing.steps.Sections as section
-use Rattle.wasm_module_validator_progress.specs.standing.steps.Steps.{SoFar, JudgesShape, JudgesSection}
-use Rattle.wasm_module_validator_progress.specs.Progress.{Progress, IsAt, text_of}
-use Rattle.wasm_module_validator_progress.specs.laws.Shapes.{frame_back}
+use Rattle.wasm_module_validator_reading.specs.progress.code.declared.bodies.Body.{Body}
+use Rattle.wasm_module_validator_reading.specs.progress.fronts.Walks.{HasSettings}
+use Rattle.wasm_module_validator_reading.specs.progress.standing.steps.Sections.{code_place, number}
+use Rattle.wasm_module_validator_reading.specs.progress.standing.steps.Sections as section
+use Rattle.wasm_module_validator_reading.specs.progress.standing.steps.Steps.{SoFar, JudgesShape, JudgesSection}
+use Rattle.wasm_module_validator_reading.specs.progress.Progress.{Progress, IsAt, text_of}
+use Rattle.wasm_module_validator_reading.specs.progress.laws.Shapes.{frame_back}
 use Rattle.wasm_module_validator_progress.proofs.Arms.{section_answer, section_added}
 use Rattle.wasm_module_validator_progress.proofs.Counting.{on_ok}
 use Rattle.wasm_module_validator_sharing.specs.Sharing.{Reached, reached, has_no_code, body_count, IsReached, IsWhole, TellsNext, Follows}

@@ -10,11 +10,11 @@ use Rattle.wasm_sections_payloads.specs.declared.payload.Payload.{Payload}
 use Rattle.wasm_sections_payloads.specs.declared.payload.Payload.TheVariants as payloads
 use Rattle.wasm_sections_payloads.specs.Payloads.{IsPayloadOf}
 use Rattle.wasm_module_validator_module.specs.declared.module.Function.{Function}
-use Rattle.wasm_module_validator_functions.specs.declared.beginning.FuncToValidate.{FuncToValidate}
-use Rattle.wasm_module_validator_progress.specs.code.declared.bodies.Body.{Body}
-use Rattle.wasm_module_validator_progress.specs.fronts.Walks.{HasSettings}
-use Rattle.wasm_module_validator_progress.specs.standing.steps.Steps.{SoFar, JudgesShape, JudgesBody}
-use Rattle.wasm_module_validator_progress.specs.Progress.{Progress, IsAt, nothing_kept}
+use Rattle.wasm_module_validator_reading.specs.progress.code.functions.declared.beginning.FuncToValidate.{FuncToValidate}
+use Rattle.wasm_module_validator_reading.specs.progress.code.declared.bodies.Body.{Body}
+use Rattle.wasm_module_validator_reading.specs.progress.fronts.Walks.{HasSettings}
+use Rattle.wasm_module_validator_reading.specs.progress.standing.steps.Steps.{SoFar, JudgesShape, JudgesBody}
+use Rattle.wasm_module_validator_reading.specs.progress.Progress.{Progress, IsAt, nothing_kept}
 use Rattle.wasm_module_validator_sharing.specs.declared.resources.ValidatorResources.{ValidatorResources}
 
 -- ---- what is kept

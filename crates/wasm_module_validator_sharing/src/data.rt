@@ -5,15 +5,16 @@ ghost use Rattle.wasm_types.specs.decoding.Decoder.{State};
 ghost use Rattle.wasm_types.specs.error.Denials.{Tells};
 ghost use Rattle.wasm_types.specs.limits.Settings.{Settings};
 ghost use Rattle.wasm_sections_payloads.specs.Payloads.{Counts};
-ghost use Rattle.wasm_module_validator_progress.specs.code.declared.bodies.Body.{Body};
-ghost use Rattle.wasm_module_validator_progress.specs.standing.steps.Sections as section;
-ghost use Rattle.wasm_module_validator_progress.specs.standing.steps.Steps.{SoFar, JudgesSection};
-ghost use Rattle.wasm_module_validator_progress.specs.Progress.{IsAt};
+ghost use Rattle.wasm_module_validator_reading.specs.progress.code.declared.bodies.Body.{Body};
+ghost use Rattle.wasm_module_validator_reading.specs.progress.standing.steps.Sections as section;
+ghost use Rattle.wasm_module_validator_reading.specs.progress.standing.steps.Steps.{SoFar, JudgesSection};
+ghost use Rattle.wasm_module_validator_reading.specs.progress.Progress.{IsAt};
 
 use std::alloc::Global;
 use wasm_module_validator_adding::{AddItem, add_items};
-use wasm_module_validator_initialising::{OperatorValidatorAllocations, judge_data};
-use wasm_module_validator_progress::{InProgress, SectionItem};
+use wasm_module_validator_reading::{
+    InProgress, OperatorValidatorAllocations, SectionItem, check_data_with,
+};
 use wasm_sections_payloads::{Data, DataSectionReader};
 use wasm_types::{Error, Result};
 
@@ -26,11 +27,11 @@ struct DataCheck<'b> {
 }
 
 impl<'a, 'b> AddItem<'a, Data<'a>> for DataCheck<'b> {
-    ghost use Rattle.wasm_module_validator_progress.specs.standing.steps.Sections as section;
-    ghost use Rattle.wasm_module_validator_progress.specs.standing.steps.Texts.{ItemRead};
+    ghost use Rattle.wasm_module_validator_reading.specs.progress.standing.steps.Sections as section;
+    ghost use Rattle.wasm_module_validator_reading.specs.progress.standing.steps.Texts.{ItemRead};
     ghost use Rattle.wasm_module_validator_texts.specs.Sections.{Reading, AddsIn, RefusesIn};
     ghost use Rattle.wasm_module_validator_texts.specs.Kinds.{data_read};
-    ghost use Rattle.wasm_module_validator_progress.specs.Progress.{IsRead};
+    ghost use Rattle.wasm_module_validator_reading.specs.progress.Progress.{IsRead};
 
     ghost Tree = { Reading };
 
@@ -46,7 +47,7 @@ impl<'a, 'b> AddItem<'a, Data<'a>> for DataCheck<'b> {
 
     fn add(&mut self, item: Data<'a>, offset: u64) -> Result<()> {
         let progress = self.progress;
-        judge_data(
+        check_data_with(
             self.alloc,
             &item,
             progress.state(),

@@ -13,5 +13,6 @@ mod sharing;
 
 pub use resources::ValidatorResources;
 pub use sharing::SharedProgress;
-pub use wasm_module_validator_functions::FuncToValidate;
-pub use wasm_module_validator_progress::{InProgress, check_header};
+pub use wasm_module_validator_reading::{
+    FuncToValidate, InProgress, ReadModule, check_header, judge_bodies, read_module,
+};

@@ -3,12 +3,12 @@
 ghost use Rattle.std.specs.Prelude.{◌≡◌, ◌<◌};
 ghost use Rattle.wasm_types.specs.trees.Trees.{opened};
 ghost use Rattle.wasm_operator_validator_resources.specs.Meaning.{entry_in};
-ghost use Rattle.wasm_module_validator_type_trees.specs.Groups.{count, tree_of};
+ghost use Rattle.wasm_module_validator_reading.specs.progress.standing.type_trees.Groups.{count, tree_of};
 ghost use Rattle.wasm_module_validator_resources.specs.Reading.{names_in};
 ghost use Rattle.wasm_module_validator_resources.specs.Named.{IsSettledIn};
 
 use std::rc::Rc;
-use wasm_module_validator_progress::InProgress;
+use wasm_module_validator_reading::InProgress;
 use wasm_operator_validator_resources::WasmModuleResources;
 use wasm_types::{
     CompositeInnerType, CoreTypeId, FuncType, GlobalType, HeapType, MemoryType, RefType, Result,

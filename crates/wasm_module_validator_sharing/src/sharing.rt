@@ -5,9 +5,9 @@ ghost use Rattle.wasm_types.specs.error.Denials.{Tells};
 ghost use Rattle.wasm_types.specs.limits.Limits.{default_limits};
 ghost use Rattle.wasm_types.specs.limits.Settings.{Settings};
 ghost use Rattle.wasm_sections_payloads.specs.declared.payload.Payload.TheVariants as payloads;
-ghost use Rattle.wasm_module_validator_interning.specs.Modules.{settings_of};
-ghost use Rattle.wasm_module_validator_progress.specs.standing.steps.Sections.{code_place};
-ghost use Rattle.wasm_module_validator_progress.specs.standing.steps.Steps.{SoFar};
+ghost use Rattle.wasm_module_validator_reading.specs.progress.standing.interning.Modules.{settings_of};
+ghost use Rattle.wasm_module_validator_reading.specs.progress.standing.steps.Sections.{code_place};
+ghost use Rattle.wasm_module_validator_reading.specs.progress.standing.steps.Steps.{SoFar};
 ghost use Rattle.wasm_module_validator_sharing.specs.Sharing.{nothing_reached, has_no_code, IsReached, IsWhole, TellsNext, Follows, IsNextFunction};
 
 use crate::data::check_data_section;
@@ -16,8 +16,7 @@ use std::alloc::Global;
 use std::marker::Model;
 use std::mem;
 use std::rc::Rc;
-use wasm_module_validator_functions::FuncToValidate;
-use wasm_module_validator_progress::{InProgress, ModuleState};
+use wasm_module_validator_reading::{FuncToValidate, InProgress, ModuleState};
 use wasm_sections_payloads::{DataSectionReader, FunctionBody, Payload};
 use wasm_types::{Result, WasmFeatures};
 

@@ -2,11 +2,11 @@ use Rattle.std.proofs.Common.{List, subst}
 use Rattle.wasm_types.specs.error.Denials.{Tells}
 use Rattle.wasm_types.specs.error.DenialLaws.{denies_from}
 use Rattle.wasm_types.specs.limits.Settings.{Settings}
-use Rattle.wasm_module_validator_reading.specs.progress.code.declared.bodies.Body.{Body}
-use Rattle.wasm_module_validator_reading.specs.progress.standing.steps.contexts.rules.Accepts.{AcceptsUnder}
-use Rattle.wasm_module_validator_reading.specs.progress.standing.steps.Steps.{SoFar}
-use Rattle.wasm_module_validator_reading.specs.progress.Progress.{Progress}
-use Rattle.wasm_module_validator_reading.specs.Reading.{under, IsReadAs}
+use Rattle.wasm_module_validator_sharing.specs.reading.progress.code.declared.bodies.Body.{Body}
+use Rattle.wasm_module_validator_sharing.specs.reading.progress.standing.steps.contexts.rules.Accepts.{AcceptsUnder}
+use Rattle.wasm_module_validator_sharing.specs.reading.progress.standing.steps.Steps.{SoFar}
+use Rattle.wasm_module_validator_sharing.specs.reading.progress.Progress.{Progress}
+use Rattle.wasm_module_validator_sharing.specs.reading.Reading.{under, IsReadAs}
 use Rattle.wasm_module_validator.specs.laws.Verdict.{accepted_is_read, tells_accepted, stands_for_module}
 use Rattle.wasm_module_validator.proofs.validator.Validator.validate_all.Goals as goal
 

@@ -1,8 +1,8 @@
 use Rattle.std.proofs.Common.{List, subst}
-use Rattle.wasm_module_validator_type_trees.specs.Groups.{Group}
+use Rattle.wasm_module_validator_reading.specs.progress.standing.type_trees.Groups.{Group}
 use Rattle.wasm_module_validator_resources.specs.Named.{IsSettledIn}
 use Rattle.wasm_module_validator_resources.specs.laws.Settling.{settled_in}
-use Rattle.wasm_module_validator_progress.specs.Progress.{Progress}
+use Rattle.wasm_module_validator_reading.specs.progress.Progress.{Progress}
 use Rattle.wasm_module_validator_sharing.proofs.resources.ValidatorResources.new.Goals as goal
 
 pub invariant_of-result : goal.invariant_of-result

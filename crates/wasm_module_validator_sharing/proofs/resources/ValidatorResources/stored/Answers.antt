@@ -1,10 +1,10 @@
 use Rattle.std.proofs.Common.{◌≡◌, ◌∙◌, List, Some, None, ap, subst}
 use Rattle.std.specs.Prelude.{slice_get}
 use Rattle.wasm_types.specs.groups.Entries.{declared_of}
-use Rattle.wasm_module_validator_type_trees.specs.Groups.{Group, declared_by_id}
-use Rattle.wasm_module_validator_type_trees.specs.Formed.{IsFormed}
+use Rattle.wasm_module_validator_reading.specs.progress.standing.type_trees.Groups.{Group, declared_by_id}
+use Rattle.wasm_module_validator_reading.specs.progress.standing.type_trees.Formed.{IsFormed}
 use Rattle.wasm_module_validator_resources.proofs.Finding.{id_past, stored_as, entry_stored}
-use Rattle.wasm_module_validator_progress.specs.Progress.{Progress}
+use Rattle.wasm_module_validator_reading.specs.progress.Progress.{Progress}
 use Rattle.wasm_module_validator_sharing.proofs.resources.ValidatorResources.stored.Goals as goal
 
 pub unreachable-requires : goal.unreachable-requires

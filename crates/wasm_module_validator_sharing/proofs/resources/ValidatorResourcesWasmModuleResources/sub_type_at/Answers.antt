@@ -3,11 +3,11 @@ use Rattle.std.specs.Option.{option_map}
 use Rattle.std.specs.Prelude.{slice_get}
 use Rattle.wasm_types.specs.indices.declared.index.CoreTypeId.{CoreTypeId}
 use Rattle.wasm_types.specs.trees.Trees.{opened}
-use Rattle.wasm_module_validator_type_trees.specs.Groups.{count, tree_of}
+use Rattle.wasm_module_validator_reading.specs.progress.standing.type_trees.Groups.{count, tree_of}
 use Rattle.wasm_module_validator_module.specs.Spaces.{Spaces}
 use Rattle.wasm_module_validator_resources.proofs.Finding.{all_at, type_found, mapped}
-use Rattle.wasm_module_validator_progress.specs.Progress.{Progress}
-use Rattle.wasm_module_validator_progress.specs.standing.items.Items.{Items}
+use Rattle.wasm_module_validator_reading.specs.progress.Progress.{Progress}
+use Rattle.wasm_module_validator_reading.specs.progress.standing.items.Items.{Items}
 use Rattle.wasm_module_validator_sharing.proofs.resources.ValidatorResourcesWasmModuleResources.sub_type_at.Goals as goal
 
 pub stored-requires : goal.stored-requires

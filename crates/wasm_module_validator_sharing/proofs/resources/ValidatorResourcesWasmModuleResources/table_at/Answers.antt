@@ -2,7 +2,7 @@ use Rattle.std.proofs.Common.{◌≡◌, ◌∙◌, ap, subst}
 use Rattle.std.specs.Prelude.{option_map, slice_get}
 use Rattle.wasm_operator_validator_resources.specs.Meaning.{Meaning, table_in}
 use Rattle.wasm_module_validator_resources.specs.Reading.{meaning_of}
-use Rattle.wasm_module_validator_progress.specs.Progress.{Progress}
+use Rattle.wasm_module_validator_reading.specs.progress.Progress.{Progress}
 use Rattle.wasm_module_validator_sharing.proofs.resources.ValidatorResourcesWasmModuleResources.table_at.Goals as goal
 
 pub returns : goal.returns

@@ -6,13 +6,13 @@ use Rattle.wasm_types.specs.trees.Types.{inner_map}
 use Rattle.wasm_types.specs.trees.Below.{expanded}
 use Rattle.wasm_types.specs.groups.Entries.{entry_of, inner_of}
 use Rattle.wasm_operator_validator_resources.specs.Meaning.{named_type}
-use Rattle.wasm_module_validator_type_trees.specs.Groups.{tree_of}
+use Rattle.wasm_module_validator_reading.specs.progress.standing.type_trees.Groups.{tree_of}
 use Rattle.wasm_module_validator_module.specs.Spaces.{Spaces}
 use Rattle.wasm_module_validator_resources.specs.Reading.{names_in}
 use Rattle.wasm_module_validator_resources.specs.Named.{IsFunctionKind}
 use Rattle.wasm_module_validator_resources.proofs.Finding.{all_at, kind_in, tag_found, mapped, array_kind, struct_kind, cont_kind}
-use Rattle.wasm_module_validator_progress.specs.Progress.{Progress}
-use Rattle.wasm_module_validator_progress.specs.standing.items.Items.{Items}
+use Rattle.wasm_module_validator_reading.specs.progress.Progress.{Progress}
+use Rattle.wasm_module_validator_reading.specs.progress.standing.items.Items.{Items}
 use Rattle.wasm_module_validator_sharing.proofs.resources.ValidatorResourcesWasmModuleResources.tag_at.Goals as goal
 
 pub stored-requires : goal.stored-requires
