@@ -15,7 +15,7 @@ use Rattle.wasm_module_validator_reading.specs.progress.standing.steps.Texts.{It
 use Rattle.wasm_module_validator_reading.specs.progress.standing.Standing.{TellsItem}
 use Rattle.wasm_module_validator_reading.specs.progress.standing.laws.Behind.{data_stand, still_last}
 use Rattle.wasm_module_validator_reading.specs.progress.Progress.{Kept, IsRead}
-use Rattle.wasm_module_validator_progress.proofs.Adding.{told_one, refused_one}
+use Rattle.wasm_module_validator_reading.proofs.Adding.{told_one, refused_one}
 
 -- ---- what is kept stands for the tree with the segment too
 

@@ -19,8 +19,8 @@ use Rattle.wasm_module_validator_reading.specs.progress.standing.steps.Sections 
 use Rattle.wasm_module_validator_reading.specs.progress.standing.steps.Steps.{SoFar, JudgesShape, JudgesSection}
 use Rattle.wasm_module_validator_reading.specs.progress.Progress.{Progress, IsAt, text_of}
 use Rattle.wasm_module_validator_reading.specs.progress.laws.Shapes.{frame_back}
-use Rattle.wasm_module_validator_progress.proofs.Arms.{section_answer, section_added}
-use Rattle.wasm_module_validator_progress.proofs.Counting.{on_ok}
+use Rattle.wasm_module_validator_reading.proofs.Arms.{section_answer, section_added}
+use Rattle.wasm_module_validator_reading.proofs.Counting.{on_ok}
 use Rattle.wasm_module_validator_sharing.specs.Sharing.{Reached, reached, has_no_code, body_count, IsReached, IsWhole, TellsNext, Follows}
 
 -- ---- what is its own, and what is shared
