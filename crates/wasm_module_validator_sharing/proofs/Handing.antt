@@ -11,11 +11,23 @@ use Rattle.wasm_module_validator_reading.specs.progress.code.declared.bodies.Bod
 use Rattle.wasm_module_validator_reading.specs.progress.standing.steps.Steps.{SoFar, JudgesBody}
 use Rattle.wasm_module_validator_reading.specs.progress.Progress.{Progress, IsAt}
 use Rattle.wasm_module_validator_reading.specs.progress.laws.Bodies.{FitsBehind, fits, not_fitting, function_is, judges, body_behind, no_function}
-use Rattle.wasm_module_validator_sharing.specs.Sharing.{Reached, IsReached, body_count}
+use Rattle.wasm_module_validator_sharing.specs.Sharing.{Reached, IsReached, Handed, IsHandedOut, NoneLeft, body_count}
 
 -- the type of the function at an index
 abbrev pub type_at : Progress → ℕ → Option ℕ
 type_at k i = option_map (λ (f : Function). f.type_index) (slice_get k.kept.items.spaces.functions i)
+
+-- what is handed out
+pub is_handed_out : (r : Reached) (shared : Progress) (last n bits : ℕ) (f : Handed) → r.progress ≡ record { kept = shared.kept; last = last } → body_count r.code ≡ n
+    → f.resources.shared.value ≡ shared → f.index ≡ shared.kept.items.spaces.imported_functions + n
+    → type_at shared (shared.kept.items.spaces.imported_functions + n) ≡ Some f.ty → f.features.0 ≡ bits → IsHandedOut r bits f
+is_handed_out r shared last n bits f same code res index type features = record {
+  resources = ap (λ (s : Progress). s.kept) res ∙ sym (ap (λ (s : Progress). s.kept) same);
+  index = index ∙ ap (λ (m : ℕ). shared.kept.items.spaces.imported_functions + m) (sym code)
+      ∙ ap (λ (s : Progress). s.kept.items.spaces.imported_functions + body_count r.code) (sym same);
+  type = subst (λ (s : Progress). type_at s f.index ≡ Some f.ty) (sym same) (ap (type_at shared) index ∙ type);
+  features = features;
+}
 
 -- where there is no type there is no function
 pub no_type : (o : Option Function) → option_map (λ (f : Function). f.type_index) o ≡ None → o ≡ None
@@ -32,6 +44,11 @@ module _ (r : Reached) (here : Progress) (n : ℕ) (same : r.progress ≡ here) 
   next_type : (z : Settings) (p : SoFar) (bodies : List Body) → length bodies ≡ n → IsAt z here bodies p → type_at here place ≡ slice_get p.tree.functions (length p.bodies)
   next_type z p bodies count at =
       ap (λ (m : ℕ). type_at here (here.kept.items.spaces.imported_functions + m)) (sym count) ∙ function_is z p here bodies at
+
+  pub none_left : type_at here place ≡ None → NoneLeft r
+  none_left e = subst (λ (s : Progress). slice_get s.kept.items.spaces.functions (s.kept.items.spaces.imported_functions + body_count r.code) ≡ None) (sym same)
+      (subst (λ (m : ℕ). slice_get here.kept.items.spaces.functions (here.kept.items.spaces.imported_functions + m) ≡ None) (sym code)
+      (no_type (slice_get here.kept.items.spaces.functions place) e))
 
   pub body_denied : (k : ErrorKind) → Denies k (FitsBehind here body.rest) → (z : Settings) (p : SoFar) → IsReached z r p → Denies k ((q : SoFar) × JudgesBody z p body.rest q)
   body_denied k d z p reached = let (bodies, count, at) = at_here z p reached in not_fitting z p here bodies at k body.rest d

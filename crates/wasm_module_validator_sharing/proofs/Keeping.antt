@@ -37,6 +37,18 @@ module _ (r : Reached) (own : Progress) (last n : ℕ) where
   own_progress None e none = sym (ap (λ (x : Reached). x.progress) e)
   own_progress (Some s) e none = absurd (some_none n (ap (λ (x : Reached). x.code) e ∙ none))
 
+-- what is kept as shared
+module _ (r : Reached) (own : Progress) (last n : ℕ) (o : Option Progress) (shared : Progress) (is : o ≡ Some shared) where
+  pub shared_progress : reached own o last n ≡ r → r.progress ≡ record { kept = shared.kept; last = last }
+  shared_progress e = sym (ap (λ (x : Reached). x.progress) (sym (ap (λ (s : Option Progress). reached own s last n) is) ∙ e))
+
+  pub shared_code : reached own o last n ≡ r → r.code ≡ Some n
+  shared_code e = sym (ap (λ (x : Reached). x.code) (sym (ap (λ (s : Option Progress). reached own s last n) is) ∙ e))
+
+  -- with another place and another count
+  pub shared_left : (place count : ℕ) → reached own o place count ≡ record { progress = record { kept = shared.kept; last = place }; code = Some count }
+  shared_left place count = ap (λ (s : Option Progress). reached own s place count) is
+
 -- what is kept as its own
 pub own_reached : (own : Progress) (shared : Option Progress) (last n : ℕ) → shared ≡ None → reached own shared last n ≡ record { progress = own; code = None }
 own_reached own shared last n e = ap (λ (s : Option Progress). reached own s last n) e

@@ -141,7 +141,7 @@ impl SharedProgress {
     /// The section is out of order, or brings more segments than there may be; a segment cannot be read or is not valid, or a byte is left
     /// behind the last; or there is no memory: the first of these. What is kept then stands for nothing.
     pub fn take_data(&mut self, segments: DataSectionReader<'_>) -> Result<()>
-        requires code { is_some self.old.code ≡ true }
+        requires { is_some self.old.code ≡ true }
         ensures answer { TellsNext self.old (payloads.DataSection segments.entry) result }
         ensures added { OnOk result (Follows self.old (payloads.DataSection segments.entry) self.new) }
         ensures code { self.new.code ≡ self.old.code }
@@ -169,8 +169,8 @@ impl SharedProgress {
         features: WasmFeatures,
         body: &FunctionBody<'_>,
     ) -> Result<Option<FuncToValidate<ValidatorResources>>>
-        requires code { is_some self.old.code ≡ true }
-        ensures answer { IsNextFunction self.old features.0 body.now result self.new }
+        requires { is_some self.old.code ≡ true }
+        ensures { IsNextFunction self.old features.0 body.now result self.new }
     {
         let Some(shared) = &self.shared else {
             unreachable!()

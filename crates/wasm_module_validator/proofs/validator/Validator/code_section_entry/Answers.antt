@@ -15,19 +15,19 @@ returns-in-Err c =
 pub take_body-requires : goal.take_body-requires
 take_body-requires c =
     let v = c.args.self.now in
-    record { code = sym c.has_code.ensures ∙ (turn_is v.state c.has_code.result c.in-Ok.ensures).1 }
+    sym c.has_code.ensures ∙ (turn_is v.state c.has_code.result c.in-Ok.ensures).1
 
 pub returns-in-Ok-Some : goal.returns-in-Ok-Some
 returns-in-Ok-Some c =
     let v = c.args.self.now in
-    let next = subst (λ (o : Option Handed). IsNextFunction v.reached v.features.0 c.args.body.now (Ok o) c.take_body.new.self) c.in-Ok-Some.field-0-is c.in-Ok-Some.ensures.answer in
+    let next = subst (λ (o : Option Handed). IsNextFunction v.reached v.features.0 c.args.body.now (Ok o) c.take_body.new.self) c.in-Ok-Some.field-0-is c.in-Ok-Some.ensures in
     let left = next.follows in
     in_turn (refusal v.state (is_some v.reached.code)) v _ _ _ _ (c.in-Ok.ensures ∙ ap (refusal v.state) c.has_code.ensures) next.told (left.0, refl, left.1, left.2)
 
 pub returns-in-Ok-None : goal.returns-in-Ok-None
 returns-in-Ok-None c =
     let v = c.args.self.now in
-    let next = subst (λ (o : Option Handed). IsNextFunction v.reached v.features.0 c.args.body.now (Ok o) c.take_body.new.self) c.in-Ok-None.field-0-is c.in-Ok-None.ensures.answer in
+    let next = subst (λ (o : Option Handed). IsNextFunction v.reached v.features.0 c.args.body.now (Ok o) c.take_body.new.self) c.in-Ok-None.field-0-is c.in-Ok-None.ensures in
     let left = next.follows in
     in_turn (refusal v.state (is_some v.reached.code)) v _ _ _ _ (c.in-Ok.ensures ∙ ap (refusal v.state) c.has_code.ensures)
     (λ z p reached same. denies c.too_many_bodies.result.kind _ (next.told z p reached same))
@@ -36,5 +36,5 @@ returns-in-Ok-None c =
 pub returns-in-Err-take_body : goal.returns-in-Err-take_body
 returns-in-Err-take_body c =
     let v = c.args.self.now in
-    in_turn (refusal v.state (is_some v.reached.code)) v _ _ _ _ (c.in-Ok.ensures ∙ ap (refusal v.state) c.has_code.ensures) c.in-Err-take_body.ensures.answer.told
-    (inr (ap (λ (r : Reached). record v { state = Failed; reached = r }) c.in-Err-take_body.ensures.answer.follows))
+    in_turn (refusal v.state (is_some v.reached.code)) v _ _ _ _ (c.in-Ok.ensures ∙ ap (refusal v.state) c.has_code.ensures) c.in-Err-take_body.ensures.told
+    (inr (ap (λ (r : Reached). record v { state = Failed; reached = r }) c.in-Err-take_body.ensures.follows))
