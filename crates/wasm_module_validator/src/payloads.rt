@@ -11,7 +11,6 @@ use wasm_sections_payloads::{FunctionBody, Payload};
 use wasm_types::Result;
 
 /// What a payload that was accepted leads to.
-#[derive(Drop)]
 pub enum ValidPayload<'a> {
     /// Nothing more is to be done.
     Ok,

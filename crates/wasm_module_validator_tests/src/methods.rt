@@ -4,7 +4,7 @@ use std::alloc::Global;
 use std::fmt::Write;
 use std::process::Abort;
 use std::test::Fail;
-use wasm_module_validator::{ValidPayload, Validator, ValidatorId};
+use wasm_module_validator::{FuncToValidate, ValidPayload, Validator, ValidatorId};
 use wasm_sections_parser::Encoding;
 use wasm_sections_payloads::Parser;
 use wasm_types::{Error, Result};
@@ -68,13 +68,14 @@ fn tell_payload(
     match answer {
         Ok(ValidPayload::Ok) => text.push_str("ok ")?,
         Ok(ValidPayload::Func(function, body)) => {
-            let reader = body.get_binary_reader();
-            let length = reader.bytes_remaining();
-            write!(
-                text,
-                "function {} of type {}, {length} bytes ",
-                function.index, function.ty
-            )?;
+            let length = body.get_binary_reader().bytes_remaining();
+            let FuncToValidate {
+                resources: _resources,
+                index,
+                ty,
+                features: _,
+            } = function;
+            write!(text, "function {index} of type {ty}, {length} bytes ")?;
         }
         Ok(ValidPayload::End(types)) => {
             let count = types.as_ref().function_count();
