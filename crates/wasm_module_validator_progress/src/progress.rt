@@ -58,13 +58,6 @@ impl InProgress {
         &self.collected.types
     }
 
-    /// How many groups of types the module has written.
-    pub fn group_count(&self) -> u32
-        ensures { result ≡ self.now.kept.count }
-    {
-        self.collected.groups
-    }
-
     /// What operators ask of the module.
     pub fn resources(&self) -> OperatorValidatorResources<'_>
         ensures { meaning_of result.types.now.groups result.«module».now ≡ meaning_of self.now.kept.groups self.now.kept.items.spaces }
