@@ -3,11 +3,11 @@
 use Rattle.std.specs.Prelude.{ℕ, List, []}
 use Rattle.wasm_types.specs.limits.Settings.{Settings}
 use Rattle.wasm_types.specs.features.Sets.{bits_of, default_features}
-use Rattle.wasm_module_validator_reading.specs.progress.standing.steps.contexts.rules.Accepts.{AcceptsUnder, Judges}
-use Rattle.wasm_module_validator_reading.specs.progress.standing.steps.contexts.rules.Syntax.{ModuleTree}
-use Rattle.wasm_module_validator_reading.specs.progress.standing.Standing.{Stands}
-use Rattle.wasm_module_validator_reading.specs.progress.Progress.{Progress}
-use Rattle.wasm_module_validator_reading.specs.Reading.{under}
+use Rattle.wasm_module_validator_sharing.specs.reading.progress.standing.steps.contexts.rules.Accepts.{AcceptsUnder, Judges}
+use Rattle.wasm_module_validator_sharing.specs.reading.progress.standing.steps.contexts.rules.Syntax.{ModuleTree}
+use Rattle.wasm_module_validator_sharing.specs.reading.progress.standing.Standing.{Stands}
+use Rattle.wasm_module_validator_sharing.specs.reading.progress.Progress.{Progress}
+use Rattle.wasm_module_validator_sharing.specs.reading.Reading.{under}
 
 -- the features and limits that hold where none are chosen
 abbrev pub default_settings : Settings

@@ -1,5 +1,7 @@
--- Rules: what is accepted, and how far a validator is then.
+-- Rules: what is accepted, how far a validator is then, and what its methods promise.
 pub mod Accepts
 pub mod States
+pub mod Methods
+pub mod Payloads
 -- Laws, with the proofs.
 pub mod laws

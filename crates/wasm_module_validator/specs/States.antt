@@ -7,12 +7,12 @@ use Rattle.wasm_types.specs.error.declared.error.ErrorKind.{ErrorKind}
 use Rattle.wasm_types.specs.error.declared.error.ErrorKind.TheVariants.{OutOfMemory}
 use Rattle.wasm_types.specs.limits.Settings.{Settings}
 use Rattle.wasm_types.specs.reader.Reading.{IsNotMemory}
-use Rattle.wasm_module_validator_reading.specs.progress.standing.steps.contexts.rules.Syntax.{Function}
-use Rattle.wasm_module_validator_reading.specs.progress.standing.steps.contexts.rules.Spaces.{module_of}
-use Rattle.wasm_module_validator_reading.specs.progress.standing.steps.contexts.rules.Binary.{SpelledFunction}
-use Rattle.wasm_module_validator_reading.specs.progress.standing.steps.contexts.rules.Valid.{HasValidBody}
-use Rattle.wasm_module_validator_reading.specs.progress.standing.steps.Steps.{SoFar}
-use Rattle.wasm_module_validator_reading.specs.Reading.{IsReadAs}
+use Rattle.wasm_module_validator_sharing.specs.reading.progress.standing.steps.contexts.rules.Syntax.{Function}
+use Rattle.wasm_module_validator_sharing.specs.reading.progress.standing.steps.contexts.rules.Spaces.{module_of}
+use Rattle.wasm_module_validator_sharing.specs.reading.progress.standing.steps.contexts.rules.Binary.{SpelledFunction}
+use Rattle.wasm_module_validator_sharing.specs.reading.progress.standing.steps.contexts.rules.Valid.{HasValidBody}
+use Rattle.wasm_module_validator_sharing.specs.reading.progress.standing.steps.Steps.{SoFar}
+use Rattle.wasm_module_validator_sharing.specs.reading.Reading.{IsReadAs}
 use Rattle.wasm_module_validator.specs.declared.validator.State.{State}
 use Rattle.wasm_module_validator.specs.declared.validator.State.TheVariants.{Ended, Failed}
 

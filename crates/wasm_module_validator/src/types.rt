@@ -1,25 +1,22 @@
 //! What a validator learned of a module.
 
-ghost use Rattle.std.specs.Prelude.{◌≡◌, length};
+ghost use Rattle.std.specs.Prelude.{◌≡◌, ◌^◌, ◌-◌, length, min};
 
 use std::marker::Model;
-use wasm_module_validator_reading::InProgress;
+use wasm_module_validator_sharing::SharedProgress;
 
 /// What a validator learned of a module: its index spaces, and the list of its types.
 #[derive(Drop)]
 pub struct Types {
-    pub(crate) module: InProgress,
+    pub(crate) module: SharedProgress,
 }
 
 impl Model for Types {
-    ghost use Rattle.std.specs.Prelude.{◌<◌, ◌^◌, length};
-    ghost use Rattle.wasm_module_validator_reading.specs.progress.Progress.{Progress};
+    ghost use Rattle.wasm_module_validator_sharing.specs.reading.progress.Progress.{Progress};
 
     ghost Value = { Progress };
 
-    ghost view = { λ t. t.«module» };
-
-    ghost invariant = { λ t. length t.«module».kept.items.spaces.types < 2 ^ 32 };
+    ghost view = { λ t. t.«module».progress };
 }
 
 impl Types {
@@ -27,38 +24,40 @@ impl Types {
     pub fn as_ref(&self) -> TypesRef<'_>
         ensures { result ≡ self.now }
     {
-        TypesRef { types: self }
+        TypesRef {
+            module: &self.module,
+        }
     }
 }
 
 /// What a validator learned of a module, borrowed.
 #[derive(Drop)]
 pub struct TypesRef<'a> {
-    types: &'a Types,
+    pub(crate) module: &'a SharedProgress,
 }
 
 impl<'a> Model for TypesRef<'a> {
-    ghost use Rattle.wasm_module_validator_reading.specs.progress.Progress.{Progress};
+    ghost use Rattle.wasm_module_validator_sharing.specs.reading.progress.Progress.{Progress};
 
     ghost Value = { Progress };
 
-    ghost view = { λ r. r.types.now };
+    ghost view = { λ r. r.«module».now.progress };
 }
 
 impl<'a> TypesRef<'a> {
-    /// How many types the module has.
+    /// How many types the module has, ending at the largest number of 32 bits.
     pub fn core_type_count_in_module(&self) -> u32
-        ensures { result ≡ length self.now.kept.items.spaces.types }
+        ensures { result ≡ min (length self.now.kept.items.spaces.types) (2 ^ 32 - 1) }
     {
-        let types = self.types;
-        types.module.state().module().type_ids().len() as u32
+        let types = self.module;
+        u32::try_from(types.state().module().type_ids().len()).unwrap_or(u32::MAX)
     }
 
     /// How many functions the module has, with those that are imported.
     pub fn function_count(&self) -> u32
         ensures { result ≡ length self.now.kept.items.spaces.functions }
     {
-        let types = self.types;
-        types.module.state().module().function_count()
+        let types = self.module;
+        types.state().module().function_count()
     }
 }

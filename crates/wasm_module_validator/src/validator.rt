@@ -3,10 +3,10 @@
 ghost use Rattle.std.specs.Prelude.{◌≡◌, ◌↔◌, IsTrue, IfOk, length};
 ghost use Rattle.wasm_types.specs.error.Denials.{Tells};
 ghost use Rattle.wasm_types.specs.features.Sets.{bits_of, default_features};
-ghost use Rattle.wasm_module_validator_reading.specs.progress.standing.steps.contexts.rules.Accepts.{AcceptsUnder};
-ghost use Rattle.wasm_module_validator_reading.specs.progress.standing.steps.Steps.{SoFar};
-ghost use Rattle.wasm_module_validator_reading.specs.Reading.{under};
-ghost use Rattle.wasm_module_validator_reading.specs.progress.Progress.{IsAt};
+ghost use Rattle.wasm_module_validator_sharing.specs.reading.progress.standing.steps.contexts.rules.Accepts.{AcceptsUnder};
+ghost use Rattle.wasm_module_validator_sharing.specs.reading.progress.standing.steps.Steps.{SoFar};
+ghost use Rattle.wasm_module_validator_sharing.specs.reading.Reading.{under};
+ghost use Rattle.wasm_module_validator_sharing.specs.reading.progress.Progress.{IsAt};
 ghost use Rattle.wasm_module_validator.specs.declared.validator.State.TheVariants as states;
 ghost use Rattle.wasm_module_validator.specs.Accepts.{Accepts, IsShown, default_settings};
 ghost use Rattle.wasm_module_validator.specs.States.{AreBodies, IsLeft, Leaves};
@@ -14,7 +14,7 @@ ghost use Rattle.wasm_module_validator.specs.States.{AreBodies, IsLeft, Leaves};
 use crate::types::Types;
 use std::alloc::Global;
 use std::marker::Model;
-use wasm_module_validator_reading::{ReadModule, judge_bodies, read_module};
+use wasm_module_validator_sharing::{ReadModule, SharedProgress, judge_bodies, read_module};
 use wasm_types::{Error, ErrorKind, Result, WasmFeatures};
 
 /// Tells a validator from others; the caller makes each number once.
@@ -35,7 +35,9 @@ impl ValidatorId {
 pub enum State {
     /// Nothing was read yet.
     Unparsed,
-    /// A module was accepted, or nothing but a function of it was refused.
+    /// A header was read, and sections may come.
+    Module,
+    /// A module was accepted, or nothing but a function of it was refused; or an end was told of none.
     Ended,
     /// The header or a section was refused, or memory ran out.
     Failed,
@@ -44,10 +46,12 @@ pub enum State {
 /// Validates one module.
 #[derive(Drop)]
 pub struct Validator {
-    alloc: Global,
-    id: ValidatorId,
-    state: State,
-    features: WasmFeatures,
+    pub(crate) alloc: Global,
+    pub(crate) id: ValidatorId,
+    pub(crate) state: State,
+    pub(crate) features: WasmFeatures,
+    // The module whose sections come one by one.
+    pub(crate) reached: SharedProgress,
 }
 
 impl Validator {
@@ -69,6 +73,7 @@ impl Validator {
             id,
             state: State::Unparsed,
             features,
+            reached: SharedProgress::new(alloc, features),
         }
     }
 
@@ -107,7 +112,7 @@ impl Validator {
             Ok(()) => {
                 self.state = State::Ended;
                 Ok(Types {
-                    module: read.progress,
+                    module: SharedProgress::of(self.alloc, read.progress),
                 })
             }
             Err(error) => {

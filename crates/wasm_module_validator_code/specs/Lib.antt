@@ -4,3 +4,5 @@ pub mod Code
 pub mod CodeLaws
 -- Worked bodies.
 pub mod Worked
+-- The rules of the crate below, under their names: crates above cite them here.
+pub use Rattle.wasm_module_validator_functions.specs as functions

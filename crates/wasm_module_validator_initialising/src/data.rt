@@ -45,6 +45,28 @@ fn judge_data(
     )
 }
 
+/// Checks a data segment with memory of the caller's, in a state that is lent: nothing of a segment is kept. All else is as of
+/// `check_data_item`.
+///
+/// # Errors
+///
+/// As of `check_data_item`.
+pub fn check_data_with(
+    alloc: Global,
+    segment: &DataOf<'_, ConstExpr<'_>>,
+    state: &ModuleState,
+    types: &TypeList,
+    allocs: &mut OperatorValidatorAllocations,
+    offset: u64,
+) -> Result<()>
+    requires over { IsReadOver types.now.groups state.now.spaces }
+    requires within { IsWithinCeilings state.now.spaces.settings.limits }
+    ensures answer { TellsItem section.data_segments types.now.groups state.now (data_tree segment.now) result }
+    ensures added { OnOk result (AddsItem section.data_segments types.now.groups state.now (data_tree segment.now) types.now.groups state.now) }
+{
+    judge_data(alloc, segment, state, types, allocs, offset)
+}
+
 /// Checks a data segment, of which the state keeps nothing. Where the state stands for a tree it is Ok exactly where the segment may be
 /// added to the tree, out of memory aside, and the state then stands for each tree with the segment more (WebAssembly 3.0, validation,
 /// modules, data segments).

@@ -1,6 +1,6 @@
 //! Frames of a module that are no items: where a section begins, and the code section.
 
-ghost use Rattle.std.specs.Prelude.{◌≡◌, ◌<◌, ◌+◌, List, OnOk, option_map, slice_get};
+ghost use Rattle.std.specs.Prelude.{◌≡◌, ◌<◌, ◌≤◌, ◌+◌, List, OnOk, IfSome, length, option_map, slice_get};
 ghost use Rattle.wasm_types.specs.decoding.Decoder.{State};
 ghost use Rattle.wasm_types.specs.error.Denials.{Tells};
 ghost use Rattle.wasm_types.specs.error.declared.error.ErrorKind.TheVariants.{Other};
@@ -89,9 +89,10 @@ impl InProgress {
         self.begin_section(12, offset)
     }
 
-    // The index of the function that the body behind so many others is of, and that of its type.
-    fn function_behind(&self, bodies: usize) -> Option<(u32, u32)>
-        ensures { option_map (λ x. x.1) result ≡ option_map (λ f. f.type_index) (slice_get self.now.kept.items.spaces.functions (self.now.kept.items.spaces.imported_functions + bodies)) }
+    /// The index of the function that the body behind so many others is of, and that of its type.
+    pub fn function_behind(&self, bodies: usize) -> Option<(u32, u32)>
+        ensures typed { option_map (λ x. x.1) result ≡ option_map (λ f. f.type_index) (slice_get self.now.kept.items.spaces.functions (self.now.kept.items.spaces.imported_functions + bodies)) }
+        ensures index { IfSome result (λ x. x.0 ≡ self.now.kept.items.spaces.imported_functions + bodies) }
     {
         let module = self.collected.state.module();
         let first = module.imported_functions();
@@ -103,6 +104,26 @@ impl InProgress {
             Some(function) => Some((index, function.type_index)),
             None => None,
         }
+    }
+
+    /// Checks where a body comes, behind a section of this place, and how long it is.
+    ///
+    /// # Errors
+    ///
+    /// That section is not the code section; or the body is longer than a body may be: the first of these.
+    pub fn check_body(&self, last: u32, body: &FunctionBody<'_>) -> Result<()>
+        ensures { Tells result ((last ≡ code_place) × (length body.now.rest ≤ self.now.kept.items.spaces.settings.limits.body_bytes)) }
+    {
+        let reader = body.get_binary_reader();
+        let offset = reader.original_position();
+        if last != 12 {
+            return Err(Error::new("code section entry out of order", offset));
+        }
+        let most = self.collected.state.settings().limits().body_bytes;
+        if reader.bytes_remaining() > most as usize {
+            return Err(long_body(most, offset));
+        }
+        Ok(())
     }
 
     /// Takes a body: it is kept with the index of its function and of its type.
@@ -120,17 +141,13 @@ impl InProgress {
         ensures added { OnOk result ((z : Settings) (p q : SoFar) → IsAt z self.old bodies.old.items p → body.entry.settings ≡ z → JudgesBody z p body.entry.rest q
             → IsAt z self.new bodies.new.items q) }
     {
-        let reader = body.get_binary_reader();
-        let offset = reader.original_position();
-        if self.last != 12 {
-            return Err(Error::new("code section entry out of order", offset));
-        }
-        let most = self.collected.state.settings().limits().body_bytes;
-        if reader.bytes_remaining() > most as usize {
-            return Err(long_body(most, offset));
+        match self.check_body(self.last, &body) {
+            Ok(()) => (),
+            Err(error) => return Err(error),
         }
         let kept = bodies.as_slice();
         let Some((index, type_index)) = self.function_behind(kept.len()) else {
+            let offset = body.get_binary_reader().original_position();
             return Err(too_many_bodies(offset));
         };
         bodies.push(Body {

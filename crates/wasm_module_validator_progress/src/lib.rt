@@ -17,5 +17,8 @@ mod progress;
 
 pub use collected::Collected;
 pub use items::SectionItem;
+pub use payloads::check_header;
 pub use progress::InProgress;
-pub use wasm_module_validator_code::{Body, judge_bodies};
+pub use wasm_module_validator_code::{Body, FuncToValidate, judge_bodies};
+pub use wasm_module_validator_initialising::{OperatorValidatorAllocations, check_data_with};
+pub use wasm_module_validator_standing::ModuleState;

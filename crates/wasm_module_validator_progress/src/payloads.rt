@@ -20,8 +20,8 @@ use wasm_sections_parser::Encoding;
 use wasm_sections_payloads::Payload;
 use wasm_types::{Error, Result, WasmFeatures};
 
-// Refuses what is no module of the version that there is.
-fn check_header(num: u16, encoding: Encoding, offset: u64) -> Result<()>
+/// Refuses what is no module of the version that there is.
+pub fn check_header(num: u16, encoding: Encoding, offset: u64) -> Result<()>
     ensures answer { Tells result ((num ≡ 1) × (layer_of encoding ≡ 0)) }
 {
     match encoding {

@@ -1,7 +1,7 @@
 //! What is kept of a module that is being read.
 
 ghost use Rattle.std.specs.Prelude.{◌≡◌};
-ghost use Rattle.wasm_types.specs.limits.Limits.{default_limits};
+ghost use Rattle.wasm_types.specs.limits.Limits.{IsWithinCeilings, default_limits};
 ghost use Rattle.wasm_module_validator_interning.specs.Modules.{settings_of};
 ghost use Rattle.wasm_module_validator_resources.specs.Named.{IsReadOver};
 ghost use Rattle.wasm_module_validator_resources.specs.Reading.{meaning_of};
@@ -12,6 +12,7 @@ use std::alloc::Global;
 use std::marker::Model;
 use wasm_module_validator_resources::OperatorValidatorResources;
 use wasm_module_validator_standing::ModuleState;
+use wasm_module_validator_types::TypeList;
 use wasm_types::WasmFeatures;
 
 /// A module that is being read. A contract sees what is kept (`specs/Progress.antt`).
@@ -46,6 +47,15 @@ impl InProgress {
         ensures { result.now ≡ self.now.kept.items }
     {
         &self.collected.state
+    }
+
+    /// The list that the types stand in. Each is valid, the module's are in it, and no limit is above what code can count.
+    pub fn types(&self) -> &TypeList
+        ensures value { result.now.groups ≡ self.now.kept.groups }
+        ensures over { IsReadOver result.now.groups self.now.kept.items.spaces }
+        ensures within { IsWithinCeilings self.now.kept.items.spaces.settings.limits }
+    {
+        &self.collected.types
     }
 
     /// What operators ask of the module.

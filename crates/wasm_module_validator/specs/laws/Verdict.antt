@@ -12,20 +12,20 @@ use Rattle.wasm_types.specs.error.declared.error.ErrorKind.TheVariants.{EndOfDat
 use Rattle.wasm_types.specs.limits.Settings.{Settings}
 use Rattle.wasm_operator_validator_stacks.specs.rules.Context.{Module}
 use Rattle.wasm_module_validator_resources.specs.Reading.{context_of}
-use Rattle.wasm_module_validator_reading.specs.progress.so_far.laws.Judging.{body_is_judged}
-use Rattle.wasm_module_validator_reading.specs.progress.code.Code.{IsFunctionOf}
-use Rattle.wasm_module_validator_reading.specs.progress.code.declared.bodies.Body.{Body}
-use Rattle.wasm_module_validator_reading.specs.progress.standing.steps.contexts.rules.Accepts.{AcceptsUnder, Judges}
-use Rattle.wasm_module_validator_reading.specs.progress.standing.steps.contexts.rules.Syntax.{Function, ModuleTree}
-use Rattle.wasm_module_validator_reading.specs.progress.standing.steps.contexts.rules.Spaces.{module_of}
-use Rattle.wasm_module_validator_reading.specs.progress.standing.steps.contexts.rules.Binary.{SpelledFunction}
-use Rattle.wasm_module_validator_reading.specs.progress.standing.steps.contexts.rules.Valid.{Each, HasValidBody}
-use Rattle.wasm_module_validator_reading.specs.progress.standing.steps.Steps.{SoFar}
-use Rattle.wasm_module_validator_reading.specs.progress.standing.Standing.{Stands}
+use Rattle.wasm_module_validator_sharing.specs.reading.progress.so_far.laws.Judging.{body_is_judged}
+use Rattle.wasm_module_validator_sharing.specs.reading.progress.code.Code.{IsFunctionOf}
+use Rattle.wasm_module_validator_sharing.specs.reading.progress.code.declared.bodies.Body.{Body}
+use Rattle.wasm_module_validator_sharing.specs.reading.progress.standing.steps.contexts.rules.Accepts.{AcceptsUnder, Judges}
+use Rattle.wasm_module_validator_sharing.specs.reading.progress.standing.steps.contexts.rules.Syntax.{Function, ModuleTree}
+use Rattle.wasm_module_validator_sharing.specs.reading.progress.standing.steps.contexts.rules.Spaces.{module_of}
+use Rattle.wasm_module_validator_sharing.specs.reading.progress.standing.steps.contexts.rules.Binary.{SpelledFunction}
+use Rattle.wasm_module_validator_sharing.specs.reading.progress.standing.steps.contexts.rules.Valid.{Each, HasValidBody}
+use Rattle.wasm_module_validator_sharing.specs.reading.progress.standing.steps.Steps.{SoFar}
+use Rattle.wasm_module_validator_sharing.specs.reading.progress.standing.Standing.{Stands}
 use Rattle.wasm_module_validator_framed.specs.laws.Complete.{module_comes}
 use Rattle.wasm_module_validator_framed.specs.laws.Accepted.{accepted_comes, accepted_exactly, bodies_of_functions}
-use Rattle.wasm_module_validator_reading.specs.progress.Progress.{Progress, IsAt, text_of, type_of}
-use Rattle.wasm_module_validator_reading.specs.Reading.{IsReadAs}
+use Rattle.wasm_module_validator_sharing.specs.reading.progress.Progress.{Progress, IsAt, text_of, type_of}
+use Rattle.wasm_module_validator_sharing.specs.reading.Reading.{IsReadAs}
 use Rattle.wasm_module_validator.specs.States.{AreBodies}
 
 -- what implies one of many things, each of which is denied, is denied

@@ -51,6 +51,10 @@ typed : (f : Option Function) → option_map (λ (f : Function). f.type_index) f
 typed None = refl
 typed (Some f) = refl
 
+-- a body is in order, and no longer than the limit
+abbrev pub FitsBehind : Progress → List ℕ → Type 0
+FitsBehind r text = (r.last ≡ code_place) × (length text ≤ r.kept.items.spaces.settings.limits.body_bytes)
+
 module _ (z : Settings) (p : SoFar) (r : Progress) (bodies : List Body) (at : IsAt z r bodies p) where
   as_many : length p.bodies ≡ length bodies
   as_many = ap length (sym at.bodies) ∙ length-map bodies text_of
@@ -84,6 +88,18 @@ module _ (z : Settings) (p : SoFar) (r : Progress) (bodies : List Body) (at : Is
     types = at.types;
     read = at.read;
   }
+
+  -- ---- where a body comes, and how long it is
+
+  limit_is : r.kept.items.spaces.settings.limits.body_bytes ≡ z.limits.body_bytes
+  limit_is = ap (λ (y : Settings). y.limits.body_bytes) at.stands.settings
+
+  -- by what is kept, and by the rules
+  pub fits : (text : List ℕ) → FitsBehind r text → (p.last ≡ code_place) × (length text ≤ z.limits.body_bytes)
+  fits text (begun, within) = (sym at.placed ∙ begun, subst (λ (n : ℕ). length text ≤ n) limit_is within)
+
+  pub not_fitting : (k : ErrorKind) (text : List ℕ) → Denies k (FitsBehind r text) → Denies k ((q : SoFar) × JudgesBody z p text q)
+  not_fitting k text d = denies_from k _ _ (λ h. (at.placed ∙ h.1.begun, subst (λ (n : ℕ). length text ≤ n) (sym limit_is) h.1.within)) d
 
   -- ---- a body that is refused
 

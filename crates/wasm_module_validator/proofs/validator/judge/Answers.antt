@@ -3,10 +3,10 @@ use Rattle.wasm_types.specs.error.Denials.{Tells}
 use Rattle.wasm_types.specs.limits.Settings.{Settings}
 use Rattle.wasm_operator_validator_stacks.specs.rules.Context.{Module}
 use Rattle.wasm_module_validator_resources.specs.Reading.{context_of}
-use Rattle.wasm_module_validator_reading.specs.progress.standing.steps.contexts.rules.Valid.{Each}
-use Rattle.wasm_module_validator_reading.specs.progress.code.Code.{IsReadBy, IsFunctionOf}
-use Rattle.wasm_module_validator_reading.specs.progress.code.declared.bodies.Body.{Body}
-use Rattle.wasm_module_validator_reading.specs.Reading.{under}
+use Rattle.wasm_module_validator_sharing.specs.reading.progress.standing.steps.contexts.rules.Valid.{Each}
+use Rattle.wasm_module_validator_sharing.specs.reading.progress.code.Code.{IsReadBy, IsFunctionOf}
+use Rattle.wasm_module_validator_sharing.specs.reading.progress.code.declared.bodies.Body.{Body}
+use Rattle.wasm_module_validator_sharing.specs.reading.Reading.{under}
 use Rattle.wasm_module_validator.specs.States.{AreBodies}
 use Rattle.wasm_module_validator.specs.laws.Verdict.{tells_same, bodies_are}
 use Rattle.wasm_module_validator.proofs.validator.judge.Goals as goal

@@ -1,12 +1,14 @@
-use Rattle.std.proofs.Common.{List, subst}
+use Rattle.std.proofs.Common.{List, sym, subst}
 use Rattle.wasm_types.specs.error.Denials.{Tells}
 use Rattle.wasm_types.specs.error.DenialLaws.{denies_from}
 use Rattle.wasm_types.specs.limits.Settings.{Settings}
-use Rattle.wasm_module_validator_reading.specs.progress.code.declared.bodies.Body.{Body}
-use Rattle.wasm_module_validator_reading.specs.progress.standing.steps.contexts.rules.Accepts.{AcceptsUnder}
-use Rattle.wasm_module_validator_reading.specs.progress.standing.steps.Steps.{SoFar}
-use Rattle.wasm_module_validator_reading.specs.progress.Progress.{Progress}
-use Rattle.wasm_module_validator_reading.specs.Reading.{under, IsReadAs}
+use Rattle.wasm_module_validator_sharing.specs.reading.progress.code.declared.bodies.Body.{Body}
+use Rattle.wasm_module_validator_sharing.specs.reading.progress.standing.steps.contexts.rules.Accepts.{AcceptsUnder}
+use Rattle.wasm_module_validator_sharing.specs.reading.progress.standing.steps.Steps.{SoFar}
+use Rattle.wasm_module_validator_sharing.specs.reading.progress.Progress.{Progress}
+use Rattle.wasm_module_validator_sharing.specs.reading.Reading.{under, IsReadAs}
+use Rattle.wasm_module_validator_sharing.specs.Sharing.{Reached}
+use Rattle.wasm_module_validator.specs.Accepts.{IsShown}
 use Rattle.wasm_module_validator.specs.laws.Verdict.{accepted_is_read, tells_accepted, stands_for_module}
 use Rattle.wasm_module_validator.proofs.validator.Validator.validate_all.Goals as goal
 
@@ -30,6 +32,7 @@ returns-in-Ok-judge-clause-shown c =
     let r : Progress = c.in-Ok.read.progress in
     let bodies : List Body = c.in-Ok.read.bodies.items in
     let a : AcceptsUnder z c.args.bytes.now = returns-in-Ok-judge-clause-verdict c in
+    subst (λ (k : Reached). IsShown z c.args.bytes.now k.progress) (sym c.of.ensures)
     (a.0, a.1, stands_for_module z c.args.bytes.now r bodies c.in-Ok.ensures.answer c.in-Ok.ensures.stands a.0 a.1)
 
 pub returns-in-Err-judge-clause-verdict : goal.returns-in-Err-judge-clause-verdict

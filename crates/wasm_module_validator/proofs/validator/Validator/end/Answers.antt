@@ -1,0 +1,27 @@
+use Rattle.std.proofs.Common.{◌∙◌, refl, sym, ap, subst, Some, Ok, Err}
+use Rattle.wasm_module_validator_sharing.specs.Sharing.{Reached}
+use Rattle.wasm_module_validator.specs.declared.validator.State.{State}
+use Rattle.wasm_module_validator.specs.declared.validator.State.TheVariants.{Ended}
+use Rattle.wasm_module_validator.specs.Methods.{EndsFrom}
+use Rattle.wasm_module_validator.proofs.validator.Validator.end.Goals as goal
+
+pub returns-in-Failed : goal.returns-in-Failed
+returns-in-Failed c =
+    let v = c.args.self.now in
+    subst (λ (s : State). EndsFrom s v (Err c.failed_before.result) v) (sym c.in-Failed.is) (ap Some c.failed_before.ensures, refl)
+
+pub returns-in-Unparsed : goal.returns-in-Unparsed
+returns-in-Unparsed c =
+    let v = c.args.self.now in
+    subst (λ (s : State). EndsFrom s v (Err c.early_end.result) (record v { state = Ended })) (sym c.in-Unparsed.is) (ap Some c.early_end.ensures, refl)
+
+pub returns-in-Ended : goal.returns-in-Ended
+returns-in-Ended c =
+    let v = c.args.self.now in
+    subst (λ (s : State). EndsFrom s v (Err c.late_end.result) v) (sym c.in-Ended.is) (ap Some c.late_end.ensures, refl)
+
+pub returns : goal.returns
+returns c =
+    let v = c.args.self.now in
+    subst (λ (s : State). EndsFrom s v (Ok c.replace.result.progress) (record v { state = Ended; reached = c.replace.new.dest })) (sym c.in-Module.is)
+    (ap (λ (r : Reached). Ok r.progress) c.replace.ensures.value, ap (λ (r : Reached). record v { state = Ended; reached = r }) (c.replace.ensures.after ∙ c.new-nothing.ensures))

@@ -1,0 +1,142 @@
+-- What the methods of a validator promise that take a module frame by frame (WebAssembly 3.0, binary format and validation, modules).
+--
+-- A method that is called out of turn is refused, and the validator stays as it is. In turn, it accepts exactly where its frame may come
+-- next by the rules, memory aside, and what is kept then stands for whatever was judged with it; where it refuses, the validator has
+-- failed, and each later method is refused for that.
+use Rattle.std.specs.Prelude.{◌≡◌, ◌⊎◌, ◌+◌, ◌<◌, ◌==◌, ℕ, Bool, true, false, Option, Some, None, is_some, Result, Ok, Err, if◌then◌else◌}
+use Rattle.wasm_types.specs.decoding.Decoder.{State as Bytes}
+use Rattle.wasm_types.specs.error.Denials.{Tells}
+use Rattle.wasm_types.specs.error.ErrorValue.{ErrorValue}
+use Rattle.wasm_types.specs.error.declared.error.ErrorKind.{ErrorKind}
+use Rattle.wasm_types.specs.error.declared.error.ErrorKind.TheVariants as kinds
+use Rattle.wasm_types.specs.limits.Settings.{Settings}
+use Rattle.wasm_sections_parser.specs.declared.frame.Encoding.{Encoding}
+use Rattle.wasm_sections_parser.specs.Parsing.{layer_of}
+use Rattle.wasm_sections_payloads.specs.declared.payload.Payload.{Payload}
+use Rattle.wasm_operator_validator_stacks.specs.state.Refusals.{refused_by}
+use Rattle.wasm_module_validator_sharing.specs.reading.progress.standing.steps.Sections.{code_place}
+use Rattle.wasm_module_validator_sharing.specs.reading.progress.standing.steps.Steps.{SoFar, JudgesBody}
+use Rattle.wasm_module_validator_sharing.specs.reading.progress.Progress.{Progress}
+use Rattle.wasm_module_validator_sharing.specs.reading.Reading.{under}
+use Rattle.wasm_module_validator_sharing.specs.Sharing.{nothing_reached, has_no_code, body_count, IsReached, TellsNext, Follows, Handed, IsHandedOut, NoneLeft}
+use Rattle.wasm_module_validator.specs.declared.validator.State.{State}
+use Rattle.wasm_module_validator.specs.declared.validator.State.TheVariants.{Unparsed, Module, Ended, Failed}
+use Rattle.wasm_module_validator.specs.declared.validator.Validator.{Validator}
+
+-- ---- turns
+
+-- Of which kind a part of a module is refused because of when it comes, where it is known whether it fits to what was read.
+abbrev pub refusal : State → Bool → Option ErrorKind
+refusal Failed fits = Some kinds.Failed
+refusal Unparsed fits = Some kinds.Other
+refusal Ended fits = Some kinds.Other
+refusal Module true = None
+refusal Module false = Some kinds.Other
+
+-- the same of a header, which comes first
+abbrev pub header_refusal : State → Option ErrorKind
+header_refusal Failed = Some kinds.Failed
+header_refusal Unparsed = None
+header_refusal Module = Some kinds.Other
+header_refusal Ended = Some kinds.Other
+
+-- of what does not ask what came before
+abbrev pub failure : State → Option ErrorKind
+failure Failed = Some kinds.Failed
+failure Unparsed = None
+failure Module = None
+failure Ended = None
+
+-- What a method promises: out of turn it refuses, and changes nothing; in turn it tells something, and leaves something.
+pub record InTurn {X : Type 0} (turn : Option ErrorKind) (v : Validator) (answer : Result X ErrorValue) (w : Validator) (Told Left : Type 0) : Type 0 where
+  pub out : (k : ErrorKind) → turn ≡ Some k → (refused_by answer ≡ Some k) × (w ≡ v)
+  pub told : turn ≡ None → Told
+  pub left : turn ≡ None → Left
+
+-- ---- the methods
+
+-- behind a header nothing was read; another one fails it
+abbrev pub IsBegun : {X : Type 0} → Validator → Result X ErrorValue → Validator → Type 0
+IsBegun v (Ok x) w = w ≡ record v { state = Module; reached = nothing_reached (under v.features.0) }
+IsBegun v (Err e) w = w ≡ record v { state = Failed }
+
+-- the header of a module of version 1
+abbrev pub ReadsHeader : {X : Type 0} → ℕ → Encoding → Validator → Result X ErrorValue → Validator → Type 0
+ReadsHeader number encoding v answer w =
+    InTurn (header_refusal v.state) v answer w (Tells answer ((number ≡ 1) × (layer_of encoding ≡ 0))) (IsBegun v answer w)
+
+-- what is kept stands for whatever was judged with the frame of this payload, and whether the code has begun is as before; or it has failed
+abbrev pub IsTaken : {X : Type 0} → Payload → Validator → Result X ErrorValue → Validator → Type 0
+IsTaken x v (Ok u) w = (w ≡ record v { reached = w.reached }) × Follows v.reached x w.reached × (w.reached.code ≡ v.reached.code)
+IsTaken x v (Err e) w = w ≡ record v { state = Failed; reached = w.reached }
+
+-- a whole section, which fits or does not
+abbrev pub TakesWhere : {X : Type 0} → Bool → Payload → Validator → Result X ErrorValue → Validator → Type 0
+TakesWhere fits x v answer w = InTurn (refusal v.state fits) v answer w (TellsNext v.reached x answer) (IsTaken x v answer w)
+
+-- a section that comes before the code
+abbrev pub Takes : {X : Type 0} → Payload → Validator → Result X ErrorValue → Validator → Type 0
+Takes x v answer w = TakesWhere (has_no_code v.reached.code) x v answer w
+
+-- the data section
+abbrev pub TakesData : {X : Type 0} → Payload → Validator → Result X ErrorValue → Validator → Type 0
+TakesData x v answer w = TakesWhere true x v answer w
+
+-- what is kept where the code has begun, of which no body came yet
+abbrev pub IsCodeBegun : {X : Type 0} → Validator → Result X ErrorValue → Validator → Type 0
+IsCodeBegun v (Ok x) w = (w ≡ record v { reached = w.reached }) × (w.reached.code ≡ Some 0)
+    × ((z : Settings) (p : SoFar) → IsReached z v.reached p → IsReached z w.reached (record p { last = code_place }))
+IsCodeBegun v (Err e) w = w ≡ record v { state = Failed; reached = w.reached }
+
+-- the start of the code section
+abbrev pub BeginsCode : {X : Type 0} → Validator → Result X ErrorValue → Validator → Type 0
+BeginsCode v answer w =
+    InTurn (refusal v.state (has_no_code v.reached.code)) v answer w ((z : Settings) (p : SoFar) → IsReached z v.reached p → Tells answer (p.last < code_place))
+    (IsCodeBegun v answer w)
+
+-- A function is handed out, and one body more came. Or each function has its body, and nothing changes; or it has failed.
+abbrev pub IsBodyTaken : Bytes → Validator → Result Handed ErrorValue → Validator → Type 0
+IsBodyTaken body v (Ok f) w = IsHandedOut v.reached v.features.0 f × (w ≡ record v { reached = w.reached })
+    × (w.reached.code ≡ Some (body_count v.reached.code + 1))
+    × ((z : Settings) (p q : SoFar) → IsReached z v.reached p → body.settings ≡ z → JudgesBody z p body.rest q → IsReached z w.reached q)
+IsBodyTaken body v (Err e) w = (NoneLeft v.reached × (e.kind ≡ kinds.Other) × (w ≡ v)) ⊎ (w ≡ record v { state = Failed })
+
+-- a body, with these bytes
+abbrev pub TakesBody : Bytes → Validator → Result Handed ErrorValue → Validator → Type 0
+TakesBody body v answer w =
+    InTurn (refusal v.state (is_some v.reached.code)) v answer w
+    ((z : Settings) (p : SoFar) → IsReached z v.reached p → body.settings ≡ z → Tells answer ((q : SoFar) × JudgesBody z p body.rest q))
+    (IsBodyTaken body v answer w)
+
+-- a section of an id that there is not
+abbrev pub RefusesUnknown : {X : Type 0} → Validator → Result X ErrorValue → Validator → Type 0
+RefusesUnknown v answer w = InTurn (failure v.state) v answer w (refused_by answer ≡ Some kinds.Other) (w ≡ record v { state = Failed })
+
+-- what was kept is given at the end of a module; where there is none it has ended too
+abbrev pub EndsFrom : State → Validator → Result Progress ErrorValue → Validator → Type 0
+EndsFrom Module v answer w = (answer ≡ Ok v.reached.progress) × (w ≡ record v { state = Ended; reached = nothing_reached (under v.features.0) })
+EndsFrom Unparsed v answer w = (refused_by answer ≡ Some kinds.Other) × (w ≡ record v { state = Ended })
+EndsFrom Ended v answer w = (refused_by answer ≡ Some kinds.Other) × (w ≡ v)
+EndsFrom Failed v answer w = (refused_by answer ≡ Some kinds.Failed) × (w ≡ v)
+
+abbrev pub Ends : Validator → Result Progress ErrorValue → Validator → Type 0
+Ends v answer w = EndsFrom v.state v answer w
+
+-- ---- what is asked
+
+-- nothing was read, or a module has ended
+abbrev pub can_reset : State → Bool
+can_reset Unparsed = true
+can_reset Ended = true
+can_reset Module = false
+can_reset Failed = false
+
+-- what is known so far, at level 0 of a module that is being read
+abbrev pub types_in : State → Progress → ℕ → Option Progress
+types_in Module r level = if level == 0 then Some r else None
+types_in Unparsed r level = None
+types_in Ended r level = None
+types_in Failed r level = None
+
+abbrev pub types_so_far : Validator → ℕ → Option Progress
+types_so_far v level = types_in v.state v.reached.progress level

@@ -1,0 +1,418 @@
+//! A module that is validated frame by frame, as a parser gives its payloads.
+
+ghost use Rattle.std.specs.Prelude.{◌≡◌, is_some, true};
+ghost use Rattle.wasm_types.specs.error.declared.error.ErrorKind.TheVariants as kinds;
+ghost use Rattle.wasm_sections_payloads.specs.declared.payload.Payload.TheVariants as payloads;
+ghost use Rattle.wasm_operator_validator_stacks.specs.state.Refusals.{refused_by};
+ghost use Rattle.wasm_module_validator_sharing.specs.reading.Reading.{under};
+ghost use Rattle.wasm_module_validator_sharing.specs.Sharing.{IsWhole, nothing_reached};
+ghost use Rattle.wasm_module_validator.specs.declared.validator.State.TheVariants as states;
+ghost use Rattle.wasm_module_validator.specs.Methods.{failure, refusal, can_reset, types_so_far, ReadsHeader, Takes, TakesData, BeginsCode, TakesBody, RefusesUnknown, Ends};
+
+use crate::types::{Types, TypesRef};
+use crate::validator::{State, Validator, ValidatorId};
+use std::mem;
+use std::ops::Range;
+use wasm_module_validator_sharing::{
+    FuncToValidate, SharedProgress, ValidatorResources, check_header,
+};
+use wasm_sections_parser::Encoding;
+use wasm_sections_payloads::{
+    DataSectionReader, ElementSectionReader, ExportSectionReader, FunctionBody,
+    FunctionSectionReader, GlobalSectionReader, ImportSectionReader, MemorySectionReader, Payload,
+    TableSectionReader, TagSectionReader, TypeSectionReader,
+};
+use wasm_types::{Error, Result};
+
+// The refusal of a call behind a refusal.
+#[cold]
+fn failed_before(offset: u64) -> Error
+    ensures { result.kind ≡ kinds.Failed }
+{
+    Error::failed("the module was refused before", offset)
+}
+
+// Whether nothing was refused.
+pub(crate) fn check_not_failed(state: State, offset: u64) -> Result<()>
+    ensures { refused_by result ≡ failure state }
+{
+    match state {
+        State::Failed => Err(failed_before(offset)),
+        State::Unparsed => Ok(()),
+        State::Module => Ok(()),
+        State::Ended => Ok(()),
+    }
+}
+
+// Whether a part of a module may come, which fits where the module stands or does not.
+fn check_turn(state: State, fits: bool, misfit: &str, offset: u64) -> Result<()>
+    ensures { refused_by result ≡ refusal state fits }
+{
+    match state {
+        State::Unparsed => Err(Error::new(
+            "unexpected section before header was parsed",
+            offset,
+        )),
+        State::Module => {
+            if fits {
+                Ok(())
+            } else {
+                Err(Error::new(misfit, offset))
+            }
+        }
+        State::Ended => Err(Error::new(
+            "unexpected section after parsing has completed",
+            offset,
+        )),
+        State::Failed => Err(failed_before(offset)),
+    }
+}
+
+impl Validator {
+    /// Its id.
+    pub fn id(&self) -> ValidatorId
+        ensures { result ≡ self.now.id }
+    {
+        self.id
+    }
+
+    /// Whether it may be made ready for another module: nothing was read, or a module has ended; and nothing was refused but a function,
+    /// or a call out of turn.
+    pub fn can_reset(&self) -> bool
+        ensures { result ≡ can_reset self.now.state }
+    {
+        match self.state {
+            State::Unparsed => true,
+            State::Ended => true,
+            State::Module => false,
+            State::Failed => false,
+        }
+    }
+
+    /// Makes it ready for another module: as it was made, with the same id and features. The types of modules before are forgotten.
+    pub fn reset(&mut self)
+        requires { can_reset self.old.state ≡ true }
+        ensures { self.new ≡ record self.old { state = states.Unparsed; reached = nothing_reached (under self.old.features.0) } }
+    {
+        self.state = State::Unparsed;
+        self.reached = SharedProgress::new(self.alloc, self.features);
+    }
+
+    /// What is known so far of the module that is being read, which is at level 0: from its header on, to its end.
+    pub fn types(&self, level: usize) -> Option<TypesRef<'_>>
+        ensures { result ≡ types_so_far self.now level }
+    {
+        match self.state {
+            State::Module => (),
+            State::Unparsed => return None,
+            State::Ended => return None,
+            State::Failed => return None,
+        }
+        if level != 0 {
+            return None;
+        }
+        Some(TypesRef {
+            module: &self.reached,
+        })
+    }
+
+    /// Takes the header of a module (WebAssembly 3.0, binary format, modules).
+    ///
+    /// # Errors
+    ///
+    /// Another header came before, and the validator stays as it is; or it is the header of something else than a module of version 1, and
+    /// the validator has failed.
+    pub fn version(&mut self, num: u16, encoding: Encoding, range: Range<u64>) -> Result<()>
+        ensures { ReadsHeader num encoding self.old result self.new }
+    {
+        match self.state {
+            State::Unparsed => (),
+            State::Failed => return Err(failed_before(range.start)),
+            State::Module => return Err(late_header(range.start)),
+            State::Ended => return Err(late_header(range.start)),
+        }
+        match check_header(num, encoding, range.start) {
+            Ok(()) => (),
+            Err(error) => {
+                self.state = State::Failed;
+                return Err(error);
+            }
+        }
+        self.state = State::Module;
+        self.reached = SharedProgress::new(self.alloc, self.features);
+        Ok(())
+    }
+
+    // Takes a section that no code came before.
+    fn take(&mut self, payload: Payload<'_>, offset: u64) -> Result<()>
+        requires { IsWhole payload }
+        ensures { Takes payload.entry self.old result self.new }
+    {
+        let fits = self.reached.is_own();
+        match check_turn(self.state, fits, AFTER_CODE, offset) {
+            Ok(()) => (),
+            Err(error) => return Err(error),
+        }
+        match self.reached.take_payload(payload) {
+            Ok(()) => Ok(()),
+            Err(error) => {
+                self.state = State::Failed;
+                Err(error)
+            }
+        }
+    }
+
+    // Takes a data section behind the code.
+    fn take_data(&mut self, section: DataSectionReader<'_>, offset: u64) -> Result<()>
+        requires { is_some self.old.reached.code ≡ true }
+        ensures { TakesData (payloads.DataSection section.entry) self.old result self.new }
+    {
+        match check_turn(self.state, true, AFTER_CODE, offset) {
+            Ok(()) => (),
+            Err(error) => return Err(error),
+        }
+        match self.reached.take_data(section) {
+            Ok(()) => Ok(()),
+            Err(error) => {
+                self.state = State::Failed;
+                Err(error)
+            }
+        }
+    }
+
+    /// Takes the type section.
+    ///
+    /// # Errors
+    ///
+    /// No header came, the module has ended or its code has begun, and the validator stays as it is; or the section is out of order, not
+    /// one by the binary format, or not valid, or there is no memory, and the validator has failed. So it is with each section.
+    pub fn type_section(&mut self, section: TypeSectionReader<'_>) -> Result<()>
+        ensures { Takes (payloads.TypeSection section.entry) self.old result self.new }
+    {
+        let offset = section.range().start;
+        self.take(Payload::TypeSection(section), offset)
+    }
+
+    /// Takes the import section.
+    pub fn import_section(&mut self, section: ImportSectionReader<'_>) -> Result<()>
+        ensures { Takes (payloads.ImportSection section.entry) self.old result self.new }
+    {
+        let offset = section.range().start;
+        self.take(Payload::ImportSection(section), offset)
+    }
+
+    /// Takes the function section.
+    pub fn function_section(&mut self, section: FunctionSectionReader<'_>) -> Result<()>
+        ensures { Takes (payloads.FunctionSection section.entry) self.old result self.new }
+    {
+        let offset = section.range().start;
+        self.take(Payload::FunctionSection(section), offset)
+    }
+
+    /// Takes the table section.
+    pub fn table_section(&mut self, section: TableSectionReader<'_>) -> Result<()>
+        ensures { Takes (payloads.TableSection section.entry) self.old result self.new }
+    {
+        let offset = section.range().start;
+        self.take(Payload::TableSection(section), offset)
+    }
+
+    /// Takes the memory section.
+    pub fn memory_section(&mut self, section: MemorySectionReader<'_>) -> Result<()>
+        ensures { Takes (payloads.MemorySection section.entry) self.old result self.new }
+    {
+        let offset = section.range().start;
+        self.take(Payload::MemorySection(section), offset)
+    }
+
+    /// Takes the tag section.
+    pub fn tag_section(&mut self, section: TagSectionReader<'_>) -> Result<()>
+        ensures { Takes (payloads.TagSection section.entry) self.old result self.new }
+    {
+        let offset = section.range().start;
+        self.take(Payload::TagSection(section), offset)
+    }
+
+    /// Takes the global section.
+    pub fn global_section(&mut self, section: GlobalSectionReader<'_>) -> Result<()>
+        ensures { Takes (payloads.GlobalSection section.entry) self.old result self.new }
+    {
+        let offset = section.range().start;
+        self.take(Payload::GlobalSection(section), offset)
+    }
+
+    /// Takes the export section.
+    pub fn export_section(&mut self, section: ExportSectionReader<'_>) -> Result<()>
+        ensures { Takes (payloads.ExportSection section.entry) self.old result self.new }
+    {
+        let offset = section.range().start;
+        self.take(Payload::ExportSection(section), offset)
+    }
+
+    /// Takes the start section, which is the index of a function.
+    pub fn start_section(&mut self, func: u32, range: Range<u64>) -> Result<()>
+        ensures { Takes (payloads.StartSection func range) self.old result self.new }
+    {
+        let offset = range.start;
+        self.take(Payload::StartSection { func, range }, offset)
+    }
+
+    /// Takes the element section.
+    pub fn element_section(&mut self, section: ElementSectionReader<'_>) -> Result<()>
+        ensures { Takes (payloads.ElementSection section.entry) self.old result self.new }
+    {
+        let offset = section.range().start;
+        self.take(Payload::ElementSection(section), offset)
+    }
+
+    /// Takes the data count section, which is how many data segments there are to be.
+    pub fn data_count_section(&mut self, count: u32, range: Range<u64>) -> Result<()>
+        ensures { Takes (payloads.DataCountSection count range) self.old result self.new }
+    {
+        let offset = range.start;
+        self.take(Payload::DataCountSection { count, range }, offset)
+    }
+
+    /// Takes the data section, which may come behind the code.
+    pub fn data_section(&mut self, section: DataSectionReader<'_>) -> Result<()>
+        ensures { TakesData (payloads.DataSection section.entry) self.old result self.new }
+    {
+        let offset = section.range().start;
+        if self.reached.has_code() {
+            return self.take_data(section, offset);
+        }
+        self.take(Payload::DataSection(section), offset)
+    }
+
+    /// Takes the start of the code section. What functions look up stays as it is from then on.
+    ///
+    /// # Errors
+    ///
+    /// As a section.
+    pub fn code_section_start(&mut self, range: Range<u64>) -> Result<()>
+        ensures { BeginsCode self.old result self.new }
+    {
+        let offset = range.start;
+        let fits = self.reached.is_own();
+        match check_turn(self.state, fits, AFTER_CODE, offset) {
+            Ok(()) => (),
+            Err(error) => return Err(error),
+        }
+        match self.reached.begin_code(offset) {
+            Ok(()) => Ok(()),
+            Err(error) => {
+                self.state = State::Failed;
+                Err(error)
+            }
+        }
+    }
+
+    /// Takes a body, and hands out the function that it is that of. The body itself is not looked into: whoever judges the function does
+    /// that, with what is handed out, while this validator goes on.
+    ///
+    /// # Errors
+    ///
+    /// No header came, the module has ended, its code has not begun, or each function has its body, and the validator stays as it is; or a
+    /// section came behind the code, the body is longer than a body may be, or there is no memory, and the validator has failed.
+    pub fn code_section_entry(
+        &mut self,
+        body: &FunctionBody<'_>,
+    ) -> Result<FuncToValidate<ValidatorResources>>
+        ensures { TakesBody body.now self.old result self.new }
+    {
+        let offset = body.get_binary_reader().original_position();
+        match check_turn(self.state, self.reached.has_code(), BEFORE_CODE, offset) {
+            Ok(()) => (),
+            Err(error) => return Err(error),
+        }
+        match self.reached.take_body(self.features, body) {
+            Ok(Some(function)) => Ok(function),
+            Ok(None) => Err(too_many_bodies(offset)),
+            Err(error) => {
+                self.state = State::Failed;
+                Err(error)
+            }
+        }
+    }
+
+    /// Refuses a section of an id that there is not. It does not ask what came before.
+    ///
+    /// # Errors
+    ///
+    /// Always; and the validator has failed.
+    pub fn unknown_section(&mut self, id: u8, range: Range<u64>) -> Result<()>
+        ensures { RefusesUnknown self.old result self.new }
+    {
+        match check_not_failed(self.state, range.start) {
+            Ok(()) => (),
+            Err(error) => return Err(error),
+        }
+        self.state = State::Failed;
+        Err(malformed_section(id, range.start))
+    }
+
+    /// Ends the module, at this offset, and gives what is known of it. It is not asked whether each function had its body.
+    ///
+    /// # Errors
+    ///
+    /// No header came, or the module has ended. The validator has ended then.
+    pub fn end(&mut self, offset: u64) -> Result<Types>
+        ensures { Ends self.old result self.new }
+    {
+        match self.state {
+            State::Module => (),
+            State::Failed => return Err(failed_before(offset)),
+            State::Unparsed => {
+                self.state = State::Ended;
+                return Err(early_end(offset));
+            }
+            State::Ended => return Err(late_end(offset)),
+        }
+        self.state = State::Ended;
+        let nothing = SharedProgress::new(self.alloc, self.features);
+        Ok(Types {
+            module: mem::replace(&mut self.reached, nothing),
+        })
+    }
+}
+
+// A section that may not come behind the start of the code.
+const AFTER_CODE: &str = "unexpected section behind the code section";
+
+// A body that no start of the code came before.
+const BEFORE_CODE: &str = "unexpected code section entry before the code section has begun";
+
+#[cold]
+fn late_header(offset: u64) -> Error
+    ensures { result.kind ≡ kinds.Other }
+{
+    Error::new("wasm version header out of order", offset)
+}
+
+#[cold]
+fn too_many_bodies(offset: u64) -> Error
+    ensures { result.kind ≡ kinds.Other }
+{
+    Error::new("code section entry exceeds number of functions", offset)
+}
+
+#[cold]
+fn malformed_section(id: u8, offset: u64) -> Error
+    ensures { result.kind ≡ kinds.Other }
+{
+    Error::fmt(format_args!("malformed section id: {id}"), offset)
+}
+
+#[cold]
+fn early_end(offset: u64) -> Error
+    ensures { result.kind ≡ kinds.Other }
+{
+    Error::new("cannot call `end` before a header has been parsed", offset)
+}
+
+#[cold]
+fn late_end(offset: u64) -> Error
+    ensures { result.kind ≡ kinds.Other }
+{
+    Error::new("cannot call `end` after parsing has completed", offset)
+}

@@ -1,0 +1,12 @@
+use Rattle.std.proofs.Common.{refl}
+use Rattle.wasm_module_validator_initialising.specs.Read.{data_tree}
+use Rattle.wasm_module_validator_initialising.proofs.Moved.{always}
+use Rattle.wasm_module_validator_initialising.proofs.NewData.{data_told, data_added}
+use Rattle.wasm_module_validator_initialising.proofs.data.check_data_with.Goals as goal
+
+pub returns-clause-answer : goal.returns-clause-answer
+returns-clause-answer c = data_told c.args.types.now.groups c.args.state.now (data_tree c.args.segment.now) c.judge_data.result c.judge_data.ensures.answer
+
+pub returns-clause-added : goal.returns-clause-added
+returns-clause-added c =
+    always c.judge_data.result _ (data_added c.args.types.now.groups c.args.state.now (data_tree c.args.segment.now) c.args.state.now refl)

@@ -1,0 +1,3 @@
+mod Checking
+mod Keeping
+mod Handing

@@ -1,0 +1,61 @@
+use Rattle.std.proofs.Common.{◌≡◌, ◌∙◌, ◌+◌, ℕ, Some, None, refl, sym, ap, subst}
+use Rattle.std.specs.Prelude.{option_map}
+use Rattle.wasm_types.specs.error.Denials.{Denies}
+use Rattle.wasm_module_validator_reading.specs.progress.Progress.{Progress}
+use Rattle.wasm_module_validator_reading.specs.progress.laws.Bodies.{FitsBehind}
+use Rattle.wasm_module_validator_sharing.specs.Sharing.{Reached, Handed, body_count}
+use Rattle.wasm_module_validator_sharing.proofs.Keeping.{shared_progress, shared_code, shared_left}
+use Rattle.wasm_module_validator_sharing.proofs.Handing.{type_at, is_handed_out, none_left, body_denied, no_body, body_may_come, body_follows}
+use Rattle.wasm_module_validator_sharing.proofs.sharing.SharedProgress.take_body.Goals as goal
+
+pub returns-in-Err : goal.returns-in-Err
+returns-in-Err c =
+    let v = c.args.self.now in
+    let i = c.self.inside in
+    let o = option_map (λ p. p.value) i.shared in
+    let shared = c.in-Some.shared.value in
+    let is = ap (option_map (λ p. p.value)) c.in-Some.is in
+    let here : Progress = record { kept = shared.kept; last = i.last } in
+    let same = shared_progress v i.own i.last i.bodies o shared is c.self.view_is in
+    let code = ap body_count (shared_code v i.own i.last i.bodies o shared is c.self.view_is) in
+    let d = subst (λ (s : Progress). Denies c.in-Err.error.kind (FitsBehind (record { kept = s.kept; last = i.last }) c.args.body.now.rest)) c.deref.ensures c.in-Err.ensures in
+    record { told = λ z p reached set. body_denied v here i.bodies same code c.args.body.now c.in-Err.error.kind d z p reached; follows = refl }
+
+pub returns-in-None : goal.returns-in-None
+returns-in-None c =
+    let v = c.args.self.now in
+    let i = c.self.inside in
+    let o = option_map (λ p. p.value) i.shared in
+    let shared = c.in-Some.shared.value in
+    let is = ap (option_map (λ p. p.value)) c.in-Some.is in
+    let here : Progress = record { kept = shared.kept; last = i.last } in
+    let same = shared_progress v i.own i.last i.bodies o shared is c.self.view_is in
+    let code = ap body_count (shared_code v i.own i.last i.bodies o shared is c.self.view_is) in
+    let none = subst (λ (s : Progress). type_at s (s.kept.items.spaces.imported_functions + i.bodies) ≡ None) c.deref-2.ensures (sym c.in-None.ensures.typed) in
+    record { told = λ z p reached set. no_body v here i.bodies same code c.args.body.now none z p reached; follows = (refl, none_left v here i.bodies same code c.args.body.now none) }
+
+pub returns : goal.returns
+returns c =
+    let v = c.args.self.now in
+    let i = c.self.inside in
+    let o = option_map (λ p. p.value) i.shared in
+    let shared = c.in-Some.shared.value in
+    let is = ap (option_map (λ p. p.value)) c.in-Some.is in
+    let here : Progress = record { kept = shared.kept; last = i.last } in
+    let same = shared_progress v i.own i.last i.bodies o shared is c.self.view_is in
+    let code = ap body_count (shared_code v i.own i.last i.bodies o shared is c.self.view_is) in
+    let index = c.in-Some-function_behind.index in
+    let ty = c.in-Some-function_behind.ty in
+    let found = subst (λ (s : Progress). type_at s (s.kept.items.spaces.imported_functions + i.bodies) ≡ Some ty) c.deref-2.ensures (sym c.in-Some-function_behind.ensures.typed) in
+    let place = subst (λ (s : Progress). index ≡ s.kept.items.spaces.imported_functions + i.bodies) c.deref-2.ensures c.in-Some-function_behind.ensures.index in
+    let fits = subst (λ (s : Progress). FitsBehind (record { kept = s.kept; last = i.last }) c.args.body.now.rest) c.deref.ensures c.in-Ok.ensures in
+    let f : Handed = record { resources = c.new-resources.result; index = index; ty = ty; features = c.args.features } in
+    let left = shared_left v i.own i.last i.bodies o shared is i.last (i.bodies + 1) in
+    record {
+      told = λ z p reached set. body_may_come v here i.bodies same code c.args.body.now index ty found fits z p reached;
+      follows = (
+        is_handed_out v shared i.last i.bodies c.args.features.0 f same code (c.new-resources.ensures ∙ c.in_ok-clone.ensures.cases) place found refl,
+        ap (λ (r : Reached). r.code) left ∙ ap (λ (m : ℕ). Some (m + 1)) (sym code),
+        body_follows v here i.bodies same code c.args.body.now index ty found _ left,
+      );
+    }

@@ -1,0 +1,33 @@
+use Rattle.std.proofs.Common.{◌≡◌, List, sym, ap, subst}
+use Rattle.std.specs.Prelude.{option_map}
+use Rattle.wasm_module_validator_reading.specs.progress.code.declared.bodies.Body.{Body}
+use Rattle.wasm_module_validator_reading.specs.progress.Progress.{IsAt}
+use Rattle.wasm_module_validator_reading.proofs.Counting.{on_ok}
+use Rattle.wasm_module_validator_sharing.specs.Sharing.{Reached}
+use Rattle.wasm_module_validator_sharing.proofs.Keeping.{not_shared, own_progress, own_reached, told_next, payload_follows}
+use Rattle.wasm_module_validator_sharing.proofs.sharing.SharedProgress.take_payload.Goals as goal
+
+pub returns-clause-answer : goal.returns-clause-answer
+returns-clause-answer c =
+    let v = c.args.self.now in
+    let i = c.self.inside in
+    let o = option_map (λ p. p.value) i.shared in
+    told_next v i.own (own_progress v i.own i.last i.bodies o c.self.view_is c.requires.own) c.requires.own c.args.payload c.take_payload.result
+    (λ z p f at has is. c.take_payload.ensures.answer z p f (subst (λ (bs : List Body). IsAt z i.own bs p) (sym c.new-bodies.ensures.items) at) has is)
+
+pub returns-clause-added : goal.returns-clause-added
+returns-clause-added c =
+    let v = c.args.self.now in
+    let i = c.self.inside in
+    let o = option_map (λ p. p.value) i.shared in
+    payload_follows v i.own (own_progress v i.own i.last i.bodies o c.self.view_is c.requires.own) c.requires.own c.args.payload c.take_payload.result
+    c.take_payload.new.self c.take_payload.new.bodies.items _ c.requires.whole
+    (own_reached c.take_payload.new.self o i.last i.bodies (not_shared v i.own i.last i.bodies o c.self.view_is c.requires.own))
+    (on_ok c.take_payload.result _ _ (λ added z p q f at has is j. added z p q f (subst (λ (bs : List Body). IsAt z i.own bs p) (sym c.new-bodies.ensures.items) at) has is j) c.take_payload.ensures.added)
+
+pub returns-clause-own : goal.returns-clause-own
+returns-clause-own c =
+    let v = c.args.self.now in
+    let i = c.self.inside in
+    let o = option_map (λ p. p.value) i.shared in
+    ap (λ (r : Reached). r.code) (own_reached c.take_payload.new.self o i.last i.bodies (not_shared v i.own i.last i.bodies o c.self.view_is c.requires.own))

@@ -1,0 +1,94 @@
+//! Data segments checked in a module that is shared: the check changes nothing that is kept.
+
+ghost use Rattle.std.specs.Prelude.{◌≡◌, List, OnOk};
+ghost use Rattle.wasm_types.specs.decoding.Decoder.{State};
+ghost use Rattle.wasm_types.specs.error.Denials.{Tells};
+ghost use Rattle.wasm_types.specs.limits.Settings.{Settings};
+ghost use Rattle.wasm_sections_payloads.specs.Payloads.{Counts};
+ghost use Rattle.wasm_module_validator_reading.specs.progress.code.declared.bodies.Body.{Body};
+ghost use Rattle.wasm_module_validator_reading.specs.progress.standing.steps.Sections as section;
+ghost use Rattle.wasm_module_validator_reading.specs.progress.standing.steps.Steps.{SoFar, JudgesSection};
+ghost use Rattle.wasm_module_validator_reading.specs.progress.Progress.{IsAt};
+
+use std::alloc::Global;
+use wasm_module_validator_adding::{AddItem, add_items};
+use wasm_module_validator_reading::{
+    InProgress, OperatorValidatorAllocations, SectionItem, check_data_with,
+};
+use wasm_sections_payloads::{Data, DataSectionReader};
+use wasm_types::{Error, Result};
+
+// A module whose data segments are checked, and the memory of the checks.
+#[derive(Drop)]
+struct DataCheck<'b> {
+    progress: &'b InProgress,
+    allocs: OperatorValidatorAllocations,
+    alloc: Global,
+}
+
+impl<'a, 'b> AddItem<'a, Data<'a>> for DataCheck<'b> {
+    ghost use Rattle.wasm_module_validator_reading.specs.progress.standing.steps.Sections as section;
+    ghost use Rattle.wasm_module_validator_reading.specs.progress.standing.steps.Texts.{ItemRead};
+    ghost use Rattle.wasm_module_validator_texts.specs.Sections.{Reading, AddsIn, RefusesIn};
+    ghost use Rattle.wasm_module_validator_texts.specs.Kinds.{data_read};
+    ghost use Rattle.wasm_module_validator_reading.specs.progress.Progress.{IsRead};
+
+    ghost Tree = { Reading };
+
+    ghost Item = { ItemRead section.data_segments };
+
+    ghost of = { data_read };
+
+    ghost reads = { λ d u. IsRead section.data_segments d.progress.now.kept u };
+
+    ghost adds = { λ u x v. AddsIn section.data_segments u x v };
+
+    ghost refuses = { λ u x p e. RefusesIn section.data_segments u x p e };
+
+    fn add(&mut self, item: Data<'a>, offset: u64) -> Result<()> {
+        let progress = self.progress;
+        check_data_with(
+            self.alloc,
+            &item,
+            progress.state(),
+            progress.types(),
+            &mut self.allocs,
+            offset,
+        )
+    }
+
+    ghost alike = { λ x y is. is };
+}
+
+/// Checks a data section that comes behind the section of this place.
+///
+/// # Errors
+///
+/// The section is out of order, or brings more segments than there may be; a segment cannot be read or is not valid, or a byte is left
+/// behind the last; or there is no memory: the first of these.
+pub(crate) fn check_data_section(
+    alloc: Global,
+    progress: &InProgress,
+    last: u32,
+    segments: DataSectionReader<'_>,
+) -> Result<()>
+    ensures answer { (z : Settings) (p : SoFar) (bodies : List Body) (b : State) → IsAt z (record progress.now { last = last }) bodies p → b.settings ≡ z
+        → Counts b segments.entry.count segments.entry.reader → Tells result ((q : SoFar) × JudgesSection z p section.data_segments b.rest q) }
+    ensures added { OnOk result ((z : Settings) (p q : SoFar) (bodies : List Body) (b : State) → IsAt z (record progress.now { last = last }) bodies p → b.settings ≡ z
+        → Counts b segments.entry.count segments.entry.reader → JudgesSection z p section.data_segments b.rest q → IsAt z (record progress.now { last = 13 }) bodies q) }
+{
+    let offset = segments.range().start;
+    if last >= 13 {
+        return Err(Error::new("section out of order", offset));
+    }
+    match <Data<'_> as SectionItem<'_>>::check_count(progress.state(), segments.count(), offset) {
+        Ok(()) => (),
+        Err(error) => return Err(error),
+    }
+    let mut check = DataCheck {
+        progress,
+        allocs: OperatorValidatorAllocations::new(alloc),
+        alloc,
+    };
+    add_items(&mut check, segments)
+}

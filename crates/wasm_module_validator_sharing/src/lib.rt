@@ -1,0 +1,18 @@
+//! A module that is being read, and that is shared with those who judge its functions once its code has begun (WebAssembly 3.0,
+//! validation, modules).
+//!
+//! [`SharedProgress`] keeps a module as [`InProgress`] does. From the start of the code section on, what functions look up stays as it is:
+//! only a data section may come then, and of that nothing is kept. So the module is shared, and each body that comes is handed on with
+//! [`ValidatorResources`], which outlive the borrow of what keeps the module. `specs/Sharing.antt` says when what is kept stands for what
+//! was judged.
+#![tactic(auto)]
+
+mod data;
+mod resources;
+mod sharing;
+
+pub use resources::ValidatorResources;
+pub use sharing::SharedProgress;
+pub use wasm_module_validator_reading::{
+    FuncToValidate, InProgress, ReadModule, check_header, judge_bodies, read_module,
+};
