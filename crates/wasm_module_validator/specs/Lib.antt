@@ -1,4 +1,5 @@
 -- Rules: what is accepted, how far a validator is then, and what its methods promise.
+pub mod Shown
 pub mod Accepts
 pub mod States
 pub mod Methods

@@ -14,6 +14,7 @@ mod types;
 mod validator;
 
 pub use payloads::ValidPayload;
-pub use types::{Types, TypesRef};
+pub use types::Types;
 pub use validator::{State, Validator, ValidatorId, validate};
+pub use wasm_module_validator_lookups::{RecGroupElements, RecGroupId, TypesRef};
 pub use wasm_module_validator_sharing::{FuncToValidate, ValidatorResources};

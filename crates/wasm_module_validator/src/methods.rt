@@ -1,18 +1,20 @@
 //! A module that is validated frame by frame, as a parser gives its payloads.
 
-ghost use Rattle.std.specs.Prelude.{◌≡◌, is_some, true};
+ghost use Rattle.std.specs.Prelude.{◌≡◌, is_some, option_map, true};
 ghost use Rattle.wasm_types.specs.error.declared.error.ErrorKind.TheVariants as kinds;
 ghost use Rattle.wasm_sections_payloads.specs.declared.payload.Payload.TheVariants as payloads;
 ghost use Rattle.wasm_operator_validator_stacks.specs.state.Refusals.{refused_by};
 ghost use Rattle.wasm_module_validator_sharing.specs.reading.Reading.{under};
 ghost use Rattle.wasm_module_validator_sharing.specs.Sharing.{IsWhole, nothing_reached};
 ghost use Rattle.wasm_module_validator.specs.declared.validator.State.TheVariants as states;
+ghost use Rattle.wasm_module_validator.specs.Shown.{shown};
 ghost use Rattle.wasm_module_validator.specs.Methods.{failure, refusal, can_reset, types_so_far, ReadsHeader, Takes, TakesData, BeginsCode, TakesBody, RefusesUnknown, Ends};
 
-use crate::types::{Types, TypesRef};
+use crate::types::{Types, look_up};
 use crate::validator::{State, Validator, ValidatorId};
 use std::mem;
 use std::ops::Range;
+use wasm_module_validator_lookups::TypesRef;
 use wasm_module_validator_sharing::{
     FuncToValidate, SharedProgress, ValidatorResources, check_header,
 };
@@ -100,7 +102,7 @@ impl Validator {
 
     /// What is known so far of the module that is being read, which is at level 0: from its header on, to its end.
     pub fn types(&self, level: usize) -> Option<TypesRef<'_>>
-        ensures { result ≡ types_so_far self.now level }
+        ensures { result ≡ option_map shown (types_so_far self.now level) }
     {
         match self.state {
             State::Module => (),
@@ -111,9 +113,7 @@ impl Validator {
         if level != 0 {
             return None;
         }
-        Some(TypesRef {
-            module: &self.reached,
-        })
+        Some(look_up(&self.reached))
     }
 
     /// Takes the header of a module (WebAssembly 3.0, binary format, modules).

@@ -9,5 +9,5 @@ mod spaces;
 mod types_ref;
 
 pub use groups::RecGroupElements;
-pub use types_ref::{TypesRef, ValidatorId};
+pub use types_ref::TypesRef;
 pub use wasm_module_validator_types::RecGroupId;
