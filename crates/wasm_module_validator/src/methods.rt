@@ -51,10 +51,7 @@ fn check_turn(state: State, fits: bool, misfit: &str, offset: u64) -> Result<()>
     ensures { refused_by result ≡ refusal state fits }
 {
     match state {
-        State::Unparsed => Err(Error::new(
-            "unexpected section before header was parsed",
-            offset,
-        )),
+        State::Unparsed => Err(Error::new("unexpected section before header was parsed", offset)),
         State::Module => {
             if fits {
                 Ok(())
@@ -62,10 +59,7 @@ fn check_turn(state: State, fits: bool, misfit: &str, offset: u64) -> Result<()>
                 Err(Error::new(misfit, offset))
             }
         }
-        State::Ended => Err(Error::new(
-            "unexpected section after parsing has completed",
-            offset,
-        )),
+        State::Ended => Err(Error::new("unexpected section after parsing has completed", offset)),
         State::Failed => Err(failed_before(offset)),
     }
 }

@@ -7,7 +7,6 @@ ghost use Rattle.wasm_operators_visit_operator.specs.Vectors.{is_simd};
 ghost use Rattle.wasm_operator_validator_stacks.specs.resources.Meaning.{Meaning};
 ghost use Rattle.wasm_operator_validator_stacks.specs.state.Refusals.{kind_of, refused, refused_by};
 ghost use Rattle.wasm_operator_validator_stacks.specs.state.State.{Visits};
-
 ghost use Rattle.wasm_module_validator_functions.specs.Trying.{Tries};
 
 use crate::FuncValidator;

@@ -13,7 +13,10 @@ fn write_numbers(text: &mut String, list: &TypeList) -> Result<(), AllocError> {
     let types = list.type_count();
     let groups = list.group_count();
     let more = list.can_intern();
-    write!(text, ", {types} types in {groups} groups, takes more: {more}")
+    write!(
+        text,
+        ", {types} types in {groups} groups, takes more: {more}"
+    )
 }
 
 /// Interns the pair, and tells whether it is new and its number.

@@ -8,5 +8,7 @@ use Rattle.wasm_module_validator_sharing.proofs.resources.ValidatorResources.new
 pub invariant_of-result : goal.invariant_of-result
 invariant_of-result c =
     let s = settled_in c.types.result.now.groups c.deref.result.now.kept.items.spaces c.type_count-count.ensures.formed c.types.ensures.over in
-    record { settled = subst (λ (p : Progress). IsSettledIn p.kept.groups p.kept.items.spaces) c.deref.ensures
-    (subst (λ (g : List Group). IsSettledIn g c.deref.result.now.kept.items.spaces) c.types.ensures.value s) }
+    record {
+      settled = subst (λ (p : Progress). IsSettledIn p.kept.groups p.kept.items.spaces) c.deref.ensures
+          (subst (λ (g : List Group). IsSettledIn g c.deref.result.now.kept.items.spaces) c.types.ensures.value s);
+    }
