@@ -17,4 +17,6 @@ pub use payloads::ValidPayload;
 pub use types::Types;
 pub use validator::{State, Validator, ValidatorId, validate};
 pub use wasm_module_validator_lookups::{RecGroupElements, RecGroupId, TypesRef};
-pub use wasm_module_validator_sharing::{FuncToValidate, ValidatorResources};
+pub use wasm_module_validator_sharing::{
+    FuncToValidate, FuncValidator, FuncValidatorAllocations, ValidatorResources,
+};

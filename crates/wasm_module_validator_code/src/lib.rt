@@ -9,4 +9,6 @@ mod laws;
 
 pub use bodies::{Body, judge_bodies};
 pub use laws::bodies_are_worked;
-pub use wasm_module_validator_functions::{FuncToValidate, FunctionBody, WasmModuleResources};
+pub use wasm_module_validator_functions::{
+    FuncToValidate, FuncValidator, FuncValidatorAllocations, FunctionBody, WasmModuleResources,
+};

@@ -19,6 +19,8 @@ pub use collected::Collected;
 pub use items::SectionItem;
 pub use payloads::check_header;
 pub use progress::InProgress;
-pub use wasm_module_validator_code::{Body, FuncToValidate, judge_bodies};
+pub use wasm_module_validator_code::{
+    Body, FuncToValidate, FuncValidator, FuncValidatorAllocations, judge_bodies,
+};
 pub use wasm_module_validator_initialising::{OperatorValidatorAllocations, check_data_with};
 pub use wasm_module_validator_standing::ModuleState;

@@ -8,6 +8,6 @@ mod reading;
 
 pub use reading::{ReadModule, read_module};
 pub use wasm_module_validator_progress::{
-    Body, FuncToValidate, InProgress, ModuleState, OperatorValidatorAllocations, SectionItem,
-    check_data_with, check_header, judge_bodies,
+    Body, FuncToValidate, FuncValidator, FuncValidatorAllocations, InProgress, ModuleState,
+    OperatorValidatorAllocations, SectionItem, check_data_with, check_header, judge_bodies,
 };

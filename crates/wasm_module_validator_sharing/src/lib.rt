@@ -14,5 +14,6 @@ mod sharing;
 pub use resources::ValidatorResources;
 pub use sharing::SharedProgress;
 pub use wasm_module_validator_reading::{
-    FuncToValidate, InProgress, ReadModule, check_header, judge_bodies, read_module,
+    FuncToValidate, FuncValidator, FuncValidatorAllocations, InProgress, ReadModule, check_header,
+    judge_bodies, read_module,
 };
