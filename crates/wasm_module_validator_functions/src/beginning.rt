@@ -33,6 +33,7 @@ impl FuncValidatorAllocations {
 }
 
 /// A function of a module whose body is to be judged.
+#[derive(Drop)]
 pub struct FuncToValidate<R> {
     /// The module, as its types, tables and other things are looked up.
     pub resources: R,

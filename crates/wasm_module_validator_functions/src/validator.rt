@@ -10,6 +10,7 @@ use wasm_operators_bodies::FunctionBody;
 use wasm_types::{BinaryReader, Result, WasmFeatures};
 
 /// What judges the body of one function: what is known of the body so far, and the module.
+#[derive(Drop)]
 pub struct FuncValidator<R> {
     pub(crate) validator: OperatorValidator,
     pub(crate) resources: R,
