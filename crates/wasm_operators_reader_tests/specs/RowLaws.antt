@@ -1,5 +1,5 @@
 -- These rows compute.
-use Rattle.std.proofs.Common.{◌≡◌, ◌⊎◌, ◌∙◌, ◌-◌, ◌∷◌, [], ℕ, List, refl, sym, ap, arith, lit<, true, false, Some, None, inl, inr}
+use Rattle.std.proofs.Common.{◌≡◌, ◌⊎◌, ◌∙◌, ◌-◌, ◌∷◌, [], ℕ, List, refl, sym, ap, arith, lit<, true, false, inl, inr}
 use Rattle.wasm_types.specs.limits.Limits.{default_limits}
 use Rattle.wasm_types.specs.limits.Settings.{no_features}
 use Rattle.wasm_types.specs.decoding.Decoder.{State, Done}
