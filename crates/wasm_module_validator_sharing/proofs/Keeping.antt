@@ -53,12 +53,6 @@ module _ (r : Reached) (own : Progress) (last n : ℕ) (o : Option Progress) (sh
 pub own_reached : (own : Progress) (shared : Option Progress) (last n : ℕ) → shared ≡ None → reached own shared last n ≡ record { progress = own; code = None }
 own_reached own shared last n e = ap (λ (s : Option Progress). reached own s last n) e
 
--- nothing is shared where no code began
-pub none_shared : {A : Type 0} (f : A → Progress) (o : Option A) (own : Progress) (last n : ℕ) → is_some (reached own (option_map f o) last n).code ≡ true → o ≡ None → ⊥
-none_shared f o own last n some none =
-    let e : is_some (reached own None last n).code ≡ true = subst (λ (x : Option A). is_some (reached own (option_map f x) last n).code ≡ true) none some in
-    absurd cc
-
 -- whether its code has begun
 pub code_shown : {A : Type 0} (f : A → Progress) (o : Option A) (own : Progress) (last n : ℕ) → is_some o ≡ is_some (reached own (option_map f o) last n).code
 code_shown f None own last n = refl

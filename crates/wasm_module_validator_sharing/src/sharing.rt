@@ -179,15 +179,16 @@ impl SharedProgress {
             Ok(()) => (),
             Err(error) => return Err(error),
         }
-        let Some((index, ty)) = shared.function_behind(self.bodies) else {
-            return Ok(None);
+        let next = match shared.function_behind(self.bodies) {
+            Some(next) => next,
+            None => return Ok(None),
         };
         let resources = ValidatorResources::new(shared.clone()?);
         self.bodies += 1;
         Ok(Some(FuncToValidate {
             resources,
-            index,
-            ty,
+            index: next.0,
+            ty: next.1,
             features,
         }))
     }

@@ -44,8 +44,8 @@ returns c =
     let here : Progress = record { kept = shared.kept; last = i.last } in
     let same = shared_progress v i.own i.last i.bodies o shared is c.self.view_is in
     let code = ap body_count (shared_code v i.own i.last i.bodies o shared is c.self.view_is) in
-    let index = c.in-Some-function_behind.index in
-    let ty = c.in-Some-function_behind.ty in
+    let index = c.in-Some-function_behind.next.0 in
+    let ty = c.in-Some-function_behind.next.1 in
     let found = subst (λ (s : Progress). type_at s (s.kept.items.spaces.imported_functions + i.bodies) ≡ Some ty) c.deref-2.ensures (sym c.in-Some-function_behind.ensures.typed) in
     let place = subst (λ (s : Progress). index ≡ s.kept.items.spaces.imported_functions + i.bodies) c.deref-2.ensures c.in-Some-function_behind.ensures.index in
     let fits = subst (λ (s : Progress). FitsBehind (record { kept = s.kept; last = i.last }) c.args.body.now.rest) c.deref.ensures c.in-Ok.ensures in

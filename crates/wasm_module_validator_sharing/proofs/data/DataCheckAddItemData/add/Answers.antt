@@ -1,6 +1,6 @@
 use Rattle.wasm_module_validator_texts.specs.Kinds.{data_read}
 use Rattle.wasm_module_validator_sharing.proofs.Checking.{segment_answer, segment_added, segment_refused}
-use Rattle.wasm_module_validator_sharing.proofs.data.DataCheckAddItemDataOfConstExpr.add.Goals as goal
+use Rattle.wasm_module_validator_sharing.proofs.data.DataCheckAddItemData.add.Goals as goal
 
 pub returns-clause-answer : goal.returns-clause-answer
 returns-clause-answer c =
