@@ -13,7 +13,7 @@ pub returns-in-Ended : goal.returns-in-Ended
 returns-in-Ended c = let v = c.args.self.now in out_of_turn (header_refusal v.state) v _ _ _ cc
 
 pub returns-in-Err : goal.returns-in-Err
-returns-in-Err c = let v = c.args.self.now in in_turn (header_refusal v.state) v _ _ _ _ (ap header_refusal (sym c.in-Unparsed.is)) c.in-Err.ensures refl
+returns-in-Err c = let v = c.args.self.now in in_turn (header_refusal v.state) v _ _ _ _ (ap header_refusal (sym c.in-Unparsed.is)) c.in-Err.ensures.answer refl
 
 pub returns : goal.returns
-returns c = let v = c.args.self.now in in_turn (header_refusal v.state) v _ _ _ _ (ap header_refusal (sym c.in-Unparsed.is)) c.in-Ok.ensures cc
+returns c = let v = c.args.self.now in in_turn (header_refusal v.state) v _ _ _ _ (ap header_refusal (sym c.in-Unparsed.is)) c.in-Ok.ensures.answer cc
