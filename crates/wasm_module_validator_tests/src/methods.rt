@@ -109,7 +109,9 @@ fn takes_each_payload(rt: HostRuntime) -> std::result::Result<(), Fail> {
     let mut text = String::new(alloc);
     let mut validator = Validator::new(alloc, ValidatorId::new(0));
     tell_payloads(alloc, &mut text, &mut validator, &EACH_SECTION)?;
-    validator.reset();
+    if validator.can_reset() {
+        validator.reset();
+    }
     tell_payloads(alloc, &mut text, &mut validator, &WRONG_SUPERTYPE)?;
     write!(text, "{}", validator.can_reset())?;
     same(
@@ -130,7 +132,9 @@ fn refuses_calls_out_of_turn(rt: HostRuntime) -> std::result::Result<(), Fail> {
         Err(error) => tell_error(&mut text, &error)?,
     }
     tell(&mut text, validator.version(1, Encoding::Module, 0..8))?;
-    validator.reset();
+    if validator.can_reset() {
+        validator.reset();
+    }
     tell(&mut text, validator.version(1, Encoding::Module, 0..8))?;
     tell(&mut text, validator.code_section_start(10..12))?;
     tell(&mut text, validator.start_section(0, 14..15))?;
