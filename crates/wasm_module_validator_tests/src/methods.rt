@@ -52,9 +52,9 @@ fn tell_error(text: &mut String, error: &Error) -> std::result::Result<(), Fail>
 }
 
 /// Adds what a call answered, which gives nothing where it is accepted.
-fn tell(text: &mut String, answer: Result<()>) -> std::result::Result<(), Fail> {
+fn tell<T: Drop>(text: &mut String, answer: Result<T>) -> std::result::Result<(), Fail> {
     match answer {
-        Ok(()) => text.push_str("ok\n")?,
+        Ok(_) => text.push_str("ok\n")?,
         Err(error) => tell_error(text, &error)?,
     }
     Ok(())
@@ -127,10 +127,7 @@ fn refuses_calls_out_of_turn(rt: HostRuntime) -> std::result::Result<(), Fail> {
     let alloc = rt.alloc();
     let mut text = String::new(alloc);
     let mut validator = Validator::new(alloc, ValidatorId::new(0));
-    match validator.end(8) {
-        Ok(_) => (),
-        Err(error) => tell_error(&mut text, &error)?,
-    }
+    tell(&mut text, validator.end(8))?;
     tell(&mut text, validator.version(1, Encoding::Module, 0..8))?;
     if validator.can_reset() {
         validator.reset();
@@ -153,10 +150,7 @@ fn judges_modules_in_turn(rt: HostRuntime) -> std::result::Result<(), Fail> {
     let alloc = rt.alloc();
     let mut text = String::new(alloc);
     let mut validator = Validator::new(alloc, ValidatorId::new(0));
-    match validator.validate_all(&EMPTY_BODY) {
-        Ok(_) => (),
-        Err(error) => tell_error(&mut text, &error)?,
-    }
+    tell(&mut text, validator.validate_all(&EMPTY_BODY))?;
     if validator.can_reset() {
         validator.reset();
     }
