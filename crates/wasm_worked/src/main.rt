@@ -7,24 +7,20 @@
 
 mod answers;
 mod calls;
-mod lists;
 mod operators;
-mod pairs;
 mod parts;
 mod sections;
 mod types;
 mod validator;
 
 use crate::calls::write_called;
-use crate::lists::write_lists;
 use crate::operators::write_coded;
 use crate::parts::write_part;
 use crate::sections::write_sections;
 use crate::types::{write_feature, write_read};
-use crate::validator::{write_verdict, write_verdict_under};
+use crate::validator::write_verdict;
 use std::alloc::{AllocError, Global};
 use std::io;
-use wasm_types::WasmFeatures;
 
 /// A line, and behind it the answer.
 fn answer(alloc: Global, line: &str) -> Result<String, AllocError> {
@@ -32,8 +28,6 @@ fn answer(alloc: Global, line: &str) -> Result<String, AllocError> {
     if let Some((word, rest)) = line.split_once(' ') {
         if word == "feature" {
             write_feature(&mut text, rest)?;
-        } else if word == "under" {
-            write_verdict_under(alloc, &mut text, rest)?;
         } else if let Ok(bytes) = hex::decode(alloc, rest) {
             text.push_str(" ->")?;
             write_read(alloc, &mut text, word, bytes.as_slice())?;
@@ -41,11 +35,8 @@ fn answer(alloc: Global, line: &str) -> Result<String, AllocError> {
             write_called(alloc, &mut text, word, bytes.as_slice())?;
             write_part(alloc, &mut text, word, bytes.as_slice())?;
             write_sections(alloc, &mut text, word, bytes.as_slice())?;
-            if word == "interned" {
-                write_lists(alloc, &mut text)?;
-            }
             if word == "validate" {
-                write_verdict(alloc, &mut text, WasmFeatures::default(), bytes.as_slice())?;
+                write_verdict(alloc, &mut text, bytes.as_slice())?;
             }
         }
     }
