@@ -14,7 +14,7 @@ def s(k):
 
 # ---- a yes for each group
 
-T2 = [ft(["i32", "i64"], ["i64", "i32"])]
+TWO_RESULTS = [ft(["i32", "i64"], ["i64", "i32"])]
 row(
     "blocks-of-several-values",
     fn(
@@ -63,7 +63,7 @@ row(
         "1a",
         "1a",
         E,
-        types=T2,
+        types=TWO_RESULTS,
         locals=[(1, "i64")],
     ),
 )
@@ -142,7 +142,7 @@ row(
         globals=[["7f00", i32(1), E], ["7f01", i32(2), E]],
     ),
 )
-L4 = dict(p=["i32", "i64", "f32", "f64"])
+FOUR_NUMBERS = dict(p=["i32", "i64", "f32", "f64"])
 NUM = {"i32": 0, "i64": 1, "f32": 2, "f64": 3}
 loads = [
     (40, "i32", 2),
@@ -175,11 +175,11 @@ stores = [
 def accesses(a):
     return [[g(a), op, al, '00', s(NUM[t])] for op, t, al in loads] + [[g(a), g(NUM[t]), op, al, '00'] for op, t, al in stores]
 
-row("loads-and-stores", fn(accesses(0), "3f00", "4000", s(0), E, mems=[MEM], **L4))
-row("loads-and-stores-64", fn(accesses(1), "3f00", "4000", s(1), E, mems=[MEM64], **L4))
+row("loads-and-stores", fn(accesses(0), "3f00", "4000", s(0), E, mems=[MEM], **FOUR_NUMBERS))
+row("loads-and-stores-64", fn(accesses(1), "3f00", "4000", s(1), E, mems=[MEM64], **FOUR_NUMBERS))
 row(
     "access-to-second-memory",
-    fn(g(0), "28420100", s(0), g(1), "280200", s(0), g(0), g(3), "39430108", "3f01", "4001", s(0), E, mems=[MEM64, MEM], **L4),
+    fn(g(0), "28420100", s(0), g(1), "280200", s(0), g(0), g(3), "39430108", "3f01", "4001", s(0), E, mems=[MEM64, MEM], **FOUR_NUMBERS),
 )
 
 def chain(a, un, bi, cmp_):
@@ -191,10 +191,10 @@ def chain(a, un, bi, cmp_):
     return out
 
 R = lambda a, b: list(range(a, b + 1))
-row("numbers-i32", fn(g(0), "45", s(0), chain("i32", R(103, 105), R(106, 120), R(70, 79)), E, **L4))
-row("numbers-i64", fn(g(1), "50", s(0), chain("i64", R(121, 123), R(124, 138), R(81, 90)), E, **L4))
-row("numbers-f32", fn(chain("f32", R(139, 145), R(146, 152), R(91, 96)), E, **L4))
-row("numbers-f64", fn(chain("f64", R(153, 159), R(160, 166), R(97, 102)), E, **L4))
+row("numbers-i32", fn(g(0), "45", s(0), chain("i32", R(103, 105), R(106, 120), R(70, 79)), E, **FOUR_NUMBERS))
+row("numbers-i64", fn(g(1), "50", s(0), chain("i64", R(121, 123), R(124, 138), R(81, 90)), E, **FOUR_NUMBERS))
+row("numbers-f32", fn(chain("f32", R(139, 145), R(146, 152), R(91, 96)), E, **FOUR_NUMBERS))
+row("numbers-f64", fn(chain("f64", R(153, 159), R(160, 166), R(97, 102)), E, **FOUR_NUMBERS))
 conv = [
     (167, "i64", "i32"),
     (168, "f32", "i32"),
@@ -222,7 +222,7 @@ conv = [
     (190, "i32", "f32"),
     (191, "i64", "f64"),
 ]
-row("conversions", fn([[g(NUM[a]), o, s(NUM[b])] for o, a, b in conv], E, **L4))
+row("conversions", fn([[g(NUM[a]), o, s(NUM[b])] for o, a, b in conv], E, **FOUR_NUMBERS))
 sat = [
     (0, "f32", "i32"),
     (1, "f32", "i32"),
@@ -233,14 +233,14 @@ sat = [
     (6, "f64", "i64"),
     (7, "f64", "i64"),
 ]
-row("saturating-conversions", fn([[g(NUM[a]), "fc", o, s(NUM[b])] for o, a, b in sat], E, **L4))
-row("sign-extensions", fn(g(0), "c0", "c1", s(0), g(1), "c2", "c3", "c4", s(1), E, **L4))
-row("conversion-of-another-type", fn(g(2), AT, "a7", s(0), E, **L4), mis("i64", "f32"))
-row("conversion-to-another-type", fn(g(1), "b4", AT, s(3), E, **L4), mis("f64", "f32"))
-row("saturating-of-another-type", fn(g(3), AT, "fc00", s(0), E, **L4), mis("f32", "f64"))
-row("sign-extension-of-i64", fn(g(1), AT, "c0", s(0), E, **L4), mis("i32", "i64"))
-row("shift-of-i64-by-i32", fn(g(1), g(0), AT, "86", s(1), E, **L4), mis("i64", "i32"))
-row("comparison-gives-i32", fn(g(3), g(3), "63", AT, s(3), E, **L4), mis("f64", "i32"))
+row("saturating-conversions", fn([[g(NUM[a]), "fc", o, s(NUM[b])] for o, a, b in sat], E, **FOUR_NUMBERS))
+row("sign-extensions", fn(g(0), "c0", "c1", s(0), g(1), "c2", "c3", "c4", s(1), E, **FOUR_NUMBERS))
+row("conversion-of-another-type", fn(g(2), AT, "a7", s(0), E, **FOUR_NUMBERS), mis("i64", "f32"))
+row("conversion-to-another-type", fn(g(1), "b4", AT, s(3), E, **FOUR_NUMBERS), mis("f64", "f32"))
+row("saturating-of-another-type", fn(g(3), AT, "fc00", s(0), E, **FOUR_NUMBERS), mis("f32", "f64"))
+row("sign-extension-of-i64", fn(g(1), AT, "c0", s(0), E, **FOUR_NUMBERS), mis("i32", "i64"))
+row("shift-of-i64-by-i32", fn(g(1), g(0), AT, "86", s(1), E, **FOUR_NUMBERS), mis("i64", "i32"))
+row("comparison-gives-i32", fn(g(3), g(3), "63", AT, s(3), E, **FOUR_NUMBERS), mis("f64", "i32"))
 row(
     "bulk-memory",
     fn(

@@ -58,6 +58,7 @@ impl Validator {
     /// A validator that has read nothing, with the default features. It takes no memory.
     pub fn new(alloc: Global, id: ValidatorId) -> Validator
         ensures state { result.state ≡ states.Unparsed }
+        ensures id { result.id ≡ id }
         ensures features { result.features.0 ≡ bits_of default_features }
     {
         Validator::new_with_features(alloc, id, WasmFeatures::default())
@@ -66,6 +67,7 @@ impl Validator {
     /// A validator that has read nothing, with these features. It takes no memory.
     pub fn new_with_features(alloc: Global, id: ValidatorId, features: WasmFeatures) -> Validator
         ensures state { result.state ≡ states.Unparsed }
+        ensures id { result.id ≡ id }
         ensures features { result.features ≡ features }
     {
         Validator {
@@ -102,6 +104,7 @@ impl Validator {
         ensures verdict { Tells result (AcceptsUnder (under self.old.features.0) bytes.now) }
         ensures shown { IfOk result (IsShown (under self.old.features.0) bytes.now) }
         ensures state { Leaves (under self.old.features.0) bytes.now result self.new.state }
+        ensures others { self.new ≡ record self.old { state = self.new.state } }
     {
         self.state = State::Failed;
         let read = match read_module(self.alloc, self.features, bytes) {
