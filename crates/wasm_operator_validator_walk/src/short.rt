@@ -1,18 +1,22 @@
-//! The visitor told of a frequent operator straight from its bytes, each group in a function of its own.
+//! The visitor told of a frequent operator straight from its bytes, each shape of operator in a function of its own.
 
-ghost use Rattle.std.specs.Prelude.{◌≡◌, IfSome, IfNone};
+ghost use Rattle.std.specs.Prelude.{◌≡◌, ◌<◌, IfSome, IfNone};
 ghost use Rattle.wasm_operator_validator_expression.specs.state.State.{Visits};
 ghost use Rattle.wasm_operator_validator_expression.specs.state.Refusals.{refused};
 ghost use Rattle.wasm_operators_visit_short.specs.Short.{Begins, IsTold};
 
 use wasm_operator_validator_stacks::{Refusal, WasmModuleResources};
 use wasm_operator_validator_visits::ValidatingVisitor;
-use wasm_operators_visit_short::{short_control, short_memory, short_numeric};
+use wasm_operators_visit_short::{
+    short_alone, short_block, short_f32_const, short_f64_const, short_global, short_i32_const,
+    short_i64_const, short_index, short_indirect, short_load, short_local_get, short_local_set,
+    short_local_tee, short_memory_size, short_number, short_store,
+};
 use wasm_types::WasmFeatures;
 
-/// Of control, and of operands of any type, where this byte stands at the offset.
+/// Of one that carries nothing.
 #[inline(always)]
-pub(crate) fn tell_short_control<'a, R: WasmModuleResources>(
+pub(crate) fn tell_alone<'a, R: WasmModuleResources>(
     visitor: &mut ValidatingVisitor<'_, '_, R>,
     bytes: &'a [u8],
     at: usize,
@@ -23,12 +27,12 @@ pub(crate) fn tell_short_control<'a, R: WasmModuleResources>(
     ensures told { IfSome result (λ r. IsTold features.0 bytes.now at r.1 (λ o. Visits (R.meaning visitor.old.resources.now) visitor.old.inner.now o (refused r.0) visitor.new.inner.now × (visitor.new.inner.ghost_name ≡ visitor.old.inner.ghost_name) × (visitor.new.resources.now ≡ visitor.old.resources.now))) }
     ensures none { IfNone result (visitor.new ≡ visitor.old) }
 {
-    short_control(bytes, at, code, features, visitor)
+    short_alone(bytes, at, code, features, visitor)
 }
 
-/// Of variables, memories and constants, where this byte stands at the offset.
+/// Of one that carries a block type.
 #[inline(always)]
-pub(crate) fn tell_short_memory<'a, R: WasmModuleResources>(
+pub(crate) fn tell_block<'a, R: WasmModuleResources>(
     visitor: &mut ValidatingVisitor<'_, '_, R>,
     bytes: &'a [u8],
     at: usize,
@@ -39,12 +43,12 @@ pub(crate) fn tell_short_memory<'a, R: WasmModuleResources>(
     ensures told { IfSome result (λ r. IsTold features.0 bytes.now at r.1 (λ o. Visits (R.meaning visitor.old.resources.now) visitor.old.inner.now o (refused r.0) visitor.new.inner.now × (visitor.new.inner.ghost_name ≡ visitor.old.inner.ghost_name) × (visitor.new.resources.now ≡ visitor.old.resources.now))) }
     ensures none { IfNone result (visitor.new ≡ visitor.old) }
 {
-    short_memory(bytes, at, code, features, visitor)
+    short_block(bytes, at, code, features, visitor)
 }
 
-/// Of numbers, where this byte stands at the offset.
+/// Of one that carries a label or the index of a function.
 #[inline(always)]
-pub(crate) fn tell_short_numeric<'a, R: WasmModuleResources>(
+pub(crate) fn tell_index<'a, R: WasmModuleResources>(
     visitor: &mut ValidatingVisitor<'_, '_, R>,
     bytes: &'a [u8],
     at: usize,
@@ -55,5 +59,211 @@ pub(crate) fn tell_short_numeric<'a, R: WasmModuleResources>(
     ensures told { IfSome result (λ r. IsTold features.0 bytes.now at r.1 (λ o. Visits (R.meaning visitor.old.resources.now) visitor.old.inner.now o (refused r.0) visitor.new.inner.now × (visitor.new.inner.ghost_name ≡ visitor.old.inner.ghost_name) × (visitor.new.resources.now ≡ visitor.old.resources.now))) }
     ensures none { IfNone result (visitor.new ≡ visitor.old) }
 {
-    short_numeric(bytes, at, code, features, visitor)
+    short_index(bytes, at, code, features, visitor)
+}
+
+/// Of a call through a table.
+#[inline(always)]
+pub(crate) fn tell_indirect<'a, R: WasmModuleResources>(
+    visitor: &mut ValidatingVisitor<'_, '_, R>,
+    bytes: &'a [u8],
+    at: usize,
+    code: u8,
+    features: WasmFeatures,
+) -> Option<(Result<(), Refusal>, usize)>
+    requires { Begins bytes.now at code }
+    ensures told { IfSome result (λ r. IsTold features.0 bytes.now at r.1 (λ o. Visits (R.meaning visitor.old.resources.now) visitor.old.inner.now o (refused r.0) visitor.new.inner.now × (visitor.new.inner.ghost_name ≡ visitor.old.inner.ghost_name) × (visitor.new.resources.now ≡ visitor.old.resources.now))) }
+    ensures none { IfNone result (visitor.new ≡ visitor.old) }
+{
+    short_indirect(bytes, at, code, features, visitor)
+}
+
+/// Of a local's value.
+#[inline(always)]
+pub(crate) fn tell_local_get<'a, R: WasmModuleResources>(
+    visitor: &mut ValidatingVisitor<'_, '_, R>,
+    bytes: &'a [u8],
+    at: usize,
+    features: WasmFeatures,
+) -> Option<(Result<(), Refusal>, usize)>
+    requires { Begins bytes.now at 0x20 }
+    ensures told { IfSome result (λ r. IsTold features.0 bytes.now at r.1 (λ o. Visits (R.meaning visitor.old.resources.now) visitor.old.inner.now o (refused r.0) visitor.new.inner.now × (visitor.new.inner.ghost_name ≡ visitor.old.inner.ghost_name) × (visitor.new.resources.now ≡ visitor.old.resources.now))) }
+    ensures none { IfNone result (visitor.new ≡ visitor.old) }
+{
+    short_local_get(bytes, at, features, visitor)
+}
+
+/// Of a local that takes a value.
+#[inline(always)]
+pub(crate) fn tell_local_set<'a, R: WasmModuleResources>(
+    visitor: &mut ValidatingVisitor<'_, '_, R>,
+    bytes: &'a [u8],
+    at: usize,
+    features: WasmFeatures,
+) -> Option<(Result<(), Refusal>, usize)>
+    requires { Begins bytes.now at 0x21 }
+    ensures told { IfSome result (λ r. IsTold features.0 bytes.now at r.1 (λ o. Visits (R.meaning visitor.old.resources.now) visitor.old.inner.now o (refused r.0) visitor.new.inner.now × (visitor.new.inner.ghost_name ≡ visitor.old.inner.ghost_name) × (visitor.new.resources.now ≡ visitor.old.resources.now))) }
+    ensures none { IfNone result (visitor.new ≡ visitor.old) }
+{
+    short_local_set(bytes, at, features, visitor)
+}
+
+/// Of a local that takes a value, which stays.
+#[inline(always)]
+pub(crate) fn tell_local_tee<'a, R: WasmModuleResources>(
+    visitor: &mut ValidatingVisitor<'_, '_, R>,
+    bytes: &'a [u8],
+    at: usize,
+    features: WasmFeatures,
+) -> Option<(Result<(), Refusal>, usize)>
+    requires { Begins bytes.now at 0x22 }
+    ensures told { IfSome result (λ r. IsTold features.0 bytes.now at r.1 (λ o. Visits (R.meaning visitor.old.resources.now) visitor.old.inner.now o (refused r.0) visitor.new.inner.now × (visitor.new.inner.ghost_name ≡ visitor.old.inner.ghost_name) × (visitor.new.resources.now ≡ visitor.old.resources.now))) }
+    ensures none { IfNone result (visitor.new ≡ visitor.old) }
+{
+    short_local_tee(bytes, at, features, visitor)
+}
+
+/// Of one on a global.
+#[inline(always)]
+pub(crate) fn tell_global<'a, R: WasmModuleResources>(
+    visitor: &mut ValidatingVisitor<'_, '_, R>,
+    bytes: &'a [u8],
+    at: usize,
+    code: u8,
+    features: WasmFeatures,
+) -> Option<(Result<(), Refusal>, usize)>
+    requires { Begins bytes.now at code }
+    ensures told { IfSome result (λ r. IsTold features.0 bytes.now at r.1 (λ o. Visits (R.meaning visitor.old.resources.now) visitor.old.inner.now o (refused r.0) visitor.new.inner.now × (visitor.new.inner.ghost_name ≡ visitor.old.inner.ghost_name) × (visitor.new.resources.now ≡ visitor.old.resources.now))) }
+    ensures none { IfNone result (visitor.new ≡ visitor.old) }
+{
+    short_global(bytes, at, code, features, visitor)
+}
+
+/// Of a load from memory 0.
+#[inline(always)]
+pub(crate) fn tell_load<'a, R: WasmModuleResources>(
+    visitor: &mut ValidatingVisitor<'_, '_, R>,
+    bytes: &'a [u8],
+    at: usize,
+    code: u8,
+    features: WasmFeatures,
+) -> Option<(Result<(), Refusal>, usize)>
+    requires { Begins bytes.now at code }
+    ensures told { IfSome result (λ r. IsTold features.0 bytes.now at r.1 (λ o. Visits (R.meaning visitor.old.resources.now) visitor.old.inner.now o (refused r.0) visitor.new.inner.now × (visitor.new.inner.ghost_name ≡ visitor.old.inner.ghost_name) × (visitor.new.resources.now ≡ visitor.old.resources.now))) }
+    ensures none { IfNone result (visitor.new ≡ visitor.old) }
+{
+    short_load(bytes, at, code, features, visitor)
+}
+
+/// Of a store to memory 0.
+#[inline(always)]
+pub(crate) fn tell_store<'a, R: WasmModuleResources>(
+    visitor: &mut ValidatingVisitor<'_, '_, R>,
+    bytes: &'a [u8],
+    at: usize,
+    code: u8,
+    features: WasmFeatures,
+) -> Option<(Result<(), Refusal>, usize)>
+    requires { Begins bytes.now at code }
+    ensures told { IfSome result (λ r. IsTold features.0 bytes.now at r.1 (λ o. Visits (R.meaning visitor.old.resources.now) visitor.old.inner.now o (refused r.0) visitor.new.inner.now × (visitor.new.inner.ghost_name ≡ visitor.old.inner.ghost_name) × (visitor.new.resources.now ≡ visitor.old.resources.now))) }
+    ensures none { IfNone result (visitor.new ≡ visitor.old) }
+{
+    short_store(bytes, at, code, features, visitor)
+}
+
+/// Of the size of memory 0, or its growth.
+#[inline(always)]
+pub(crate) fn tell_memory_size<'a, R: WasmModuleResources>(
+    visitor: &mut ValidatingVisitor<'_, '_, R>,
+    bytes: &'a [u8],
+    at: usize,
+    code: u8,
+    features: WasmFeatures,
+) -> Option<(Result<(), Refusal>, usize)>
+    requires { Begins bytes.now at code }
+    ensures told { IfSome result (λ r. IsTold features.0 bytes.now at r.1 (λ o. Visits (R.meaning visitor.old.resources.now) visitor.old.inner.now o (refused r.0) visitor.new.inner.now × (visitor.new.inner.ghost_name ≡ visitor.old.inner.ghost_name) × (visitor.new.resources.now ≡ visitor.old.resources.now))) }
+    ensures none { IfNone result (visitor.new ≡ visitor.old) }
+{
+    short_memory_size(bytes, at, code, features, visitor)
+}
+
+/// Of a constant of type i32.
+#[inline(always)]
+pub(crate) fn tell_i32_const<'a, R: WasmModuleResources>(
+    visitor: &mut ValidatingVisitor<'_, '_, R>,
+    bytes: &'a [u8],
+    at: usize,
+    code: u8,
+    features: WasmFeatures,
+) -> Option<(Result<(), Refusal>, usize)>
+    requires { Begins bytes.now at code }
+    ensures told { IfSome result (λ r. IsTold features.0 bytes.now at r.1 (λ o. Visits (R.meaning visitor.old.resources.now) visitor.old.inner.now o (refused r.0) visitor.new.inner.now × (visitor.new.inner.ghost_name ≡ visitor.old.inner.ghost_name) × (visitor.new.resources.now ≡ visitor.old.resources.now))) }
+    ensures none { IfNone result (visitor.new ≡ visitor.old) }
+{
+    short_i32_const(bytes, at, code, features, visitor)
+}
+
+/// Of a constant of type i64.
+#[inline(always)]
+pub(crate) fn tell_i64_const<'a, R: WasmModuleResources>(
+    visitor: &mut ValidatingVisitor<'_, '_, R>,
+    bytes: &'a [u8],
+    at: usize,
+    code: u8,
+    features: WasmFeatures,
+) -> Option<(Result<(), Refusal>, usize)>
+    requires { Begins bytes.now at code }
+    ensures told { IfSome result (λ r. IsTold features.0 bytes.now at r.1 (λ o. Visits (R.meaning visitor.old.resources.now) visitor.old.inner.now o (refused r.0) visitor.new.inner.now × (visitor.new.inner.ghost_name ≡ visitor.old.inner.ghost_name) × (visitor.new.resources.now ≡ visitor.old.resources.now))) }
+    ensures none { IfNone result (visitor.new ≡ visitor.old) }
+{
+    short_i64_const(bytes, at, code, features, visitor)
+}
+
+/// Of a constant of type f32.
+#[inline(always)]
+pub(crate) fn tell_f32_const<'a, R: WasmModuleResources>(
+    visitor: &mut ValidatingVisitor<'_, '_, R>,
+    bytes: &'a [u8],
+    at: usize,
+    code: u8,
+    features: WasmFeatures,
+) -> Option<(Result<(), Refusal>, usize)>
+    requires { Begins bytes.now at code }
+    ensures told { IfSome result (λ r. IsTold features.0 bytes.now at r.1 (λ o. Visits (R.meaning visitor.old.resources.now) visitor.old.inner.now o (refused r.0) visitor.new.inner.now × (visitor.new.inner.ghost_name ≡ visitor.old.inner.ghost_name) × (visitor.new.resources.now ≡ visitor.old.resources.now))) }
+    ensures none { IfNone result (visitor.new ≡ visitor.old) }
+{
+    short_f32_const(bytes, at, code, features, visitor)
+}
+
+/// Of a constant of type f64.
+#[inline(always)]
+pub(crate) fn tell_f64_const<'a, R: WasmModuleResources>(
+    visitor: &mut ValidatingVisitor<'_, '_, R>,
+    bytes: &'a [u8],
+    at: usize,
+    code: u8,
+    features: WasmFeatures,
+) -> Option<(Result<(), Refusal>, usize)>
+    requires { Begins bytes.now at code }
+    ensures told { IfSome result (λ r. IsTold features.0 bytes.now at r.1 (λ o. Visits (R.meaning visitor.old.resources.now) visitor.old.inner.now o (refused r.0) visitor.new.inner.now × (visitor.new.inner.ghost_name ≡ visitor.old.inner.ghost_name) × (visitor.new.resources.now ≡ visitor.old.resources.now))) }
+    ensures none { IfNone result (visitor.new ≡ visitor.old) }
+{
+    short_f64_const(bytes, at, code, features, visitor)
+}
+
+/// Of one on numbers.
+#[inline(always)]
+pub(crate) fn tell_number<'a, R: WasmModuleResources>(
+    visitor: &mut ValidatingVisitor<'_, '_, R>,
+    bytes: &'a [u8],
+    at: usize,
+    code: u8,
+    features: WasmFeatures,
+) -> Option<(Result<(), Refusal>, usize)>
+    requires begins { Begins bytes.now at code }
+    requires low { code < 0xfb }
+    ensures told { IfSome result (λ r. IsTold features.0 bytes.now at r.1 (λ o. Visits (R.meaning visitor.old.resources.now) visitor.old.inner.now o (refused r.0) visitor.new.inner.now × (visitor.new.inner.ghost_name ≡ visitor.old.inner.ghost_name) × (visitor.new.resources.now ≡ visitor.old.resources.now))) }
+    ensures none { IfNone result (visitor.new ≡ visitor.old) }
+{
+    short_number(bytes, at, code, features, visitor)
 }

@@ -232,6 +232,7 @@ fn sign_extension(code: u32) -> NumericOperator
 }
 
 /// The operator with this code, if there is one in the group. It carries nothing.
+#[inline(always)]
 #[tactic(auto, using(crate::proofs::NumericCodes::numeric_codes))]
 pub fn numeric_of(code: u32) -> Option<NumericOperator>
     ensures known { numeric_kinds code ≡ option_map (λ _. []) result }

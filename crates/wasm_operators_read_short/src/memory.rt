@@ -5,7 +5,7 @@ ghost use Rattle.wasm_operators_visit.specs.operator.Op.{op_of};
 ghost use Rattle.wasm_operators_visit_short.specs.Short.{Begins, IsTold};
 
 use wasm_operators_visit::{ConstOperator, MemoryOperator, Operator};
-use wasm_operators_visit_short::{f32_at, f64_at, memarg_at, zero_at};
+use wasm_operators_visit_short::{access_at, f32_at, f64_at, memarg_of, zero_at};
 use wasm_types::WasmFeatures;
 use wasm_types_numbers::{short_i32_at, short_i64_at, short_u32_at};
 
@@ -52,9 +52,9 @@ pub(crate) fn variable<'a>(
     }
 }
 
-/// An access to so many bytes of memory 0: 1.
+/// A load from memory 0.
 #[inline(always)]
-pub(crate) fn access_1<'a>(
+pub(crate) fn load<'a>(
     bytes: &'a [u8],
     at: usize,
     code: u8,
@@ -63,23 +63,36 @@ pub(crate) fn access_1<'a>(
     requires { Begins bytes.now at code }
     ensures { IfSome result (λ r. IsTold features.0 bytes.now at r.1 (λ o. o ≡ op_of r.0)) }
 {
-    let Some((memarg, end)) = memarg_at(bytes, at + 1, features, 0) else {
+    let Some((access, end)) = access_at(bytes, at + 1, features) else {
         return None;
     };
-    match code {
-        0x2c => Some((Operator::Memory(MemoryOperator::I32Load8S { memarg }), end)),
-        0x2d => Some((Operator::Memory(MemoryOperator::I32Load8U { memarg }), end)),
-        0x30 => Some((Operator::Memory(MemoryOperator::I64Load8S { memarg }), end)),
-        0x31 => Some((Operator::Memory(MemoryOperator::I64Load8U { memarg }), end)),
-        0x3a => Some((Operator::Memory(MemoryOperator::I32Store8 { memarg }), end)),
-        0x3c => Some((Operator::Memory(MemoryOperator::I64Store8 { memarg }), end)),
-        _ => None,
-    }
+    let one = memarg_of(access, 0);
+    let two = memarg_of(access, 1);
+    let four = memarg_of(access, 2);
+    let eight = memarg_of(access, 3);
+    let op = match code {
+        0x28 => MemoryOperator::I32Load { memarg: four },
+        0x29 => MemoryOperator::I64Load { memarg: eight },
+        0x2a => MemoryOperator::F32Load { memarg: four },
+        0x2b => MemoryOperator::F64Load { memarg: eight },
+        0x2c => MemoryOperator::I32Load8S { memarg: one },
+        0x2d => MemoryOperator::I32Load8U { memarg: one },
+        0x2e => MemoryOperator::I32Load16S { memarg: two },
+        0x2f => MemoryOperator::I32Load16U { memarg: two },
+        0x30 => MemoryOperator::I64Load8S { memarg: one },
+        0x31 => MemoryOperator::I64Load8U { memarg: one },
+        0x32 => MemoryOperator::I64Load16S { memarg: two },
+        0x33 => MemoryOperator::I64Load16U { memarg: two },
+        0x34 => MemoryOperator::I64Load32S { memarg: four },
+        0x35 => MemoryOperator::I64Load32U { memarg: four },
+        _ => return None,
+    };
+    Some((Operator::Memory(op), end))
 }
 
-/// An access to so many bytes of memory 0: 2.
+/// A store to memory 0.
 #[inline(always)]
-pub(crate) fn access_2<'a>(
+pub(crate) fn store<'a>(
     bytes: &'a [u8],
     at: usize,
     code: u8,
@@ -88,67 +101,26 @@ pub(crate) fn access_2<'a>(
     requires { Begins bytes.now at code }
     ensures { IfSome result (λ r. IsTold features.0 bytes.now at r.1 (λ o. o ≡ op_of r.0)) }
 {
-    let Some((memarg, end)) = memarg_at(bytes, at + 1, features, 1) else {
+    let Some((access, end)) = access_at(bytes, at + 1, features) else {
         return None;
     };
-    match code {
-        0x2e => Some((Operator::Memory(MemoryOperator::I32Load16S { memarg }), end)),
-        0x2f => Some((Operator::Memory(MemoryOperator::I32Load16U { memarg }), end)),
-        0x32 => Some((Operator::Memory(MemoryOperator::I64Load16S { memarg }), end)),
-        0x33 => Some((Operator::Memory(MemoryOperator::I64Load16U { memarg }), end)),
-        0x3b => Some((Operator::Memory(MemoryOperator::I32Store16 { memarg }), end)),
-        0x3d => Some((Operator::Memory(MemoryOperator::I64Store16 { memarg }), end)),
-        _ => None,
-    }
-}
-
-/// An access to so many bytes of memory 0: 4.
-#[inline(always)]
-pub(crate) fn access_4<'a>(
-    bytes: &'a [u8],
-    at: usize,
-    code: u8,
-    features: WasmFeatures,
-) -> Option<(Operator<'a>, usize)>
-    requires { Begins bytes.now at code }
-    ensures { IfSome result (λ r. IsTold features.0 bytes.now at r.1 (λ o. o ≡ op_of r.0)) }
-{
-    let Some((memarg, end)) = memarg_at(bytes, at + 1, features, 2) else {
-        return None;
+    let one = memarg_of(access, 0);
+    let two = memarg_of(access, 1);
+    let four = memarg_of(access, 2);
+    let eight = memarg_of(access, 3);
+    let op = match code {
+        0x36 => MemoryOperator::I32Store { memarg: four },
+        0x37 => MemoryOperator::I64Store { memarg: eight },
+        0x38 => MemoryOperator::F32Store { memarg: four },
+        0x39 => MemoryOperator::F64Store { memarg: eight },
+        0x3a => MemoryOperator::I32Store8 { memarg: one },
+        0x3b => MemoryOperator::I32Store16 { memarg: two },
+        0x3c => MemoryOperator::I64Store8 { memarg: one },
+        0x3d => MemoryOperator::I64Store16 { memarg: two },
+        0x3e => MemoryOperator::I64Store32 { memarg: four },
+        _ => return None,
     };
-    match code {
-        0x28 => Some((Operator::Memory(MemoryOperator::I32Load { memarg }), end)),
-        0x2a => Some((Operator::Memory(MemoryOperator::F32Load { memarg }), end)),
-        0x34 => Some((Operator::Memory(MemoryOperator::I64Load32S { memarg }), end)),
-        0x35 => Some((Operator::Memory(MemoryOperator::I64Load32U { memarg }), end)),
-        0x36 => Some((Operator::Memory(MemoryOperator::I32Store { memarg }), end)),
-        0x38 => Some((Operator::Memory(MemoryOperator::F32Store { memarg }), end)),
-        0x3e => Some((Operator::Memory(MemoryOperator::I64Store32 { memarg }), end)),
-        _ => None,
-    }
-}
-
-/// An access to so many bytes of memory 0: 8.
-#[inline(always)]
-pub(crate) fn access_8<'a>(
-    bytes: &'a [u8],
-    at: usize,
-    code: u8,
-    features: WasmFeatures,
-) -> Option<(Operator<'a>, usize)>
-    requires { Begins bytes.now at code }
-    ensures { IfSome result (λ r. IsTold features.0 bytes.now at r.1 (λ o. o ≡ op_of r.0)) }
-{
-    let Some((memarg, end)) = memarg_at(bytes, at + 1, features, 3) else {
-        return None;
-    };
-    match code {
-        0x29 => Some((Operator::Memory(MemoryOperator::I64Load { memarg }), end)),
-        0x2b => Some((Operator::Memory(MemoryOperator::F64Load { memarg }), end)),
-        0x37 => Some((Operator::Memory(MemoryOperator::I64Store { memarg }), end)),
-        0x39 => Some((Operator::Memory(MemoryOperator::F64Store { memarg }), end)),
-        _ => None,
-    }
+    Some((Operator::Memory(op), end))
 }
 
 /// The size of memory 0, or its growth.

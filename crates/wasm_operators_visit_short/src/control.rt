@@ -10,7 +10,7 @@ use wasm_types_numbers::short_u32_at;
 
 /// An operator that carries nothing.
 #[inline(always)]
-pub(crate) fn control_alone<'a, V: VisitControl<'a>>(
+pub fn short_alone<'a, V: VisitControl<'a>>(
     bytes: &'a [u8],
     at: usize,
     code: u8,
@@ -35,7 +35,7 @@ pub(crate) fn control_alone<'a, V: VisitControl<'a>>(
 
 /// An operator that carries a block type.
 #[inline(always)]
-pub(crate) fn control_block<'a, V: VisitControl<'a>>(
+pub fn short_block<'a, V: VisitControl<'a>>(
     bytes: &'a [u8],
     at: usize,
     code: u8,
@@ -59,7 +59,7 @@ pub(crate) fn control_block<'a, V: VisitControl<'a>>(
 
 /// An operator that carries a label or the index of a function.
 #[inline(always)]
-pub(crate) fn control_index<'a, V: VisitControl<'a>>(
+pub fn short_index<'a, V: VisitControl<'a>>(
     bytes: &'a [u8],
     at: usize,
     code: u8,
@@ -83,7 +83,7 @@ pub(crate) fn control_index<'a, V: VisitControl<'a>>(
 
 /// A call through a table, which carries the index of a type and that of the table.
 #[inline(always)]
-pub(crate) fn control_indirect<'a, V: VisitControl<'a>>(
+pub fn short_indirect<'a, V: VisitControl<'a>>(
     bytes: &'a [u8],
     at: usize,
     code: u8,

@@ -1,6 +1,6 @@
 //! Immediates in their frequent forms, at an offset in the bytes.
 
-ghost use Rattle.std.specs.Prelude.{◌≡◌, Bool, ◌≤◌, ◌<◌, length, IfSome};
+ghost use Rattle.std.specs.Prelude.{◌≡◌, ℕ, Bool, ◌≤◌, ◌<◌, length, None, IfSome};
 ghost use Rattle.wasm_types.specs.features.Features.{has, Memory64};
 ghost use Rattle.wasm_types.specs.decoding.Text.{word};
 ghost use Rattle.wasm_types.specs.values.Decode.{begins_index};
@@ -8,7 +8,7 @@ ghost use Rattle.wasm_types_numbers.specs.Numbers.{GivesAt};
 ghost use Rattle.wasm_operators_decode_immediates.specs.immediates.Blocks.{block_type};
 ghost use Rattle.wasm_operators_decode_immediates.specs.immediates.Kinds.{Plain};
 ghost use Rattle.wasm_operators_decode_immediates.specs.Bytes.{index_or_zero};
-ghost use Rattle.wasm_operators_decode_immediates.specs.MemoryArguments.{memory_argument, offset as offset_decoder};
+ghost use Rattle.wasm_operators_decode_immediates.specs.MemoryArguments.{argument, memory_argument, offset as offset_decoder};
 
 use wasm_operators_decode_immediates::{BlockType, MemArg, MemArgTarget};
 use wasm_types::{Ieee32, Ieee64, ValType, WasmFeatures};
@@ -87,17 +87,13 @@ fn offset_at(bytes: &[u8], at: usize, wide: bool) -> Option<(u64, usize)>
     Some((offset as u64, end))
 }
 
-/// The argument of a plain access to memory 0, the natural alignment of which is `2^max_align` bytes.
+/// The alignment and the offset of a plain access to memory 0, and the offset behind them. They stand there whatever the natural
+/// alignment of the access is, so that one reading serves all accesses.
 #[inline(always)]
 #[tactic(auto, using(crate::proofs::Carried::access_there))]
-pub fn memarg_at(
-    bytes: &[u8],
-    at: usize,
-    features: WasmFeatures,
-    max_align: u8,
-) -> Option<(MemArg, usize)>
+pub fn access_at(bytes: &[u8], at: usize, features: WasmFeatures) -> Option<((u8, u64), usize)>
     requires { at ≤ length bytes.now }
-    ensures { IfSome result (λ r. GivesAt (memory_argument features.0 Plain max_align) bytes.now at r.0 r.1) }
+    ensures { IfSome result (λ r. (natural : ℕ) → GivesAt (memory_argument features.0 Plain natural) bytes.now at (argument r.0.0 natural 0 None r.0.1) r.1) }
 {
     if at >= bytes.len() || bytes[at] >= 0x10 {
         return None;
@@ -106,15 +102,22 @@ pub fn memarg_at(
     let Some((offset, end)) = offset_at(bytes, at + 1, features.memory64()) else {
         return None;
     };
-    let memarg = MemArg {
-        align,
+    Some(((align, offset), end))
+}
+
+/// The argument of a plain access to memory 0 with this alignment and offset, the natural alignment of which is `2^max_align` bytes.
+#[inline(always)]
+pub fn memarg_of(access: (u8, u64), max_align: u8) -> MemArg
+    ensures { argument access.0 max_align 0 None access.1 ≡ result }
+{
+    MemArg {
+        align: access.0,
         max_align,
-        offset,
+        offset: access.1,
         memory: 0,
         ordering: None,
         target: MemArgTarget::Memory,
-    };
-    Some((memarg, end))
+    }
 }
 
 /// The bits of a float of 32 bits, the lowest byte first.

@@ -6,8 +6,8 @@
 //! stands there, or says why it is refused.
 //!
 //! [`TellOperator`] is what reading asks of a visitor, two methods in place of a visit for each operator; a [`LentVisitor`] has
-//! them by the visits of the visitor that is lent. A type that has all visits has them group by group: [`short_control`],
-//! [`short_memory`] and [`short_numeric`] are the parts of [`visit_short`].
+//! them by the visits of the visitor that is lent. A type that has all visits may tell itself by the parts of [`visit_short`], one for
+//! each shape of operator ([`short_alone`], [`short_local_get`], [`short_load`], ..).
 //!
 //! `specs/Short.antt` defines what was told: that the decoder of operators gives this operator for these bytes, wherever
 //! they stand, and that the visitor's relation holds of it.
@@ -21,6 +21,12 @@ mod numbers;
 mod short;
 mod tell;
 
-pub use immediates::{block_type_at, f32_at, f64_at, memarg_at, zero_at};
-pub use short::{short_control, short_memory, short_numeric, visit_short};
+pub use control::{short_alone, short_block, short_index, short_indirect};
+pub use immediates::{access_at, block_type_at, f32_at, f64_at, memarg_of, zero_at};
+pub use memory::{
+    short_f32_const, short_f64_const, short_global, short_i32_const, short_i64_const, short_load,
+    short_local_get, short_local_set, short_local_tee, short_memory_size, short_store,
+};
+pub use numbers::short_number;
+pub use short::visit_short;
 pub use tell::{LentVisitor, TellOperator};

@@ -9,7 +9,7 @@ use wasm_types::WasmFeatures;
 
 /// An operator on numbers, of one byte.
 #[inline(always)]
-pub(crate) fn numeric<'a, V: VisitIntegers<'a> + VisitFloats<'a>>(
+pub fn short_number<'a, V: VisitIntegers<'a> + VisitFloats<'a>>(
     bytes: &'a [u8],
     at: usize,
     code: u8,

@@ -11,7 +11,7 @@ use wasm_operators_visit_operator::VisitOperator;
 use wasm_types::WasmFeatures;
 
 /// Can be told of any operator but those on vectors. A [`LentVisitor`] is told by the visit that belongs to the operator. A type
-/// that has all visits may tell itself group by group (`visit_control` and its like, `short_control` and its like), each in a
+/// that has all visits may tell itself group by group (`visit_control` and its like, `short_alone` and its like), each in a
 /// function of its own: then no function needs the evidence of all visits at once.
 pub trait TellOperator<'a>: Visitor<'a> {
     /// Tells it of this operator, and hands the operator over.
