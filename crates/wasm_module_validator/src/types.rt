@@ -4,10 +4,12 @@ ghost use Rattle.std.specs.Prelude.{◌≡◌};
 ghost use Rattle.wasm_module_validator.specs.Shown.{shown};
 
 use std::marker::Model;
+use std::ops::Index;
 use wasm_module_validator_lookups::TypesRef;
 use wasm_module_validator_sharing::SharedProgress;
+use wasm_types::{CoreTypeId, SubType};
 
-/// What a validator learned of a module: its index spaces, and the list of its types.
+/// What a validator learned of a module: its index spaces, and the list of its types. `types[id]` is the type of an id.
 #[derive(Drop)]
 pub struct Types {
     pub(crate) module: SharedProgress,
@@ -27,6 +29,25 @@ impl Types {
         ensures { result ≡ shown self.now }
     {
         look_up(&self.module)
+    }
+}
+
+impl Index<CoreTypeId> for Types {
+    ghost use Rattle.wasm_types.specs.groups.Entries.{declared_of};
+    ghost use Rattle.wasm_module_validator_lookups.specs.Shown.{knows, is_type_of};
+    ghost use Rattle.wasm_module_validator.specs.Shown.{shown};
+
+    type Output = SubType;
+
+    ghost can_index = { λ r id. knows (shown r) id };
+
+    ghost index_gives = { λ r id t. is_type_of (shown r) id (declared_of t) };
+
+    fn index(&self, id: CoreTypeId) -> &SubType {
+        match look_up(&self.module).get(id) {
+            Some(ty) => ty,
+            None => unreachable!(),
+        }
     }
 }
 

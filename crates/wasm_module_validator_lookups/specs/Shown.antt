@@ -1,13 +1,22 @@
 -- What is looked up in a module that was read: the groups of the list of types, and the index spaces (WebAssembly 3.0, structure,
 -- modules, indices).
-use Rattle.std.specs.Prelude.{ℕ, zero, suc, List, [], ◌∷◌}
+use Rattle.std.specs.Prelude.{◌≡◌, ◌<◌, ℕ, zero, suc, List, [], ◌∷◌, Some, slice_get}
 use Rattle.wasm_types.specs.indices.declared.index.CoreTypeId.{CoreTypeId}
-use Rattle.wasm_module_validator_type_trees.specs.Groups.{Group}
+use Rattle.wasm_types.specs.groups.Entries.{Declared}
+use Rattle.wasm_module_validator_type_trees.specs.Groups.{Group, count, declared_by_id}
 use Rattle.wasm_module_validator_module.specs.Spaces.{Spaces}
 
 pub record Shown : Type 0 where
   pub groups : List Group
   pub spaces : Spaces
+
+-- the list has this id
+abbrev pub knows : Shown → CoreTypeId → Type 0
+knows r id = id.0 < count r.groups
+
+-- this is the type of this id: it names the types of its group by their ids
+abbrev pub is_type_of : Shown → CoreTypeId → Declared → Type 0
+is_type_of r id t = slice_get (declared_by_id r.groups) id.0 ≡ Some t
 
 -- so many ids, one behind the other
 abbrev pub ids_from : ℕ → ℕ → List CoreTypeId

@@ -10,6 +10,7 @@ ghost use Rattle.wasm_module_validator_lookups.specs.Shown.{ids_from};
 
 use crate::TypesRef;
 use std::marker::Model;
+use std::ops::Index;
 use wasm_module_validator_types::RecGroupId;
 use wasm_types::{CoreTypeId, SubType};
 
@@ -49,6 +50,24 @@ impl<'a> TypesRef<'a> {
         ensures earlier { IfSome result (λ above. above.0 < id.0) }
     {
         self.types.supertype_of(id)
+    }
+}
+
+impl Index<CoreTypeId> for TypesRef<'_> {
+    ghost use Rattle.wasm_types.specs.groups.Entries.{declared_of};
+    ghost use Rattle.wasm_module_validator_lookups.specs.Shown.{knows, is_type_of};
+
+    type Output = SubType;
+
+    ghost can_index = { λ r id. knows r id };
+
+    ghost index_gives = { λ r id t. is_type_of r id (declared_of t) };
+
+    fn index(&self, id: CoreTypeId) -> &SubType {
+        match self.types.get(id) {
+            Some(ty) => ty,
+            None => unreachable!(),
+        }
     }
 }
 

@@ -6,8 +6,8 @@ use std::marker::Model;
 use wasm_module_validator_module::Module;
 use wasm_module_validator_types::TypeList;
 
-/// What a validator learned of a module, borrowed: its index spaces, and the list of its types.
-#[derive(Drop)]
+/// What a validator learned of a module, borrowed: its index spaces, and the list of its types. `types[id]` is the type of an id.
+#[derive(Clone, Copy)]
 pub struct TypesRef<'a> {
     pub(crate) types: &'a TypeList,
     pub(crate) module: &'a Module,

@@ -29,28 +29,40 @@ pub fn short_operator_at<'a>(
     }
     let code = bytes[at];
     match code {
-        0x00 => control_alone(bytes, at, 0x00, features),
-        0x01 => control_alone(bytes, at, 0x01, features),
-        0x05 => control_alone(bytes, at, 0x05, features),
         0x0b => control_alone(bytes, at, 0x0b, features),
         0x0c => control_index(bytes, at, 0x0c, features),
         0x0d => control_index(bytes, at, 0x0d, features),
-        0x0f => control_alone(bytes, at, 0x0f, features),
         0x10 => control_index(bytes, at, 0x10, features),
-        0x11 => control_indirect(bytes, at, 0x11, features),
         0x1a => control_alone(bytes, at, 0x1a, features),
-        0x1b => control_alone(bytes, at, 0x1b, features),
-        0x3f => memory_size(bytes, at, 0x3f, features),
-        0x40 => memory_size(bytes, at, 0x40, features),
         0x41 => i32_const(bytes, at, 0x41, features),
-        0x42 => i64_const(bytes, at, 0x42, features),
-        0x43 => f32_const(bytes, at, 0x43, features),
-        0x44 => f64_const(bytes, at, 0x44, features),
         0x20..=0x24 => variable(bytes, at, code, features),
         0x02..=0x04 => control_block(bytes, at, code, features),
         0x28..=0x35 => load(bytes, at, code, features),
         0x36..=0x3e => store(bytes, at, code, features),
         0x45..=0xc4 => numeric(bytes, at, code, features),
+        _ => short_other_at(bytes, at, code, features),
+    }
+}
+
+/// The same of operators that are less frequent, where this byte stands at the offset. They stand out of line, since a function that
+/// grows too large is not inlined at all.
+#[inline(never)]
+fn short_other_at<'a>(
+    bytes: &'a [u8],
+    at: usize,
+    code: u8,
+    features: WasmFeatures,
+) -> Option<(Operator<'a>, usize)>
+    requires { Begins bytes.now at code }
+    ensures { IfSome result (λ r. IsTold features.0 bytes.now at r.1 (λ o. o ≡ op_of r.0)) }
+{
+    match code {
+        0x00 | 0x01 | 0x05 | 0x0f | 0x1b => control_alone(bytes, at, code, features),
+        0x11 => control_indirect(bytes, at, code, features),
+        0x3f | 0x40 => memory_size(bytes, at, code, features),
+        0x42 => i64_const(bytes, at, code, features),
+        0x43 => f32_const(bytes, at, code, features),
+        0x44 => f64_const(bytes, at, code, features),
         0xfc => prefixed(bytes, at, features),
         _ => None,
     }
