@@ -139,8 +139,9 @@ pub(crate) fn tell_global<'a, R: WasmModuleResources>(
     short_global(bytes, at, code, features, visitor)
 }
 
-/// Of a load from memory 0.
-#[inline(always)]
+/// Of a load from memory 0. Out of line: each of its visits has places of its own, which would be
+/// zeroed in the loop.
+#[inline(never)]
 pub(crate) fn tell_load<'a, R: WasmModuleResources>(
     visitor: &mut ValidatingVisitor<'_, '_, R>,
     bytes: &'a [u8],
@@ -155,8 +156,9 @@ pub(crate) fn tell_load<'a, R: WasmModuleResources>(
     short_load(bytes, at, code, features, visitor)
 }
 
-/// Of a store to memory 0.
-#[inline(always)]
+/// Of a store to memory 0. Out of line: each of its visits has places of its own, which would be
+/// zeroed in the loop.
+#[inline(never)]
 pub(crate) fn tell_store<'a, R: WasmModuleResources>(
     visitor: &mut ValidatingVisitor<'_, '_, R>,
     bytes: &'a [u8],
