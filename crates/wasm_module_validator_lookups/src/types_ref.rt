@@ -7,7 +7,7 @@ use wasm_module_validator_module::Module;
 use wasm_module_validator_types::TypeList;
 
 /// What a validator learned of a module, borrowed: its index spaces, and the list of its types. `types[id]` is the type of an id.
-#[derive(Clone, Copy)]
+#[derive(Drop)]
 pub struct TypesRef<'a> {
     pub(crate) types: &'a TypeList,
     pub(crate) module: &'a Module,
