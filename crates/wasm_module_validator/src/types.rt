@@ -44,10 +44,7 @@ impl Index<CoreTypeId> for Types {
     ghost index_gives = { λ r id t. is_type_of (shown r) id (declared_of t) };
 
     fn index(&self, id: CoreTypeId) -> &SubType {
-        match look_up(&self.module).get(id) {
-            Some(ty) => ty,
-            None => unreachable!(),
-        }
+        look_up(&self.module).at(id)
     }
 }
 

@@ -6,7 +6,7 @@ ghost use Rattle.wasm_types.specs.groups.Entries.{declared_of};
 ghost use Rattle.wasm_module_validator_type_trees.specs.Groups.{count, declared_by_id, group_numbers};
 ghost use Rattle.wasm_module_validator_type_trees.specs.ByIds.{supertype_of};
 ghost use Rattle.wasm_module_validator_types.specs.Lookups.{HasIds};
-ghost use Rattle.wasm_module_validator_lookups.specs.Shown.{ids_from};
+ghost use Rattle.wasm_module_validator_lookups.specs.Shown.{ids_from, is_type_of, knows};
 
 use crate::TypesRef;
 use std::marker::Model;
@@ -20,6 +20,17 @@ impl<'a> TypesRef<'a> {
         ensures { option_map (λ t. declared_of t.now) result ≡ slice_get (declared_by_id self.now.groups) id.0 }
     {
         self.types.get(id)
+    }
+
+    /// The type of an id that the list has, as `types[id]`.
+    pub fn at(&self, id: CoreTypeId) -> &'a SubType
+        requires { knows self.now id }
+        ensures { is_type_of self.now id (declared_of result.now) }
+    {
+        match self.types.get(id) {
+            Some(ty) => ty,
+            None => unreachable!(),
+        }
     }
 
     /// The group that the type of an id stands in.
@@ -64,10 +75,7 @@ impl Index<CoreTypeId> for TypesRef<'_> {
     ghost index_gives = { λ r id t. is_type_of r id (declared_of t) };
 
     fn index(&self, id: CoreTypeId) -> &SubType {
-        match self.types.get(id) {
-            Some(ty) => ty,
-            None => unreachable!(),
-        }
+        self.at(id)
     }
 }
 

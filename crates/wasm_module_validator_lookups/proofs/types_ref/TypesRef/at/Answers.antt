@@ -4,7 +4,7 @@ use Rattle.wasm_module_validator_type_trees.specs.Groups.{Group, count, declared
 use Rattle.wasm_module_validator_type_trees.specs.laws.Ids.{length_stored}
 use Rattle.wasm_module_validator_types.proofs.Finding.{none_past}
 use Rattle.wasm_module_validator_lookups.specs.Shown.{Shown}
-use Rattle.wasm_module_validator_lookups.proofs.groups.TypesRefIndexCoreTypeId.index.Goals as goal
+use Rattle.wasm_module_validator_lookups.proofs.types_ref.TypesRef.at.Goals as goal
 
 -- a list has a type at each of its ids
 pub unreachable-requires : goal.unreachable-requires
