@@ -4,6 +4,7 @@
 //! `specs/Steps.antt` says what comes next where a parser stands, and `specs/Parsing.antt` what a call of `parse` answers.
 #![tactic(auto)]
 
+mod bodies;
 mod frame;
 pub mod laws;
 mod needs;

@@ -1,15 +1,17 @@
 //! All payloads of a module.
 
-ghost use Rattle.std.specs.Prelude.{◌≡◌, ◌+◌, ◌<◌, ◌≤◌, ◌^◌, length, false, Some, MatchResult};
+ghost use Rattle.std.specs.Prelude.{◌≡◌, ◌+◌, ◌<◌, ◌≤◌, ◌^◌, length, false, Some, Ok, IfSome, IfNone, MatchResult};
 ghost use Rattle.std.specs.Iterator.{at_most};
 ghost use Rattle.wasm_types.specs.reader.Reading.{NeedsNoMemory};
+ghost use Rattle.wasm_sections_parser.specs.declared.frame.Frame.TheVariants.{CodeEntry};
 ghost use Rattle.wasm_sections_payloads.specs.Walking.{IsFrameOf, IsFaultOf, is_end, NextPayload, payloads_left};
 
 use crate::Payload;
 use std::alloc::Global;
 use std::marker::Model;
+use wasm_operators_bodies::FunctionBody;
 use wasm_sections_parser::{Chunk, Frame, Parser};
-use wasm_types::Result;
+use wasm_types::{BinaryReader, Result};
 
 /// The payloads of a module that is all there, one by one. Nothing comes behind the end and behind an error.
 #[derive(Drop)]
@@ -80,8 +82,51 @@ fn next_frame<'a>(parser: &mut Parser, bytes: &'a [u8]) -> Result<(Frame<'a>, &'
     }
 }
 
+// The next body, where it is all there, which is taken from the bytes.
+#[inline(always)]
+fn next_body<'a>(parser: &mut Parser, bytes: &'a [u8]) -> Option<(BinaryReader<'a>, &'a [u8])>
+    requires { parser.old.offset + length bytes.now < 2 ^ 64 }
+    ensures answer { IfSome result (λ x. IsFrameOf parser.old bytes.now (CodeEntry x.0) parser.new x.1.now) }
+    ensures fits { IfSome result (λ x. parser.new.offset + length x.1.now ≡ parser.old.offset + length bytes.now) }
+    ensures stays { IfNone result (parser.new ≡ parser.old) }
+{
+    let Some((part, consumed)) = parser.next_body(bytes) else {
+        return None;
+    };
+    Some((part, &bytes[consumed..]))
+}
+
 impl<'a> ParseAll<'a> {
+    // The next body, where it is all there: what comes most often.
+    #[inline(always)]
+    fn short_body(&mut self) -> Option<Payload<'a>>
+        requires { self.old.over ≡ false }
+        ensures answer { IfSome result (λ p. NextPayload self.old (Some (Ok p)) self.new) }
+        ensures fewer { IfSome result (λ p. payloads_left self.new.over self.new.rest + 1 ≤ payloads_left self.old.over self.old.rest) }
+        ensures stays { IfNone result (self.new ≡ self.old) }
+    {
+        let Some((part, rest)) = next_body(&mut self.parser, self.bytes) else {
+            return None;
+        };
+        self.bytes = rest;
+        Some(Payload::CodeSectionEntry(FunctionBody::new(self.alloc, part)))
+    }
+
+    // The payload that the next frame is: `step`, with a place of its own for the answer, so that none is made ready before.
+    #[inline(always)]
+    fn step_other(&mut self) -> Result<Payload<'a>>
+        requires { self.old.over ≡ false }
+        ensures answer { NextPayload self.old (Some result) self.new }
+        ensures fewer { payloads_left self.new.over self.new.rest + 1 ≤ payloads_left self.old.over self.old.rest }
+    {
+        match self.step() {
+            Ok(payload) => Ok(payload),
+            Err(error) => Err(error),
+        }
+    }
+
     // The payload that the next frame is.
+    #[inline(never)]
     fn step(&mut self) -> Result<Payload<'a>>
         requires { self.old.over ≡ false }
         ensures answer { NextPayload self.old (Some result) self.new }
@@ -119,6 +164,9 @@ impl<'a> Iterator for ParseAll<'a> {
         if self.over {
             return None;
         }
-        Some(self.step())
+        if let Some(body) = self.short_body() {
+            return Some(Ok(body));
+        }
+        Some(self.step_other())
     }
 }
