@@ -4,5 +4,6 @@ pub mod Fits
 pub mod Leaving
 pub mod Setting
 pub mod MoreLocals
+pub mod Numbers
 pub mod Peeks
 pub mod Lying

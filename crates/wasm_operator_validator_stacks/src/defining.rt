@@ -1,13 +1,15 @@
 //! Locals that a body declares.
 
-ghost use Rattle.std.specs.Prelude.{◌≡◌, OnOk, IfErr};
-ghost use Rattle.wasm_types.specs.error.Denials.{RefusedAt};
-ghost use Rattle.wasm_operator_validator_stacks.specs.Defining.{with_locals, HasRoomFor, DefinesLocals, RefusesCount, RefusesLocals};
+ghost use Rattle.std.specs.Prelude.{◌≡◌, true, OnOk, IfErr, MatchResult};
+ghost use Rattle.wasm_types.specs.error.Denials.{Denies, RefusedAt};
+ghost use Rattle.wasm_operator_validator_state.specs.rules.Context.{IsType};
+ghost use Rattle.wasm_operator_validator_state.specs.resources.Meaning.{Meaning, type_in};
+ghost use Rattle.wasm_operator_validator_stacks.specs.Defining.{with_locals, HasRoomFor, MayWrite, DefinesLocals, RefusesCount, RefusesLocals};
 
 use crate::OperatorValidator;
 use wasm_operator_validator_locals::too_many_locals;
 use wasm_operator_validator_state::WasmModuleResources;
-use wasm_types::{Error, Result, ValType};
+use wasm_types::{Error, Result, ValType, WasmFeatures};
 
 impl OperatorValidator {
     /// Puts `count` locals of a type at the end, as a body declares them (WebAssembly 3.0, validation, locals). They have a value
@@ -29,16 +31,55 @@ impl OperatorValidator {
         ensures stays { IfErr result (λ _. self.new ≡ self.old) }
         ensures at { RefusedAt offset result }
     {
+        let named = match self.named(offset, ty, resources) {
+            Ok(named) => named,
+            Err(error) => return Err(error),
+        };
+        self.put_locals(offset, count, &named)
+    }
+
+    // A type that the module may write, by its ids: numbers are most of them, and name nothing.
+    #[inline(always)]
+    fn named<R: WasmModuleResources>(
+        &self,
+        offset: u64,
+        ty: ValType,
+        resources: &R,
+    ) -> Result<ValType>
+        ensures answer { MatchResult result (λ named. IsType self.now.given.bits (R.meaning resources.now).«module» ty (type_in (R.meaning resources.now) named)) (λ e. Denies e.kind (MayWrite (R.meaning resources.now) self.now ty)) }
+        ensures at { RefusedAt offset result }
+    {
+        if is_allowed_number(self.features, &ty) {
+            return Ok(ty);
+        }
+        match self.named_by_ids(offset, ty, resources) {
+            Ok(named) => Ok(named),
+            Err(error) => Err(error),
+        }
+    }
+
+    // The same of any type. It is called with a place of its own for the answer, so that none is made ready before.
+    #[inline(never)]
+    fn named_by_ids<R: WasmModuleResources>(
+        &self,
+        offset: u64,
+        ty: ValType,
+        resources: &R,
+    ) -> Result<ValType>
+        ensures answer { MatchResult result (λ named. IsType self.now.given.bits (R.meaning resources.now).«module» ty (type_in (R.meaning resources.now) named)) (λ e. Denies e.kind (MayWrite (R.meaning resources.now) self.now ty)) }
+        ensures at { RefusedAt offset result }
+    {
         let features = self.features;
         let mut named = ty;
         match resources.check_value_type(&mut named, &features, offset) {
             Ok(()) => (),
             Err(error) => return Err(error),
         }
-        self.put_locals(offset, count, &named)
+        Ok(named)
     }
 
     // The same of a type by its ids.
+    #[inline]
     fn put_locals(&mut self, offset: u64, count: u32, ty: &ValType) -> Result<()>
         ensures put { OnOk result ((self.new ≡ with_locals self.old count ty.now) × HasRoomFor self.old count) }
         ensures refused { IfErr result (λ e. RefusesCount self.old count e.kind) }
@@ -63,5 +104,20 @@ impl OperatorValidator {
                 Err(error)
             }
         }
+    }
+}
+
+// Whether it is a type of numbers that these features allow: a module may write it whatever types it has.
+#[inline(always)]
+fn is_allowed_number(features: WasmFeatures, ty: &ValType) -> bool
+    ensures { result ≡ true → (m : Meaning) → IsType features.0 m.«module» ty.now (type_in m ty.now) }
+{
+    match ty {
+        ValType::I32 => true,
+        ValType::I64 => true,
+        ValType::F32 => features.floats(),
+        ValType::F64 => features.floats(),
+        ValType::V128 => false,
+        ValType::Ref(_) => false,
     }
 }
