@@ -67,6 +67,7 @@ impl<'a, 'v, 'r, R: WasmModuleResources> TellOperator<'a> for ValidatingWalk<'v,
         match code {
             0x00 => tell_alone(&mut self.visitor, bytes, at, 0x00, features),
             0x01 => tell_alone(&mut self.visitor, bytes, at, 0x01, features),
+            0x05 => tell_alone(&mut self.visitor, bytes, at, 0x05, features),
             0x0b => tell_alone(&mut self.visitor, bytes, at, 0x0b, features),
             0x0f => tell_alone(&mut self.visitor, bytes, at, 0x0f, features),
             0x1a => tell_alone(&mut self.visitor, bytes, at, 0x1a, features),

@@ -96,6 +96,16 @@ impl ControlStack {
         Some(closed)
     }
 
+    /// The innermost frame is one of this kind from now on, as `else` makes it; where none is open it is the first. The others and the
+    /// room stay.
+    #[inline]
+    pub fn turn(&mut self, frame: FrameKind)
+        ensures frames { self.new.frames ≡ frame ∷ around self.old.frames }
+        ensures capacity { self.new.capacity ≡ self.old.capacity }
+    {
+        self.innermost = Some(frame);
+    }
+
     /// Makes room for so many frames more than are open.
     ///
     /// # Errors

@@ -2,7 +2,8 @@
 use Rattle.std.specs.Prelude.{List, [], ◌∷◌}
 use Rattle.wasm_operators_expression.specs.immediates.declared.frames.FrameKind.{FrameKind}
 use Rattle.wasm_operators_expression.specs.operator.declared.role.Role.{Role}
-use Rattle.wasm_operators_expression.specs.operator.declared.role.Role.TheVariants.{Opens, End}
+use Rattle.wasm_operators_expression.specs.immediates.declared.frames.FrameKind.TheVariants as kinds
+use Rattle.wasm_operators_expression.specs.operator.declared.role.Role.TheVariants.{Opens, End, Else}
 use Rattle.wasm_operators_expression.specs.Stack.{around}
 
 -- while it is told: the frame that it opens is open
@@ -10,9 +11,10 @@ abbrev pub held : Role → List FrameKind → List FrameKind
 held (Opens k) ks = k ∷ ks
 held r ks = ks
 
--- when it was told: `end` closes the innermost
+-- when it was told: `end` closes the innermost, `else` makes it the second part of an `if`
 abbrev pub closed : Role → List FrameKind → List FrameKind
 closed End ks = around ks
+closed Else ks = kinds.Else ∷ around ks
 closed r ks = ks
 
 -- where it is not told: the frame that it opened is closed

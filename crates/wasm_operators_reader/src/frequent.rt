@@ -53,7 +53,10 @@ fn enter(byte: u8, control: &mut ControlStack) -> bool
             Err(_) => false,
         },
         Role::End => true,
-        Role::Else => false,
+        Role::Else => match control.last() {
+            Some(FrameKind::If) => true,
+            _ => false,
+        },
         Role::Catch => false,
         Role::CatchAll => false,
         Role::Delegate => false,
@@ -89,7 +92,7 @@ fn close(role: Role, control: &mut ControlStack)
         }
         Role::Plain => (),
         Role::Opens(_) => (),
-        Role::Else => (),
+        Role::Else => control.turn(FrameKind::Else),
         Role::Catch => (),
         Role::CatchAll => (),
         Role::Delegate => (),
