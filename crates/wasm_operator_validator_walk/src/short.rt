@@ -139,10 +139,28 @@ pub(crate) fn tell_global<'a, R: WasmModuleResources>(
     short_global(bytes, at, code, features, visitor)
 }
 
-/// Of a load from memory 0. Out of line: each of its visits has places of its own, which would be
-/// zeroed in the loop.
-#[inline(never)]
+/// Of a load from memory 0: `load_at`, with a place of its own for the answer, so that none is made ready in the loop.
+#[inline(always)]
 pub(crate) fn tell_load<'a, R: WasmModuleResources>(
+    visitor: &mut ValidatingVisitor<'_, '_, R>,
+    bytes: &'a [u8],
+    at: usize,
+    code: u8,
+    features: WasmFeatures,
+) -> Option<(Result<(), Refusal>, usize)>
+    requires { Begins bytes.now at code }
+    ensures told { IfSome result (λ r. IsTold features.0 bytes.now at r.1 (λ o. Visits (R.meaning visitor.old.resources.now) visitor.old.inner.now o (refused r.0) visitor.new.inner.now × (visitor.new.inner.ghost_name ≡ visitor.old.inner.ghost_name) × (visitor.new.resources.now ≡ visitor.old.resources.now))) }
+    ensures none { IfNone result (visitor.new ≡ visitor.old) }
+{
+    let Some((answer, end)) = load_at(visitor, bytes, at, code, features) else {
+        return None;
+    };
+    Some((answer, end))
+}
+
+/// The same, out of line: each of its visits has places of its own.
+#[inline(never)]
+fn load_at<'a, R: WasmModuleResources>(
     visitor: &mut ValidatingVisitor<'_, '_, R>,
     bytes: &'a [u8],
     at: usize,
@@ -156,10 +174,28 @@ pub(crate) fn tell_load<'a, R: WasmModuleResources>(
     short_load(bytes, at, code, features, visitor)
 }
 
-/// Of a store to memory 0. Out of line: each of its visits has places of its own, which would be
-/// zeroed in the loop.
-#[inline(never)]
+/// Of a store to memory 0: `store_at`, with a place of its own for the answer, so that none is made ready in the loop.
+#[inline(always)]
 pub(crate) fn tell_store<'a, R: WasmModuleResources>(
+    visitor: &mut ValidatingVisitor<'_, '_, R>,
+    bytes: &'a [u8],
+    at: usize,
+    code: u8,
+    features: WasmFeatures,
+) -> Option<(Result<(), Refusal>, usize)>
+    requires { Begins bytes.now at code }
+    ensures told { IfSome result (λ r. IsTold features.0 bytes.now at r.1 (λ o. Visits (R.meaning visitor.old.resources.now) visitor.old.inner.now o (refused r.0) visitor.new.inner.now × (visitor.new.inner.ghost_name ≡ visitor.old.inner.ghost_name) × (visitor.new.resources.now ≡ visitor.old.resources.now))) }
+    ensures none { IfNone result (visitor.new ≡ visitor.old) }
+{
+    let Some((answer, end)) = store_at(visitor, bytes, at, code, features) else {
+        return None;
+    };
+    Some((answer, end))
+}
+
+/// The same, out of line: each of its visits has places of its own.
+#[inline(never)]
+fn store_at<'a, R: WasmModuleResources>(
     visitor: &mut ValidatingVisitor<'_, '_, R>,
     bytes: &'a [u8],
     at: usize,

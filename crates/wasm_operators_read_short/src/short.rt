@@ -40,12 +40,29 @@ pub fn short_operator_at<'a>(
         0x28..=0x35 => load(bytes, at, code, features),
         0x36..=0x3e => store(bytes, at, code, features),
         0x45..=0xc4 => numeric(bytes, at, code, features),
-        _ => short_other_at(bytes, at, code, features),
+        _ => other_at(bytes, at, code, features),
     }
 }
 
-/// The same of operators that are less frequent, where this byte stands at the offset. They stand out of line, since a function that
-/// grows too large is not inlined at all.
+/// The same of operators that are less frequent, where this byte stands at the offset: `short_other_at`, with a place of its own for the
+/// answer, so that none is made ready before.
+#[inline(always)]
+fn other_at<'a>(
+    bytes: &'a [u8],
+    at: usize,
+    code: u8,
+    features: WasmFeatures,
+) -> Option<(Operator<'a>, usize)>
+    requires { Begins bytes.now at code }
+    ensures { IfSome result (λ r. IsTold features.0 bytes.now at r.1 (λ o. o ≡ op_of r.0)) }
+{
+    let Some((op, end)) = short_other_at(bytes, at, code, features) else {
+        return None;
+    };
+    Some((op, end))
+}
+
+/// The same. They stand out of line, since a function that grows too large is not inlined at all.
 #[inline(never)]
 fn short_other_at<'a>(
     bytes: &'a [u8],
