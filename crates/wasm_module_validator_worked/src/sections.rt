@@ -108,8 +108,8 @@ fn write_modules(
     Ok(())
 }
 
-/// The ids of the types of each section, and what the list that they share then has. A list is let go in one place alone,
-/// since each costs the proof as much as ten functions.
+/// The ids of the types of each section, and what the list that they share then has. It is owned here, where there is one way
+/// out, so that what it lets go is proved once.
 pub(crate) fn write_types(
     alloc: Global,
     text: &mut String,
