@@ -10,7 +10,7 @@ use wasm_operator_validator_visits::ValidatingVisitor;
 use wasm_operators_visit_short::{
     short_alone, short_block, short_f32_const, short_f64_const, short_global, short_i32_const,
     short_i64_const, short_index, short_indirect, short_load, short_local_get, short_local_set,
-    short_local_tee, short_memory_size, short_number, short_store,
+    short_local_tee, short_memory_size, short_number, short_prefixed, short_store,
 };
 use wasm_types::WasmFeatures;
 
@@ -304,4 +304,37 @@ pub(crate) fn tell_number<'a, R: WasmModuleResources>(
     ensures none { IfNone result (visitor.new ≡ visitor.old) }
 {
     short_number(bytes, at, code, features, visitor)
+}
+
+/// Of one behind the prefix `fc`: `prefixed_at`, with a place of its own for the answer, so that none is made ready in the loop.
+#[inline(always)]
+pub(crate) fn tell_prefixed<'a, R: WasmModuleResources>(
+    visitor: &mut ValidatingVisitor<'_, '_, R>,
+    bytes: &'a [u8],
+    at: usize,
+    features: WasmFeatures,
+) -> Option<(Result<(), Refusal>, usize)>
+    requires { Begins bytes.now at 0xfc }
+    ensures told { IfSome result (λ r. IsTold features.0 bytes.now at r.1 (λ o. Visits (R.meaning visitor.old.resources.now) visitor.old.inner.now o (refused r.0) visitor.new.inner.now × (visitor.new.inner.ghost_name ≡ visitor.old.inner.ghost_name) × (visitor.new.resources.now ≡ visitor.old.resources.now))) }
+    ensures none { IfNone result (visitor.new ≡ visitor.old) }
+{
+    let Some((answer, end)) = prefixed_at(visitor, bytes, at, features) else {
+        return None;
+    };
+    Some((answer, end))
+}
+
+/// The same, out of line.
+#[inline(never)]
+fn prefixed_at<'a, R: WasmModuleResources>(
+    visitor: &mut ValidatingVisitor<'_, '_, R>,
+    bytes: &'a [u8],
+    at: usize,
+    features: WasmFeatures,
+) -> Option<(Result<(), Refusal>, usize)>
+    requires { Begins bytes.now at 0xfc }
+    ensures told { IfSome result (λ r. IsTold features.0 bytes.now at r.1 (λ o. Visits (R.meaning visitor.old.resources.now) visitor.old.inner.now o (refused r.0) visitor.new.inner.now × (visitor.new.inner.ghost_name ≡ visitor.old.inner.ghost_name) × (visitor.new.resources.now ≡ visitor.old.resources.now))) }
+    ensures none { IfNone result (visitor.new ≡ visitor.old) }
+{
+    short_prefixed(bytes, at, features, visitor)
 }

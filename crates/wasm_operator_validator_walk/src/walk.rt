@@ -12,7 +12,7 @@ use crate::operators::{
 use crate::short::{
     tell_alone, tell_block, tell_f32_const, tell_f64_const, tell_global, tell_i32_const,
     tell_i64_const, tell_index, tell_indirect, tell_load, tell_local_get, tell_local_set,
-    tell_local_tee, tell_memory_size, tell_number, tell_store,
+    tell_local_tee, tell_memory_size, tell_number, tell_prefixed, tell_store,
 };
 use std::alloc::Global;
 use wasm_operator_validator_expression::{TellOperator, Validating, validate_operators};
@@ -117,6 +117,7 @@ impl<'a, 'v, 'r, R: WasmModuleResources> TellOperator<'a> for ValidatingWalk<'v,
             0x28..=0x35 => tell_load(&mut self.visitor, bytes, at, code, features),
             0x36..=0x3e => tell_store(&mut self.visitor, bytes, at, code, features),
             0x45..=0xc4 => tell_number(&mut self.visitor, bytes, at, code, features),
+            0xfc => tell_prefixed(&mut self.visitor, bytes, at, features),
             _ => None,
         }
     }

@@ -28,5 +28,5 @@ pub use memory::{
     short_local_get, short_local_set, short_local_tee, short_memory_size, short_store,
 };
 pub use numbers::short_number;
-pub use short::visit_short;
+pub use short::{short_prefixed, visit_short};
 pub use tell::{LentVisitor, TellOperator};

@@ -60,14 +60,14 @@ where
         0x28..=0x35 => short_load(bytes, at, code, features, visitor),
         0x36..=0x3e => short_store(bytes, at, code, features, visitor),
         0x45..=0xc4 => short_number(bytes, at, code, features, visitor),
-        0xfc => prefixed(bytes, at, features, visitor),
+        0xfc => short_prefixed(bytes, at, features, visitor),
         _ => None,
     }
 }
 
 /// An operator behind the prefix `fc`.
 #[inline(always)]
-fn prefixed<'a, V>(
+pub fn short_prefixed<'a, V>(
     bytes: &'a [u8],
     at: usize,
     features: WasmFeatures,
