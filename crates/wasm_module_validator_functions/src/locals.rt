@@ -4,8 +4,10 @@ ghost use Rattle.std.specs.Prelude.{◌≡◌, min, IfOk, IfErr, OnOk};
 ghost use Rattle.wasm_types.specs.limits.Limits.{default_limits};
 ghost use Rattle.wasm_types.specs.error.Denials.{RefusedAt};
 ghost use Rattle.wasm_types.specs.decoding.Decoder.{Done, Reaches};
+ghost use Rattle.wasm_types.specs.decoding.Leb.{u32 as u32_decoder};
 ghost use Rattle.wasm_types.specs.error.declared.error.ErrorKind.TheVariants.{Failed, Other};
-ghost use Rattle.wasm_types.specs.reader.Reading.{Gives};
+ghost use Rattle.wasm_types.specs.reader.Reading.{Fails, Gives};
+ghost use Rattle.wasm_types.specs.reader.Numbers.{IsRefused};
 ghost use Rattle.wasm_operators_bodies.specs.Locals.{LocalGroup, group, group_of};
 ghost use Rattle.wasm_operator_validator_stacks.specs.Defining.{DefinesLocals};
 ghost use Rattle.wasm_module_validator_functions.specs.Locals.{relocated, TakesLocals, RefusesGroup, StopsLocals, ReadsLocals, DefinesMore};
@@ -75,9 +77,8 @@ impl<R: WasmModuleResources> FuncValidator<R> {
         ensures index { self.new.index ≡ self.old.index }
     {
         let most = most_locals(reader.limits());
-        let count = match reader.read_var_u32() {
-            Ok(count) => count,
-            Err(error) => return Err(error),
+        let Some(count) = reader.short_u32() else {
+            return Err(no_number(reader));
         };
         for _ in 0..count {
             match self.take_group(reader) {
@@ -117,9 +118,35 @@ fn read_group(alloc: Global, reader: &mut BinaryReader<'_>) -> Result<(u32, ValT
     ensures answer { Gives (λ g. group_of g.0 g.1) result reader.new (group reader.old) }
     ensures forward { Reaches reader.old reader.new }
 {
-    let count = reader.read_var_u32()?;
+    let Some(count) = reader.short_u32() else {
+        return Err(no_number(reader));
+    };
     let ty = reader.read::<ValType>(alloc)?;
     Ok((count, ty))
+}
+
+/// Why no number is read here: `read_again`, with a place of its own for the answer, so that none is made ready before.
+#[inline(always)]
+fn no_number(reader: &BinaryReader<'_>) -> Error
+    requires { IsRefused (u32_decoder reader.now) }
+    ensures { Fails result (u32_decoder reader.now) }
+{
+    let error = read_again(reader);
+    error
+}
+
+/// The same: the public reader says so.
+#[cold]
+#[inline(never)]
+fn read_again(reader: &BinaryReader<'_>) -> Error
+    requires { IsRefused (u32_decoder reader.now) }
+    ensures { Fails result (u32_decoder reader.now) }
+{
+    let mut again = reader.clone();
+    match again.read_var_u32() {
+        Ok(_) => unreachable!(),
+        Err(error) => error,
+    }
 }
 
 /// How many locals a function may have: as the limits say, and no more than a validator keeps.

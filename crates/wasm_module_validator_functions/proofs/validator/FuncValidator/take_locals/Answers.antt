@@ -8,7 +8,7 @@ use Rattle.wasm_module_validator_functions.proofs.validator.FuncValidator.take_l
 
 pub loop-init : goal.loop-init
 loop-init g c = record {
-  taken = takes_none (g.R.WasmModuleResources.meaning c.args.self.now.resources) c.args.reader.now c.args.self.now.validator c.in-Ok.count c.read_var_u32.new.self c.in-Ok.ensures.answer;
+  taken = takes_none (g.R.WasmModuleResources.meaning c.args.self.now.resources) c.args.reader.now c.args.self.now.validator c.in-Some.count c.short_u32.new.self c.in-Some.ensures.found;
   resources = refl;
   index = refl;
 }
@@ -20,7 +20,7 @@ loop-preserved g c =
     let step = c.in-Ok-take_group.ensures.taken in
     let same = ap g.R.WasmModuleResources.meaning c.loop.invariant.resources in
     record {
-      taken = takes_more m c.args.reader.now c.args.self.now.validator c.in-Ok.count c.loop.counter c.loop.reader c.take_group.new.reader c.loop.self.validator c.take_group.new.self.validator step.0 some step.1
+      taken = takes_more m c.args.reader.now c.args.self.now.validator c.in-Some.count c.loop.counter c.loop.reader c.take_group.new.reader c.loop.self.validator c.take_group.new.self.validator step.0 some step.1
           (subst (λ (n : Meaning). DefinesLocals n c.loop.self.validator step.0.count step.0.type c.take_group.new.self.validator) same step.2);
       resources = c.take_group.ensures.resources ∙ c.loop.invariant.resources;
       index = c.take_group.ensures.index ∙ c.loop.invariant.index;
@@ -30,40 +30,40 @@ pub returns-in-Err-take_group-clause-refused : goal.returns-in-Err-take_group-cl
 returns-in-Err-take_group-clause-refused g c =
     let m = g.R.WasmModuleResources.meaning c.args.self.now.resources in
     let same = ap g.R.WasmModuleResources.meaning c.loop.invariant.resources in
-    stops_next m c.args.reader.now c.args.self.now.validator c.in-Ok.count c.loop.counter c.loop.reader c.loop.self.validator c.in-Err-take_group.error c.loop.invariant.taken c.loop-test.true
+    stops_next m c.args.reader.now c.args.self.now.validator c.in-Some.count c.loop.counter c.loop.reader c.loop.self.validator c.in-Err-take_group.error c.loop.invariant.taken c.loop-test.true
     (subst (λ (n : Meaning). RefusesGroup n c.loop.reader c.loop.self.validator c.in-Err-take_group.error) same c.in-Err-take_group.ensures.refused)
 
 pub returns-in-Err-take_group-clause-others : goal.returns-in-Err-take_group-clause-others
 returns-in-Err-take_group-clause-others g c =
     let m = g.R.WasmModuleResources.meaning c.args.self.now.resources in
     rw c.in-Err-take_group.ensures.stays
-    (some_others m c.args.reader.now c.args.self.now.validator c.in-Ok.count c.loop.counter c.loop.reader c.loop.self.validator c.loop.invariant.taken)
+    (some_others m c.args.reader.now c.args.self.now.validator c.in-Some.count c.loop.counter c.loop.reader c.loop.self.validator c.loop.invariant.taken)
 
 pub returns-then-is_some-clause-refused : goal.returns-then-is_some-clause-refused
 returns-then-is_some-clause-refused g c =
     let m = g.R.WasmModuleResources.meaning c.args.self.now.resources in
-    let n : c.loop.counter ≡ c.in-Ok.count = omega arith in
-    let all = subst (λ (k : ℕ). TakesSome m c.args.reader.now c.args.self.now.validator c.in-Ok.count k c.loop.reader c.loop.self.validator) n c.loop.invariant.taken in
+    let n : c.loop.counter ≡ c.in-Some.count = omega arith in
+    let all = subst (λ (k : ℕ). TakesSome m c.args.reader.now c.args.self.now.validator c.in-Some.count k c.loop.reader c.loop.self.validator) n c.loop.invariant.taken in
     let limit = most_is c.args.reader.now.settings c.limits.result c.most_locals-most.result c.limits.ensures.value c.most_locals-most.ensures in
-    stops_over m c.args.reader.now c.args.self.now.validator c.in-Ok.count c.loop.reader c.loop.self.validator c.too_many_locals.result all
+    stops_over m c.args.reader.now c.args.self.now.validator c.in-Some.count c.loop.reader c.loop.self.validator c.too_many_locals.result all
     (past_most c.loop.self.validator.given.locals c.local.result c.most_locals-most.result (most c.args.reader.now.settings) limit c.local.ensures (sym c.is_some.ensures ∙ c.if-is_some.true))
     c.too_many_locals.ensures.kind (c.too_many_locals.ensures.offset ∙ c.original_position.ensures)
 
 pub returns-then-is_some-clause-others : goal.returns-then-is_some-clause-others
 returns-then-is_some-clause-others g c =
     let m = g.R.WasmModuleResources.meaning c.args.self.now.resources in
-    some_others m c.args.reader.now c.args.self.now.validator c.in-Ok.count c.loop.counter c.loop.reader c.loop.self.validator c.loop.invariant.taken
+    some_others m c.args.reader.now c.args.self.now.validator c.in-Some.count c.loop.counter c.loop.reader c.loop.self.validator c.loop.invariant.taken
 
 pub returns-clause-taken : goal.returns-clause-taken
 returns-clause-taken g c =
     let m = g.R.WasmModuleResources.meaning c.args.self.now.resources in
-    let n : c.loop.counter ≡ c.in-Ok.count = omega arith in
-    let all = subst (λ (k : ℕ). TakesSome m c.args.reader.now c.args.self.now.validator c.in-Ok.count k c.loop.reader c.loop.self.validator) n c.loop.invariant.taken in
+    let n : c.loop.counter ≡ c.in-Some.count = omega arith in
+    let all = subst (λ (k : ℕ). TakesSome m c.args.reader.now c.args.self.now.validator c.in-Some.count k c.loop.reader c.loop.self.validator) n c.loop.invariant.taken in
     let limit = most_is c.args.reader.now.settings c.limits.result c.most_locals-most.result c.limits.ensures.value c.most_locals-most.ensures in
-    takes_all m c.args.reader.now c.args.self.now.validator c.in-Ok.count c.loop.reader c.loop.self.validator all
+    takes_all m c.args.reader.now c.args.self.now.validator c.in-Some.count c.loop.reader c.loop.self.validator all
     (within_most c.loop.self.validator.given.locals c.local.result c.most_locals-most.result (most c.args.reader.now.settings) limit c.local.ensures (sym c.is_some.ensures ∙ c.if-is_some.false))
 
 pub returns-clause-others : goal.returns-clause-others
 returns-clause-others g c =
     let m = g.R.WasmModuleResources.meaning c.args.self.now.resources in
-    some_others m c.args.reader.now c.args.self.now.validator c.in-Ok.count c.loop.counter c.loop.reader c.loop.self.validator c.loop.invariant.taken
+    some_others m c.args.reader.now c.args.self.now.validator c.in-Some.count c.loop.counter c.loop.reader c.loop.self.validator c.loop.invariant.taken
