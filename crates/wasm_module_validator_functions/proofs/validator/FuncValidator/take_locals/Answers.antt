@@ -17,7 +17,7 @@ pub loop-preserved : goal.loop-preserved
 loop-preserved g c =
     let m = g.R.WasmModuleResources.meaning c.args.self.now.resources in
     let some = c.loop.invariant.taken in
-    let step = c.in-Ok-take_group.ensures.taken in
+    let step = c.in-Ok.ensures.taken in
     let same = ap g.R.WasmModuleResources.meaning c.loop.invariant.resources in
     record {
       taken = takes_more m c.args.reader.now c.args.self.now.validator c.in-Some.count c.loop.counter c.loop.reader c.take_group.new.reader c.loop.self.validator c.take_group.new.self.validator step.0 some step.1
@@ -26,17 +26,17 @@ loop-preserved g c =
       index = c.take_group.ensures.index ∙ c.loop.invariant.index;
     }
 
-pub returns-in-Err-take_group-clause-refused : goal.returns-in-Err-take_group-clause-refused
-returns-in-Err-take_group-clause-refused g c =
+pub returns-in-Err-clause-refused : goal.returns-in-Err-clause-refused
+returns-in-Err-clause-refused g c =
     let m = g.R.WasmModuleResources.meaning c.args.self.now.resources in
     let same = ap g.R.WasmModuleResources.meaning c.loop.invariant.resources in
-    stops_next m c.args.reader.now c.args.self.now.validator c.in-Some.count c.loop.counter c.loop.reader c.loop.self.validator c.in-Err-take_group.error c.loop.invariant.taken c.loop-test.true
-    (subst (λ (n : Meaning). RefusesGroup n c.loop.reader c.loop.self.validator c.in-Err-take_group.error) same c.in-Err-take_group.ensures.refused)
+    stops_next m c.args.reader.now c.args.self.now.validator c.in-Some.count c.loop.counter c.loop.reader c.loop.self.validator c.in-Err.error c.loop.invariant.taken c.loop-test.true
+    (subst (λ (n : Meaning). RefusesGroup n c.loop.reader c.loop.self.validator c.in-Err.error) same c.in-Err.ensures.refused)
 
-pub returns-in-Err-take_group-clause-others : goal.returns-in-Err-take_group-clause-others
-returns-in-Err-take_group-clause-others g c =
+pub returns-in-Err-clause-others : goal.returns-in-Err-clause-others
+returns-in-Err-clause-others g c =
     let m = g.R.WasmModuleResources.meaning c.args.self.now.resources in
-    rw c.in-Err-take_group.ensures.stays
+    rw c.in-Err.ensures.stays
     (some_others m c.args.reader.now c.args.self.now.validator c.in-Some.count c.loop.counter c.loop.reader c.loop.self.validator c.loop.invariant.taken)
 
 pub returns-then-is_some-clause-refused : goal.returns-then-is_some-clause-refused
