@@ -1,11 +1,11 @@
 -- What an attempt with one operator leaves, done or taken back.
-use Rattle.std.proofs.Common.{◌≡◌, ◌↔◌, ◌∙◌, List, ◌∷◌, Bool, true, false, Option, Some, None, refl, ap, subst}
+use Rattle.std.proofs.Common.{◌≡◌, ◌↔◌, ◌∙◌, List, ◌∷◌, Bool, true, false, Some, None, refl, ap, subst}
 use Rattle.wasm_types.specs.error.Denials.{Denies}
 use Rattle.wasm_types.specs.error.declared.error.ErrorKind.{ErrorKind}
 use Rattle.wasm_types.specs.error.declared.error.ErrorKind.TheVariants as kinds
 use Rattle.wasm_operators_visit_operator.specs.operator.Op.{Op}
 use Rattle.wasm_operator_validator_stacks.specs.resources.Meaning.{Meaning}
-use Rattle.wasm_operator_validator_stacks.specs.state.State.{Given, Saved, State, Accepts, Visits}
+use Rattle.wasm_operator_validator_stacks.specs.state.State.{State, Accepts, Visits}
 use Rattle.wasm_operator_validator_stacks.specs.Layout.{rolled_back, Begins}
 use Rattle.wasm_operator_validator_stacks.specs.laws.Attempts.{taken_back_visits}
 use Rattle.wasm_module_validator_functions.specs.Trying.{settled, Tries}
