@@ -7,4 +7,4 @@ use Rattle.wasm_module_validator_sharing.specs.reading.laws.Walking.{nothing_is_
 use Rattle.wasm_module_validator_sharing.specs.reading.progress.standing.steps.Steps.{nothing}
 
 pub nothing_is_reached : (bits : ℕ) → IsReached (under bits) (nothing_reached (under bits)) nothing
-nothing_is_reached bits = ([], (refl, nothing_is_at bits))
+nothing_is_reached bits = ([], refl, nothing_is_at bits)
