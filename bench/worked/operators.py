@@ -255,10 +255,10 @@ row("tail-call-lacks-argument", fn(AT, "1201", E, types=[ft(["i32"], [])], funcs
 
 # ---- branches that take parameters, loops
 
-T1 = [ft(["i32"], ["i32"])]
+SAME_I32 = [ft(["i32"], ["i32"])]
 row(
     "loop-label-takes-parameters",
-    fn(i32(0), "0301", "0c00", E, r=["i32"], types=[ft(["i32"], ["i64"])]) if 0 else fn(i32(0), "0301", "0c00", E, "1a", E, types=[ft(["i32"], ["i64"])]),
+    fn(i32(0), "0301", "0c00", E, "1a", E, types=[ft(["i32"], ["i64"])]),
 )
 row("loop-label-takes-no-result", fn("037f", i32(0), "0c00", E, "1a", E))
 row(
@@ -267,7 +267,7 @@ row(
     mis("i32", "i64"),
 )
 row("loop-br-if", fn("0340", i32(0), "0d00", E, E))
-row("loop-br-if-lacks-parameter", fn(i32(0), "0301", "1a", i32(0), AT, "0d00", i32(0), E, "1a", E, types=T1), none("i32"))
+row("loop-br-if-lacks-parameter", fn(i32(0), "0301", "1a", i32(0), AT, "0d00", i32(0), E, "1a", E, types=SAME_I32), none("i32"))
 row("block-label-takes-results", fn(i32(0), "0201", "1a", i64(0), "0c00", E, "1a", E, types=[ft(["i32"], ["i64"])]))
 row("block-label-of-parameter-type", fn(i32(0), "0201", AT, "0c00", E, "1a", E, types=[ft(["i32"], ["i64"])]), mis("i64", "i32"))
 row("br-if-keeps-operands", fn("027f", i32(1), i32(2), "0d00", E, "1a", E))

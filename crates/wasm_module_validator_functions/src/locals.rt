@@ -95,7 +95,8 @@ impl<R: WasmModuleResources> FuncValidator<R> {
     /// Puts one group of locals behind those that there are.
     #[tactic(auto, unfolding(crate::specs::Locals::group))]
     fn take_group(&mut self, reader: &mut BinaryReader<'_>) -> Result<()>
-        ensures taken { IfOk result (λ _. (l : LocalGroup) × (group reader.old ≡ Done l reader.new) × DefinesLocals (R.meaning self.old.resources) self.old.validator l.count l.type self.new.validator) }
+        ensures taken { IfOk result (λ _. (l : LocalGroup) × (group reader.old ≡ Done l reader.new)
+            × DefinesLocals (R.meaning self.old.resources) self.old.validator l.count l.type self.new.validator) }
         ensures refused { IfErr result (λ e. RefusesGroup (R.meaning self.old.resources) reader.old self.old.validator e) }
         ensures stays { IfErr result (λ _. self.new ≡ self.old) }
         ensures settings { reader.new.settings ≡ reader.old.settings }

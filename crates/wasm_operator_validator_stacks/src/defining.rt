@@ -46,7 +46,9 @@ impl OperatorValidator {
         ty: ValType,
         resources: &R,
     ) -> Result<ValType>
-        ensures answer { MatchResult result (λ named. IsType self.now.given.bits (R.meaning resources.now).«module» ty (type_in (R.meaning resources.now) named)) (λ e. Denies e.kind (MayWrite (R.meaning resources.now) self.now ty)) }
+        ensures answer { MatchResult result
+            (λ named. IsType self.now.given.bits (R.meaning resources.now).«module» ty (type_in (R.meaning resources.now) named))
+            (λ e. Denies e.kind (MayWrite (R.meaning resources.now) self.now ty)) }
         ensures at { RefusedAt offset result }
     {
         if is_allowed_number(self.features, &ty) {
@@ -66,7 +68,9 @@ impl OperatorValidator {
         ty: ValType,
         resources: &R,
     ) -> Result<ValType>
-        ensures answer { MatchResult result (λ named. IsType self.now.given.bits (R.meaning resources.now).«module» ty (type_in (R.meaning resources.now) named)) (λ e. Denies e.kind (MayWrite (R.meaning resources.now) self.now ty)) }
+        ensures answer { MatchResult result
+            (λ named. IsType self.now.given.bits (R.meaning resources.now).«module» ty (type_in (R.meaning resources.now) named))
+            (λ e. Denies e.kind (MayWrite (R.meaning resources.now) self.now ty)) }
         ensures at { RefusedAt offset result }
     {
         let features = self.features;

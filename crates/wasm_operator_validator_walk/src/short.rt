@@ -24,7 +24,10 @@ pub(crate) fn tell_alone<'a, R: WasmModuleResources>(
     features: WasmFeatures,
 ) -> Option<(Result<(), Refusal>, usize)>
     requires { Begins bytes.now at code }
-    ensures told { IfSome result (λ r. IsTold features.0 bytes.now at r.1 (λ o. Visits (R.meaning visitor.old.resources.now) visitor.old.inner.now o (refused r.0) visitor.new.inner.now × (visitor.new.inner.ghost_name ≡ visitor.old.inner.ghost_name) × (visitor.new.resources.now ≡ visitor.old.resources.now))) }
+    ensures told { IfSome result (λ r. IsTold features.0 bytes.now at r.1 (λ o.
+        Visits (R.meaning visitor.old.resources.now) visitor.old.inner.now o (refused r.0) visitor.new.inner.now
+        × (visitor.new.inner.ghost_name ≡ visitor.old.inner.ghost_name)
+        × (visitor.new.resources.now ≡ visitor.old.resources.now))) }
     ensures none { IfNone result (visitor.new ≡ visitor.old) }
 {
     short_alone(bytes, at, code, features, visitor)
@@ -40,7 +43,10 @@ pub(crate) fn tell_block<'a, R: WasmModuleResources>(
     features: WasmFeatures,
 ) -> Option<(Result<(), Refusal>, usize)>
     requires { Begins bytes.now at code }
-    ensures told { IfSome result (λ r. IsTold features.0 bytes.now at r.1 (λ o. Visits (R.meaning visitor.old.resources.now) visitor.old.inner.now o (refused r.0) visitor.new.inner.now × (visitor.new.inner.ghost_name ≡ visitor.old.inner.ghost_name) × (visitor.new.resources.now ≡ visitor.old.resources.now))) }
+    ensures told { IfSome result (λ r. IsTold features.0 bytes.now at r.1 (λ o.
+        Visits (R.meaning visitor.old.resources.now) visitor.old.inner.now o (refused r.0) visitor.new.inner.now
+        × (visitor.new.inner.ghost_name ≡ visitor.old.inner.ghost_name)
+        × (visitor.new.resources.now ≡ visitor.old.resources.now))) }
     ensures none { IfNone result (visitor.new ≡ visitor.old) }
 {
     short_block(bytes, at, code, features, visitor)
@@ -56,7 +62,10 @@ pub(crate) fn tell_index<'a, R: WasmModuleResources>(
     features: WasmFeatures,
 ) -> Option<(Result<(), Refusal>, usize)>
     requires { Begins bytes.now at code }
-    ensures told { IfSome result (λ r. IsTold features.0 bytes.now at r.1 (λ o. Visits (R.meaning visitor.old.resources.now) visitor.old.inner.now o (refused r.0) visitor.new.inner.now × (visitor.new.inner.ghost_name ≡ visitor.old.inner.ghost_name) × (visitor.new.resources.now ≡ visitor.old.resources.now))) }
+    ensures told { IfSome result (λ r. IsTold features.0 bytes.now at r.1 (λ o.
+        Visits (R.meaning visitor.old.resources.now) visitor.old.inner.now o (refused r.0) visitor.new.inner.now
+        × (visitor.new.inner.ghost_name ≡ visitor.old.inner.ghost_name)
+        × (visitor.new.resources.now ≡ visitor.old.resources.now))) }
     ensures none { IfNone result (visitor.new ≡ visitor.old) }
 {
     short_index(bytes, at, code, features, visitor)
@@ -72,7 +81,10 @@ pub(crate) fn tell_indirect<'a, R: WasmModuleResources>(
     features: WasmFeatures,
 ) -> Option<(Result<(), Refusal>, usize)>
     requires { Begins bytes.now at code }
-    ensures told { IfSome result (λ r. IsTold features.0 bytes.now at r.1 (λ o. Visits (R.meaning visitor.old.resources.now) visitor.old.inner.now o (refused r.0) visitor.new.inner.now × (visitor.new.inner.ghost_name ≡ visitor.old.inner.ghost_name) × (visitor.new.resources.now ≡ visitor.old.resources.now))) }
+    ensures told { IfSome result (λ r. IsTold features.0 bytes.now at r.1 (λ o.
+        Visits (R.meaning visitor.old.resources.now) visitor.old.inner.now o (refused r.0) visitor.new.inner.now
+        × (visitor.new.inner.ghost_name ≡ visitor.old.inner.ghost_name)
+        × (visitor.new.resources.now ≡ visitor.old.resources.now))) }
     ensures none { IfNone result (visitor.new ≡ visitor.old) }
 {
     short_indirect(bytes, at, code, features, visitor)
@@ -87,7 +99,10 @@ pub(crate) fn tell_local_get<'a, R: WasmModuleResources>(
     features: WasmFeatures,
 ) -> Option<(Result<(), Refusal>, usize)>
     requires { Begins bytes.now at 0x20 }
-    ensures told { IfSome result (λ r. IsTold features.0 bytes.now at r.1 (λ o. Visits (R.meaning visitor.old.resources.now) visitor.old.inner.now o (refused r.0) visitor.new.inner.now × (visitor.new.inner.ghost_name ≡ visitor.old.inner.ghost_name) × (visitor.new.resources.now ≡ visitor.old.resources.now))) }
+    ensures told { IfSome result (λ r. IsTold features.0 bytes.now at r.1 (λ o.
+        Visits (R.meaning visitor.old.resources.now) visitor.old.inner.now o (refused r.0) visitor.new.inner.now
+        × (visitor.new.inner.ghost_name ≡ visitor.old.inner.ghost_name)
+        × (visitor.new.resources.now ≡ visitor.old.resources.now))) }
     ensures none { IfNone result (visitor.new ≡ visitor.old) }
 {
     short_local_get(bytes, at, features, visitor)
@@ -102,7 +117,10 @@ pub(crate) fn tell_local_set<'a, R: WasmModuleResources>(
     features: WasmFeatures,
 ) -> Option<(Result<(), Refusal>, usize)>
     requires { Begins bytes.now at 0x21 }
-    ensures told { IfSome result (λ r. IsTold features.0 bytes.now at r.1 (λ o. Visits (R.meaning visitor.old.resources.now) visitor.old.inner.now o (refused r.0) visitor.new.inner.now × (visitor.new.inner.ghost_name ≡ visitor.old.inner.ghost_name) × (visitor.new.resources.now ≡ visitor.old.resources.now))) }
+    ensures told { IfSome result (λ r. IsTold features.0 bytes.now at r.1 (λ o.
+        Visits (R.meaning visitor.old.resources.now) visitor.old.inner.now o (refused r.0) visitor.new.inner.now
+        × (visitor.new.inner.ghost_name ≡ visitor.old.inner.ghost_name)
+        × (visitor.new.resources.now ≡ visitor.old.resources.now))) }
     ensures none { IfNone result (visitor.new ≡ visitor.old) }
 {
     short_local_set(bytes, at, features, visitor)
@@ -117,7 +135,10 @@ pub(crate) fn tell_local_tee<'a, R: WasmModuleResources>(
     features: WasmFeatures,
 ) -> Option<(Result<(), Refusal>, usize)>
     requires { Begins bytes.now at 0x22 }
-    ensures told { IfSome result (λ r. IsTold features.0 bytes.now at r.1 (λ o. Visits (R.meaning visitor.old.resources.now) visitor.old.inner.now o (refused r.0) visitor.new.inner.now × (visitor.new.inner.ghost_name ≡ visitor.old.inner.ghost_name) × (visitor.new.resources.now ≡ visitor.old.resources.now))) }
+    ensures told { IfSome result (λ r. IsTold features.0 bytes.now at r.1 (λ o.
+        Visits (R.meaning visitor.old.resources.now) visitor.old.inner.now o (refused r.0) visitor.new.inner.now
+        × (visitor.new.inner.ghost_name ≡ visitor.old.inner.ghost_name)
+        × (visitor.new.resources.now ≡ visitor.old.resources.now))) }
     ensures none { IfNone result (visitor.new ≡ visitor.old) }
 {
     short_local_tee(bytes, at, features, visitor)
@@ -133,7 +154,10 @@ pub(crate) fn tell_global<'a, R: WasmModuleResources>(
     features: WasmFeatures,
 ) -> Option<(Result<(), Refusal>, usize)>
     requires { Begins bytes.now at code }
-    ensures told { IfSome result (λ r. IsTold features.0 bytes.now at r.1 (λ o. Visits (R.meaning visitor.old.resources.now) visitor.old.inner.now o (refused r.0) visitor.new.inner.now × (visitor.new.inner.ghost_name ≡ visitor.old.inner.ghost_name) × (visitor.new.resources.now ≡ visitor.old.resources.now))) }
+    ensures told { IfSome result (λ r. IsTold features.0 bytes.now at r.1 (λ o.
+        Visits (R.meaning visitor.old.resources.now) visitor.old.inner.now o (refused r.0) visitor.new.inner.now
+        × (visitor.new.inner.ghost_name ≡ visitor.old.inner.ghost_name)
+        × (visitor.new.resources.now ≡ visitor.old.resources.now))) }
     ensures none { IfNone result (visitor.new ≡ visitor.old) }
 {
     short_global(bytes, at, code, features, visitor)
@@ -149,7 +173,10 @@ pub(crate) fn tell_load<'a, R: WasmModuleResources>(
     features: WasmFeatures,
 ) -> Option<(Result<(), Refusal>, usize)>
     requires { Begins bytes.now at code }
-    ensures told { IfSome result (λ r. IsTold features.0 bytes.now at r.1 (λ o. Visits (R.meaning visitor.old.resources.now) visitor.old.inner.now o (refused r.0) visitor.new.inner.now × (visitor.new.inner.ghost_name ≡ visitor.old.inner.ghost_name) × (visitor.new.resources.now ≡ visitor.old.resources.now))) }
+    ensures told { IfSome result (λ r. IsTold features.0 bytes.now at r.1 (λ o.
+        Visits (R.meaning visitor.old.resources.now) visitor.old.inner.now o (refused r.0) visitor.new.inner.now
+        × (visitor.new.inner.ghost_name ≡ visitor.old.inner.ghost_name)
+        × (visitor.new.resources.now ≡ visitor.old.resources.now))) }
     ensures none { IfNone result (visitor.new ≡ visitor.old) }
 {
     let Some((answer, end)) = load_at(visitor, bytes, at, code, features) else {
@@ -168,7 +195,10 @@ fn load_at<'a, R: WasmModuleResources>(
     features: WasmFeatures,
 ) -> Option<(Result<(), Refusal>, usize)>
     requires { Begins bytes.now at code }
-    ensures told { IfSome result (λ r. IsTold features.0 bytes.now at r.1 (λ o. Visits (R.meaning visitor.old.resources.now) visitor.old.inner.now o (refused r.0) visitor.new.inner.now × (visitor.new.inner.ghost_name ≡ visitor.old.inner.ghost_name) × (visitor.new.resources.now ≡ visitor.old.resources.now))) }
+    ensures told { IfSome result (λ r. IsTold features.0 bytes.now at r.1 (λ o.
+        Visits (R.meaning visitor.old.resources.now) visitor.old.inner.now o (refused r.0) visitor.new.inner.now
+        × (visitor.new.inner.ghost_name ≡ visitor.old.inner.ghost_name)
+        × (visitor.new.resources.now ≡ visitor.old.resources.now))) }
     ensures none { IfNone result (visitor.new ≡ visitor.old) }
 {
     short_load(bytes, at, code, features, visitor)
@@ -184,7 +214,10 @@ pub(crate) fn tell_store<'a, R: WasmModuleResources>(
     features: WasmFeatures,
 ) -> Option<(Result<(), Refusal>, usize)>
     requires { Begins bytes.now at code }
-    ensures told { IfSome result (λ r. IsTold features.0 bytes.now at r.1 (λ o. Visits (R.meaning visitor.old.resources.now) visitor.old.inner.now o (refused r.0) visitor.new.inner.now × (visitor.new.inner.ghost_name ≡ visitor.old.inner.ghost_name) × (visitor.new.resources.now ≡ visitor.old.resources.now))) }
+    ensures told { IfSome result (λ r. IsTold features.0 bytes.now at r.1 (λ o.
+        Visits (R.meaning visitor.old.resources.now) visitor.old.inner.now o (refused r.0) visitor.new.inner.now
+        × (visitor.new.inner.ghost_name ≡ visitor.old.inner.ghost_name)
+        × (visitor.new.resources.now ≡ visitor.old.resources.now))) }
     ensures none { IfNone result (visitor.new ≡ visitor.old) }
 {
     let Some((answer, end)) = store_at(visitor, bytes, at, code, features) else {
@@ -203,7 +236,10 @@ fn store_at<'a, R: WasmModuleResources>(
     features: WasmFeatures,
 ) -> Option<(Result<(), Refusal>, usize)>
     requires { Begins bytes.now at code }
-    ensures told { IfSome result (λ r. IsTold features.0 bytes.now at r.1 (λ o. Visits (R.meaning visitor.old.resources.now) visitor.old.inner.now o (refused r.0) visitor.new.inner.now × (visitor.new.inner.ghost_name ≡ visitor.old.inner.ghost_name) × (visitor.new.resources.now ≡ visitor.old.resources.now))) }
+    ensures told { IfSome result (λ r. IsTold features.0 bytes.now at r.1 (λ o.
+        Visits (R.meaning visitor.old.resources.now) visitor.old.inner.now o (refused r.0) visitor.new.inner.now
+        × (visitor.new.inner.ghost_name ≡ visitor.old.inner.ghost_name)
+        × (visitor.new.resources.now ≡ visitor.old.resources.now))) }
     ensures none { IfNone result (visitor.new ≡ visitor.old) }
 {
     short_store(bytes, at, code, features, visitor)
@@ -219,7 +255,10 @@ pub(crate) fn tell_memory_size<'a, R: WasmModuleResources>(
     features: WasmFeatures,
 ) -> Option<(Result<(), Refusal>, usize)>
     requires { Begins bytes.now at code }
-    ensures told { IfSome result (λ r. IsTold features.0 bytes.now at r.1 (λ o. Visits (R.meaning visitor.old.resources.now) visitor.old.inner.now o (refused r.0) visitor.new.inner.now × (visitor.new.inner.ghost_name ≡ visitor.old.inner.ghost_name) × (visitor.new.resources.now ≡ visitor.old.resources.now))) }
+    ensures told { IfSome result (λ r. IsTold features.0 bytes.now at r.1 (λ o.
+        Visits (R.meaning visitor.old.resources.now) visitor.old.inner.now o (refused r.0) visitor.new.inner.now
+        × (visitor.new.inner.ghost_name ≡ visitor.old.inner.ghost_name)
+        × (visitor.new.resources.now ≡ visitor.old.resources.now))) }
     ensures none { IfNone result (visitor.new ≡ visitor.old) }
 {
     short_memory_size(bytes, at, code, features, visitor)
@@ -235,7 +274,10 @@ pub(crate) fn tell_i32_const<'a, R: WasmModuleResources>(
     features: WasmFeatures,
 ) -> Option<(Result<(), Refusal>, usize)>
     requires { Begins bytes.now at code }
-    ensures told { IfSome result (λ r. IsTold features.0 bytes.now at r.1 (λ o. Visits (R.meaning visitor.old.resources.now) visitor.old.inner.now o (refused r.0) visitor.new.inner.now × (visitor.new.inner.ghost_name ≡ visitor.old.inner.ghost_name) × (visitor.new.resources.now ≡ visitor.old.resources.now))) }
+    ensures told { IfSome result (λ r. IsTold features.0 bytes.now at r.1 (λ o.
+        Visits (R.meaning visitor.old.resources.now) visitor.old.inner.now o (refused r.0) visitor.new.inner.now
+        × (visitor.new.inner.ghost_name ≡ visitor.old.inner.ghost_name)
+        × (visitor.new.resources.now ≡ visitor.old.resources.now))) }
     ensures none { IfNone result (visitor.new ≡ visitor.old) }
 {
     short_i32_const(bytes, at, code, features, visitor)
@@ -251,7 +293,10 @@ pub(crate) fn tell_i64_const<'a, R: WasmModuleResources>(
     features: WasmFeatures,
 ) -> Option<(Result<(), Refusal>, usize)>
     requires { Begins bytes.now at code }
-    ensures told { IfSome result (λ r. IsTold features.0 bytes.now at r.1 (λ o. Visits (R.meaning visitor.old.resources.now) visitor.old.inner.now o (refused r.0) visitor.new.inner.now × (visitor.new.inner.ghost_name ≡ visitor.old.inner.ghost_name) × (visitor.new.resources.now ≡ visitor.old.resources.now))) }
+    ensures told { IfSome result (λ r. IsTold features.0 bytes.now at r.1 (λ o.
+        Visits (R.meaning visitor.old.resources.now) visitor.old.inner.now o (refused r.0) visitor.new.inner.now
+        × (visitor.new.inner.ghost_name ≡ visitor.old.inner.ghost_name)
+        × (visitor.new.resources.now ≡ visitor.old.resources.now))) }
     ensures none { IfNone result (visitor.new ≡ visitor.old) }
 {
     short_i64_const(bytes, at, code, features, visitor)
@@ -267,7 +312,10 @@ pub(crate) fn tell_f32_const<'a, R: WasmModuleResources>(
     features: WasmFeatures,
 ) -> Option<(Result<(), Refusal>, usize)>
     requires { Begins bytes.now at code }
-    ensures told { IfSome result (λ r. IsTold features.0 bytes.now at r.1 (λ o. Visits (R.meaning visitor.old.resources.now) visitor.old.inner.now o (refused r.0) visitor.new.inner.now × (visitor.new.inner.ghost_name ≡ visitor.old.inner.ghost_name) × (visitor.new.resources.now ≡ visitor.old.resources.now))) }
+    ensures told { IfSome result (λ r. IsTold features.0 bytes.now at r.1 (λ o.
+        Visits (R.meaning visitor.old.resources.now) visitor.old.inner.now o (refused r.0) visitor.new.inner.now
+        × (visitor.new.inner.ghost_name ≡ visitor.old.inner.ghost_name)
+        × (visitor.new.resources.now ≡ visitor.old.resources.now))) }
     ensures none { IfNone result (visitor.new ≡ visitor.old) }
 {
     short_f32_const(bytes, at, code, features, visitor)
@@ -283,7 +331,10 @@ pub(crate) fn tell_f64_const<'a, R: WasmModuleResources>(
     features: WasmFeatures,
 ) -> Option<(Result<(), Refusal>, usize)>
     requires { Begins bytes.now at code }
-    ensures told { IfSome result (λ r. IsTold features.0 bytes.now at r.1 (λ o. Visits (R.meaning visitor.old.resources.now) visitor.old.inner.now o (refused r.0) visitor.new.inner.now × (visitor.new.inner.ghost_name ≡ visitor.old.inner.ghost_name) × (visitor.new.resources.now ≡ visitor.old.resources.now))) }
+    ensures told { IfSome result (λ r. IsTold features.0 bytes.now at r.1 (λ o.
+        Visits (R.meaning visitor.old.resources.now) visitor.old.inner.now o (refused r.0) visitor.new.inner.now
+        × (visitor.new.inner.ghost_name ≡ visitor.old.inner.ghost_name)
+        × (visitor.new.resources.now ≡ visitor.old.resources.now))) }
     ensures none { IfNone result (visitor.new ≡ visitor.old) }
 {
     short_f64_const(bytes, at, code, features, visitor)
@@ -300,7 +351,10 @@ pub(crate) fn tell_number<'a, R: WasmModuleResources>(
 ) -> Option<(Result<(), Refusal>, usize)>
     requires begins { Begins bytes.now at code }
     requires low { code < 0xfb }
-    ensures told { IfSome result (λ r. IsTold features.0 bytes.now at r.1 (λ o. Visits (R.meaning visitor.old.resources.now) visitor.old.inner.now o (refused r.0) visitor.new.inner.now × (visitor.new.inner.ghost_name ≡ visitor.old.inner.ghost_name) × (visitor.new.resources.now ≡ visitor.old.resources.now))) }
+    ensures told { IfSome result (λ r. IsTold features.0 bytes.now at r.1 (λ o.
+        Visits (R.meaning visitor.old.resources.now) visitor.old.inner.now o (refused r.0) visitor.new.inner.now
+        × (visitor.new.inner.ghost_name ≡ visitor.old.inner.ghost_name)
+        × (visitor.new.resources.now ≡ visitor.old.resources.now))) }
     ensures none { IfNone result (visitor.new ≡ visitor.old) }
 {
     short_number(bytes, at, code, features, visitor)
@@ -315,7 +369,10 @@ pub(crate) fn tell_prefixed<'a, R: WasmModuleResources>(
     features: WasmFeatures,
 ) -> Option<(Result<(), Refusal>, usize)>
     requires { Begins bytes.now at 0xfc }
-    ensures told { IfSome result (λ r. IsTold features.0 bytes.now at r.1 (λ o. Visits (R.meaning visitor.old.resources.now) visitor.old.inner.now o (refused r.0) visitor.new.inner.now × (visitor.new.inner.ghost_name ≡ visitor.old.inner.ghost_name) × (visitor.new.resources.now ≡ visitor.old.resources.now))) }
+    ensures told { IfSome result (λ r. IsTold features.0 bytes.now at r.1 (λ o.
+        Visits (R.meaning visitor.old.resources.now) visitor.old.inner.now o (refused r.0) visitor.new.inner.now
+        × (visitor.new.inner.ghost_name ≡ visitor.old.inner.ghost_name)
+        × (visitor.new.resources.now ≡ visitor.old.resources.now))) }
     ensures none { IfNone result (visitor.new ≡ visitor.old) }
 {
     let Some((answer, end)) = prefixed_at(visitor, bytes, at, features) else {
@@ -333,7 +390,10 @@ fn prefixed_at<'a, R: WasmModuleResources>(
     features: WasmFeatures,
 ) -> Option<(Result<(), Refusal>, usize)>
     requires { Begins bytes.now at 0xfc }
-    ensures told { IfSome result (λ r. IsTold features.0 bytes.now at r.1 (λ o. Visits (R.meaning visitor.old.resources.now) visitor.old.inner.now o (refused r.0) visitor.new.inner.now × (visitor.new.inner.ghost_name ≡ visitor.old.inner.ghost_name) × (visitor.new.resources.now ≡ visitor.old.resources.now))) }
+    ensures told { IfSome result (λ r. IsTold features.0 bytes.now at r.1 (λ o.
+        Visits (R.meaning visitor.old.resources.now) visitor.old.inner.now o (refused r.0) visitor.new.inner.now
+        × (visitor.new.inner.ghost_name ≡ visitor.old.inner.ghost_name)
+        × (visitor.new.resources.now ≡ visitor.old.resources.now))) }
     ensures none { IfNone result (visitor.new ≡ visitor.old) }
 {
     short_prefixed(bytes, at, features, visitor)

@@ -30,7 +30,10 @@ pub struct ValidatingWalk<'v, 'r, R: WasmModuleResources> {
 impl<'a, 'v, 'r, R: WasmModuleResources> Visitor<'a> for ValidatingWalk<'v, 'r, R> {
     type Output = Result<(), Refusal>;
 
-    ghost visits = { λ before op answer after. Visits (R.meaning before.visitor.resources.now) before.visitor.inner.now op (refused answer) after.visitor.inner.now × (after.visitor.inner.ghost_name ≡ before.visitor.inner.ghost_name) × (after.visitor.resources.now ≡ before.visitor.resources.now) };
+    ghost visits = { λ before op answer after.
+        Visits (R.meaning before.visitor.resources.now) before.visitor.inner.now op (refused answer) after.visitor.inner.now
+        × (after.visitor.inner.ghost_name ≡ before.visitor.inner.ghost_name)
+        × (after.visitor.resources.now ≡ before.visitor.resources.now) };
 }
 
 impl<'a, 'v, 'r, R: WasmModuleResources> TellOperator<'a> for ValidatingWalk<'v, 'r, R> {

@@ -107,7 +107,9 @@ pub(crate) fn visit_frequent<'a, V: TellOperator<'a>>(
     control: &mut ControlStack,
     visitor: &mut V,
 ) -> Option<V::Output>
-    ensures visited { IfSome result (λ answer. VisitsPlain V.visits (record { bytes = reader.old; frames = control.old.frames }) visitor.old answer (record { bytes = reader.new; frames = control.new.frames }) visitor.new) }
+    ensures visited { IfSome result (λ answer. VisitsPlain V.visits
+        (record { bytes = reader.old; frames = control.old.frames }) visitor.old answer
+        (record { bytes = reader.new; frames = control.new.frames }) visitor.new) }
     ensures stays { IfNone result ((reader.new ≡ reader.old) × (control.new.frames ≡ control.old.frames)) }
     ensures told { IfNone result (visitor.new ≡ visitor.old) }
 {
@@ -134,8 +136,12 @@ pub(crate) fn visit_run<'a, E: Drop, V: TellOperator<'a, Output = Result<(), E>>
     control: &mut ControlStack,
     visitor: &mut V,
 ) -> Option<(E, u64)>
-    ensures ended { IfSome result (λ last. WalksUntilTo V.visits (Ok tt) (record { bytes = reader.old; frames = control.old.frames }) visitor.old (Err last.0) (record { bytes = reader.new; frames = control.new.frames }) visitor.new last.1) }
-    ensures told { IfNone result (WalksTo V.visits (Ok tt) (record { bytes = reader.old; frames = control.old.frames }) visitor.old (record { bytes = reader.new; frames = control.new.frames }) visitor.new) }
+    ensures ended { IfSome result (λ last. WalksUntilTo V.visits (Ok tt)
+        (record { bytes = reader.old; frames = control.old.frames }) visitor.old (Err last.0)
+        (record { bytes = reader.new; frames = control.new.frames }) visitor.new last.1) }
+    ensures told { IfNone result (WalksTo V.visits (Ok tt)
+        (record { bytes = reader.old; frames = control.old.frames }) visitor.old
+        (record { bytes = reader.new; frames = control.new.frames }) visitor.new) }
 {
     while !reader.eof() {
         let place = reader.original_position();
