@@ -2,7 +2,7 @@
 
 ghost use Rattle.std.specs.Prelude.{◌≡◌, ◌+◌, IfOk, IfErr};
 
-use wasm_operators_read_short::short_operator_at;
+use wasm_operators_read_short::{short_control_at, short_operator_at};
 use wasm_operators_visiting::{Operator, TellOperator, Visitor};
 use wasm_types::WasmFeatures;
 
@@ -53,6 +53,19 @@ impl<'a> TellOperator<'a> for Counter {
         features: WasmFeatures,
     ) -> Option<(Result<(), Full>, usize)> {
         let Some((_op, end)) = short_operator_at(bytes, at, features) else {
+            return None;
+        };
+        Some((self.count(), end))
+    }
+
+    #[inline(always)]
+    fn tell_short_control(
+        &mut self,
+        bytes: &'a [u8],
+        at: usize,
+        features: WasmFeatures,
+    ) -> Option<(Result<(), Full>, usize)> {
+        let Some((_op, end)) = short_control_at(bytes, at, features) else {
             return None;
         };
         Some((self.count(), end))

@@ -55,6 +55,15 @@ impl<'a, 'v, 'r, R: WasmModuleResources> TellOperator<'a> for ConstantWalk<'v, '
     ) -> Option<(Result<(), ConstantRefusal>, usize)> {
         None
     }
+
+    fn tell_short_control(
+        &mut self,
+        bytes: &'a [u8],
+        at: usize,
+        features: WasmFeatures,
+    ) -> Option<(Result<(), ConstantRefusal>, usize)> {
+        None
+    }
 }
 
 impl<'a, 'v, 'r, R: WasmModuleResources> ValidatingConstants<'a> for ConstantWalk<'v, 'r, R> {

@@ -1,8 +1,9 @@
 -- Which bytes a validator accepts as an expression, and why it refuses others.
-use Rattle.std.specs.Prelude.{◌≡◌, ◌↔◌, ◌⊎◌, ◌+◌, ℕ, [], true, Some, None, is_some, Result, IfErr, OnOk, length}
+use Rattle.std.specs.Prelude.{◌≡◌, ◌↔◌, ◌⊎◌, ◌+◌, ℕ, [], true, Option, Some, None, is_some, Result, Ok, Err, IfErr, OnOk, length}
 use Rattle.wasm_types.specs.decoding.Decoder.{State as Bytes}
 use Rattle.wasm_types.specs.error.Denials.{Tells}
 use Rattle.wasm_types.specs.error.ErrorValue.{ErrorValue}
+use Rattle.wasm_types.specs.error.declared.error.ErrorKind.{ErrorKind}
 use Rattle.wasm_types.specs.error.declared.error.ErrorKind.TheVariants as kinds
 use Rattle.wasm_operators_visiting.specs.reader.immediates.declared.block.BlockType.{BlockType}
 use Rattle.wasm_operators_visiting.specs.reader.expression.Code.{Code, walk}
@@ -11,9 +12,18 @@ use Rattle.wasm_operators_visiting.specs.reader.Standing.{Standing, at_start}
 use Rattle.wasm_operators_visiting.specs.Walking.{VisitsAll, WalksTo, WalksUntilAt, StopsPlain}
 use Rattle.wasm_operator_validator_state.specs.rules.Typed.{IsBody}
 use Rattle.wasm_operator_validator_state.specs.resources.Meaning.{Meaning}
-use Rattle.wasm_operator_validator_state.specs.Refusals.{OfContent, refused_by}
+use Rattle.wasm_operator_validator_state.specs.declared.refusal.Refusal.{Refusal}
+use Rattle.wasm_operator_validator_state.specs.Refusals.{OfContent, kind_of, refused_by}
 use Rattle.wasm_operator_validator_state.specs.State.{Given, Saved, State, Accepts, Visits}
 use Rattle.wasm_operator_validator_state.specs.Bodies.{fresh, body_context}
+use Rattle.wasm_operator_validator_expression.specs.declared.validating.Refused.{Refused}
+
+-- ---- answers of one bit
+
+-- the kind of what was refused, if it was, where this is why
+abbrev pub refused_for : {X : Type 0} → Refusal → Result X Refused → Option ErrorKind
+refused_for r (Ok x) = None
+refused_for r (Err s) = Some (kind_of r)
 
 -- ---- which bytes
 

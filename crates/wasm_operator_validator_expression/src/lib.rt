@@ -7,5 +7,5 @@
 pub mod laws;
 mod validating;
 
-pub use validating::{Validating, validate_operators};
+pub use validating::{Refused, Validating, validate_operators};
 pub use wasm_operators_visiting::TellOperator;

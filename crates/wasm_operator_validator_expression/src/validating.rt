@@ -4,7 +4,6 @@ ghost use Rattle.std.specs.Prelude.{◌≡◌, ◌↔◌, Result, IsTrue, [], tr
 ghost use Rattle.wasm_types.specs.error.declared.error.ErrorKind.TheVariants.{Other};
 ghost use Rattle.wasm_operators_visiting.specs.reader.operator.Op.{Op};
 ghost use Rattle.wasm_operator_validator_state.specs.resources.Meaning.{Meaning};
-ghost use Rattle.wasm_operator_validator_state.specs.Refusals.{refused};
 ghost use Rattle.wasm_operator_validator_state.specs.State.{State, Visits};
 ghost use Rattle.wasm_operator_validator_expression.specs.Validating.{Validates};
 
@@ -13,9 +12,15 @@ use wasm_operator_validator_state::Refusal;
 use wasm_operators_visiting::{TellOperator, tell_expression_with_offset};
 use wasm_types::{BinaryReader, Error, Result};
 
-/// A visitor that validates all operators but those on vectors, and answers a refusal of few bytes.
-pub trait Validating<'a>: TellOperator<'a, Output = std::result::Result<(), Refusal>> {
+/// That an operator is refused. Whoever is told of operators keeps why, so that an answer is one bit.
+#[derive(Clone, Copy, Debug, PartialEq, Eq)]
+pub struct Refused;
+
+/// A visitor that validates all operators but those on vectors, and keeps a refusal of few bytes.
+pub trait Validating<'a>: TellOperator<'a, Output = std::result::Result<(), Refused>> {
     ghost use Rattle.wasm_operator_validator_state.specs.declared.refusal.Refusal.{Refusal as Why};
+    ghost use Rattle.wasm_operator_validator_expression.specs.declared.validating.Refused.{Refused as Sign};
+    ghost use Rattle.wasm_operator_validator_expression.specs.Validating.{refused_for};
 
     /// What its look-ups mean.
     ghost meaning: { Self → Meaning };
@@ -23,8 +28,15 @@ pub trait Validating<'a>: TellOperator<'a, Output = std::result::Result<(), Refu
     /// What the validator that it holds knows.
     ghost state: { Self → State };
 
+    /// Why the last operator that is refused is.
+    ghost why: { Self → Why };
+
     /// What stays of it, whatever is visited.
     ghost keeps: { Self → Self → Type 0 };
+
+    /// Why the last operator that is refused is.
+    fn refusal(&self) -> Refusal
+        ensures { result ≡ why self.now };
 
     /// Whether an operator was refused.
     fn has_failed(&self) -> bool
@@ -40,7 +52,7 @@ pub trait Validating<'a>: TellOperator<'a, Output = std::result::Result<(), Refu
         ensures keeps { keeps self.old self.new };
 
     // Each visit decides its operator.
-    ghost visited: { (v : Self) (o : Op) (a : Result (Unit {0}) Why) (w : Self) → Self.visits v o a w → Visits (meaning v) (state v) o (refused a) (state w) × keeps v w };
+    ghost visited: { (v : Self) (o : Op) (a : Result (Unit {0}) Sign) (w : Self) → Self.visits v o a w → Visits (meaning v) (state v) o (refused_for (why w) a) (state w) × keeps v w };
 
     // The look-ups mean the same.
     ghost kept: { (v w : Self) → keeps v w → meaning w ≡ meaning v };
@@ -77,7 +89,7 @@ pub fn validate_operators<'a, V: Validating<'a>>(
         }
     };
     if let Err(last) = end {
-        let refusal = last.0.error(last.1);
+        let refusal = visitor.refusal().error(last.1);
         return Err(refusal);
     }
     if !visitor.is_done() {

@@ -1,6 +1,8 @@
 //! Operators on numbers by their types.
 
+ghost use Rattle.std.specs.Prelude.{◌∷◌, []};
 ghost use Rattle.wasm_operators_visit.specs.operator.Op.{Op};
+ghost use Rattle.wasm_operator_validator_determined.specs.expression.info.declared.proposal.Proposal.TheVariants.{Mvp};
 ghost use Rattle.wasm_operator_validator_determined.specs.state.State.{Checks};
 ghost use Rattle.wasm_operator_validator_determined.specs.state.Refusals.{refused};
 ghost use Rattle.wasm_operator_validator_numbers.specs.Numbers.{IsNumeric, IsConstant};
@@ -32,6 +34,27 @@ pub fn check_numbers<R: WasmModuleResources>(
         Err(refusal) => return Err(refusal),
     }
     validator.exchange(resources, takes, gives)
+}
+
+/// One that makes a number of two of one type, of the first proposal.
+#[inline(always)]
+pub fn check_two<R: WasmModuleResources>(
+    validator: &mut OperatorValidator,
+    resources: &R,
+    op: NumericOperator,
+    floats: bool,
+    takes: &ValType,
+    gives: &ValType,
+) -> Result<(), Refusal>
+    requires { IsNumeric op Mvp floats (takes.now ∷ takes.now ∷ []) (gives.now ∷ []) }
+    ensures { Checks (R.meaning resources.now) validator.old (Op.Numeric op) (refused result) validator.new }
+{
+    let _op = op;
+    match validator.begin(Proposal::Mvp, floats) {
+        Ok(()) => (),
+        Err(refusal) => return Err(refusal),
+    }
+    validator.combine(resources, takes, gives)
 }
 
 /// A constant, which gives this type (WebAssembly 3.0, validation, numeric instructions).

@@ -6,4 +6,4 @@
 
 mod check;
 
-pub use check::{check_constant, check_numbers};
+pub use check::{check_constant, check_numbers, check_two};

@@ -7,3 +7,4 @@ pub mod MoreLocals
 pub mod Numbers
 pub mod Peeks
 pub mod Lying
+pub mod Combining

@@ -1,6 +1,6 @@
 //! The stacks of a validator of operators, and what is done to them (WebAssembly 3.0, appendix, validation algorithm).
 
-ghost use Rattle.std.specs.Prelude.{◌≡◌, ◌↔◌, ◌∷◌, [], IsTrue, MatchResult, length, true, false};
+ghost use Rattle.std.specs.Prelude.{◌≡◌, ◌↔◌, ◌∷◌, [], IsTrue, MatchResult, Some, length, true, false};
 ghost use Rattle.wasm_types.specs.error.Denials.{Denies};
 ghost use Rattle.wasm_operator_validator_state.specs.rules.Operands.{known, stack};
 ghost use Rattle.wasm_operator_validator_state.specs.declared.operand.MaybeType.TheVariants.{Known};
@@ -9,6 +9,7 @@ ghost use Rattle.wasm_operator_validator_state.specs.Refusals.{Does, kind_of, re
 ghost use Rattle.wasm_operator_validator_state.specs.State.{State, types_in};
 ghost use Rattle.wasm_operator_validator_state.specs.Steps.{IsOpen, MayPopAny, PoppedAny, PushedAny, Popped, MayPop, Pushed, Jumped, Exchanged};
 ghost use Rattle.wasm_operator_validator_stacks.specs.Layout.{state_of, IsLayered, IsSavedLayered, AreFirst};
+ghost use Rattle.wasm_operator_validator_stacks.specs.Peeking.{operand_at};
 
 use crate::fitting::{is_fit, is_same, not_taken, type_mismatch};
 use std::marker::Model;
@@ -226,6 +227,66 @@ impl OperatorValidator {
             self.push_operand(MaybeType::Known(*one))?;
         }
         Ok(())
+    }
+
+    /// Whether two operands of the innermost frame lie on top that are known to have this very type.
+    #[inline(always)]
+    fn lie_same(&self, ty: &ValType) -> bool
+        ensures top { result ≡ true → operand_at self.now.opens 0 ≡ Some (Known ty.now) }
+        ensures under { result ≡ true → operand_at self.now.opens 1 ≡ Some (Known ty.now) }
+    {
+        let Some(frame) = self.control.as_slice().last().copied() else {
+            return false;
+        };
+        let operands = self.operands.as_slice();
+        if operands.len().saturating_sub(frame.height) < 2 {
+            return false;
+        }
+        let top = operands.len() - 1;
+        is_same(&operands[top], ty) && is_same(&operands[top - 1], ty)
+    }
+
+    /// The ordinary operator on two numbers: takes two operands of the first type and gives one of the other. Nearly always both are
+    /// known to have that very type: then one is taken off, and the other replaced.
+    #[inline(always)]
+    pub fn combine<R: WasmModuleResources>(
+        &mut self,
+        resources: &R,
+        popped: &ValType,
+        pushed: &ValType,
+    ) -> Result<(), Refusal>
+        requires { IsOpen self.old.opens }
+        ensures does { Does (refused result) (Exchanged (R.meaning resources.now) self.old (types_in (R.meaning resources.now) (popped.now ∷ popped.now ∷ [])) (types_in (R.meaning resources.now) (pushed.now ∷ [])) self.new) (MayPop (R.meaning resources.now) self.old (stack (types_in (R.meaning resources.now) (popped.now ∷ popped.now ∷ [])))) }
+        ensures given { self.new.given ≡ self.old.given }
+        ensures failed { self.new.failed ≡ self.old.failed }
+        ensures saved { self.new.saved ≡ self.old.saved }
+    {
+        if self.lie_same(popped) {
+            if let Some(_taken) = self.operands.pop_outside() {
+                let Ok(()) = self.operands.replace_last(MaybeType::Known(*pushed)) else {
+                    return Err(Refusal::OutOfMemory);
+                };
+                return Ok(());
+            }
+        }
+        self.combine_fitting(resources, popped, pushed)
+    }
+
+    /// The same, whatever is known of the operands.
+    #[inline(never)]
+    fn combine_fitting<R: WasmModuleResources>(
+        &mut self,
+        resources: &R,
+        popped: &ValType,
+        pushed: &ValType,
+    ) -> Result<(), Refusal>
+        requires { IsOpen self.old.opens }
+        ensures does { Does (refused result) (Exchanged (R.meaning resources.now) self.old (types_in (R.meaning resources.now) (popped.now ∷ popped.now ∷ [])) (types_in (R.meaning resources.now) (pushed.now ∷ [])) self.new) (MayPop (R.meaning resources.now) self.old (stack (types_in (R.meaning resources.now) (popped.now ∷ popped.now ∷ [])))) }
+        ensures given { self.new.given ≡ self.old.given }
+        ensures failed { self.new.failed ≡ self.old.failed }
+        ensures saved { self.new.saved ≡ self.old.saved }
+    {
+        self.exchange(resources, &[*popped, *popped], &[*pushed])
     }
 
     /// The ordinary operator: takes operands of the first types and gives some of the others.

@@ -9,7 +9,7 @@ ghost use Rattle.wasm_operator_validator_numbers.specs.Numbers.{IsNumeric};
 
 use crate::ValidatingVisitor;
 use wasm_operator_validator_br_table::{Proposal, Refusal, WasmModuleResources, copied};
-use wasm_operator_validator_numbers::check_numbers;
+use wasm_operator_validator_numbers::{check_numbers, check_two};
 use wasm_operators_visit::NumericOperator;
 use wasm_types::ValType;
 
@@ -38,6 +38,29 @@ impl<'v, 'r, R: WasmModuleResources> ValidatingVisitor<'v, 'r, R> {
             takes,
             gives,
         ) {
+            Ok(()) => Ok(()),
+            Err(refusal) => {
+                self.inner.fail();
+                Err(refusal)
+            }
+        }
+    }
+
+    /// One that makes a number of two of one type.
+    #[inline(always)]
+    pub(crate) fn two(
+        &mut self,
+        floats: bool,
+        op: NumericOperator,
+        takes: &ValType,
+        gives: &ValType,
+    ) -> Result<(), Refusal>
+        requires { IsNumeric op Mvp floats (takes.now ∷ takes.now ∷ []) (gives.now ∷ []) }
+        ensures visits { Visits (R.meaning self.old.resources.now) self.old.inner.now (Op.Numeric op) (refused result) self.new.inner.now }
+        ensures lent { self.new.inner.ghost_name ≡ self.old.inner.ghost_name }
+        ensures resources { self.new.resources.now ≡ self.old.resources.now }
+    {
+        match check_two(self.inner, self.resources, op, floats, takes, gives) {
             Ok(()) => Ok(()),
             Err(refusal) => {
                 self.inner.fail();
@@ -75,13 +98,7 @@ impl<'v, 'r, R: WasmModuleResources> ValidatingVisitor<'v, 'r, R> {
         ensures lent { self.new.inner.ghost_name ≡ self.old.inner.ghost_name }
         ensures resources { self.new.resources.now ≡ self.old.resources.now }
     {
-        self.numbers(
-            Proposal::Mvp,
-            false,
-            op,
-            &[copied(takes), copied(takes)],
-            &[copied(gives)],
-        )
+        self.two(false, op, takes, gives)
     }
 
     /// One that makes a number of another, where one of them is a float.
@@ -113,12 +130,6 @@ impl<'v, 'r, R: WasmModuleResources> ValidatingVisitor<'v, 'r, R> {
         ensures lent { self.new.inner.ghost_name ≡ self.old.inner.ghost_name }
         ensures resources { self.new.resources.now ≡ self.old.resources.now }
     {
-        self.numbers(
-            Proposal::Mvp,
-            true,
-            op,
-            &[copied(takes), copied(takes)],
-            &[copied(gives)],
-        )
+        self.two(true, op, takes, gives)
     }
 }

@@ -15,7 +15,7 @@ use crate::short::{
     tell_local_tee, tell_memory_size, tell_number, tell_prefixed, tell_store,
 };
 use std::alloc::Global;
-use wasm_operator_validator_expression::{TellOperator, Validating, validate_operators};
+use wasm_operator_validator_expression::{Refused, TellOperator, Validating, validate_operators};
 use wasm_operator_validator_stacks::{OperatorValidator, Refusal, WasmModuleResources};
 use wasm_operator_validator_visits::ValidatingVisitor;
 use wasm_operators_visit::{Operator, Visitor};
@@ -68,17 +68,6 @@ impl<'a, 'v, 'r, R: WasmModuleResources> TellOperator<'a> for ValidatingWalk<'v,
         }
         let code = bytes[at];
         match code {
-            0x00 => tell_alone(&mut self.visitor, bytes, at, 0x00, features),
-            0x01 => tell_alone(&mut self.visitor, bytes, at, 0x01, features),
-            0x05 => tell_alone(&mut self.visitor, bytes, at, 0x05, features),
-            0x0b => tell_alone(&mut self.visitor, bytes, at, 0x0b, features),
-            0x0f => tell_alone(&mut self.visitor, bytes, at, 0x0f, features),
-            0x1a => tell_alone(&mut self.visitor, bytes, at, 0x1a, features),
-            0x1b => tell_alone(&mut self.visitor, bytes, at, 0x1b, features),
-            0x0c => tell_index(&mut self.visitor, bytes, at, 0x0c, features),
-            0x0d => tell_index(&mut self.visitor, bytes, at, 0x0d, features),
-            0x10 => tell_index(&mut self.visitor, bytes, at, 0x10, features),
-            0x11 => tell_indirect(&mut self.visitor, bytes, at, 0x11, features),
             0x20 => tell_local_get(&mut self.visitor, bytes, at, features),
             0x21 => tell_local_set(&mut self.visitor, bytes, at, features),
             0x22 => tell_local_tee(&mut self.visitor, bytes, at, features),
@@ -116,7 +105,6 @@ impl<'a, 'v, 'r, R: WasmModuleResources> TellOperator<'a> for ValidatingWalk<'v,
             0x76 => tell_number(&mut self.visitor, bytes, at, 0x76, features),
             0x77 => tell_number(&mut self.visitor, bytes, at, 0x77, features),
             0x78 => tell_number(&mut self.visitor, bytes, at, 0x78, features),
-            0x02..=0x04 => tell_block(&mut self.visitor, bytes, at, code, features),
             0x28..=0x35 => tell_load(&mut self.visitor, bytes, at, code, features),
             0x36..=0x3e => tell_store(&mut self.visitor, bytes, at, code, features),
             0x45..=0xc4 => tell_number(&mut self.visitor, bytes, at, code, features),
@@ -124,25 +112,125 @@ impl<'a, 'v, 'r, R: WasmModuleResources> TellOperator<'a> for ValidatingWalk<'v,
             _ => None,
         }
     }
+
+    #[inline(always)]
+    fn tell_short_control(
+        &mut self,
+        bytes: &'a [u8],
+        at: usize,
+        features: WasmFeatures,
+    ) -> Option<(Result<(), Refusal>, usize)> {
+        if at >= bytes.len() {
+            return None;
+        }
+        let code = bytes[at];
+        match code {
+            0x00 => tell_alone(&mut self.visitor, bytes, at, 0x00, features),
+            0x01 => tell_alone(&mut self.visitor, bytes, at, 0x01, features),
+            0x05 => tell_alone(&mut self.visitor, bytes, at, 0x05, features),
+            0x0b => tell_alone(&mut self.visitor, bytes, at, 0x0b, features),
+            0x0f => tell_alone(&mut self.visitor, bytes, at, 0x0f, features),
+            0x1a => tell_alone(&mut self.visitor, bytes, at, 0x1a, features),
+            0x1b => tell_alone(&mut self.visitor, bytes, at, 0x1b, features),
+            0x0c => tell_index(&mut self.visitor, bytes, at, 0x0c, features),
+            0x0d => tell_index(&mut self.visitor, bytes, at, 0x0d, features),
+            0x10 => tell_index(&mut self.visitor, bytes, at, 0x10, features),
+            0x11 => tell_indirect(&mut self.visitor, bytes, at, 0x11, features),
+            0x02..=0x04 => tell_block(&mut self.visitor, bytes, at, code, features),
+            _ => None,
+        }
+    }
 }
 
-impl<'a, 'v, 'r, R: WasmModuleResources> Validating<'a> for ValidatingWalk<'v, 'r, R> {
-    ghost meaning = { λ w. R.meaning w.visitor.resources.now };
+/// The same, which keeps why the last operator that is refused is: so the loop over operators has an answer of one bit, and none of its
+/// places is made ready for a refusal.
+pub struct NotingWalk<'v, 'r, R: WasmModuleResources> {
+    /// The walk.
+    pub walk: ValidatingWalk<'v, 'r, R>,
+    /// Why the last operator that is refused is.
+    pub refusal: Refusal,
+}
 
-    ghost state = { λ w. w.visitor.inner.now };
+impl<'a, 'v, 'r, R: WasmModuleResources> Visitor<'a> for NotingWalk<'v, 'r, R> {
+    type Output = Result<(), Refused>;
 
-    ghost keeps = { λ v w. (w.visitor.inner.ghost_name ≡ v.visitor.inner.ghost_name) × (w.visitor.resources.now ≡ v.visitor.resources.now) };
+    ghost use Rattle.wasm_operator_validator_expression.specs.Validating.{refused_for};
+
+    ghost visits = { λ before op answer after.
+        Visits (R.meaning before.walk.visitor.resources.now) before.walk.visitor.inner.now op (refused_for after.refusal answer) after.walk.visitor.inner.now
+        × (after.walk.visitor.inner.ghost_name ≡ before.walk.visitor.inner.ghost_name)
+        × (after.walk.visitor.resources.now ≡ before.walk.visitor.resources.now) };
+}
+
+impl<'a, 'v, 'r, R: WasmModuleResources> TellOperator<'a> for NotingWalk<'v, 'r, R> {
+    fn tell(&mut self, op: Operator<'a>) -> Result<(), Refused> {
+        match self.walk.tell(op) {
+            Ok(()) => Ok(()),
+            Err(refusal) => {
+                self.refusal = refusal;
+                Err(Refused)
+            }
+        }
+    }
+
+    #[inline(always)]
+    fn tell_short(
+        &mut self,
+        bytes: &'a [u8],
+        at: usize,
+        features: WasmFeatures,
+    ) -> Option<(Result<(), Refused>, usize)> {
+        let Some((answer, end)) = self.walk.tell_short(bytes, at, features) else {
+            return None;
+        };
+        if let Err(refusal) = answer {
+            self.refusal = refusal;
+            return Some((Err(Refused), end));
+        }
+        Some((Ok(()), end))
+    }
+
+    #[inline(always)]
+    fn tell_short_control(
+        &mut self,
+        bytes: &'a [u8],
+        at: usize,
+        features: WasmFeatures,
+    ) -> Option<(Result<(), Refused>, usize)> {
+        let Some((answer, end)) = self.walk.tell_short_control(bytes, at, features) else {
+            return None;
+        };
+        if let Err(refusal) = answer {
+            self.refusal = refusal;
+            return Some((Err(Refused), end));
+        }
+        Some((Ok(()), end))
+    }
+}
+
+impl<'a, 'v, 'r, R: WasmModuleResources> Validating<'a> for NotingWalk<'v, 'r, R> {
+    ghost meaning = { λ w. R.meaning w.walk.visitor.resources.now };
+
+    ghost state = { λ w. w.walk.visitor.inner.now };
+
+    ghost why = { λ w. w.refusal };
+
+    ghost keeps = { λ v w. (w.walk.visitor.inner.ghost_name ≡ v.walk.visitor.inner.ghost_name) × (w.walk.visitor.resources.now ≡ v.walk.visitor.resources.now) };
+
+    fn refusal(&self) -> Refusal {
+        self.refusal
+    }
 
     fn has_failed(&self) -> bool {
-        self.visitor.inner.has_failed()
+        self.walk.visitor.inner.has_failed()
     }
 
     fn is_done(&self) -> bool {
-        self.visitor.inner.is_done()
+        self.walk.visitor.inner.is_done()
     }
 
     fn fail(&mut self) {
-        self.visitor.inner.fail();
+        self.walk.visitor.inner.fail();
     }
 
     ghost visited = { λ v o a w h. (h.0, (h.1, h.2)) };
@@ -171,11 +259,14 @@ pub fn validate_expression<R: WasmModuleResources>(
 ) -> wasm_types::Result<()>
     ensures validates { Validates (R.meaning resources.now) validator.old reader.entry result validator.new }
 {
-    let mut walk = ValidatingWalk {
-        visitor: ValidatingVisitor {
-            inner: validator,
-            resources,
+    let mut walk = NotingWalk {
+        walk: ValidatingWalk {
+            visitor: ValidatingVisitor {
+                inner: validator,
+                resources,
+            },
         },
+        refusal: Refusal::OutOfMemory,
     };
     let answer = validate_walk(alloc, reader, &mut walk);
     let _validator = lent_validator(walk);
@@ -186,11 +277,11 @@ pub fn validate_expression<R: WasmModuleResources>(
 fn validate_walk<R: WasmModuleResources>(
     alloc: Global,
     reader: BinaryReader<'_>,
-    walk: &mut ValidatingWalk<'_, '_, R>,
+    walk: &mut NotingWalk<'_, '_, R>,
 ) -> wasm_types::Result<()>
-    ensures validates { Validates (R.meaning walk.old.visitor.resources.now) walk.old.visitor.inner.now reader.entry result walk.new.visitor.inner.now }
-    ensures lent { walk.new.visitor.inner.ghost_name ≡ walk.old.visitor.inner.ghost_name }
-    ensures resources { walk.new.visitor.resources.now ≡ walk.old.visitor.resources.now }
+    ensures validates { Validates (R.meaning walk.old.walk.visitor.resources.now) walk.old.walk.visitor.inner.now reader.entry result walk.new.walk.visitor.inner.now }
+    ensures lent { walk.new.walk.visitor.inner.ghost_name ≡ walk.old.walk.visitor.inner.ghost_name }
+    ensures resources { walk.new.walk.visitor.resources.now ≡ walk.old.walk.visitor.resources.now }
 {
     validate_operators(alloc, reader, walk)
 }
@@ -198,10 +289,14 @@ fn validate_walk<R: WasmModuleResources>(
 /// The validator that a walk was lent. A walk ends here: taken apart in the function that made it, it would not tell the proof what the
 /// validator is now.
 fn lent_validator<'v, 'r, R: WasmModuleResources>(
-    walk: ValidatingWalk<'v, 'r, R>,
+    walk: NotingWalk<'v, 'r, R>,
 ) -> &'v mut OperatorValidator
-    ensures same { result ≡ walk.entry.visitor.inner }
+    ensures same { result ≡ walk.entry.walk.visitor.inner }
 {
+    let NotingWalk {
+        walk,
+        refusal: _refusal,
+    } = walk;
     let ValidatingWalk { visitor } = walk;
     let ValidatingVisitor {
         inner,

@@ -12,5 +12,5 @@ mod memory;
 mod numbers;
 mod short;
 
-pub use short::short_operator_at;
+pub use short::{short_control_at, short_operator_at};
 pub use wasm_operators_visit_short::{LentVisitor, TellOperator};

@@ -32,6 +32,24 @@ fn visit_next<'a, V: TellOperator<'a>>(
     Some(answer)
 }
 
+/// The same, where its first byte is at most 1f.
+#[inline(always)]
+fn visit_control<'a, V: TellOperator<'a>>(
+    reader: &mut Cursor<'a>,
+    visitor: &mut V,
+) -> Option<V::Output>
+    ensures visited { IfSome result (λ answer. Tells V.visits (plain_role (get_or reader.old.rest 0 0)) reader.old visitor.old answer reader.new visitor.new) }
+    ensures stays { IfNone result (reader.new ≡ reader.old) }
+    ensures told { IfNone result (visitor.new ≡ visitor.old) }
+{
+    let features = reader.features();
+    let Some((answer, end)) = visitor.tell_short_control(reader.bytes, reader.position, features) else {
+        return None;
+    };
+    reader.position = end;
+    Some(answer)
+}
+
 /// Whether an operator that begins with this byte may come next here, and is a frequent one: the frame that it opens is open then.
 #[inline(always)]
 fn enter(byte: u8, control: &mut ControlStack) -> bool
@@ -41,10 +59,6 @@ fn enter(byte: u8, control: &mut ControlStack) -> bool
 {
     if control.is_empty() {
         return false;
-    }
-    // Most bytes are past those that speak of frames.
-    if byte > 0x1f {
-        return true;
     }
     match role_of(byte) {
         Role::Plain => true,
@@ -116,11 +130,36 @@ pub(crate) fn visit_frequent<'a, V: TellOperator<'a>>(
     if reader.eof() {
         return None;
     }
+    if control.is_empty() {
+        return None;
+    }
     let byte = reader.first();
+    // Most bytes are past those that speak of frames.
+    if byte > 0x1f {
+        return visit_next(reader, visitor);
+    }
+    visit_framed(byte, reader, control, visitor)
+}
+
+/// The same, where the next byte is this one, and may speak of frames.
+#[inline(always)]
+fn visit_framed<'a, V: TellOperator<'a>>(
+    byte: u8,
+    reader: &mut Cursor<'a>,
+    control: &mut ControlStack,
+    visitor: &mut V,
+) -> Option<V::Output>
+    requires { byte ≡ get_or reader.old.rest 0 0 }
+    ensures visited { IfSome result (λ answer. VisitsPlain V.visits
+        (record { bytes = reader.old; frames = control.old.frames }) visitor.old answer
+        (record { bytes = reader.new; frames = control.new.frames }) visitor.new) }
+    ensures stays { IfNone result ((reader.new ≡ reader.old) × (control.new.frames ≡ control.old.frames)) }
+    ensures told { IfNone result (visitor.new ≡ visitor.old) }
+{
     if !enter(byte, control) {
         return None;
     }
-    let Some(answer) = visit_next(reader, visitor) else {
+    let Some(answer) = visit_control(reader, visitor) else {
         leave(role_of(byte), control);
         return None;
     };

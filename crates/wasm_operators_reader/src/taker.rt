@@ -3,7 +3,7 @@
 ghost use Rattle.std.specs.Prelude.{◌≡◌};
 
 use wasm_operators_expression::Operator;
-use wasm_operators_read_short::{TellOperator, short_operator_at};
+use wasm_operators_read_short::{TellOperator, short_control_at, short_operator_at};
 use wasm_operators_visit_simd_operator::Visitor;
 use wasm_types::WasmFeatures;
 
@@ -33,5 +33,15 @@ impl<'a> TellOperator<'a> for Taker {
         features: WasmFeatures,
     ) -> Option<(Operator<'a>, usize)> {
         short_operator_at(bytes, at, features)
+    }
+
+    #[inline(always)]
+    fn tell_short_control(
+        &mut self,
+        bytes: &'a [u8],
+        at: usize,
+        features: WasmFeatures,
+    ) -> Option<(Operator<'a>, usize)> {
+        short_control_at(bytes, at, features)
     }
 }

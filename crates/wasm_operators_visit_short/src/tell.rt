@@ -30,6 +30,17 @@ pub trait TellOperator<'a>: Visitor<'a> {
     ) -> Option<(Self::Output, usize)>
         ensures told { IfSome result (λ r. IsTold features.0 bytes.now at r.1 (λ o. Self.visits self.old o r.0 self.new)) }
         ensures none { IfNone result (self.new ≡ self.old) };
+
+    /// The same of operators whose first byte is at most 1f: those that may open or close a frame are among these, so whoever looks
+    /// after the frames tells them by a step of its own. `tell_short` may answer None for them.
+    fn tell_short_control(
+        &mut self,
+        bytes: &'a [u8],
+        at: usize,
+        features: WasmFeatures,
+    ) -> Option<(Self::Output, usize)>
+        ensures told { IfSome result (λ r. IsTold features.0 bytes.now at r.1 (λ o. Self.visits self.old o r.0 self.new)) }
+        ensures none { IfNone result (self.new ≡ self.old) };
 }
 
 /// A visitor of all operators but those on vectors that is lent: it is told of an operator by the visit that belongs to it.
@@ -54,6 +65,19 @@ impl<'a, 'v, V: VisitOperator<'a>> TellOperator<'a> for LentVisitor<'v, V> {
 
     #[inline(always)]
     fn tell_short(
+        &mut self,
+        bytes: &'a [u8],
+        at: usize,
+        features: WasmFeatures,
+    ) -> Option<(V::Output, usize)> {
+        let Some((answer, end)) = visit_short(bytes, at, features, self.visitor) else {
+            return None;
+        };
+        Some((answer, end))
+    }
+
+    #[inline(always)]
+    fn tell_short_control(
         &mut self,
         bytes: &'a [u8],
         at: usize,

@@ -10,15 +10,15 @@ use Rattle.wasm_operator_validator_state.specs.State.{State, Accepts, Visits}
 -- ---- of a visitor that holds a validator
 
 -- A visitor's relation says of the validator that it holds what a visit promises, and keeps this of the visitor.
-module _ {V A : Type 0} (visits : V → Op → A → V → Type 0) (m : Meaning) (state : V → State) (told : A → Option ErrorKind) (keeps : V → Type 0)
-    (holds : (v : V) (o : Op) (a : A) (w : V) → keeps v → visits v o a w → Visits m (state v) o (told a) (state w) × keeps w)
-    (answer : A) (accepted : told answer ≡ None) where
+module _ {V A : Type 0} (visits : V → Op → A → V → Type 0) (m : Meaning) (state : V → State) (told : A → V → Option ErrorKind) (keeps : V → Type 0)
+    (holds : (v : V) (o : Op) (a : A) (w : V) → keeps v → visits v o a w → Visits m (state v) o (told a w) (state w) × keeps w)
+    (answer : A) (accepted : (w : V) → told answer w ≡ None) where
   pub all_of_state : (os : List Op) (v w : V) → keeps v → VisitsAll visits answer v os w → VisitsAll (Visits m) None (state v) os (state w) × keeps w
   all_of_state [] v w k e = (subst (λ (x : V). state x ≡ state v) (sym e) refl, subst keeps (sym e) k)
   all_of_state (o ∷ os) v w k (x, h, more) =
       let one = holds v o answer x k h in
       let rest = all_of_state os x w one.1 more in
-      ((state x, subst (λ (a : Option ErrorKind). Visits m (state v) o a (state x)) accepted one.0, rest.0), rest.1)
+      ((state x, subst (λ (a : Option ErrorKind). Visits m (state v) o a (state x)) (accepted x) one.0, rest.0), rest.1)
 
   pub walk_of_state : (s t : Standing) (v w : V) → keeps v → WalksTo visits answer s v t w → WalksTo (Visits m) None s (state v) t (state w) × keeps w
   walk_of_state s t v w k (os, run, none, all) =
@@ -26,7 +26,7 @@ module _ {V A : Type 0} (visits : V → Op → A → V → Type 0) (m : Meaning)
       ((os, run, none, of.0), of.1)
 
   pub until_of_state : (s : Standing) (v w : V) (last : A) (place : ℕ) → keeps v → WalksUntilAt visits answer s v last w place
-      → WalksUntilAt (Visits m) None s (state v) (told last) (state w) place × keeps w
+      → WalksUntilAt (Visits m) None s (state v) (told last w) (state w) place × keeps w
   until_of_state s v w last place k (t, n, walked, o, u, read, plain, h, at) =
       let of = walk_of_state s t v n k walked in
       let one = holds n o last w of.1 h in
