@@ -6,8 +6,8 @@ use Rattle.wasm_types.specs.features.Sets.{bits_of, default_features}
 use Rattle.wasm_module_validator_sharing.specs.reading.progress.standing.steps.contexts.rules.Accepts.{AcceptsUnder, Judges}
 use Rattle.wasm_module_validator_sharing.specs.reading.progress.standing.steps.contexts.rules.Syntax.{ModuleTree}
 use Rattle.wasm_module_validator_sharing.specs.reading.progress.standing.Standing.{Stands}
-use Rattle.wasm_module_validator_sharing.specs.reading.progress.Progress.{Progress}
 use Rattle.wasm_module_validator_sharing.specs.reading.Reading.{under}
+use Rattle.wasm_module_validator.specs.Shown.{Learned}
 
 -- the features and limits that hold where none are chosen
 abbrev pub default_settings : Settings
@@ -18,5 +18,6 @@ abbrev pub Accepts : List ℕ → Type 0
 Accepts = AcceptsUnder default_settings
 
 -- the bytes spell a valid module, and this stands for all of it but its code
-abbrev pub IsShown : Settings → List ℕ → Progress → Type 0
-IsShown z bytes r = (m : ModuleTree) × Judges z bytes m × Stands r.kept.groups r.kept.items z (record m { code = [] })
+abbrev pub IsShown : Settings → List ℕ → Learned → Type 0
+IsShown z bytes l =
+    (m : ModuleTree) × Judges z bytes m × Stands l.progress.kept.groups l.progress.kept.items z (record m { code = [] })

@@ -16,12 +16,12 @@ use Rattle.wasm_sections_payloads.specs.declared.payload.Payload.{Payload}
 use Rattle.wasm_operator_validator_stacks.specs.state.Refusals.{refused_by}
 use Rattle.wasm_module_validator_sharing.specs.reading.progress.standing.steps.Sections.{code_place}
 use Rattle.wasm_module_validator_sharing.specs.reading.progress.standing.steps.Steps.{SoFar, JudgesBody}
-use Rattle.wasm_module_validator_sharing.specs.reading.progress.Progress.{Progress}
 use Rattle.wasm_module_validator_sharing.specs.reading.Reading.{under}
 use Rattle.wasm_module_validator_sharing.specs.Sharing.{nothing_reached, has_no_code, body_count, IsReached, TellsNext, Follows, Handed, IsHandedOut, NoneLeft}
 use Rattle.wasm_module_validator.specs.declared.validator.State.{State}
 use Rattle.wasm_module_validator.specs.declared.validator.State.TheVariants.{Unparsed, Module, Ended, Failed}
 use Rattle.wasm_module_validator.specs.declared.validator.Validator.{Validator}
+use Rattle.wasm_module_validator.specs.Shown.{Learned}
 
 -- ---- turns
 
@@ -112,14 +112,18 @@ TakesBody body v answer w =
 abbrev pub RefusesUnknown : {X : Type 0} → Validator → Result X ErrorValue → Validator → Type 0
 RefusesUnknown v answer w = InTurn (failure v.state) v answer w (refused_by answer ≡ Some kinds.Other) (w ≡ record v { state = Failed })
 
+-- what a validator learned so far of the module that it reads
+abbrev pub learned : Validator → Learned
+learned v = record { id = v.id; progress = v.reached.progress }
+
 -- what was kept is given at the end of a module; where there is none it has ended too
-abbrev pub EndsFrom : State → Validator → Result Progress ErrorValue → Validator → Type 0
-EndsFrom Module v answer w = (answer ≡ Ok v.reached.progress) × (w ≡ record v { state = Ended; reached = nothing_reached (under v.features.0) })
+abbrev pub EndsFrom : State → Validator → Result Learned ErrorValue → Validator → Type 0
+EndsFrom Module v answer w = (answer ≡ Ok (learned v)) × (w ≡ record v { state = Ended; reached = nothing_reached (under v.features.0) })
 EndsFrom Unparsed v answer w = (refused_by answer ≡ Some kinds.Other) × (w ≡ record v { state = Ended })
 EndsFrom Ended v answer w = (refused_by answer ≡ Some kinds.Other) × (w ≡ v)
 EndsFrom Failed v answer w = (refused_by answer ≡ Some kinds.Failed) × (w ≡ v)
 
-abbrev pub Ends : Validator → Result Progress ErrorValue → Validator → Type 0
+abbrev pub Ends : Validator → Result Learned ErrorValue → Validator → Type 0
 Ends v answer w = EndsFrom v.state v answer w
 
 -- ---- what is asked
@@ -132,11 +136,11 @@ can_reset Module = false
 can_reset Failed = false
 
 -- what is known so far, at level 0 of a module that is being read
-abbrev pub types_in : State → Progress → ℕ → Option Progress
-types_in Module r level = if level == 0 then Some r else None
-types_in Unparsed r level = None
-types_in Ended r level = None
-types_in Failed r level = None
+abbrev pub types_in : State → Learned → ℕ → Option Learned
+types_in Module l level = if level == 0 then Some l else None
+types_in Unparsed l level = None
+types_in Ended l level = None
+types_in Failed l level = None
 
-abbrev pub types_so_far : Validator → ℕ → Option Progress
-types_so_far v level = types_in v.state v.reached.progress level
+abbrev pub types_so_far : Validator → ℕ → Option Learned
+types_so_far v level = types_in v.state (learned v) level

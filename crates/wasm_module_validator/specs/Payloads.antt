@@ -5,11 +5,11 @@ use Rattle.wasm_types.specs.error.ErrorValue.{ErrorValue}
 use Rattle.wasm_sections_payloads.specs.declared.payload.Payload.{Payload}
 use Rattle.wasm_sections_payloads.specs.declared.payload.Payload.TheVariants as payloads
 use Rattle.wasm_operator_validator_stacks.specs.state.Refusals.{refused_by}
-use Rattle.wasm_module_validator_sharing.specs.reading.progress.Progress.{Progress}
 use Rattle.wasm_module_validator_sharing.specs.Sharing.{Handed}
 use Rattle.wasm_module_validator.specs.declared.validator.Validator.{Validator}
 use Rattle.wasm_module_validator.specs.declared.payloads.ValidPayload.{ValidPayload}
 use Rattle.wasm_module_validator.specs.declared.payloads.ValidPayload.TheVariants as valid
+use Rattle.wasm_module_validator.specs.Shown.{Learned}
 use Rattle.wasm_module_validator.specs.Methods.{InTurn, failure, ReadsHeader, Takes, TakesData, BeginsCode, TakesBody, RefusesUnknown, Ends}
 
 -- ---- answers
@@ -28,7 +28,7 @@ with_body body (Ok f) = Ok (valid.Func f body)
 with_body body (Err e) = Err e
 
 -- the module has ended, and this is known of it
-abbrev pub ended : Result Progress ErrorValue → Answer
+abbrev pub ended : Result Learned ErrorValue → Answer
 ended (Ok r) = Ok (valid.End r)
 ended (Err e) = Err e
 
@@ -57,4 +57,4 @@ TakesPayload (payloads.CodeSectionStart n r k) v a w = Passes a (λ p. BeginsCod
 TakesPayload (payloads.CodeSectionEntry body) v a w = (f : Result Handed ErrorValue) × (a ≡ with_body body f) × TakesBody body v f w
 TakesPayload (payloads.CustomSection c) v a w = Passes a (λ p. (refused_by p ≡ failure v.state) × (w ≡ v))
 TakesPayload (payloads.UnknownSection i c r) v a w = Passes a (λ p. RefusesUnknown v p w)
-TakesPayload (payloads.End place) v a w = (r : Result Progress ErrorValue) × (a ≡ ended r) × Ends v r w
+TakesPayload (payloads.End place) v a w = (r : Result Learned ErrorValue) × (a ≡ ended r) × Ends v r w

@@ -15,8 +15,10 @@ mod validator;
 
 pub use payloads::ValidPayload;
 pub use types::Types;
-pub use validator::{State, Validator, ValidatorId, validate};
-pub use wasm_module_validator_lookups::{RecGroupElements, RecGroupId, TypesRef};
+pub use validator::{State, Validator, validate};
+pub use wasm_module_validator_lookups::{
+    EntityType, RecGroupElements, RecGroupId, TypesRef, ValidatorId,
+};
 pub use wasm_module_validator_sharing::{
     FuncToValidate, FuncValidator, FuncValidatorAllocations, ValidatorResources,
 };

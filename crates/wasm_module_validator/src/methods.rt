@@ -11,10 +11,10 @@ ghost use Rattle.wasm_module_validator.specs.Shown.{shown};
 ghost use Rattle.wasm_module_validator.specs.Methods.{failure, refusal, can_reset, types_so_far, ReadsHeader, Takes, TakesData, BeginsCode, TakesBody, RefusesUnknown, Ends};
 
 use crate::types::{Types, look_up};
-use crate::validator::{State, Validator, ValidatorId};
+use crate::validator::{State, Validator};
 use std::mem;
 use std::ops::Range;
-use wasm_module_validator_lookups::TypesRef;
+use wasm_module_validator_lookups::{TypesRef, ValidatorId};
 use wasm_module_validator_sharing::{
     FuncToValidate, SharedProgress, ValidatorResources, check_header,
 };
@@ -107,7 +107,7 @@ impl Validator {
         if level != 0 {
             return None;
         }
-        Some(look_up(&self.reached))
+        Some(look_up(self.id, &self.reached))
     }
 
     /// Takes the header of a module (WebAssembly 3.0, binary format, modules).
@@ -365,6 +365,7 @@ impl Validator {
         self.state = State::Ended;
         let nothing = SharedProgress::new(self.alloc, self.features);
         Ok(Types {
+            id: self.id,
             module: mem::replace(&mut self.reached, nothing),
         })
     }

@@ -5,22 +5,23 @@ ghost use Rattle.wasm_module_validator.specs.Shown.{shown};
 
 use std::marker::Model;
 use std::ops::Index;
-use wasm_module_validator_lookups::TypesRef;
+use wasm_module_validator_lookups::{TypesRef, ValidatorId};
 use wasm_module_validator_sharing::SharedProgress;
 use wasm_types::{CoreTypeId, SubType};
 
 /// What a validator learned of a module: its index spaces, and the list of its types. `types[id]` is the type of an id.
 #[derive(Drop)]
 pub struct Types {
+    pub(crate) id: ValidatorId,
     pub(crate) module: SharedProgress,
 }
 
 impl Model for Types {
-    ghost use Rattle.wasm_module_validator_sharing.specs.reading.progress.Progress.{Progress};
+    ghost use Rattle.wasm_module_validator.specs.Shown.{Learned};
 
-    ghost Value = { Progress };
+    ghost Value = { Learned };
 
-    ghost view = { λ t. t.«module».progress };
+    ghost view = { λ t. record { id = t.id; progress = t.«module».progress } };
 }
 
 impl Types {
@@ -28,7 +29,7 @@ impl Types {
     pub fn as_ref(&self) -> TypesRef<'_>
         ensures { result ≡ shown self.now }
     {
-        look_up(&self.module)
+        look_up(self.id, &self.module)
     }
 }
 
@@ -44,14 +45,14 @@ impl Index<CoreTypeId> for Types {
     ghost index_gives = { λ r id t. is_type_of (shown r) id (declared_of t) };
 
     fn index(&self, id: CoreTypeId) -> &SubType {
-        look_up(&self.module).at(id)
+        look_up(self.id, &self.module).at(id)
     }
 }
 
-// What was read so far of a module, borrowed.
-pub(crate) fn look_up(module: &SharedProgress) -> TypesRef<'_>
-    ensures { result ≡ shown «module».now.progress }
+// What was read so far of a module, borrowed, by the validator of this id.
+pub(crate) fn look_up(id: ValidatorId, module: &SharedProgress) -> TypesRef<'_>
+    ensures { result ≡ shown (record { id = id; progress = «module».now.progress }) }
 {
     let progress = module.progress();
-    TypesRef::new(progress.types(), progress.state().module())
+    TypesRef::new(id, progress.types(), progress.state().module())
 }

@@ -13,22 +13,9 @@ ghost use Rattle.wasm_module_validator.specs.States.{AreBodies, IsLeft, Leaves};
 
 use crate::types::Types;
 use std::alloc::Global;
-use std::marker::Model;
+use wasm_module_validator_lookups::ValidatorId;
 use wasm_module_validator_sharing::{ReadModule, SharedProgress, judge_bodies, read_module};
 use wasm_types::{Error, ErrorKind, Result, WasmFeatures};
-
-/// Tells a validator from others; the caller makes each number once.
-#[derive(Clone, Copy, Debug, PartialEq, Eq, PartialOrd, Ord, Hash)]
-pub struct ValidatorId(usize);
-
-impl ValidatorId {
-    /// The id of this number.
-    pub const fn new(number: usize) -> ValidatorId
-        ensures { result.0 ≡ number }
-    {
-        ValidatorId(number)
-    }
-}
 
 /// How far a validator is.
 #[derive(Clone, Copy, Debug, PartialEq, Eq)]
@@ -103,6 +90,7 @@ impl Validator {
         requires { self.old.state ≡ states.Unparsed }
         ensures verdict { Tells result (AcceptsUnder (under self.old.features.0) bytes.now) }
         ensures shown { IfOk result (IsShown (under self.old.features.0) bytes.now) }
+        ensures id { IfOk result (λ t. t.id ≡ self.old.id) }
         ensures state { Leaves (under self.old.features.0) bytes.now result self.new.state }
         ensures others { self.new ≡ record self.old { state = self.new.state } }
     {
@@ -115,6 +103,7 @@ impl Validator {
             Ok(()) => {
                 self.state = State::Ended;
                 Ok(Types {
+                    id: self.id,
                     module: SharedProgress::of(self.alloc, read.progress),
                 })
             }
@@ -153,6 +142,7 @@ fn judge(alloc: Global, features: WasmFeatures, read: &ReadModule<'_>) -> Result
 pub fn validate(alloc: Global, id: ValidatorId, bytes: &[u8]) -> Result<Types>
     ensures verdict { Tells result (Accepts bytes.now) }
     ensures shown { IfOk result (IsShown default_settings bytes.now) }
+    ensures id { IfOk result (λ t. t.id ≡ id) }
 {
     Validator::new(alloc, id).validate_all(bytes)
 }

@@ -2,7 +2,7 @@ use Rattle.std.proofs.Common.{◌∙◌, refl, sym, ap, subst, Some, Ok, Err}
 use Rattle.wasm_module_validator_sharing.specs.Sharing.{Reached}
 use Rattle.wasm_module_validator.specs.declared.validator.State.{State}
 use Rattle.wasm_module_validator.specs.declared.validator.State.TheVariants.{Ended}
-use Rattle.wasm_module_validator.specs.Methods.{EndsFrom}
+use Rattle.wasm_module_validator.specs.Methods.{EndsFrom, learned}
 use Rattle.wasm_module_validator.proofs.validator.Validator.end.Goals as goal
 
 pub returns-in-Failed : goal.returns-in-Failed
@@ -23,5 +23,5 @@ returns-in-Ended c =
 pub returns : goal.returns
 returns c =
     let v = c.args.self.now in
-    subst (λ (s : State). EndsFrom s v (Ok c.replace.result.progress) (record v { state = Ended; reached = c.replace.new.dest })) (sym c.in-Module.is)
-    (ap (λ (r : Reached). Ok r.progress) c.replace.ensures.value, ap (λ (r : Reached). record v { state = Ended; reached = r }) (c.replace.ensures.after ∙ c.new-nothing.ensures))
+    subst (λ (s : State). EndsFrom s v (Ok (learned (record v { reached = c.replace.result }))) (record v { state = Ended; reached = c.replace.new.dest })) (sym c.in-Module.is)
+    (ap (λ (r : Reached). Ok (learned (record v { reached = r }))) c.replace.ensures.value, ap (λ (r : Reached). record v { state = Ended; reached = r }) (c.replace.ensures.after ∙ c.new-nothing.ensures))

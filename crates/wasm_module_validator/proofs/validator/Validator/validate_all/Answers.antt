@@ -32,7 +32,7 @@ returns-in-Ok-judge-clause-shown c =
     let r : Progress = c.in-Ok.read.progress in
     let bodies : List Body = c.in-Ok.read.bodies.items in
     let a : AcceptsUnder z c.args.bytes.now = returns-in-Ok-judge-clause-verdict c in
-    subst (λ (k : Reached). IsShown z c.args.bytes.now k.progress) (sym c.of.ensures)
+    subst (λ (k : Reached). IsShown z c.args.bytes.now (record { id = c.args.self.now.id; progress = k.progress })) (sym c.of.ensures)
     (a.0, a.1, stands_for_module z c.args.bytes.now r bodies c.in-Ok.ensures.answer c.in-Ok.ensures.stands a.0 a.1)
 
 pub returns-in-Err-judge-clause-verdict : goal.returns-in-Err-judge-clause-verdict
