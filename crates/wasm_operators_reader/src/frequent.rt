@@ -43,7 +43,8 @@ fn visit_control<'a, V: TellOperator<'a>>(
     ensures told { IfNone result (visitor.new ≡ visitor.old) }
 {
     let features = reader.features();
-    let Some((answer, end)) = visitor.tell_short_control(reader.bytes, reader.position, features) else {
+    let Some((answer, end)) = visitor.tell_short_control(reader.bytes, reader.position, features)
+    else {
         return None;
     };
     reader.position = end;
