@@ -1,4 +1,4 @@
-//! A small visitor, told of operators by the two methods that reading asks for.
+//! A small visitor, told of operators by the three methods that reading asks for.
 
 ghost use Rattle.std.specs.Prelude.{◌≡◌, ◌+◌, IfOk, IfErr};
 

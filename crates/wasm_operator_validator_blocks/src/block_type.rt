@@ -16,6 +16,7 @@ use wasm_types::{Error, ErrorKind, ValType, WasmFeatures};
 
 /// A block type as code writes it, under these features, with the types in it named by their ids (WebAssembly 3.0, validation, types,
 /// block types).
+#[inline(always)]
 pub fn check_block_type<R: WasmModuleResources>(
     resources: &R,
     features: WasmFeatures,

@@ -51,6 +51,7 @@ pub fn block_params<'a, R: WasmModuleResources>(
 }
 
 /// What a block gives.
+#[inline(always)]
 pub fn block_results<'a, R: WasmModuleResources>(
     resources: &'a R,
     block_type: &'a BlockType,

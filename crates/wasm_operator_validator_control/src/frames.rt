@@ -80,6 +80,7 @@ pub fn check_if<R: WasmModuleResources>(
 }
 
 /// Takes the parameters of a block off, and opens its frame with them on it.
+#[inline(always)]
 fn open_frame<R: WasmModuleResources>(
     validator: &mut OperatorValidator,
     resources: &R,
@@ -160,6 +161,7 @@ pub fn check_end<R: WasmModuleResources>(
 }
 
 /// Takes the results of the innermost frame off, which must be all that it has, and leaves it.
+#[inline(always)]
 fn finish_frame<R: WasmModuleResources>(
     validator: &mut OperatorValidator,
     resources: &R,

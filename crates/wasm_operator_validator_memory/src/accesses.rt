@@ -13,7 +13,7 @@ use wasm_operator_validator_determined::{
 use wasm_types::ValType;
 
 /// A load of this type by this argument; the type is a float or not (WebAssembly 3.0, validation, memory instructions).
-#[inline]
+#[inline(always)]
 pub fn check_load<R: WasmModuleResources>(
     validator: &mut OperatorValidator,
     resources: &R,
@@ -38,7 +38,7 @@ pub fn check_load<R: WasmModuleResources>(
 }
 
 /// A store of this type by this argument; the type is a float or not (WebAssembly 3.0, validation, memory instructions).
-#[inline]
+#[inline(always)]
 pub fn check_store<R: WasmModuleResources>(
     validator: &mut OperatorValidator,
     resources: &R,

@@ -65,6 +65,7 @@ impl OperatorValidator {
     }
 
     /// Leaves the innermost frame, which may have no operands of its own any more; what was set in it is not set any more.
+    #[inline(always)]
     pub fn leave(&mut self) -> Result<Frame, Refusal>
         requires { IsOpen self.old.opens }
         ensures left { MatchResult result (λ frame. Leaves self.old frame self.new) (λ r. Denies (kind_of r) (IsBare self.old.opens)) }

@@ -19,8 +19,8 @@ use wasm_types::ValType;
 
 impl<'v, 'r, R: WasmModuleResources> ValidatingVisitor<'v, 'r, R> {
     /// A load of this type by this argument; the type is a float or not.
-    #[inline]
-    pub(crate) fn load(
+    #[inline(always)]
+    pub fn load(
         &mut self,
         op: MemoryOperator,
         memarg: &MemArg,
@@ -42,8 +42,8 @@ impl<'v, 'r, R: WasmModuleResources> ValidatingVisitor<'v, 'r, R> {
     }
 
     /// A store of this type by this argument; the type is a float or not.
-    #[inline]
-    pub(crate) fn store(
+    #[inline(always)]
+    pub fn store(
         &mut self,
         op: MemoryOperator,
         memarg: &MemArg,

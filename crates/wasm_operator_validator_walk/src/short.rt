@@ -7,12 +7,13 @@ ghost use Rattle.wasm_operators_visit_short.specs.Short.{Begins, IsTold};
 
 use wasm_operator_validator_stacks::{Refusal, WasmModuleResources};
 use wasm_operator_validator_visits::ValidatingVisitor;
+use wasm_operators_visit::MemoryOperator;
 use wasm_operators_visit_short::{
-    short_alone, short_block, short_f32_const, short_f64_const, short_global, short_i32_const,
-    short_i64_const, short_index, short_indirect, short_load, short_local_get, short_local_set,
-    short_local_tee, short_memory_size, short_number, short_prefixed, short_store,
+    access_at, memarg_of, short_alone, short_block, short_f32_const, short_f64_const, short_global,
+    short_i32_const, short_i64_const, short_index, short_indirect, short_local_get,
+    short_local_set, short_local_tee, short_memory_size, short_number, short_prefixed,
 };
-use wasm_types::WasmFeatures;
+use wasm_types::{ValType, WasmFeatures};
 
 /// Of one that carries nothing.
 #[inline(always)]
@@ -201,7 +202,142 @@ fn load_at<'a, R: WasmModuleResources>(
         × (visitor.new.resources.now ≡ visitor.old.resources.now))) }
     ensures none { IfNone result (visitor.new ≡ visitor.old) }
 {
-    short_load(bytes, at, code, features, visitor)
+    let Some((access, end)) = access_at(bytes, at + 1, features) else {
+        return None;
+    };
+    let one = memarg_of(access, 0);
+    let two = memarg_of(access, 1);
+    let four = memarg_of(access, 2);
+    let eight = memarg_of(access, 3);
+    match code {
+        0x28 => Some((
+            visitor.load(
+                MemoryOperator::I32Load { memarg: four },
+                &four,
+                false,
+                &ValType::I32,
+            ),
+            end,
+        )),
+        0x29 => Some((
+            visitor.load(
+                MemoryOperator::I64Load { memarg: eight },
+                &eight,
+                false,
+                &ValType::I64,
+            ),
+            end,
+        )),
+        0x2a => Some((
+            visitor.load(
+                MemoryOperator::F32Load { memarg: four },
+                &four,
+                true,
+                &ValType::F32,
+            ),
+            end,
+        )),
+        0x2b => Some((
+            visitor.load(
+                MemoryOperator::F64Load { memarg: eight },
+                &eight,
+                true,
+                &ValType::F64,
+            ),
+            end,
+        )),
+        0x2c => Some((
+            visitor.load(
+                MemoryOperator::I32Load8S { memarg: one },
+                &one,
+                false,
+                &ValType::I32,
+            ),
+            end,
+        )),
+        0x2d => Some((
+            visitor.load(
+                MemoryOperator::I32Load8U { memarg: one },
+                &one,
+                false,
+                &ValType::I32,
+            ),
+            end,
+        )),
+        0x2e => Some((
+            visitor.load(
+                MemoryOperator::I32Load16S { memarg: two },
+                &two,
+                false,
+                &ValType::I32,
+            ),
+            end,
+        )),
+        0x2f => Some((
+            visitor.load(
+                MemoryOperator::I32Load16U { memarg: two },
+                &two,
+                false,
+                &ValType::I32,
+            ),
+            end,
+        )),
+        0x30 => Some((
+            visitor.load(
+                MemoryOperator::I64Load8S { memarg: one },
+                &one,
+                false,
+                &ValType::I64,
+            ),
+            end,
+        )),
+        0x31 => Some((
+            visitor.load(
+                MemoryOperator::I64Load8U { memarg: one },
+                &one,
+                false,
+                &ValType::I64,
+            ),
+            end,
+        )),
+        0x32 => Some((
+            visitor.load(
+                MemoryOperator::I64Load16S { memarg: two },
+                &two,
+                false,
+                &ValType::I64,
+            ),
+            end,
+        )),
+        0x33 => Some((
+            visitor.load(
+                MemoryOperator::I64Load16U { memarg: two },
+                &two,
+                false,
+                &ValType::I64,
+            ),
+            end,
+        )),
+        0x34 => Some((
+            visitor.load(
+                MemoryOperator::I64Load32S { memarg: four },
+                &four,
+                false,
+                &ValType::I64,
+            ),
+            end,
+        )),
+        0x35 => Some((
+            visitor.load(
+                MemoryOperator::I64Load32U { memarg: four },
+                &four,
+                false,
+                &ValType::I64,
+            ),
+            end,
+        )),
+        _ => None,
+    }
 }
 
 /// Of a store to memory 0: `store_at`, with a place of its own for the answer, so that none is made ready in the loop.
@@ -242,7 +378,97 @@ fn store_at<'a, R: WasmModuleResources>(
         × (visitor.new.resources.now ≡ visitor.old.resources.now))) }
     ensures none { IfNone result (visitor.new ≡ visitor.old) }
 {
-    short_store(bytes, at, code, features, visitor)
+    let Some((access, end)) = access_at(bytes, at + 1, features) else {
+        return None;
+    };
+    let one = memarg_of(access, 0);
+    let two = memarg_of(access, 1);
+    let four = memarg_of(access, 2);
+    let eight = memarg_of(access, 3);
+    match code {
+        0x36 => Some((
+            visitor.store(
+                MemoryOperator::I32Store { memarg: four },
+                &four,
+                false,
+                &ValType::I32,
+            ),
+            end,
+        )),
+        0x37 => Some((
+            visitor.store(
+                MemoryOperator::I64Store { memarg: eight },
+                &eight,
+                false,
+                &ValType::I64,
+            ),
+            end,
+        )),
+        0x38 => Some((
+            visitor.store(
+                MemoryOperator::F32Store { memarg: four },
+                &four,
+                true,
+                &ValType::F32,
+            ),
+            end,
+        )),
+        0x39 => Some((
+            visitor.store(
+                MemoryOperator::F64Store { memarg: eight },
+                &eight,
+                true,
+                &ValType::F64,
+            ),
+            end,
+        )),
+        0x3a => Some((
+            visitor.store(
+                MemoryOperator::I32Store8 { memarg: one },
+                &one,
+                false,
+                &ValType::I32,
+            ),
+            end,
+        )),
+        0x3b => Some((
+            visitor.store(
+                MemoryOperator::I32Store16 { memarg: two },
+                &two,
+                false,
+                &ValType::I32,
+            ),
+            end,
+        )),
+        0x3c => Some((
+            visitor.store(
+                MemoryOperator::I64Store8 { memarg: one },
+                &one,
+                false,
+                &ValType::I64,
+            ),
+            end,
+        )),
+        0x3d => Some((
+            visitor.store(
+                MemoryOperator::I64Store16 { memarg: two },
+                &two,
+                false,
+                &ValType::I64,
+            ),
+            end,
+        )),
+        0x3e => Some((
+            visitor.store(
+                MemoryOperator::I64Store32 { memarg: four },
+                &four,
+                false,
+                &ValType::I64,
+            ),
+            end,
+        )),
+        _ => None,
+    }
 }
 
 /// Of the size of memory 0, or its growth.

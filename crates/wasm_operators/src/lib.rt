@@ -9,7 +9,7 @@
 //! A visitor implements the traits of groups (`VisitControl`, `VisitMemory` and so on), one visit for each operator, under
 //! the relation that its `Visitor` states. With all of them but those of vectors it is a `VisitOperator`. With `VisitSimd`,
 //! `VisitSimdNarrow`, `VisitSimdWide` and `VisitSimdFloats` too it is a `VisitSimdOperator`, which has every visit. Calls at one
-//! type with hundreds of visits are made by `TellOperator`, which has two methods, and with vectors by `TellSimdOperator`, which
+//! type with hundreds of visits are made by `TellOperator`, which has three methods, and with vectors by `TellSimdOperator`, which
 //! has one.
 //!
 //! This crate has no code of its own. The rules stand in the crates below: the tables of opcodes and of immediates in

@@ -5,7 +5,7 @@
 //! reader moves, and no error is made. Where it answers none, nothing was visited; `read_operator` then reads whatever
 //! stands there, or says why it is refused.
 //!
-//! [`TellOperator`] is what reading asks of a visitor, two methods in place of a visit for each operator; a [`LentVisitor`] has
+//! [`TellOperator`] is what reading asks of a visitor, three methods in place of a visit for each operator; a [`LentVisitor`] has
 //! them by the visits of the visitor that is lent. A type that has all visits may tell itself by the parts of [`visit_short`], one for
 //! each shape of operator ([`short_alone`], [`short_local_get`], [`short_load`], ..).
 //!

@@ -1,4 +1,4 @@
-//! What reading asks of a visitor: two methods for all operators but those on vectors.
+//! What reading asks of a visitor: three methods for all operators but those on vectors.
 
 ghost use Rattle.std.specs.Prelude.{◌≡◌, false, IfSome, IfNone};
 ghost use Rattle.wasm_operators_visit_operator.specs.operator.Op.{op_of};
@@ -31,8 +31,8 @@ pub trait TellOperator<'a>: Visitor<'a> {
         ensures told { IfSome result (λ r. IsTold features.0 bytes.now at r.1 (λ o. Self.visits self.old o r.0 self.new)) }
         ensures none { IfNone result (self.new ≡ self.old) };
 
-    /// The same of operators whose first byte is at most 1f: those that may open or close a frame are among these, so whoever looks
-    /// after the frames tells them by a step of its own. `tell_short` may answer None for them.
+    /// The same of operators whose first byte is at most 1f, control and parametric ones. All that open or close a frame are among
+    /// them, so whoever looks after the frames asks nothing of them where the byte is larger. `tell_short` may answer None for these.
     fn tell_short_control(
         &mut self,
         bytes: &'a [u8],
