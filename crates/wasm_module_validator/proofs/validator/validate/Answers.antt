@@ -7,3 +7,6 @@ use Rattle.wasm_module_validator.proofs.validator.validate.Goals as goal
 pub returns-clause-verdict : goal.returns-clause-verdict
 returns-clause-verdict c =
     subst (λ (n : ℕ). Tells c.validate_all.result (AcceptsUnder (under n) c.args.bytes.now)) c.new.ensures.features c.validate_all.ensures.verdict
+
+pub returns-clause-id : goal.returns-clause-id
+returns-clause-id c = rw c.new.ensures.id at c.validate_all.ensures.id
