@@ -1,5 +1,5 @@
 -- The frames around an operator that is told straight from its bytes, by the role of its first byte.
-use Rattle.std.specs.Prelude.{List, [], ◌∷◌}
+use Rattle.std.specs.Prelude.{List, ◌∷◌}
 use Rattle.wasm_operators_expression.specs.immediates.declared.frames.FrameKind.{FrameKind}
 use Rattle.wasm_operators_expression.specs.operator.declared.role.Role.{Role}
 use Rattle.wasm_operators_expression.specs.immediates.declared.frames.FrameKind.TheVariants as kinds

@@ -1,4 +1,4 @@
-use Rattle.std.proofs.Common.{◌≡◌, ◌-◌, ◌∙◌, sym, ap, Some, length, slice_get, false, true}
+use Rattle.std.proofs.Common.{◌≡◌, ◌-◌, ◌∙◌, sym, ap, Some, length, slice_get}
 use Rattle.wasm_operator_validator_stacks.proofs.Layers.{fixed, held_pop, sound_pop}
 use Rattle.wasm_operator_validator_stacks.proofs.Popping.{last_is}
 use Rattle.wasm_operator_validator_stacks.proofs.validator.OperatorValidator.pop_same.Goals as goal
