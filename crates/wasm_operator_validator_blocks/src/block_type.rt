@@ -22,7 +22,9 @@ pub fn check_block_type<R: WasmModuleResources>(
     features: WasmFeatures,
     written: BlockType,
 ) -> Result<BlockType, Refusal>
-    ensures { (w : Given) → w.bits ≡ features.0 → MatchResult result (λ named. IsBlock (R.meaning resources.now) w written (signature_of (R.meaning resources.now) named)) (λ r. Denies (kind_of r) ((b : Signature) × IsBlock (R.meaning resources.now) w written b)) }
+    ensures { (w : Given) → w.bits ≡ features.0 → MatchResult result
+        (λ named. IsBlock (R.meaning resources.now) w written (signature_of (R.meaning resources.now) named))
+        (λ r. Denies (kind_of r) ((b : Signature) × IsBlock (R.meaning resources.now) w written b)) }
 {
     match written {
         BlockType::Empty => Ok(BlockType::Empty),
@@ -53,7 +55,8 @@ fn check_result_type<R: WasmModuleResources>(
     features: WasmFeatures,
     written: ValType,
 ) -> Result<ValType, Refusal>
-    ensures { MatchResult result (λ named. IsType features.0 (R.meaning resources.now).«module» written (type_in (R.meaning resources.now) named)) (λ r. Denies (kind_of r) ((t : ValueType) × IsType features.0 (R.meaning resources.now).«module» written t)) }
+    ensures { MatchResult result (λ named. IsType features.0 (R.meaning resources.now).«module» written (type_in (R.meaning resources.now) named))
+        (λ r. Denies (kind_of r) ((t : ValueType) × IsType features.0 (R.meaning resources.now).«module» written t)) }
 {
     if let ValType::I32 = written {
         return Ok(ValType::I32);

@@ -26,7 +26,12 @@ pub struct ConstantWalk<'v, 'r, R: WasmModuleResources> {
 impl<'a, 'v, 'r, R: WasmModuleResources> Visitor<'a> for ConstantWalk<'v, 'r, R> {
     type Output = Result<(), ConstantRefusal>;
 
-    ghost visits = { λ before op answer after. VisitsConstant (record { bits = before.features.0; meaning = R.meaning before.walk.visitor.resources.now; imported = before.imported_globals }) before.walk.visitor.inner.now op (refused_constant answer) after.walk.visitor.inner.now × (after.walk.visitor.inner.ghost_name ≡ before.walk.visitor.inner.ghost_name) × (after.walk.visitor.resources.now ≡ before.walk.visitor.resources.now) × (after.features.0 ≡ before.features.0) × (after.imported_globals ≡ before.imported_globals) };
+    ghost visits = { λ before op answer after. VisitsConstant
+        (record { bits = before.features.0; meaning = R.meaning before.walk.visitor.resources.now; imported = before.imported_globals })
+        before.walk.visitor.inner.now op (refused_constant answer) after.walk.visitor.inner.now ×
+        (after.walk.visitor.inner.ghost_name ≡ before.walk.visitor.inner.ghost_name) ×
+        (after.walk.visitor.resources.now ≡ before.walk.visitor.resources.now) × (after.features.0 ≡ before.features.0) ×
+        (after.imported_globals ≡ before.imported_globals) };
 }
 
 impl<'a, 'v, 'r, R: WasmModuleResources> TellOperator<'a> for ConstantWalk<'v, 'r, R> {
@@ -75,5 +80,9 @@ impl<'a, 'v, 'r, R: WasmModuleResources> ValidatingConstants<'a> for ConstantWal
         self.walk.visitor.inner.is_done()
     }
 
-    ghost visited = { λ v o a w h. (h.0, same_around w.features.0 v.features.0 (R.meaning w.walk.visitor.resources.now) (R.meaning v.walk.visitor.resources.now) w.imported_globals v.imported_globals h.3 (ap R.meaning h.2) h.4) };
+    ghost visited = { λ v o a w h. (
+      h.0,
+      same_around w.features.0 v.features.0 (R.meaning w.walk.visitor.resources.now)
+          (R.meaning v.walk.visitor.resources.now) w.imported_globals v.imported_globals h.3 (ap R.meaning h.2) h.4,
+    ) };
 }

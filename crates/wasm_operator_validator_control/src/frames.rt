@@ -88,7 +88,8 @@ fn open_frame<R: WasmModuleResources>(
     block_type: &BlockType,
 ) -> Result<(), Refusal>
     requires { IsOpen validator.old.opens }
-    ensures does { Does (refused result) (Opened (R.meaning resources.now) validator.old kind block_type.now validator.new) (MayPop (R.meaning resources.now) validator.old (stack (signature_of (R.meaning resources.now) block_type.now).params)) }
+    ensures does { Does (refused result) (Opened (R.meaning resources.now) validator.old kind block_type.now validator.new)
+        (MayPop (R.meaning resources.now) validator.old (stack (signature_of (R.meaning resources.now) block_type.now).params)) }
     ensures given { validator.new.given ≡ validator.old.given }
     ensures failed { validator.new.failed ≡ validator.old.failed }
     ensures saved { validator.new.saved ≡ validator.old.saved }

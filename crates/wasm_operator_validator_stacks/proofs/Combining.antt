@@ -46,7 +46,8 @@ seen_combine μ w f fs y z ns inits t u d e =
     let more : f.height ≤ length (z ∷ ns) = omega (arith, low) in
     let p : PoppedAny μ (seen w (f ∷ fs) (y ∷ z ∷ ns) inits) (maybe.Known t) (seen w (f ∷ fs) (z ∷ ns) inits) = rw a (seen_pop μ w f fs (maybe.Known t) (z ∷ ns) inits more) in
     let q : PoppedAny μ (seen w (f ∷ fs) (z ∷ ns) inits) (maybe.Known t) (seen w (f ∷ fs) ns inits) = rw b (seen_pop μ w f fs (maybe.Known t) ns inits low) in (
-      combined μ (seen w (f ∷ fs) (y ∷ z ∷ ns) inits) (seen w (f ∷ fs) (z ∷ ns) inits) (seen w (f ∷ fs) ns inits) (seen w (f ∷ fs) (maybe.Known u ∷ ns) inits) t u p q (seen_push μ w f fs (maybe.Known u) ns inits low),
+      combined μ (seen w (f ∷ fs) (y ∷ z ∷ ns) inits) (seen w (f ∷ fs) (z ∷ ns) inits) (seen w (f ∷ fs) ns inits)
+          (seen w (f ∷ fs) (maybe.Known u ∷ ns) inits) t u p q (seen_push μ w f fs (maybe.Known u) ns inits low),
       low,
     )
 

@@ -37,7 +37,9 @@ pub struct OperatorValidator {
 impl Model for OperatorValidator {
     ghost Value = { State };
 
-    ghost view = { λ v. state_of (record { bits = v.features.0; locals = v.locals; params = v.params; shared = v.shared }) (record { operands = v.operands.1; frames = v.control.1; inits = v.inits.saved; failed = v.failed_before }) v.failed v.control.0 v.operands.0 v.inits.set };
+    ghost view = { λ v. state_of (record { bits = v.features.0; locals = v.locals; params = v.params; shared = v.shared })
+        (record { operands = v.operands.1; frames = v.control.1; inits = v.inits.saved; failed = v.failed_before }) v.failed v.control.0 v.operands.0
+        v.inits.set };
 
     ghost invariant = { λ v. IsLayered v.control.0 v.operands.0 v.inits.set × IsSavedLayered v.control.1 v.operands.1 v.inits.saved × AreFirst v.params v.locals v.inits.first };
 }
@@ -127,7 +129,9 @@ impl OperatorValidator {
         resources: &R,
         expected: &ValType,
     ) -> Result<(), Refusal>
-        ensures does { Does (refused result) (Popped (R.meaning resources.now) self.old (known (type_in (R.meaning resources.now) expected.now) ∷ []) self.new) (MayPop (R.meaning resources.now) self.old (known (type_in (R.meaning resources.now) expected.now) ∷ [])) }
+        ensures does { Does (refused result) (Popped (R.meaning resources.now) self.old
+            (known (type_in (R.meaning resources.now) expected.now) ∷ []) self.new)
+            (MayPop (R.meaning resources.now) self.old (known (type_in (R.meaning resources.now) expected.now) ∷ [])) }
         ensures given { self.new.given ≡ self.old.given }
         ensures failed { self.new.failed ≡ self.old.failed }
         ensures saved { self.new.saved ≡ self.old.saved }
@@ -173,7 +177,9 @@ impl OperatorValidator {
         resources: &R,
         expected: &ValType,
     ) -> Result<(), Refusal>
-        ensures does { Does (refused result) (Popped (R.meaning resources.now) self.old (known (type_in (R.meaning resources.now) expected.now) ∷ []) self.new) (MayPop (R.meaning resources.now) self.old (known (type_in (R.meaning resources.now) expected.now) ∷ [])) }
+        ensures does { Does (refused result) (Popped (R.meaning resources.now) self.old
+            (known (type_in (R.meaning resources.now) expected.now) ∷ []) self.new)
+            (MayPop (R.meaning resources.now) self.old (known (type_in (R.meaning resources.now) expected.now) ∷ [])) }
         ensures given { self.new.given ≡ self.old.given }
         ensures failed { self.new.failed ≡ self.old.failed }
         ensures saved { self.new.saved ≡ self.old.saved }
@@ -196,7 +202,9 @@ impl OperatorValidator {
         types: &[ValType],
     ) -> Result<(), Refusal>
         requires { IsOpen self.old.opens }
-        ensures does { Does (refused result) (Popped (R.meaning resources.now) self.old (stack (types_in (R.meaning resources.now) types.now)) self.new) (MayPop (R.meaning resources.now) self.old (stack (types_in (R.meaning resources.now) types.now))) }
+        ensures does { Does (refused result) (Popped (R.meaning resources.now) self.old
+            (stack (types_in (R.meaning resources.now) types.now)) self.new)
+            (MayPop (R.meaning resources.now) self.old (stack (types_in (R.meaning resources.now) types.now))) }
         ensures given { self.new.given ≡ self.old.given }
         ensures failed { self.new.failed ≡ self.old.failed }
         ensures saved { self.new.saved ≡ self.old.saved }
@@ -256,7 +264,9 @@ impl OperatorValidator {
         pushed: &ValType,
     ) -> Result<(), Refusal>
         requires { IsOpen self.old.opens }
-        ensures does { Does (refused result) (Exchanged (R.meaning resources.now) self.old (types_in (R.meaning resources.now) (popped.now ∷ popped.now ∷ [])) (types_in (R.meaning resources.now) (pushed.now ∷ [])) self.new) (MayPop (R.meaning resources.now) self.old (stack (types_in (R.meaning resources.now) (popped.now ∷ popped.now ∷ [])))) }
+        ensures does { Does (refused result) (Exchanged (R.meaning resources.now) self.old
+            (types_in (R.meaning resources.now) (popped.now ∷ popped.now ∷ [])) (types_in (R.meaning resources.now) (pushed.now ∷ [])) self.new)
+            (MayPop (R.meaning resources.now) self.old (stack (types_in (R.meaning resources.now) (popped.now ∷ popped.now ∷ [])))) }
         ensures given { self.new.given ≡ self.old.given }
         ensures failed { self.new.failed ≡ self.old.failed }
         ensures saved { self.new.saved ≡ self.old.saved }
@@ -281,7 +291,9 @@ impl OperatorValidator {
         pushed: &ValType,
     ) -> Result<(), Refusal>
         requires { IsOpen self.old.opens }
-        ensures does { Does (refused result) (Exchanged (R.meaning resources.now) self.old (types_in (R.meaning resources.now) (popped.now ∷ popped.now ∷ [])) (types_in (R.meaning resources.now) (pushed.now ∷ [])) self.new) (MayPop (R.meaning resources.now) self.old (stack (types_in (R.meaning resources.now) (popped.now ∷ popped.now ∷ [])))) }
+        ensures does { Does (refused result) (Exchanged (R.meaning resources.now) self.old
+            (types_in (R.meaning resources.now) (popped.now ∷ popped.now ∷ [])) (types_in (R.meaning resources.now) (pushed.now ∷ [])) self.new)
+            (MayPop (R.meaning resources.now) self.old (stack (types_in (R.meaning resources.now) (popped.now ∷ popped.now ∷ [])))) }
         ensures given { self.new.given ≡ self.old.given }
         ensures failed { self.new.failed ≡ self.old.failed }
         ensures saved { self.new.saved ≡ self.old.saved }
@@ -298,7 +310,9 @@ impl OperatorValidator {
         pushed: &[ValType],
     ) -> Result<(), Refusal>
         requires { IsOpen self.old.opens }
-        ensures does { Does (refused result) (Exchanged (R.meaning resources.now) self.old (types_in (R.meaning resources.now) popped.now) (types_in (R.meaning resources.now) pushed.now) self.new) (MayPop (R.meaning resources.now) self.old (stack (types_in (R.meaning resources.now) popped.now))) }
+        ensures does { Does (refused result) (Exchanged (R.meaning resources.now) self.old (types_in (R.meaning resources.now) popped.now)
+            (types_in (R.meaning resources.now) pushed.now) self.new)
+            (MayPop (R.meaning resources.now) self.old (stack (types_in (R.meaning resources.now) popped.now))) }
         ensures given { self.new.given ≡ self.old.given }
         ensures failed { self.new.failed ≡ self.old.failed }
         ensures saved { self.new.saved ≡ self.old.saved }

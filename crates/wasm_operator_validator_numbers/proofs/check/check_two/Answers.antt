@@ -16,4 +16,5 @@ returns g c =
     let m = g.R.WasmModuleResources.meaning c.args.resources.now in
     determined (refused c.combine.result) m c.args.validator.now c.combine.new.self (op.Numeric c.args.op) Mvp c.args.floats (c.args.takes.now ∷ c.args.takes.now ∷ []) (c.args.gives.now ∷ [])
     (numeric_in_table c.args.op Mvp c.args.floats (c.args.takes.now ∷ c.args.takes.now ∷ []) (c.args.gives.now ∷ []) c.requires) c.in-Ok.ensures.begins
-    (numeric_type m c.args.validator.now c.args.op Mvp c.args.floats (c.args.takes.now ∷ c.args.takes.now ∷ []) (c.args.gives.now ∷ []) c.requires) c.combine.ensures.does (record { given = c.combine.ensures.given; failed = c.combine.ensures.failed; saved = c.combine.ensures.saved })
+    (numeric_type m c.args.validator.now c.args.op Mvp c.args.floats (c.args.takes.now ∷ c.args.takes.now ∷ []) (c.args.gives.now ∷ []) c.requires)
+    c.combine.ensures.does (record { given = c.combine.ensures.given; failed = c.combine.ensures.failed; saved = c.combine.ensures.saved })

@@ -23,5 +23,8 @@ returns-in-Ended c =
 pub returns : goal.returns
 returns c =
     let v = c.args.self.now in
-    subst (λ (s : State). EndsFrom s v (Ok (learned (record v { reached = c.replace.result }))) (record v { state = Ended; reached = c.replace.new.dest })) (sym c.in-Module.is)
-    (ap (λ (r : Reached). Ok (learned (record v { reached = r }))) c.replace.ensures.value, ap (λ (r : Reached). record v { state = Ended; reached = r }) (c.replace.ensures.after ∙ c.new-nothing.ensures))
+    subst (λ (s : State). EndsFrom s v (Ok (learned (record v { reached = c.replace.result }))) (record v { state = Ended; reached = c.replace.new.dest })) (sym c.in-Module.is) (
+      ap (λ (r : Reached). Ok (learned (record v { reached = r }))) c.replace.ensures.value,
+      ap
+          (λ (r : Reached). record v { state = Ended; reached = r }) (c.replace.ensures.after ∙ c.new-nothing.ensures),
+    )

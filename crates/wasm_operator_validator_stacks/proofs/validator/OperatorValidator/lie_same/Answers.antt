@@ -13,7 +13,10 @@ returns-then-is_same-clause-top c = λ t.
     let i : c.in-Some.frame.height ≤ n - 1 = omega (arith, s, k) in
     let j : n - 1 ≡ n - 1 - 0 = omega arith in
     rw (← c.self.view_is)
-    (known_at (fixed c.self.inside.features.0 c.self.inside.locals c.self.inside.params c.self.inside.shared c.self.inside.operands.1 c.self.inside.control.1 c.self.inside.inits.saved c.self.inside.failed_before c.self.inside.failed) c.self.inside.control.0 c.self.inside.operands.0 c.as_slice-operands.result.now c.self.inside.inits.set c.in-Some.frame 0 (n - 1) c.index-operands-top.result _ c.args.ty.now (sym e) c.as_slice-operands.ensures
+    (known_at (fixed c.self.inside.features.0 c.self.inside.locals c.self.inside.params c.self.inside.shared c.self.inside.operands.1
+    c.self.inside.control.1 c.self.inside.inits.saved c.self.inside.failed_before c.self.inside.failed) c.self.inside.control.0
+    c.self.inside.operands.0 c.as_slice-operands.result.now c.self.inside.inits.set c.in-Some.frame 0
+    (n - 1) c.index-operands-top.result _ c.args.ty.now (sym e) c.as_slice-operands.ensures
     j h i c.index-operands-top.is (c.is_same.ensures c.if-is_same.true))
 
 pub returns-then-is_same-clause-under : goal.returns-then-is_same-clause-under
@@ -26,5 +29,8 @@ returns-then-is_same-clause-under c = λ t.
     let i : c.in-Some.frame.height ≤ n - 1 - 1 = omega (arith, s, k) in
     let j : n - 1 - 1 ≡ n - 1 - 1 = omega arith in
     rw (← c.self.view_is)
-    (known_at (fixed c.self.inside.features.0 c.self.inside.locals c.self.inside.params c.self.inside.shared c.self.inside.operands.1 c.self.inside.control.1 c.self.inside.inits.saved c.self.inside.failed_before c.self.inside.failed) c.self.inside.control.0 c.self.inside.operands.0 c.as_slice-operands.result.now c.self.inside.inits.set c.in-Some.frame 1 (n - 1 - 1) c.index-operands-top-then-is_same.result _ c.args.ty.now (sym e) c.as_slice-operands.ensures
+    (known_at (fixed c.self.inside.features.0 c.self.inside.locals c.self.inside.params c.self.inside.shared c.self.inside.operands.1
+    c.self.inside.control.1 c.self.inside.inits.saved c.self.inside.failed_before c.self.inside.failed) c.self.inside.control.0
+    c.self.inside.operands.0 c.as_slice-operands.result.now c.self.inside.inits.set c.in-Some.frame 1
+    (n - 1 - 1) c.index-operands-top-then-is_same.result _ c.args.ty.now (sym e) c.as_slice-operands.ensures
     j h i c.index-operands-top-then-is_same.is (c.is_same-then-is_same.ensures t))
