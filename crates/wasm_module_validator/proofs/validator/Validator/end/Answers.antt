@@ -25,6 +25,5 @@ returns c =
     let v = c.args.self.now in
     subst (λ (s : State). EndsFrom s v (Ok (learned (record v { reached = c.replace.result }))) (record v { state = Ended; reached = c.replace.new.dest })) (sym c.in-Module.is) (
       ap (λ (r : Reached). Ok (learned (record v { reached = r }))) c.replace.ensures.value,
-      ap
-          (λ (r : Reached). record v { state = Ended; reached = r }) (c.replace.ensures.after ∙ c.new-nothing.ensures),
+      ap (λ (r : Reached). record v { state = Ended; reached = r }) (c.replace.ensures.after ∙ c.new-nothing.ensures),
     )
