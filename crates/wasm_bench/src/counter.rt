@@ -1,9 +1,9 @@
-//! A small visitor, told of operators by the three methods that reading asks for.
+//! A small visitor, told of operators one after the other.
 
 ghost use Rattle.std.specs.Prelude.{◌≡◌, ◌+◌, IfOk, IfErr};
 
 use wasm_operators_read_short::{short_control_at, short_operator_at};
-use wasm_operators_visiting::{Operator, TellOperator, Visitor};
+use wasm_operators_visiting::{Operator, TellOperator, TellPlain, Visitor};
 use wasm_types::WasmFeatures;
 
 /// That a counter has no room left.
@@ -69,5 +69,13 @@ impl<'a> TellOperator<'a> for Counter {
             return None;
         };
         Some((self.count(), end))
+    }
+}
+
+impl<'a> TellPlain<'a, Full> for Counter {
+    // It is told of one operator after the other.
+    #[inline(always)]
+    fn tell_plain(&mut self, bytes: &'a [u8], at: usize, features: WasmFeatures) -> usize {
+        at
     }
 }

@@ -9,14 +9,15 @@ ghost use Rattle.wasm_operator_validator_constants.specs.Checked.{Surroundings, 
 
 use crate::ConstantRefusal;
 use std::alloc::Global;
-use wasm_operators_visiting::{TellOperator, tell_expression_with_offset};
+use wasm_operators_visiting::{TellOperator, TellPlain, tell_expression_with_offset};
 use wasm_types::{BinaryReader, Error, Result};
 
 /// A visitor that tests each operator, and validates those that are constant.
 pub trait ValidatingConstants<'a>: TellOperator<
     'a,
     Output = std::result::Result<(), ConstantRefusal>,
-> {
+>
+    + TellPlain<'a, ConstantRefusal> {
     ghost use Rattle.wasm_operator_validator_constants.specs.declared.refusal.ConstantRefusal.{ConstantRefusal as Why};
 
     /// What it judges by.

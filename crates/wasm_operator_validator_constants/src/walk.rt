@@ -10,7 +10,7 @@ use crate::operators::is_constant_operator;
 use crate::validating::ValidatingConstants;
 use wasm_operator_validator_stacks::WasmModuleResources;
 use wasm_operator_validator_walk::ValidatingWalk;
-use wasm_operators_visiting::{Operator, TellOperator, Visitor};
+use wasm_operators_visiting::{Operator, TellOperator, TellPlain, Visitor};
 use wasm_types::WasmFeatures;
 
 /// The walk that validates, where each operator has to be constant first.
@@ -68,6 +68,14 @@ impl<'a, 'v, 'r, R: WasmModuleResources> TellOperator<'a> for ConstantWalk<'v, '
         features: WasmFeatures,
     ) -> Option<(Result<(), ConstantRefusal>, usize)> {
         None
+    }
+}
+
+impl<'a, 'v, 'r, R: WasmModuleResources> TellPlain<'a, ConstantRefusal>
+    for ConstantWalk<'v, 'r, R> {
+    // Each operator is tested, so it is told of one after the other.
+    fn tell_plain(&mut self, bytes: &'a [u8], at: usize, features: WasmFeatures) -> usize {
+        at
     }
 }
 

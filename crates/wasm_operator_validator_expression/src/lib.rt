@@ -8,4 +8,4 @@ pub mod laws;
 mod validating;
 
 pub use validating::{Refused, Validating, validate_operators};
-pub use wasm_operators_visiting::TellOperator;
+pub use wasm_operators_visiting::{TellOperator, TellPlain};

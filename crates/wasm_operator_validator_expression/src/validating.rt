@@ -9,7 +9,7 @@ ghost use Rattle.wasm_operator_validator_expression.specs.Validating.{Validates}
 
 use std::alloc::Global;
 use wasm_operator_validator_state::Refusal;
-use wasm_operators_visiting::{TellOperator, tell_expression_with_offset};
+use wasm_operators_visiting::{TellOperator, TellPlain, tell_expression_with_offset};
 use wasm_types::{BinaryReader, Error, Result};
 
 /// That an operator is refused. Whoever is told of operators keeps why, so that an answer is one bit.
@@ -17,7 +17,8 @@ use wasm_types::{BinaryReader, Error, Result};
 pub struct Refused;
 
 /// A visitor that validates all operators but those on vectors, and keeps a refusal of few bytes.
-pub trait Validating<'a>: TellOperator<'a, Output = std::result::Result<(), Refused>> {
+pub trait Validating<'a>: TellOperator<'a, Output = std::result::Result<(), Refused>>
+    + TellPlain<'a, Refused> {
     ghost use Rattle.wasm_operator_validator_state.specs.declared.refusal.Refusal.{Refusal as Why};
     ghost use Rattle.wasm_operator_validator_expression.specs.declared.validating.Refused.{Refused as Sign};
     ghost use Rattle.wasm_operator_validator_expression.specs.Validating.{refused_for};

@@ -8,3 +8,4 @@ pub mod Numbers
 pub mod Peeks
 pub mod Lying
 pub mod Combining
+pub mod Runs

@@ -6,6 +6,8 @@ pub mod Peeking
 pub mod Heights
 pub mod Worked
 pub mod WorkedLaws
+-- Operators one after the other over the operands of the innermost frame.
+pub mod Running
 -- Locals that a body declares.
 pub mod Defining
 -- What a type that a module writes stands for, and what an attempt leaves: laws, with the proofs.

@@ -13,11 +13,13 @@ mod frames;
 mod heights;
 pub mod laws;
 mod peeking;
+mod running;
 mod validator;
 
 pub use allocations::OperatorValidatorAllocations;
 pub use fitting::{is_abstract_fit, is_fit};
 pub use heights::heights_are_worked;
+pub use running::{Run, RunBody, RunOperands};
 pub use validator::OperatorValidator;
 pub use wasm_operator_validator_inits::LocalInits;
 pub use wasm_operator_validator_locals::Locals;

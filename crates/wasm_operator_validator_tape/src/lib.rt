@@ -6,4 +6,4 @@
 
 mod tape;
 
-pub use tape::Tape;
+pub use tape::{Loose, Tape};

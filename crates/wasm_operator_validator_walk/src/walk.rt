@@ -15,7 +15,10 @@ use crate::short::{
     tell_local_tee, tell_memory_size, tell_number, tell_prefixed, tell_store,
 };
 use std::alloc::Global;
-use wasm_operator_validator_expression::{Refused, TellOperator, Validating, validate_operators};
+use wasm_operator_validator_expression::{
+    Refused, TellOperator, TellPlain, Validating, validate_operators,
+};
+use wasm_operator_validator_running::run_plain;
 use wasm_operator_validator_stacks::{OperatorValidator, Refusal, WasmModuleResources};
 use wasm_operator_validator_visits::ValidatingVisitor;
 use wasm_operators_visit::{Operator, Visitor};
@@ -205,6 +208,20 @@ impl<'a, 'v, 'r, R: WasmModuleResources> TellOperator<'a> for NotingWalk<'v, 'r,
             return Some((Err(Refused), end));
         }
         Some((Ok(()), end))
+    }
+}
+
+impl<'a, 'v, 'r, R: WasmModuleResources> TellPlain<'a, Refused> for NotingWalk<'v, 'r, R> {
+    // A run changes operands alone, which it has at hand; and none is refused.
+    #[inline(always)]
+    fn tell_plain(&mut self, bytes: &'a [u8], at: usize, features: WasmFeatures) -> usize {
+        run_plain(
+            self.walk.visitor.inner,
+            self.walk.visitor.resources,
+            bytes,
+            at,
+            features,
+        )
     }
 }
 

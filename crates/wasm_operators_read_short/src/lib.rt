@@ -13,4 +13,4 @@ mod numbers;
 mod short;
 
 pub use short::{short_control_at, short_operator_at};
-pub use wasm_operators_visit_short::{LentVisitor, TellOperator};
+pub use wasm_operators_visit_short::{LentVisitor, TellOperator, TellPlain};

@@ -1,2 +1,3 @@
 -- operators that were told at once
 pub mod AtOnce
+pub mod ToldPlain

@@ -29,7 +29,7 @@ pub use wasm_operators_expression::{
     GcOperator, Handle, MemArg, MemArgOrdering, MemArgTarget, MemoryOperator, Operator,
     OperatorInfo, Ordering, ParametricOperator, Proposal, ResumeTable, Role, TryTable, V128,
 };
-pub use wasm_operators_read_short::{LentVisitor, TellOperator};
+pub use wasm_operators_read_short::{LentVisitor, TellOperator, TellPlain};
 pub use wasm_operators_visit_simd_operator::{
     VisitAtomic, VisitControl, VisitFloats, VisitGc, VisitIntegers, VisitMemory, VisitOperator,
     VisitShared, VisitSimd, VisitSimdFloats, VisitSimdNarrow, VisitSimdOperator, VisitSimdWide,

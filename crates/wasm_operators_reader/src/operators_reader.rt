@@ -14,7 +14,7 @@ use std::alloc::Global;
 use std::marker::Model;
 use wasm_operators_decode::read_operator;
 use wasm_operators_expression::{ControlStack, FrameKind, FrameStack, Operator, Role};
-use wasm_operators_read_short::TellOperator;
+use wasm_operators_read_short::{TellOperator, TellPlain};
 use wasm_types::{BinaryReader, Error, Result};
 
 /// The memory of a reader's frames.
@@ -212,10 +212,9 @@ impl<'a> OperatorsReader<'a> {
     /// forms and the visitor answers `Ok`. Its first `Err` is given back, with the offset in the input of the operator that it
     /// answers, and the reader stands behind that operator. None where another operator follows, or none that `read` reads: the reader
     /// stands there then.
-    pub fn tell_run<E: Drop, V: TellOperator<'a, Output = std::result::Result<(), E>>>(
-        &mut self,
-        visitor: &mut V,
-    ) -> Option<(E, u64)>
+    pub fn tell_run<E: Drop, V>(&mut self, visitor: &mut V) -> Option<(E, u64)>
+    where
+        V: TellOperator<'a, Output = std::result::Result<(), E>> + TellPlain<'a, E>,
         ensures ended { IfSome result (λ last. WalksUntilTo V.visits (Ok tt) self.old visitor.old (Err last.0) self.new visitor.new last.1) }
         ensures told { IfNone result (WalksTo V.visits (Ok tt) self.old visitor.old self.new visitor.new) }
     {

@@ -7,10 +7,11 @@
 //!
 //! [`TellOperator`] is what reading asks of a visitor, three methods in place of a visit for each operator; a [`LentVisitor`] has
 //! them by the visits of the visitor that is lent. A type that has all visits may tell itself by the parts of [`visit_short`], one for
-//! each shape of operator ([`short_alone`], [`short_local_get`], [`short_load`], ..).
+//! each shape of operator ([`short_alone`], [`short_local_get`], [`short_load`], ..). [`TellPlain`] adds a method that takes many
+//! operators in one call, where they open and close no frame: whoever is told so may go over them in a loop of its own.
 //!
 //! `specs/Short.antt` defines what was told: that the decoder of operators gives this operator for these bytes, wherever
-//! they stand, and that the visitor's relation holds of it.
+//! they stand, and that the visitor's relation holds of it. `specs/Plain.antt` says the same of many, one after the other.
 #![tactic(auto)]
 
 mod bulk;
@@ -29,4 +30,4 @@ pub use memory::{
 };
 pub use numbers::short_number;
 pub use short::{short_prefixed, visit_short};
-pub use tell::{LentVisitor, TellOperator};
+pub use tell::{LentVisitor, TellOperator, TellPlain};

@@ -1,8 +1,9 @@
-//! What reading asks of a visitor: three methods for all operators but those on vectors.
+//! What reading asks of a visitor: three methods for all operators but those on vectors, and one for several operators at once.
 
-ghost use Rattle.std.specs.Prelude.{◌≡◌, false, IfSome, IfNone};
+ghost use Rattle.std.specs.Prelude.{◌≡◌, false, Ok, IfSome, IfNone};
 ghost use Rattle.wasm_operators_visit_operator.specs.operator.Op.{op_of};
 ghost use Rattle.wasm_operators_visit_operator.specs.Vectors.{is_simd};
+ghost use Rattle.wasm_operators_visit_short.specs.Plain.{AreToldPlain};
 ghost use Rattle.wasm_operators_visit_short.specs.Short.{IsTold};
 
 use crate::short::visit_short;
@@ -41,6 +42,15 @@ pub trait TellOperator<'a>: Visitor<'a> {
     ) -> Option<(Self::Output, usize)>
         ensures told { IfSome result (λ r. IsTold features.0 bytes.now at r.1 (λ o. Self.visits self.old o r.0 self.new)) }
         ensures none { IfNone result (self.new ≡ self.old) };
+}
+
+/// Can be told of several operators at once, where they open and close no frame and it answers each of them by `Ok`. It stands beside
+/// [`TellOperator`] and not above it, so that a bound by both takes the evidence of all visits of a lent visitor once.
+pub trait TellPlain<'a, E>: Visitor<'a, Output = Result<(), E>> {
+    /// Tells it of operators from an offset on, one after the other, as far as it likes, each of which opens and closes no frame and
+    /// is answered by `Ok`; and gives the offset behind them. It may be told of none.
+    fn tell_plain(&mut self, bytes: &'a [u8], at: usize, features: WasmFeatures) -> usize
+        ensures { AreToldPlain Self.visits (Ok tt) features.0 bytes.now at self.old result self.new };
 }
 
 /// A visitor of all operators but those on vectors that is lent: it is told of an operator by the visit that belongs to it.
@@ -87,5 +97,13 @@ impl<'a, 'v, V: VisitOperator<'a>> TellOperator<'a> for LentVisitor<'v, V> {
             return None;
         };
         Some((answer, end))
+    }
+}
+
+impl<'a, 'v, E, V: Visitor<'a, Output = Result<(), E>>> TellPlain<'a, E> for LentVisitor<'v, V> {
+    // It is told of one operator after the other.
+    #[inline(always)]
+    fn tell_plain(&mut self, bytes: &'a [u8], at: usize, features: WasmFeatures) -> usize {
+        at
     }
 }

@@ -8,7 +8,7 @@ ghost use Rattle.wasm_operators_reader.specs.Standing.{Standing, at_start};
 ghost use Rattle.wasm_operators_reader.specs.Walking.{HasNoVectors, VisitsAll, WalksTo, WalksUntil, WalksUntilAt, StopsPlain};
 
 use std::alloc::Global;
-use wasm_operators_reader::{LentVisitor, OperatorsReader, TellOperator, VisitOperator};
+use wasm_operators_reader::{LentVisitor, OperatorsReader, TellOperator, TellPlain, VisitOperator};
 use wasm_types::{BinaryReader, Result};
 
 /// Visits the operators of an expression in their order, to the end of the bytes. The visitor answers whether to go on: the walk
@@ -79,21 +79,19 @@ fn tell_lent<'a, E: Drop, V: VisitOperator<'a, Output = std::result::Result<(), 
     tell_expression_with_offset(alloc, reader, lent)
 }
 
-/// The same of whoever can be told any operator but those on vectors.
+/// The same of whoever can be told any operator but those on vectors, and several at once that open and close no frame.
 ///
 /// # Errors
 ///
 /// As [`visit_expression`].
 #[tactic(none)]
-pub fn tell_expression_with_offset<
-    'a,
-    E: Drop,
-    V: TellOperator<'a, Output = std::result::Result<(), E>>,
->(
+pub fn tell_expression_with_offset<'a, E: Drop, V>(
     alloc: Global,
     reader: BinaryReader<'a>,
     visitor: &mut V,
 ) -> Result<std::result::Result<(), (E, u64)>>
+where
+    V: TellOperator<'a, Output = std::result::Result<(), E>> + TellPlain<'a, E>,
     ensures whole { IfOk result (λ end. IfOk end (λ _. (c : Code) × SpelledExpression reader.entry.settings c reader.entry.rest × HasNoVectors (walk c) × VisitsAll V.visits (Ok tt) visitor.old (walk c) visitor.new)) }
     ensures ended { IfOk result (λ end. IfErr end (λ x. WalksUntilAt V.visits (Ok tt) (at_start reader.entry) visitor.old (Err x.0) visitor.new x.1)) }
     ensures refused { IfErr result (λ e. IsNotMemory e.kind → (c : Code) → SpelledExpression reader.entry.settings c reader.entry.rest → HasNoVectors (walk c) → ⊥) }
@@ -114,10 +112,12 @@ pub fn tell_expression_with_offset<
 }
 
 // Tells a visitor of operators until no byte is left, or it answers an `Err`, which is given back with the operator's offset.
-fn visit_all<'a, E: Drop, V: TellOperator<'a, Output = std::result::Result<(), E>>>(
+fn visit_all<'a, E: Drop, V>(
     operators: &mut OperatorsReader<'a>,
     visitor: &mut V,
 ) -> Result<std::result::Result<(), (E, u64)>>
+where
+    V: TellOperator<'a, Output = std::result::Result<(), E>> + TellPlain<'a, E>,
     ensures whole { IfOk result (λ end. IfOk end (λ _. WalksTo V.visits (Ok tt) operators.old visitor.old operators.new visitor.new × (operators.new.bytes.rest ≡ []))) }
     ensures ended { IfOk result (λ end. IfErr end (λ x. WalksUntilAt V.visits (Ok tt) operators.old visitor.old (Err x.0) visitor.new x.1)) }
     ensures refused { IfErr result (λ e. WalksTo V.visits (Ok tt) operators.old visitor.old operators.new visitor.new × StopsPlain operators.new e) }

@@ -1,0 +1,3 @@
+-- What operators take and give, by their codes, and what a step over them does.
+pub mod Shapes
+pub mod Steps
