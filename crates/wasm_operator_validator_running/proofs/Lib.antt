@@ -8,3 +8,5 @@ pub mod Taking
 pub mod Following
 -- Operators by their codes.
 pub mod Coded
+-- Numbers by their bytes.
+pub mod Ends

@@ -8,6 +8,7 @@
 
 mod next;
 mod number;
+mod passing;
 mod plain;
 mod shape;
 mod steps;

@@ -8,8 +8,8 @@ ghost use Rattle.wasm_operators_visit_short.specs.Short.{Begins};
 
 use crate::shape::Shape;
 use crate::steps::{
-    br_if, change, combine, drop_top, f32_const, f64_const, i32_const, i64_const, load, local_get, local_set,
-    local_tee, store,
+    br_if, change, combine, drop_top, f32_const, f64_const, i32_const, i64_const, load, local_get,
+    local_set, local_tee, store,
 };
 use wasm_operator_validator_stacks::{RunBody, RunOperands, WasmModuleResources};
 use wasm_types::WasmFeatures;

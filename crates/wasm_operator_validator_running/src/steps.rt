@@ -11,11 +11,12 @@ ghost use Rattle.wasm_operator_validator_stacks.specs.Running.{Surrounds};
 ghost use Rattle.wasm_operators_visit_short.specs.Short.{Begins};
 
 use crate::number::Number;
+use crate::passing::{i32_end, i64_end};
 use wasm_operator_validator_memory::reach;
 use wasm_operator_validator_stacks::{RunBody, RunOperands, WasmModuleResources};
 use wasm_operators_visit_short::{access_at, f32_at, f64_at, memarg_of};
 use wasm_types::{ValType, WasmFeatures};
-use wasm_types_numbers::{short_i32_at, short_i64_at, short_u32_at};
+use wasm_types_numbers::short_u32_at;
 
 // Whether a number of one byte stands there, with a byte behind it: then it is read without a place for a longer one.
 #[inline(always)]
@@ -180,7 +181,7 @@ pub(crate) fn i32_const(
     ensures under { operands.new.1 ≡ operands.old.1 }
     ensures stays { IfNone result (operands.new ≡ operands.old) }
 {
-    let Some((_value, end)) = short_i32_at(bytes, at + 1) else {
+    let Some(end) = i32_end(bytes, at + 1) else {
         return None;
     };
     if !operands.put(&ValType::I32) {
@@ -204,7 +205,7 @@ pub(crate) fn i64_const(
     ensures under { operands.new.1 ≡ operands.old.1 }
     ensures stays { IfNone result (operands.new ≡ operands.old) }
 {
-    let Some((_value, end)) = short_i64_at(bytes, at + 1) else {
+    let Some(end) = i64_end(bytes, at + 1) else {
         return None;
     };
     if !operands.put(&ValType::I64) {

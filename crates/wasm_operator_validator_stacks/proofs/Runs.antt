@@ -1,23 +1,20 @@
 -- Runs over the operands of the innermost frame.
-use Rattle.std.proofs.Common.{◌≡◌, ◌≤◌, ◌<◌, ◌-◌, ◌+◌, ◌∙◌, ◌||◌, ◌==◌, ℕ, zero, suc, List, [], ◌∷◌, Bool, true, false, not, Option, Some, None, refl, sym, ap, subst, arith, length, take, drop, reverse, map, get_or, slice_get}
+use Rattle.std.proofs.Common.{◌≡◌, ◌≤◌, ◌<◌, ◌-◌, ◌∙◌, ◌||◌, ◌==◌, ℕ, zero, suc, List, [], ◌∷◌, Bool, true, false, not, Some, refl, sym, ap, subst, arith, length, take, drop, reverse, map, get_or, slice_get}
 use Rattle.std.specs.List.{list_any}
 use Rattle.std.proofs.lemmas.List.{length-reverse, length-drop, reverse-reverse, get_or-reverse}
 use Rattle.std.proofs.lemmas.Option.{slice_get-get_or}
 use Rattle.wasm_types.specs.values.declared.value.ValType.{ValType}
-use Rattle.wasm_operator_validator_state.specs.expression.immediates.declared.block.BlockType.{BlockType}
-use Rattle.wasm_operator_validator_state.specs.expression.immediates.declared.frames.FrameKind.{FrameKind}
-use Rattle.wasm_operator_validator_state.specs.rules.Operands.{ValueType}
 use Rattle.wasm_operator_validator_state.specs.rules.Context.{label_of, initialised_at_first}
 use Rattle.wasm_operator_validator_state.specs.resources.Meaning.{Meaning}
 use Rattle.wasm_operator_validator_state.specs.declared.frame.Frame.{Frame}
 use Rattle.wasm_operator_validator_state.specs.declared.operand.MaybeType.{MaybeType}
 use Rattle.wasm_operator_validator_state.specs.declared.operand.MaybeType.TheVariants.{Known}
-use Rattle.wasm_operator_validator_state.specs.State.{Given, Open, Saved, State, signature_of, initialised, types_in}
+use Rattle.wasm_operator_validator_state.specs.State.{Open, State, signature_of, types_in}
 use Rattle.wasm_operator_validator_state.specs.Steps.{IsOpen}
-use Rattle.wasm_operator_validator_inits.specs.Inits.{Inits, has_value, is_among}
+use Rattle.wasm_operator_validator_inits.specs.Inits.{Inits, has_value}
 use Rattle.wasm_operator_validator_stacks.specs.Layout.{opens_of, Layered, first_of, AreFirst}
-use Rattle.wasm_operator_validator_stacks.specs.Running.{Operands, Swaps, Drops, own_of, with_own, over, opens_as, frame_as, Surrounds, HasLocal, HasBareLabel, RunsIn, Runs}
-use Rattle.wasm_operator_validator_stacks.proofs.Layers.{Fixed, seen, held, Sound, top_frame}
+use Rattle.wasm_operator_validator_stacks.specs.Running.{Operands, Swaps, Drops, own_of, with_own, over, opens_as, frame_as, Surrounds, HasLocal, HasBareLabel, Runs}
+use Rattle.wasm_operator_validator_stacks.proofs.Layers.{Fixed, held, Sound, top_frame}
 use Rattle.wasm_operator_validator_stacks.proofs.Setting.{value_by}
 
 -- ---- operands in memory
@@ -155,6 +152,7 @@ surrounds_over bits locals first set frames σ xs s = record {
     opened : (os : List Open) → IsOpen os → IsOpen (with_own xs os)
     opened [] i = i
     opened (o ∷ os) i = tt
+
     same : (os : List Open) → map opens_as (with_own xs os) ≡ map opens_as os
     same [] = refl
     same (o ∷ os) = refl
@@ -184,6 +182,7 @@ local_there bits locals inits frames index t b e d f σ s =
     yes : (b : Bool) → not b ≡ false → b ≡ true
     yes true e = refl
     yes false e = cc
+
     within : (ts : List ValType) (n : ℕ) (t : ValType) → slice_get ts n ≡ Some t → n < length ts
     within [] n t e = cc
     within (x ∷ ts) zero t e = omega arith

@@ -1,0 +1,2 @@
+-- That what a run took is told.
+pub mod Telling

@@ -215,13 +215,8 @@ impl<'a, 'v, 'r, R: WasmModuleResources> TellPlain<'a, Refused> for NotingWalk<'
     // A run changes operands alone, which it has at hand; and none is refused.
     #[inline(always)]
     fn tell_plain(&mut self, bytes: &'a [u8], at: usize, features: WasmFeatures) -> usize {
-        run_plain(
-            self.walk.visitor.inner,
-            self.walk.visitor.resources,
-            bytes,
-            at,
-            features,
-        )
+        let resources = self.walk.visitor.resources;
+        run_plain(self.walk.visitor.inner, resources, bytes, at, features)
     }
 }
 

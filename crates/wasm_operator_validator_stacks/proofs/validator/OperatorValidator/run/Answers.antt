@@ -1,4 +1,4 @@
-use Rattle.std.proofs.Common.{◌≡◌, ◌≤◌, ◌-◌, ◌∙◌, None, Some, sym, ap, subst, arith, length, reverse, slice_get}
+use Rattle.std.proofs.Common.{◌≡◌, ◌≤◌, ◌-◌, ◌∙◌, Some, sym, ap, subst, arith, length, reverse, slice_get}
 use Rattle.std.proofs.lemmas.List.{length-reverse}
 use Rattle.wasm_operator_validator_stacks.specs.Running.{over, Runs}
 use Rattle.wasm_operator_validator_stacks.proofs.Layers.{fixed, held, height_below}
