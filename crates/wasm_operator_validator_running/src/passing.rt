@@ -1,30 +1,33 @@
 //! Where constants end: a run has no use for their values.
 
-ghost use Rattle.std.specs.Prelude.{◌+◌, ◌≤◌, ℕ, ℤ, suc, length, IfSome, IfNone};
-ghost use Rattle.wasm_types.specs.decoding.Leb.{signed, s32, s64};
+ghost use Rattle.std.specs.Prelude.{◌≡◌, ◌+◌, ◌≤◌, ℤ, get_or, if◌then◌else◌, nat_lt, length, IfSome};
+ghost use Rattle.wasm_types.specs.decoding.Leb.{s32, s64};
 ghost use Rattle.wasm_types_numbers.specs.Numbers.{GivesAt};
-ghost use Rattle.wasm_operator_validator_running.specs.Passing.{GoesOn};
+ghost use Rattle.wasm_operator_validator_running.specs.Passing.{going};
 
-/// The offset behind a signed number of at most four bytes.
+// One more byte that says that more follow, if all before it said so.
 #[inline(always)]
-fn short_end(bytes: &[u8], at: usize) -> Option<usize>
-    requires { at + 6 ≤ length bytes.now }
-    ensures found { IfSome result (λ end. (k r : ℕ) → (x : ℤ) × GivesAt (signed (suc (suc (suc (suc k)))) r) bytes.now at x end) }
-    ensures none { IfNone result (GoesOn bytes.now at) }
+fn continued(byte: u8, before: usize) -> usize
+    ensures value { result ≡ (if nat_lt byte 128 then 0 else before) }
+    ensures within { result ≤ before }
 {
-    if bytes[at] < 0x80 {
-        return Some(at + 1);
+    if byte < 0x80 {
+        return 0;
     }
-    if bytes[at + 1] < 0x80 {
-        return Some(at + 2);
-    }
-    if bytes[at + 2] < 0x80 {
-        return Some(at + 3);
-    }
-    if bytes[at + 3] < 0x80 {
-        return Some(at + 4);
-    }
-    None
+    before
+}
+
+// How many of four bytes, from the first on, say that more follow. The lengths of numbers cannot be foreseen, so no branch asks for them.
+#[inline(always)]
+fn going_on(bytes: &[u8], at: usize) -> usize
+    requires { at + 6 ≤ length bytes.now }
+    ensures { result ≡ going (get_or bytes.now at 0) (get_or bytes.now (at + 1) 0) (get_or bytes.now (at + 2) 0) (get_or bytes.now (at + 3) 0) }
+{
+    let first = continued(bytes[at], 1);
+    let second = continued(bytes[at + 1], first);
+    let third = continued(bytes[at + 2], second);
+    let fourth = continued(bytes[at + 3], third);
+    first + second + third + fourth
 }
 
 /// The offset behind a signed number of 32 bits, where a byte more is there than it may have.
@@ -36,16 +39,12 @@ pub(crate) fn i32_end(bytes: &[u8], at: usize) -> Option<usize>
     if bytes.len() - at < 6 {
         return None;
     }
-    let Some(end) = short_end(bytes, at) else {
-        if bytes[at + 4] < 0x08 {
-            return Some(at + 5);
-        }
-        if bytes[at + 4] >= 0x78 && bytes[at + 4] < 0x80 {
-            return Some(at + 5);
-        }
-        return None;
-    };
-    Some(end)
+    let more = going_on(bytes, at);
+    let last = bytes[at + 4];
+    if (more < 4) | (last < 0x08) | ((last >= 0x78) & (last < 0x80)) {
+        return Some(at + 1 + more);
+    }
+    None
 }
 
 /// The offset behind a signed number of 64 bits and at most five bytes, where a byte more is there.
@@ -57,11 +56,9 @@ pub(crate) fn i64_end(bytes: &[u8], at: usize) -> Option<usize>
     if bytes.len() - at < 6 {
         return None;
     }
-    let Some(end) = short_end(bytes, at) else {
-        if bytes[at + 4] < 0x80 {
-            return Some(at + 5);
-        }
-        return None;
-    };
-    Some(end)
+    let more = going_on(bytes, at);
+    if (more < 4) | (bytes[at + 4] < 0x80) {
+        return Some(at + 1 + more);
+    }
+    None
 }

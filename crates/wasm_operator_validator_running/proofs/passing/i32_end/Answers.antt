@@ -1,18 +1,9 @@
 use Rattle.std.proofs.Common.{arith}
-use Rattle.wasm_operator_validator_running.proofs.Ends.{five_low, five_high}
+use Rattle.wasm_operator_validator_running.proofs.Ends.{ends_32}
 use Rattle.wasm_operator_validator_running.proofs.passing.i32_end.Goals as goal
 
-pub returns-then-bytes-at-lt8 : goal.returns-then-bytes-at-lt8
-returns-then-bytes-at-lt8 c =
+pub returns-then-more-last : goal.returns-then-more-last
+returns-then-more-last c =
     let a = c.requires in
     let b = c.if-bytes-at-lt6.false in
-    five_low c.args.bytes.now c.args.at (omega (arith, a, b)) c.in_default.ensures.none c.if-bytes-at-lt8.true
-
-pub returns-then-bytes-at-lt128 : goal.returns-then-bytes-at-lt128
-returns-then-bytes-at-lt128 c =
-    let a = c.requires in
-    let b = c.if-bytes-at-lt6.false in
-    five_high c.args.bytes.now c.args.at (omega (arith, a, b)) c.in_default.ensures.none c.if-bytes-at-ge120.true c.if-bytes-at-lt128.true
-
-pub returns : goal.returns
-returns c = c.in-Some.ensures.found 0 4
+    ends_32 c.args.bytes.now c.args.at c.going_on-more.result (omega (arith, a, b)) c.going_on-more.ensures c.if-more-last.true
