@@ -28,7 +28,9 @@ pub(crate) fn take_next<R: WasmModuleResources>(
 ) -> Option<usize>
     requires begins { Begins bytes.now at code }
     requires shape { IsShape shape code }
-    ensures taken { IfSome result (λ end. Takes (R.meaning resources.now) features.0 bytes.now at (Surrounds body.now.features.0 body.now.locals.now body.now.inits.now.first body.now.inits.now.set body.now.frames.now) operands.old operands.new end) }
+    ensures taken { IfSome result (λ end. Takes (R.meaning resources.now) features.0 bytes.now at
+        (Surrounds body.now.features.0 body.now.locals.now body.now.inits.now.first body.now.inits.now.set body.now.frames.now)
+        operands.old operands.new end) }
     ensures forward { IfSome result (λ end. at < end) }
     ensures under { operands.new.1 ≡ operands.old.1 }
     ensures stays { IfNone result (operands.new ≡ operands.old) }

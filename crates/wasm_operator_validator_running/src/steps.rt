@@ -36,7 +36,9 @@ pub(crate) fn local_get(
     body: &RunBody<'_>,
 ) -> Option<usize>
     requires { Begins bytes.now at 0x20 }
-    ensures taken { IfSome result (λ end. (m : Meaning) → Takes m features.0 bytes.now at (Surrounds body.now.features.0 body.now.locals.now body.now.inits.now.first body.now.inits.now.set body.now.frames.now) operands.old operands.new end) }
+    ensures taken { IfSome result (λ end. (m : Meaning) → Takes m features.0 bytes.now at
+        (Surrounds body.now.features.0 body.now.locals.now body.now.inits.now.first body.now.inits.now.set body.now.frames.now)
+        operands.old operands.new end) }
     ensures forward { IfSome result (λ end. at < end) }
     ensures under { operands.new.1 ≡ operands.old.1 }
     ensures stays { IfNone result (operands.new ≡ operands.old) }
@@ -66,7 +68,9 @@ pub(crate) fn local_set(
     body: &RunBody<'_>,
 ) -> Option<usize>
     requires { Begins bytes.now at 0x21 }
-    ensures taken { IfSome result (λ end. (m : Meaning) → Takes m features.0 bytes.now at (Surrounds body.now.features.0 body.now.locals.now body.now.inits.now.first body.now.inits.now.set body.now.frames.now) operands.old operands.new end) }
+    ensures taken { IfSome result (λ end. (m : Meaning) → Takes m features.0 bytes.now at
+        (Surrounds body.now.features.0 body.now.locals.now body.now.inits.now.first body.now.inits.now.set body.now.frames.now)
+        operands.old operands.new end) }
     ensures forward { IfSome result (λ end. at < end) }
     ensures under { operands.new.1 ≡ operands.old.1 }
     ensures stays { IfNone result (operands.new ≡ operands.old) }
@@ -96,7 +100,9 @@ pub(crate) fn local_tee(
     body: &RunBody<'_>,
 ) -> Option<usize>
     requires { Begins bytes.now at 0x22 }
-    ensures taken { IfSome result (λ end. (m : Meaning) → Takes m features.0 bytes.now at (Surrounds body.now.features.0 body.now.locals.now body.now.inits.now.first body.now.inits.now.set body.now.frames.now) operands.old operands.new end) }
+    ensures taken { IfSome result (λ end. (m : Meaning) → Takes m features.0 bytes.now at
+        (Surrounds body.now.features.0 body.now.locals.now body.now.inits.now.first body.now.inits.now.set body.now.frames.now)
+        operands.old operands.new end) }
     ensures forward { IfSome result (λ end. at < end) }
     ensures under { operands.new.1 ≡ operands.old.1 }
     ensures stays { IfNone result (operands.new ≡ operands.old) }
@@ -126,7 +132,9 @@ pub(crate) fn br_if(
     body: &RunBody<'_>,
 ) -> Option<usize>
     requires { Begins bytes.now at 0x0d }
-    ensures taken { IfSome result (λ end. (m : Meaning) → Takes m features.0 bytes.now at (Surrounds body.now.features.0 body.now.locals.now body.now.inits.now.first body.now.inits.now.set body.now.frames.now) operands.old operands.new end) }
+    ensures taken { IfSome result (λ end. (m : Meaning) → Takes m features.0 bytes.now at
+        (Surrounds body.now.features.0 body.now.locals.now body.now.inits.now.first body.now.inits.now.set body.now.frames.now)
+        operands.old operands.new end) }
     ensures forward { IfSome result (λ end. at < end) }
     ensures under { operands.new.1 ≡ operands.old.1 }
     ensures stays { IfNone result (operands.new ≡ operands.old) }
@@ -153,7 +161,9 @@ pub(crate) fn drop_top(
     body: &RunBody<'_>,
 ) -> Option<usize>
     requires { Begins bytes.now at 0x1a }
-    ensures taken { IfSome result (λ end. (m : Meaning) → Takes m features.0 bytes.now at (Surrounds body.now.features.0 body.now.locals.now body.now.inits.now.first body.now.inits.now.set body.now.frames.now) operands.old operands.new end) }
+    ensures taken { IfSome result (λ end. (m : Meaning) → Takes m features.0 bytes.now at
+        (Surrounds body.now.features.0 body.now.locals.now body.now.inits.now.first body.now.inits.now.set body.now.frames.now)
+        operands.old operands.new end) }
     ensures forward { IfSome result (λ end. at < end) }
     ensures under { operands.new.1 ≡ operands.old.1 }
     ensures stays { IfNone result (operands.new ≡ operands.old) }
@@ -176,7 +186,9 @@ pub(crate) fn i32_const(
     body: &RunBody<'_>,
 ) -> Option<usize>
     requires { Begins bytes.now at 0x41 }
-    ensures taken { IfSome result (λ end. (m : Meaning) → Takes m features.0 bytes.now at (Surrounds body.now.features.0 body.now.locals.now body.now.inits.now.first body.now.inits.now.set body.now.frames.now) operands.old operands.new end) }
+    ensures taken { IfSome result (λ end. (m : Meaning) → Takes m features.0 bytes.now at
+        (Surrounds body.now.features.0 body.now.locals.now body.now.inits.now.first body.now.inits.now.set body.now.frames.now)
+        operands.old operands.new end) }
     ensures forward { IfSome result (λ end. at < end) }
     ensures under { operands.new.1 ≡ operands.old.1 }
     ensures stays { IfNone result (operands.new ≡ operands.old) }
@@ -200,7 +212,9 @@ pub(crate) fn i64_const(
     body: &RunBody<'_>,
 ) -> Option<usize>
     requires { Begins bytes.now at 0x42 }
-    ensures taken { IfSome result (λ end. (m : Meaning) → Takes m features.0 bytes.now at (Surrounds body.now.features.0 body.now.locals.now body.now.inits.now.first body.now.inits.now.set body.now.frames.now) operands.old operands.new end) }
+    ensures taken { IfSome result (λ end. (m : Meaning) → Takes m features.0 bytes.now at
+        (Surrounds body.now.features.0 body.now.locals.now body.now.inits.now.first body.now.inits.now.set body.now.frames.now)
+        operands.old operands.new end) }
     ensures forward { IfSome result (λ end. at < end) }
     ensures under { operands.new.1 ≡ operands.old.1 }
     ensures stays { IfNone result (operands.new ≡ operands.old) }
@@ -224,7 +238,9 @@ pub(crate) fn f32_const(
     body: &RunBody<'_>,
 ) -> Option<usize>
     requires { Begins bytes.now at 0x43 }
-    ensures taken { IfSome result (λ end. (m : Meaning) → Takes m features.0 bytes.now at (Surrounds body.now.features.0 body.now.locals.now body.now.inits.now.first body.now.inits.now.set body.now.frames.now) operands.old operands.new end) }
+    ensures taken { IfSome result (λ end. (m : Meaning) → Takes m features.0 bytes.now at
+        (Surrounds body.now.features.0 body.now.locals.now body.now.inits.now.first body.now.inits.now.set body.now.frames.now)
+        operands.old operands.new end) }
     ensures forward { IfSome result (λ end. at < end) }
     ensures under { operands.new.1 ≡ operands.old.1 }
     ensures stays { IfNone result (operands.new ≡ operands.old) }
@@ -251,7 +267,9 @@ pub(crate) fn f64_const(
     body: &RunBody<'_>,
 ) -> Option<usize>
     requires { Begins bytes.now at 0x44 }
-    ensures taken { IfSome result (λ end. (m : Meaning) → Takes m features.0 bytes.now at (Surrounds body.now.features.0 body.now.locals.now body.now.inits.now.first body.now.inits.now.set body.now.frames.now) operands.old operands.new end) }
+    ensures taken { IfSome result (λ end. (m : Meaning) → Takes m features.0 bytes.now at
+        (Surrounds body.now.features.0 body.now.locals.now body.now.inits.now.first body.now.inits.now.set body.now.frames.now)
+        operands.old operands.new end) }
     ensures forward { IfSome result (λ end. at < end) }
     ensures under { operands.new.1 ≡ operands.old.1 }
     ensures stays { IfNone result (operands.new ≡ operands.old) }
@@ -299,7 +317,9 @@ pub(crate) fn load<R: WasmModuleResources>(
 ) -> Option<usize>
     requires begins { Begins bytes.now at code }
     requires access { IsAccessAt load_of code natural number }
-    ensures taken { IfSome result (λ end. Takes (R.meaning resources.now) features.0 bytes.now at (Surrounds body.now.features.0 body.now.locals.now body.now.inits.now.first body.now.inits.now.set body.now.frames.now) operands.old operands.new end) }
+    ensures taken { IfSome result (λ end. Takes (R.meaning resources.now) features.0 bytes.now at
+        (Surrounds body.now.features.0 body.now.locals.now body.now.inits.now.first body.now.inits.now.set body.now.frames.now)
+        operands.old operands.new end) }
     ensures forward { IfSome result (λ end. at < end) }
     ensures under { operands.new.1 ≡ operands.old.1 }
     ensures stays { IfNone result (operands.new ≡ operands.old) }
@@ -335,7 +355,9 @@ pub(crate) fn store<R: WasmModuleResources>(
 ) -> Option<usize>
     requires begins { Begins bytes.now at code }
     requires access { IsAccessAt store_of code natural number }
-    ensures taken { IfSome result (λ end. Takes (R.meaning resources.now) features.0 bytes.now at (Surrounds body.now.features.0 body.now.locals.now body.now.inits.now.first body.now.inits.now.set body.now.frames.now) operands.old operands.new end) }
+    ensures taken { IfSome result (λ end. Takes (R.meaning resources.now) features.0 bytes.now at
+        (Surrounds body.now.features.0 body.now.locals.now body.now.inits.now.first body.now.inits.now.set body.now.frames.now)
+        operands.old operands.new end) }
     ensures forward { IfSome result (λ end. at < end) }
     ensures under { operands.new.1 ≡ operands.old.1 }
     ensures stays { IfNone result (operands.new ≡ operands.old) }
@@ -370,7 +392,9 @@ pub(crate) fn change(
 ) -> Option<usize>
     requires begins { Begins bytes.now at code }
     requires number { IsNumberAt code (floats_of takes || floats_of gives) (type_of takes ∷ []) (type_of gives ∷ []) }
-    ensures taken { IfSome result (λ end. (m : Meaning) → Takes m features.0 bytes.now at (Surrounds body.now.features.0 body.now.locals.now body.now.inits.now.first body.now.inits.now.set body.now.frames.now) operands.old operands.new end) }
+    ensures taken { IfSome result (λ end. (m : Meaning) → Takes m features.0 bytes.now at
+        (Surrounds body.now.features.0 body.now.locals.now body.now.inits.now.first body.now.inits.now.set body.now.frames.now)
+        operands.old operands.new end) }
     ensures forward { IfSome result (λ end. at < end) }
     ensures under { operands.new.1 ≡ operands.old.1 }
     ensures stays { IfNone result (operands.new ≡ operands.old) }
@@ -399,7 +423,9 @@ pub(crate) fn combine(
 ) -> Option<usize>
     requires begins { Begins bytes.now at code }
     requires number { IsNumberAt code (floats_of takes || floats_of gives) (type_of takes ∷ type_of takes ∷ []) (type_of gives ∷ []) }
-    ensures taken { IfSome result (λ end. (m : Meaning) → Takes m features.0 bytes.now at (Surrounds body.now.features.0 body.now.locals.now body.now.inits.now.first body.now.inits.now.set body.now.frames.now) operands.old operands.new end) }
+    ensures taken { IfSome result (λ end. (m : Meaning) → Takes m features.0 bytes.now at
+        (Surrounds body.now.features.0 body.now.locals.now body.now.inits.now.first body.now.inits.now.set body.now.frames.now)
+        operands.old operands.new end) }
     ensures forward { IfSome result (λ end. at < end) }
     ensures under { operands.new.1 ≡ operands.old.1 }
     ensures stays { IfNone result (operands.new ≡ operands.old) }

@@ -56,7 +56,8 @@ pub trait Run {
 
     /// Takes one more operator, which exchanges operands of the innermost frame; or none, and then nothing changes.
     fn next(&mut self, operands: &mut RunOperands, body: &RunBody<'_>) -> bool
-        ensures stepped { result ≡ true → (σ : State) → Surrounds body.now.features.0 body.now.locals.now body.now.inits.now.first body.now.inits.now.set body.now.frames.now σ
+        ensures stepped { result ≡ true → (σ : State)
+            → Surrounds body.now.features.0 body.now.locals.now body.now.inits.now.first body.now.inits.now.set body.now.frames.now σ
             → own_of σ.opens ≡ operands.old.0 → steps self.old σ self.new (over σ operands.new.0) }
         ensures under { operands.new.1 ≡ operands.old.1 }
         ensures fewer { result ≡ true → left self.new < left self.old }
@@ -190,7 +191,9 @@ impl<'v> RunBody<'v> {
     /// The type of a local, if it is one of the first and has a value.
     #[inline(always)]
     pub fn local(&self, index: u32) -> Option<ValType>
-        ensures { IfSome result (λ t. (σ : State) → Surrounds self.now.features.0 self.now.locals.now self.now.inits.now.first self.now.inits.now.set self.now.frames.now σ → HasLocal σ index t) }
+        ensures { IfSome result (λ t. (σ : State)
+            → Surrounds self.now.features.0 self.now.locals.now self.now.inits.now.first self.now.inits.now.set self.now.frames.now σ
+            → HasLocal σ index t) }
     {
         let Some(ty) = self.locals.get_first(index) else {
             return None;
@@ -204,7 +207,9 @@ impl<'v> RunBody<'v> {
     /// Whether a label is known to take no operands: a block without a type, or a loop that has one for results alone.
     #[inline(always)]
     pub fn has_bare_label(&self, depth: u32) -> bool
-        ensures { result ≡ true → (σ : State) → Surrounds self.now.features.0 self.now.locals.now self.now.inits.now.first self.now.inits.now.set self.now.frames.now σ → HasBareLabel σ depth }
+        ensures { result ≡ true → (σ : State)
+            → Surrounds self.now.features.0 self.now.locals.now self.now.inits.now.first self.now.inits.now.set self.now.frames.now σ
+            → HasBareLabel σ depth }
     {
         let depth = depth as usize;
         if depth >= self.frames.len() {
