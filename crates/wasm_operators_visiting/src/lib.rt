@@ -2,7 +2,8 @@
 //!
 //! [`ReadOperators`] looks at one operator where the innermost open frame is known; what keeps frames tells it
 //! (`FrameStack`). By [`ReadToVisitor`] and [`ReadToSimdVisitor`] one is read and visited. [`visit_expression`] visits the operators of an expression, exactly where all the bytes spell one
-//! without vectors, and [`tell_expression_with_offset`] tells whoever can be told of any operator (`TellOperator`), and of several at once (`TellPlain`). `specs/InFrame.antt` defines what is read in a frame and why it is refused, and
+//! without vectors, and [`tell_expression_with_offset`] tells whoever can be told of any operator (`TellOperator`), and of several at
+//! once (`TellPlain`). `specs/InFrame.antt` defines what is read in a frame and why it is refused, and
 //! `specs/Walking.antt` what a visitor is told on the way.
 #![tactic(auto)]
 
