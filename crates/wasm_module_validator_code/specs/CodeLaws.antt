@@ -42,6 +42,13 @@ module _ (z : Settings) (m : Meaning) (bits x : ℕ) (s : Bytes) (r : IsReadBy z
       let rules = functions_are z m.«module» x s.rest r.few_locals r.within in
       tells_same answer _ _ rules.0 rules.1 (subst (λ (y : Settings). Tells answer (SpellsValidFunction y m.«module» x s.rest)) under (v.exact x begun))
 
+  -- what is judged valid under these features
+  pub accepted : SpellsValidFunction (judged_by bits s.settings) m.«module» x s.rest → IsFunctionOf z m.«module» x s.rest
+  accepted v =
+      let under : judged_by bits s.settings ≡ z
+      = ap (λ (n : ℕ). judged_by n s.settings) (sym r.features) ∙ ap (λ (y : Settings). judged_by z.features y) r.settings in
+      (functions_are z m.«module» x s.rest r.few_locals r.within).0 (subst (λ (y : Settings). SpellsValidFunction y m.«module» x s.rest) under v)
+
 -- ---- all of them
 
 abbrev got : {A : Type 0} → A → Option A → A

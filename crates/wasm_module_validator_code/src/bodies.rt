@@ -7,7 +7,7 @@ ghost use Rattle.wasm_module_validator_code.specs.Code.{IsReadBy, IsFunctionOf};
 
 use std::alloc::Global;
 use wasm_module_validator_functions::{
-    FuncToValidate, FuncValidatorAllocations, FunctionBody, WasmModuleResources,
+    BodyJudge, FuncToValidate, FuncValidatorAllocations, FunctionBody, WasmModuleResources,
 };
 use wasm_types::{Result, WasmFeatures};
 
@@ -39,23 +39,27 @@ pub fn judge_bodies<R: WasmModuleResources>(
     ensures { (z : Settings) → Each (λ b. IsReadBy z features.0 b.body) bodies.now
         → Tells result (Each (λ b. IsFunctionOf z (R.meaning resources.now).«module» b.type_index b.body.rest) bodies.now) }
 {
-    let mut allocs = FuncValidatorAllocations::new(alloc);
+    let mut judge = BodyJudge::new(alloc, features);
     for i in 0..bodies.len() {
-        allocs = match judge_body(resources, features, &bodies[i], allocs) {
-            Ok(allocs) => allocs,
-            Err(error) => return Err(error),
-        };
+        let body = &bodies[i];
+        if !judge.accepts(resources, body.type_index, features, &body.body) {
+            match judge_body(alloc, resources, features, body) {
+                Ok(()) => (),
+                Err(error) => return Err(error),
+            }
+        }
     }
     Ok(())
 }
 
-/// Judges a body, with the memory of a validator that is done, and gives the memory of its own.
+/// Judges a body by a validator of its own.
+#[inline(never)]
 fn judge_body<R: WasmModuleResources>(
+    alloc: Global,
     resources: &R,
     features: WasmFeatures,
     body: &Body<'_>,
-    allocs: FuncValidatorAllocations,
-) -> Result<FuncValidatorAllocations>
+) -> Result<()>
     ensures { (z : Settings) → IsReadBy z features.0 body.now.body
         → Tells result (IsFunctionOf z (R.meaning resources.now).«module» body.now.type_index body.now.body.rest) }
 {
@@ -65,14 +69,9 @@ fn judge_body<R: WasmModuleResources>(
         ty: body.type_index,
         features,
     };
-    let mut validator = match function.into_validator(allocs) {
+    let mut validator = match function.into_validator(FuncValidatorAllocations::new(alloc)) {
         Ok(validator) => validator,
         Err(error) => return Err(error),
     };
-    let answer = validator.validate(&body.body);
-    let allocs = validator.into_allocations();
-    match answer {
-        Ok(()) => Ok(allocs),
-        Err(error) => Err(error),
-    }
+    validator.validate(&body.body)
 }

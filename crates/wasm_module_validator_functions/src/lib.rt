@@ -17,12 +17,14 @@
 
 mod beginning;
 mod heights;
+mod judging;
 pub mod laws;
 mod locals;
 mod operators;
 mod validator;
 
 pub use beginning::{FuncToValidate, FuncValidatorAllocations};
+pub use judging::BodyJudge;
 pub use validator::FuncValidator;
 pub use wasm_operator_validator_walk::{
     BlockType, Frame, FrameKind, OperatorValidator, WasmModuleResources,

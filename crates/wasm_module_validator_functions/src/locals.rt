@@ -151,7 +151,7 @@ fn read_again(reader: &BinaryReader<'_>) -> Error
 }
 
 /// How many locals a function may have: as the limits say, and no more than a validator keeps.
-fn most_locals(limits: Limits) -> u32
+pub(crate) fn most_locals(limits: Limits) -> u32
     ensures { result ≡ min limits.locals default_limits.locals }
 {
     min(limits.locals, Limits::default().locals)

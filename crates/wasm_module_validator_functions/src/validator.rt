@@ -64,7 +64,7 @@ impl<R: WasmModuleResources> FuncValidator<R> {
 }
 
 /// The same reader, under these features.
-fn read_under(reader: BinaryReader<'_>, features: WasmFeatures) -> BinaryReader<'_>
+pub(crate) fn read_under(reader: BinaryReader<'_>, features: WasmFeatures) -> BinaryReader<'_>
     ensures { result ≡ under features.0 reader.entry }
 {
     let mut reader = reader;

@@ -7,5 +7,5 @@
 pub mod laws;
 mod validating;
 
-pub use validating::{Refused, Validating, validate_operators};
-pub use wasm_operators_visiting::{TellOperator, TellPlain};
+pub use validating::{Refused, Validating, accepts_operators, validate_operators};
+pub use wasm_operators_visiting::{OperatorsReaderAllocations, TellOperator, TellPlain};

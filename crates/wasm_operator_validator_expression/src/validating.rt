@@ -1,6 +1,6 @@
 //! The loop over an expression.
 
-ghost use Rattle.std.specs.Prelude.{◌≡◌, ◌↔◌, Result, IsTrue, [], true};
+ghost use Rattle.std.specs.Prelude.{◌≡◌, ◌↔◌, Result, Ok, IsTrue, [], true};
 ghost use Rattle.wasm_types.specs.error.declared.error.ErrorKind.TheVariants.{Other};
 ghost use Rattle.wasm_operators_visiting.specs.reader.operator.Op.{Op};
 ghost use Rattle.wasm_operator_validator_state.specs.resources.Meaning.{Meaning};
@@ -9,7 +9,9 @@ ghost use Rattle.wasm_operator_validator_expression.specs.Validating.{Validates}
 
 use std::alloc::Global;
 use wasm_operator_validator_state::Refusal;
-use wasm_operators_visiting::{TellOperator, TellPlain, tell_expression_with_offset};
+use wasm_operators_visiting::{
+    OperatorsReaderAllocations, TellOperator, TellPlain, tell_expression_with_offset, tells_whole,
+};
 use wasm_types::{BinaryReader, Error, Result};
 
 /// That an operator is refused. Whoever is told of operators keeps why, so that an answer is one bit.
@@ -99,6 +101,26 @@ pub fn validate_operators<'a, V: Validating<'a>>(
         return Err(unfinished);
     }
     Ok(())
+}
+
+/// Whether an expression is valid, as `validate_operators` says it, and nothing of why not: the visitor may have taken some operators then.
+/// The memory of the frames is used again.
+pub fn accepts_operators<'a, V: Validating<'a>>(
+    alloc: Global,
+    frames: &mut OperatorsReaderAllocations,
+    reader: BinaryReader<'a>,
+    visitor: &mut V,
+) -> bool
+    ensures validates { result ≡ true → Validates (V.meaning visitor.old) (V.state visitor.old) reader.entry (Ok tt) (V.state visitor.new) }
+    ensures keeps { result ≡ true → V.keeps visitor.old visitor.new }
+{
+    if visitor.has_failed() {
+        return false;
+    }
+    if !tells_whole(alloc, frames, reader, visitor) {
+        return false;
+    }
+    visitor.is_done()
 }
 
 /// The refusal of an expression behind which a frame is still open.

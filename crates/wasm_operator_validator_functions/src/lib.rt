@@ -6,4 +6,4 @@
 
 mod functions;
 
-pub use functions::new_func;
+pub use functions::{begin_func, new_func};

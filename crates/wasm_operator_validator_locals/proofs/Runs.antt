@@ -31,17 +31,12 @@ use Rattle.std.proofs.Common.{
   append_assoc,
   slice_get,
   option_map,
-  Result,
-  Ok,
-  Err,
-  IfErr,
 }
 use Rattle.std.proofs.lemmas.List.{append-nil, length-append, length-replicate, take_all}
+use Rattle.std.proofs.Math.Seq.{take-append_seam}
 use Rattle.std.proofs.lemmas.Bool.{leb-true, leb-false, le-leb}
 use Rattle.std.proofs.lemmas.Option.{slice_get_past, slice_get_read}
 use Rattle.std.specs.List.Sorted.{IsPartitionPoint, IsPartitionedBy}
-use Rattle.wasm_types.specs.error.ErrorValue.{ErrorValue}
-use Rattle.wasm_types.specs.error.declared.error.ErrorKind.TheVariants as kinds
 use Rattle.wasm_types.specs.values.declared.value.ValType.{ValType}
 use Rattle.wasm_operator_validator_locals.specs.declared.locals.Run.{Run}
 use Rattle.wasm_operator_validator_locals.specs.Locals.{locals_from, AreRunsFrom, IsFront}
@@ -152,12 +147,9 @@ run_fits items ts n count t a is e fits within =
     let more : (n + count) - end_from 0 items ≡ count = omega arith in
     (runs_more 0 items (record { end = n + count; ty = t }) a (omega arith) (omega arith), locals_more 0 items (record { end = n + count; ty = t }) ∙ rw (more, is) refl)
 
-pub none_more : (ts : List ValType) (n count : ℕ) (t : ValType) → n ≡ length ts → n ≤ default_limits.locals → count ≡ 0 → (ts ≡ ts ++ replicate count t) × (length ts ≤ default_limits.locals)
-none_more ts n count t e within none = (rw none (sym (append-nil ts)), omega arith)
-
-pub length-more : (ts us : List ValType) (n count : ℕ) (t : ValType) → n ≡ length ts → n ≤ default_limits.locals
-    → count ≤ default_limits.locals - n → us ≡ ts ++ replicate count t → length us ≤ default_limits.locals
-length-more ts us n count t e within fits is = omega (arith, ap (λ (x : List ValType). length x) is, length-append ts (replicate count t), length-replicate count t)
+-- a run that was put at the end is taken off again
+pub taken_back : (rs held more back : List Run) (r : Run) → held ≡ rs → more ≡ rs ++ r ∷ [] → back ≡ take (length held) more → back ≡ rs
+taken_back rs held more back r e f g = (rw (f, e) at g) ∙ take-append_seam rs (r ∷ [])
 
 pub local_past : (rs items : List Run) (ts : List ValType) (index i : ℕ) → rs ≡ items → AreRunsFrom 0 items → locals_from 0 items ≡ ts → i ≡ length rs → Ends index rs i → None ≡ slice_get ts index
 local_past rs items ts index i same a is past p =
@@ -216,8 +208,3 @@ front_resized front us all t len v more count f whole held is le e =
     let size : len + more - v ≡ more = omega (arith, is) in
     let new : us ≡ front ++ replicate more t = rw size at (rw whole_front at e) in
     rw new (front_grown front all t more count f (omega (arith, whole, held)) le)
-
--- what holds where memory is refused
-pub memory_only : {X : Type 0} (r : Result X ErrorValue) (Q : Type 0) → Q → IfErr r (λ e. e.kind ≡ kinds.OutOfMemory → Q)
-memory_only (Ok x) Q q = tt
-memory_only (Err e) Q q = λ is. q

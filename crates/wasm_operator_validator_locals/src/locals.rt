@@ -1,7 +1,7 @@
 //! The locals of a function.
 
 ghost use Rattle.wasm_types_limits.specs.Limits.{default_limits};
-ghost use Rattle.std.specs.Prelude.{◌≡◌, ◌↔◌, IsTrue, ◌+◌, ◌≤◌, ◌<◌, List, [], ◌++◌, length, replicate, slice_get, IfErr, IfSome, Some};
+ghost use Rattle.std.specs.Prelude.{◌≡◌, ◌↔◌, IsTrue, true, false, ◌+◌, ◌≤◌, ◌<◌, List, [], ◌++◌, length, replicate, slice_get, IfErr, IfSome, Some};
 ghost use Rattle.wasm_types.specs.error.declared.error.ErrorKind.TheVariants.{Other, OutOfMemory};
 ghost use Rattle.wasm_types.specs.values.declared.value.ValType.{ValType as TheValType};
 ghost use Rattle.wasm_operator_validator_locals.specs.Locals.{IsFront};
@@ -88,21 +88,39 @@ impl Locals {
         ensures stays { IfErr result (λ _. self.new ≡ self.old) }
         ensures memory { IfErr result (λ e. e.kind ≡ OutOfMemory → (0 < count) × (length self.old + count ≤ default_limits.locals)) }
     {
-        let defined = self.len_locals();
-        if count > MAX_WASM_FUNCTION_LOCALS - defined {
+        if !self.may_define(count) {
             return Err(too_many_locals(offset));
         }
-        if count == 0 {
+        if self.put(count, ty) {
             return Ok(());
+        }
+        Err(Error::out_of_memory(offset))
+    }
+
+    /// Puts `count` locals of a type at the end, as `define` does, and says whether it did. Else nothing changes: there would be too many,
+    /// or there is no memory.
+    pub fn put(&mut self, count: u32, ty: &ValType) -> bool
+        ensures put { result ≡ true → (self.new ≡ self.old ++ replicate count ty.now) × (length self.old + count ≤ default_limits.locals) }
+        ensures stays { result ≡ false → self.new ≡ self.old }
+        ensures some { result ≡ false → length self.old + count ≤ default_limits.locals → 0 < count }
+    {
+        let defined = self.len_locals();
+        if count > MAX_WASM_FUNCTION_LOCALS - defined {
+            return false;
+        }
+        if count == 0 {
+            return true;
         }
         let end = defined + count;
         let held = self.runs.as_slice().len();
-        self.runs.push(Run { end, ty: *ty })?;
-        if let Err(error) = grow_first(&mut self.first, defined, count, ty) {
+        let Ok(()) = self.runs.push(Run { end, ty: *ty }) else {
+            return false;
+        };
+        if !grow_first(&mut self.first, defined, count, ty) {
             self.runs.truncate(held);
-            return Err(error);
+            return false;
         }
-        Ok(())
+        true
     }
 
     /// Whether so many more may be put at the end, by the limit.
@@ -139,19 +157,21 @@ impl Locals {
 
 /// Puts as many of `count` further locals of a type at the end of the first as have room there, where those are all of
 /// the `defined` ones.
-fn grow_first(first: &mut Vec<ValType>, defined: u32, count: u32, ty: &ValType) -> Result<()>
+fn grow_first(first: &mut Vec<ValType>, defined: u32, count: u32, ty: &ValType) -> bool
     requires { length first.old.items ≤ 64 }
     ensures front { (all : List TheValType) → length all ≡ defined → IsFront first.old.items all → IsFront first.new.items (all ++ replicate count ty.now) }
     ensures within { length first.new.items ≤ 64 }
-    ensures refused { IfErr result (λ e. (e.kind ≡ OutOfMemory) × (first.new.items ≡ first.old.items)) }
+    ensures refused { result ≡ false → first.new.items ≡ first.old.items }
 {
     let held = first.as_slice().len();
     if held != defined as usize || held >= FIRST {
-        return Ok(());
+        return true;
     }
     let more = min(count as usize, FIRST - held);
-    first.resize(held + more, *ty)?;
-    Ok(())
+    let Ok(()) = first.resize(held + more, *ty) else {
+        return false;
+    };
+    true
 }
 
 /// The refusal of more locals than the limit allows.

@@ -1,5 +1,5 @@
 -- Signed numbers by their bytes, whatever their values.
-use Rattle.std.proofs.Common.{◌≡◌, ◌||◌, ◌&&◌, leb, leb-true, ⊎_elim, nat_lt, ltb-true, Bool, true, false, sym, subst, ℕ, ℤ, zero, suc, pos, ◌+ℤ◌, ◌*ℤ◌, ◌-ℤ◌, ◌+◌, ◌-◌, ◌<◌, ◌≤◌, List, length, get_or, refl, arith}
+use Rattle.std.proofs.Common.{◌≡◌, ⊎_elim, nat_lt, Bool, true, false, sym, subst, ℕ, ℤ, zero, suc, pos, ◌+ℤ◌, ◌*ℤ◌, ◌-ℤ◌, ◌+◌, ◌-◌, ◌*◌, ◌/◌, ◌%◌, ◌<◌, ◌≤◌, List, length, get_or, refl, arith}
 use Rattle.std.specs.Prelude.{if◌then◌else◌}
 use Rattle.std.proofs.lemmas.Bool.{lt-ltb, le-ltb, cases_lt}
 use Rattle.wasm_types.specs.decoding.Decoder.{byte}
@@ -138,26 +138,17 @@ ends_with k r text i n l (three_bytes a b c d) last = let e : i + 1 + 3 ≡ i + 
 ends_with k r text i n l (all_four g) last = let e : i + 1 + 4 ≡ i + 5 = omega arith in rw e (last g refl)
 
 pub ends_64 : (text : List ℕ) (i n : ℕ) → i + 6 ≤ length text → n ≡ going (get_or text i 0) (get_or text (i + 1) 0) (get_or text (i + 2) 0) (get_or text (i + 3) 0)
-    → (nat_lt n 4 || nat_lt (get_or text (i + 4) 0) 128) ≡ true → (x : ℤ) × GivesAt s64 text i x (i + 1 + n)
-ends_64 text i n l e fits = ends_with 5 1 text i n l (subst (Counted text i) (sym e) (counted text i)) (λ g four. five_of_64 text i l g (ltb-true _ 128 (at n four fits)))
-  where
-    at : (n : ℕ) → n ≡ 4 → (nat_lt n 4 || nat_lt (get_or text (i + 4) 0) 128) ≡ true → nat_lt (get_or text (i + 4) 0) 128 ≡ true
-    at n four fits = rw four at fits
-
-both_true : (a b : Bool) → (a && b) ≡ true → (a ≡ true) × (b ≡ true)
-both_true true b e = (refl, e)
-both_true false b e = cc
+    → get_or text (i + n) 0 < 128 → (x : ℤ) × GivesAt s64 text i x (i + 1 + n)
+ends_64 text i n l e low = ends_with 5 1 text i n l (subst (Counted text i) (sym e) (counted text i)) (λ g four. five_of_64 text i l g (rw four at low))
 
 -- where the fifth byte fits 32 bits
-fifth_of_32 : (text : List ℕ) (i : ℕ) → i + 6 ≤ length text → GoesOn text i
-    → (nat_lt (get_or text (i + 4) 0) 8 || (leb 120 (get_or text (i + 4) 0) && nat_lt (get_or text (i + 4) 0) 128)) ≡ true → Ends 4 4 text i (i + 5)
-fifth_of_32 text i l g fits = ⊎_elim
-    (λ low. five_low text i l g low)
-    (λ high.
-    let (a, b) = both_true (leb 120 (get_or text (i + 4) 0)) (nat_lt (get_or text (i + 4) 0) 128) (rw (le-ltb (get_or text (i + 4) 0) 8 high) at fits) in
-    five_high text i l g (leb-true 120 (get_or text (i + 4) 0) a) (ltb-true (get_or text (i + 4) 0) 128 b))
+fifth_of_32 : (text : List ℕ) (i : ℕ) → i + 6 ≤ length text → GoesOn text i → get_or text (i + 4) 0 < 128 → (get_or text (i + 4) 0 + 8) % 128 < 16
+    → Ends 4 4 text i (i + 5)
+fifth_of_32 text i l g low fits = ⊎_elim
+    (λ few. five_low text i l g few)
+    (λ high. five_high text i l g (omega (arith, low, fits, high)) low)
     (cases_lt (get_or text (i + 4) 0) 8)
 
 pub ends_32 : (text : List ℕ) (i n : ℕ) → i + 6 ≤ length text → n ≡ going (get_or text i 0) (get_or text (i + 1) 0) (get_or text (i + 2) 0) (get_or text (i + 3) 0)
-    → ((nat_lt n 4 || nat_lt (get_or text (i + 4) 0) 8) || (leb 120 (get_or text (i + 4) 0) && nat_lt (get_or text (i + 4) 0) 128)) ≡ true → (x : ℤ) × GivesAt s32 text i x (i + 1 + n)
-ends_32 text i n l e fits = ends_with 0 4 text i n l (subst (Counted text i) (sym e) (counted text i)) (λ g four. fifth_of_32 text i l g (rw four at fits))
+    → get_or text (i + n) 0 < 128 → (get_or text (i + n) 0 + 8) % 128 < 128 - 112 * (n / 4) → (x : ℤ) × GivesAt s32 text i x (i + 1 + n)
+ends_32 text i n l e low fits = ends_with 0 4 text i n l (subst (Counted text i) (sym e) (counted text i)) (λ g four. fifth_of_32 text i l g (rw four at low) (rw four at fits))

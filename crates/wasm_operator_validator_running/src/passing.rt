@@ -11,17 +11,15 @@ fn continued(byte: u8, before: usize) -> usize
     ensures value { result ≡ (if nat_lt byte 128 then 0 else before) }
     ensures within { result ≤ before }
 {
-    if byte < 0x80 {
-        return 0;
-    }
-    before
+    (byte / 0x80) as usize * before
 }
 
 // How many of four bytes, from the first on, say that more follow. The lengths of numbers cannot be foreseen, so no branch asks for them.
 #[inline(always)]
 fn going_on(bytes: &[u8], at: usize) -> usize
     requires { at + 6 ≤ length bytes.now }
-    ensures { result ≡ going (get_or bytes.now at 0) (get_or bytes.now (at + 1) 0) (get_or bytes.now (at + 2) 0) (get_or bytes.now (at + 3) 0) }
+    ensures value { result ≡ going (get_or bytes.now at 0) (get_or bytes.now (at + 1) 0) (get_or bytes.now (at + 2) 0) (get_or bytes.now (at + 3) 0) }
+    ensures within { result ≤ 4 }
 {
     let first = continued(bytes[at], 1);
     let second = continued(bytes[at + 1], first);
@@ -40,11 +38,15 @@ pub(crate) fn i32_end(bytes: &[u8], at: usize) -> Option<usize>
         return None;
     }
     let more = going_on(bytes, at);
-    let last = bytes[at + 4];
-    if (more < 4) | (last < 0x08) | ((last >= 0x78) & (last < 0x80)) {
-        return Some(at + 1 + more);
+    let last = bytes[at + more];
+    if last >= 0x80 {
+        return None;
     }
-    None
+    // all last bytes will do but a fifth, which fits where its bits above the lowest three are the same
+    if (last as usize + 8) % 0x80 >= 0x80 - 0x70 * (more / 4) {
+        return None;
+    }
+    Some(at + 1 + more)
 }
 
 /// The offset behind a signed number of 64 bits and at most five bytes, where a byte more is there.
@@ -57,8 +59,8 @@ pub(crate) fn i64_end(bytes: &[u8], at: usize) -> Option<usize>
         return None;
     }
     let more = going_on(bytes, at);
-    if (more < 4) | (bytes[at + 4] < 0x80) {
-        return Some(at + 1 + more);
+    if bytes[at + more] >= 0x80 {
+        return None;
     }
-    None
+    Some(at + 1 + more)
 }

@@ -6,7 +6,7 @@ use crate::OperatorValidator;
 use std::alloc::Global;
 use wasm_operator_validator_inits::LocalInits;
 use wasm_operator_validator_locals::Locals;
-use wasm_operator_validator_state::{Frame, MaybeType};
+use wasm_operator_validator_state::{Frame, Operand};
 use wasm_operator_validator_tape::Tape;
 
 /// The memory of a validator that is done. Whatever is left in it is forgotten by the validator that gets it, which begins as one
@@ -14,7 +14,7 @@ use wasm_operator_validator_tape::Tape;
 #[derive(Drop)]
 pub struct OperatorValidatorAllocations {
     /// The operands.
-    pub operands: Tape<MaybeType>,
+    pub operands: Tape<Operand>,
     /// The open frames.
     pub control: Tape<Frame>,
     /// The types of the locals.

@@ -1,20 +1,20 @@
 //! Attempts: an operator is tried, and taken back.
 
-ghost use Rattle.std.specs.Prelude.{◌≡◌, [], false, None};
+ghost use Rattle.std.specs.Prelude.{◌≡◌, [], true, false, None, length, replicate};
 ghost use Rattle.wasm_operator_validator_stacks.specs.Layout.{none_saved, rolled_back, AreFirst, Begins};
 
 use crate::OperatorValidator;
 use wasm_operator_validator_inits::LocalInits;
 use wasm_operator_validator_locals::Locals;
-use wasm_operator_validator_state::{Frame, MaybeType};
+use wasm_operator_validator_state::{Frame, Operand};
 use wasm_operator_validator_tape::Tape;
-use wasm_types::WasmFeatures;
+use wasm_types::{ValType, WasmFeatures};
 
 impl OperatorValidator {
     /// What is known where no frame is open yet: the locals, of which the first so many are parameters, and which of them have a
     /// value from the start. The stacks are emptied first. It takes no memory.
     pub fn new(
-        operands: Tape<MaybeType>,
+        operands: Tape<Operand>,
         control: Tape<Frame>,
         features: WasmFeatures,
         locals: Locals,
@@ -42,6 +42,22 @@ impl OperatorValidator {
             control,
             inits,
         }
+    }
+
+    /// What is known where no frame is open yet, in place of all that was known: these parameters are the locals. It says whether it was
+    /// done; else there are too many of them, or there is no memory, and no more is known of the validator.
+    pub fn restart(&mut self, features: WasmFeatures, params: &[ValType], shared: bool) -> bool
+        ensures { result ≡ true → self.new ≡ record { given = record { bits = features.0; locals = params.now; params = length params.now; shared = shared }; inits = []; opens = []; failed = false; saved = none_saved } }
+    {
+        self.operands.clear();
+        self.control.clear();
+        self.features = features;
+        self.shared = shared;
+        self.failed = false;
+        self.failed_before = false;
+        let done = put_params(&mut self.locals, &mut self.inits, params);
+        self.params = self.locals.len_locals();
+        done
     }
 
     /// Begins an attempt: a rollback gives what stands here.
@@ -77,4 +93,36 @@ impl OperatorValidator {
         self.control.rollback();
         self.inits.rollback();
     }
+}
+
+// These parameters are the locals from now on, and have a value. It says whether it was done; else there are none.
+fn put_params(locals: &mut Locals, inits: &mut LocalInits, params: &[ValType]) -> bool
+    ensures locals { result ≡ true → locals.new ≡ params.now }
+    ensures none { result ≡ false → locals.new ≡ [] }
+    ensures first { inits.new ≡ record { first = replicate (length locals.new) true; set = []; saved = None } }
+{
+    inits.clear();
+    if !put_each(locals, params) {
+        locals.clear();
+        return false;
+    }
+    let count = locals.len_locals();
+    let Ok(()) = inits.define_params(count as usize) else {
+        locals.clear();
+        return false;
+    };
+    true
+}
+
+// The same of the locals alone; else there are some of them.
+fn put_each(locals: &mut Locals, params: &[ValType]) -> bool
+    ensures { result ≡ true → locals.new ≡ params.now }
+{
+    locals.clear();
+    for one in params {
+        if !locals.put(1, one) {
+            return false;
+        }
+    }
+    true
 }

@@ -1,6 +1,6 @@
 //! Locals that a body declares.
 
-ghost use Rattle.std.specs.Prelude.{◌≡◌, true, OnOk, IfErr, MatchResult};
+ghost use Rattle.std.specs.Prelude.{◌≡◌, ◌<◌, true, false, OnOk, IfErr, MatchResult};
 ghost use Rattle.wasm_types.specs.error.Denials.{Denies, RefusedAt};
 ghost use Rattle.wasm_operator_validator_state.specs.rules.Context.{IsType};
 ghost use Rattle.wasm_operator_validator_state.specs.resources.Meaning.{Meaning, type_in};
@@ -93,21 +93,48 @@ impl OperatorValidator {
         if !self.locals.may_define(count) {
             return Err(too_many_locals(offset));
         }
-        if count == 0 {
+        if self.put_within(count, ty) {
             return Ok(());
         }
+        Err(Error::out_of_memory(offset))
+    }
+
+    // The same where there is room by the limit, and whether it was done. Else there is no memory, and nothing changes.
+    #[inline]
+    fn put_within(&mut self, count: u32, ty: &ValType) -> bool
+        requires { HasRoomFor self.old count }
+        ensures put { result ≡ true → self.new ≡ with_locals self.old count ty.now }
+        ensures stays { result ≡ false → self.new ≡ self.old }
+        ensures some { result ≡ false → 0 < count }
+    {
+        if count == 0 {
+            return true;
+        }
         let held = self.inits.len_locals();
-        match self.inits.define_locals(count, ty) {
-            Ok(()) => (),
-            Err(_) => return Err(Error::out_of_memory(offset)),
+        let Ok(()) = self.inits.define_locals(count, ty) else {
+            return false;
+        };
+        if !self.locals.put(count, ty) {
+            self.inits.truncate(held);
+            return false;
         }
-        match self.locals.define(offset, count, ty) {
-            Ok(()) => Ok(()),
-            Err(error) => {
-                self.inits.truncate(held);
-                Err(error)
-            }
+        true
+    }
+
+    /// Puts `count` locals of a number's type at the end, as `define_locals` does, and says whether it did. Else nothing changes:
+    /// the features do not allow the type, there would be too many, or there is no memory. It takes no locals of other types.
+    #[inline]
+    pub fn put_numbers(&mut self, count: u32, ty: ValType) -> bool
+        ensures put { result ≡ true → (m : Meaning) → DefinesLocals m self.old count ty self.new }
+        ensures stays { result ≡ false → self.new ≡ self.old }
+    {
+        if !is_allowed_number(self.features, &ty) {
+            return false;
         }
+        if !self.locals.may_define(count) {
+            return false;
+        }
+        self.put_within(count, &ty)
     }
 }
 

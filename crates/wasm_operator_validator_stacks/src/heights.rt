@@ -25,7 +25,7 @@ impl OperatorValidator {
         if depth >= operands.len() {
             return None;
         }
-        Some(known_type(operands[operands.len() - 1 - depth]))
+        Some(known_type(operands[operands.len() - 1 - depth].get()))
     }
 
     /// The frame that a label names, which counts outwards from the innermost, if there is one.

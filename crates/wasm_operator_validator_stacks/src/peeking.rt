@@ -21,7 +21,7 @@ impl OperatorValidator {
         if operands.len() - 1 - depth < frame.height {
             return below_all(frame.unreachable);
         }
-        Some(operands[operands.len() - 1 - depth])
+        Some(operands[operands.len() - 1 - depth].get())
     }
 }
 

@@ -11,14 +11,14 @@ use crate::fitting::is_same;
 use std::marker::Model;
 use wasm_operator_validator_inits::LocalInits;
 use wasm_operator_validator_locals::Locals;
-use wasm_operator_validator_state::{BlockType, Frame, FrameKind, MaybeType};
+use wasm_operator_validator_state::{BlockType, Frame, FrameKind, MaybeType, Operand};
 use wasm_operator_validator_tape::Loose;
 use wasm_types::{ValType, WasmFeatures};
 
 /// All operands, and how many of them lie under the innermost frame. A contract sees that frame's, and those under them.
 #[derive(Drop)]
 pub struct RunOperands {
-    operands: Loose<MaybeType>,
+    operands: Loose<Operand>,
     base: usize,
 }
 
@@ -81,7 +81,7 @@ impl RunOperands {
         ensures under { self.new.1 ≡ self.old.1 }
         ensures stays { result ≡ false → self.new ≡ self.old }
     {
-        self.operands.put(MaybeType::Known(*ty))
+        self.operands.put(Operand::new(MaybeType::Known(*ty)))
     }
 
     /// Whether an operand of the innermost frame lies on top that is known to have this very type.
@@ -89,7 +89,7 @@ impl RunOperands {
     pub fn has_same(&self, ty: &ValType) -> bool
         ensures { result ≡ true → Swaps (ty.now ∷ []) (ty.now ∷ []) self.now self.now }
     {
-        self.has(1) && is_same(&self.operands.under(0), ty)
+        self.has(1) && is_same(&self.operands.under(0).get(), ty)
     }
 
     /// Takes an operand off that is known to have this very type. Else nothing changes.
@@ -130,7 +130,8 @@ impl RunOperands {
         if !self.has_same(takes) {
             return false;
         }
-        self.operands.replace(MaybeType::Known(*gives));
+        self.operands
+            .replace(Operand::new(MaybeType::Known(*gives)));
         true
     }
 
@@ -142,10 +143,10 @@ impl RunOperands {
         if !self.has(2) {
             return false;
         }
-        if !is_same(&self.operands.under(0), second) {
+        if !is_same(&self.operands.under(0).get(), second) {
             return false;
         }
-        is_same(&self.operands.under(1), first)
+        is_same(&self.operands.under(1).get(), first)
     }
 
     /// Puts an operand of one type in the place of two that are known to have another. Else nothing changes.
@@ -159,7 +160,8 @@ impl RunOperands {
             return false;
         }
         self.operands.shorten();
-        self.operands.replace(MaybeType::Known(*gives));
+        self.operands
+            .replace(Operand::new(MaybeType::Known(*gives)));
         true
     }
 

@@ -15,7 +15,7 @@ use crate::fitting::{is_fit, is_same, not_taken, type_mismatch};
 use std::marker::Model;
 use wasm_operator_validator_inits::LocalInits;
 use wasm_operator_validator_locals::Locals;
-use wasm_operator_validator_state::{Frame, MaybeType, Refusal, WasmModuleResources};
+use wasm_operator_validator_state::{Frame, MaybeType, Operand, Refusal, WasmModuleResources};
 use wasm_operator_validator_tape::Tape;
 use wasm_types::{ValType, WasmFeatures};
 
@@ -29,7 +29,7 @@ pub struct OperatorValidator {
     pub(crate) shared: bool,
     pub(crate) failed: bool,
     pub(crate) failed_before: bool,
-    pub(crate) operands: Tape<MaybeType>,
+    pub(crate) operands: Tape<Operand>,
     pub(crate) control: Tape<Frame>,
     pub(crate) inits: LocalInits,
 }
@@ -84,7 +84,7 @@ impl OperatorValidator {
         let Some(operand) = popped else {
             return Err(Refusal::EmptyStackOfAny);
         };
-        Ok(operand)
+        Ok(operand.get())
     }
 
     /// Puts an operand on. It is refused for memory alone.
@@ -96,7 +96,7 @@ impl OperatorValidator {
         ensures failed { self.new.failed ≡ self.old.failed }
         ensures saved { self.new.saved ≡ self.old.saved }
     {
-        let Ok(()) = self.operands.push(operand) else {
+        let Ok(()) = self.operands.push(Operand::new(operand)) else {
             return Err(Refusal::OutOfMemory);
         };
         Ok(())
@@ -161,7 +161,7 @@ impl OperatorValidator {
         let Some(top) = operands.last() else {
             return false;
         };
-        if !is_same(top, expected) {
+        if !is_same(&top.get(), expected) {
             return false;
         }
         let Some(_taken) = self.operands.pop_outside() else {
@@ -251,7 +251,7 @@ impl OperatorValidator {
             return false;
         }
         let top = operands.len() - 1;
-        is_same(&operands[top], ty) && is_same(&operands[top - 1], ty)
+        is_same(&operands[top].get(), ty) && is_same(&operands[top - 1].get(), ty)
     }
 
     /// The ordinary operator on two numbers: takes two operands of the first type and gives one of the other. Nearly always both are
@@ -273,7 +273,10 @@ impl OperatorValidator {
     {
         if self.lie_same(popped) {
             if let Some(_taken) = self.operands.pop_outside() {
-                let Ok(()) = self.operands.replace_last(MaybeType::Known(*pushed)) else {
+                let Ok(()) = self
+                    .operands
+                    .replace_last(Operand::new(MaybeType::Known(*pushed)))
+                else {
                     return Err(Refusal::OutOfMemory);
                 };
                 return Ok(());

@@ -1,5 +1,6 @@
 -- What is known, which operators may come, what steps do, and what refusals are: definitions, in the order in which they are read.
 pub mod Names
+pub mod Packed
 pub mod Refusals
 pub mod State
 pub mod Steps

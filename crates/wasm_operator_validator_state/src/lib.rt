@@ -8,12 +8,14 @@
 mod frame;
 pub mod laws;
 mod operand;
+mod packed;
 mod refusal;
 mod texts;
 mod type_names;
 
 pub use frame::Frame;
 pub use operand::MaybeType;
+pub use packed::Operand;
 pub use refusal::{Reason, Refusal, Space};
 pub use type_names::ty_to_str;
 pub use wasm_operator_validator_resources::{

@@ -8,7 +8,8 @@ mod operators;
 mod short;
 mod walk;
 
-pub use walk::{ValidatingWalk, validate_expression};
+pub use walk::{ValidatingWalk, accepts_expression, validate_expression};
+pub use wasm_operator_validator_expression::OperatorsReaderAllocations;
 pub use wasm_operator_validator_stacks::{
     BlockType, Frame, FrameKind, LocalInits, Locals, MaybeType, OperatorValidator,
     OperatorValidatorAllocations, WasmModuleResources,

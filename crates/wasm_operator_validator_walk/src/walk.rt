@@ -1,6 +1,7 @@
 //! What the walk drives, and the call.
 
 ghost use Rattle.std.proofs.Common.{◌≡◌, ◌∙◌, ap, refl};
+ghost use Rattle.std.specs.Prelude.{true, Ok};
 ghost use Rattle.wasm_operator_validator_expression.specs.state.State.{Visits};
 ghost use Rattle.wasm_operator_validator_expression.specs.state.Refusals.{refused};
 ghost use Rattle.wasm_operator_validator_expression.specs.Validating.{Validates};
@@ -16,7 +17,8 @@ use crate::short::{
 };
 use std::alloc::Global;
 use wasm_operator_validator_expression::{
-    Refused, TellOperator, TellPlain, Validating, validate_operators,
+    OperatorsReaderAllocations, Refused, TellOperator, TellPlain, Validating, accepts_operators,
+    validate_operators,
 };
 use wasm_operator_validator_running::run_plain;
 use wasm_operator_validator_stacks::{OperatorValidator, Refusal, WasmModuleResources};
@@ -296,6 +298,44 @@ fn validate_walk<R: WasmModuleResources>(
     ensures resources { walk.new.walk.visitor.resources.now ≡ walk.old.walk.visitor.resources.now }
 {
     validate_operators(alloc, reader, walk)
+}
+
+/// Whether an expression is valid, as `validate_expression` says it, and nothing of why not: the validator may have taken some operators
+/// then. The memory of the reader's frames is used again.
+pub fn accepts_expression<R: WasmModuleResources>(
+    alloc: Global,
+    frames: &mut OperatorsReaderAllocations,
+    reader: BinaryReader<'_>,
+    validator: &mut OperatorValidator,
+    resources: &R,
+) -> bool
+    ensures { result ≡ true → Validates (R.meaning resources.now) validator.old reader.entry (Ok tt) validator.new }
+{
+    let mut walk = NotingWalk {
+        walk: ValidatingWalk {
+            visitor: ValidatingVisitor {
+                inner: validator,
+                resources,
+            },
+        },
+        refusal: Refusal::OutOfMemory,
+    };
+    let accepts = accepts_walk(alloc, frames, reader, &mut walk);
+    let _validator = lent_validator(walk);
+    accepts
+}
+
+/// The same, at a walk: it keeps the validator that it was lent, and the module.
+fn accepts_walk<R: WasmModuleResources>(
+    alloc: Global,
+    frames: &mut OperatorsReaderAllocations,
+    reader: BinaryReader<'_>,
+    walk: &mut NotingWalk<'_, '_, R>,
+) -> bool
+    ensures validates { result ≡ true → Validates (R.meaning walk.old.walk.visitor.resources.now) walk.old.walk.visitor.inner.now reader.entry (Ok tt) walk.new.walk.visitor.inner.now }
+    ensures lent { result ≡ true → walk.new.walk.visitor.inner.ghost_name ≡ walk.old.walk.visitor.inner.ghost_name }
+{
+    accepts_operators(alloc, frames, reader, walk)
 }
 
 /// The validator that a walk was lent. A walk ends here: taken apart in the function that made it, it would not tell the proof what the

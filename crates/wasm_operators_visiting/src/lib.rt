@@ -14,7 +14,9 @@ mod walking;
 
 pub use read_operators::{ReadOperators, ReadToSimdVisitor, ReadToVisitor};
 pub use telling::{TellSimdOperator, tell_operator_in_frame_simd, tell_operator_simd};
-pub use walking::{tell_expression_with_offset, visit_expression, visit_expression_with_offset};
+pub use walking::{
+    tell_expression_with_offset, tells_whole, visit_expression, visit_expression_with_offset,
+};
 pub use wasm_operators_reader::{
     AtomicOperator, BlockType, BrTable, BrTableTargets, BulkOperator, Catch, ConstOperator,
     ContinuationOperator, ControlOperator, ControlStack, DescriptorOperator, ExceptionOperator,

@@ -1,14 +1,19 @@
 //! Expressions that are visited as they are read.
 
-ghost use Rattle.std.specs.Prelude.{◌≡◌, [], Ok, Err, IfOk, IfErr};
+ghost use Rattle.std.specs.Prelude.{◌≡◌, [], true, Ok, Err, IfOk, IfErr};
 ghost use Rattle.wasm_types.specs.reader.Reading.{IsNotMemory};
 ghost use Rattle.wasm_operators_reader.specs.expression.Code.{Code, walk};
 ghost use Rattle.wasm_operators_reader.specs.expression.Spelling.{SpelledExpression};
 ghost use Rattle.wasm_operators_reader.specs.Standing.{Standing, at_start};
+ghost use Rattle.wasm_operators_reader.specs.Visiting.{VisitsPlain};
 ghost use Rattle.wasm_operators_reader.specs.Walking.{HasNoVectors, VisitsAll, WalksTo, WalksUntil, WalksUntilAt, StopsPlain};
 
 use std::alloc::Global;
-use wasm_operators_reader::{LentVisitor, OperatorsReader, TellOperator, TellPlain, VisitOperator};
+use std::mem::replace;
+use wasm_operators_reader::{
+    FrameStack, LentVisitor, OperatorsReader, OperatorsReaderAllocations, TellOperator, TellPlain,
+    VisitOperator,
+};
 use wasm_types::{BinaryReader, Result};
 
 /// Visits the operators of an expression in their order, to the end of the bytes. The visitor answers whether to go on: the walk
@@ -140,4 +145,60 @@ where
         }
     }
     Ok(Ok(()))
+}
+
+/// Whether all bytes of the reader spell one expression without vectors, of whose operators the visitor answers each with `Ok`: it was told
+/// of them all then. Nothing says why not, as `tell_expression_with_offset` does: the visitor may have been told of some. The memory of the
+/// reader's frames is used again.
+pub fn tells_whole<'a, E: Drop, V>(
+    alloc: Global,
+    frames: &mut OperatorsReaderAllocations,
+    reader: BinaryReader<'a>,
+    visitor: &mut V,
+) -> bool
+where
+    V: TellOperator<'a, Output = std::result::Result<(), E>> + TellPlain<'a, E>,
+    ensures { result ≡ true → (c : Code) × SpelledExpression reader.entry.settings c reader.entry.rest × HasNoVectors (walk c) × VisitsAll V.visits (Ok tt) visitor.old (walk c) visitor.new }
+{
+    let used = replace(frames, OperatorsReaderAllocations::new(alloc));
+    let mut operators = OperatorsReader::new_with_allocs(alloc, reader, used);
+    let told = tells_all(&mut operators, visitor);
+    let closed = operators.current_frame().is_none();
+    *frames = operators.into_allocations();
+    told && closed
+}
+
+// Whether a visitor answers `Ok` to all operators until no byte is left.
+#[inline]
+fn tells_all<'a, E: Drop, V>(operators: &mut OperatorsReader<'a>, visitor: &mut V) -> bool
+where
+    V: TellOperator<'a, Output = std::result::Result<(), E>> + TellPlain<'a, E>,
+    ensures { result ≡ true → WalksTo V.visits (Ok tt) operators.old visitor.old operators.new visitor.new × (operators.new.bytes.rest ≡ []) }
+{
+    while !operators.eof() {
+        if operators.tell_run(visitor).is_some() {
+            return false;
+        }
+        if operators.eof() {
+            return true;
+        }
+        if !tells_next(operators, visitor) {
+            return false;
+        }
+    }
+    true
+}
+
+// Whether a visitor answers `Ok` to the next operator.
+#[inline(never)]
+fn tells_next<'a, E: Drop, V>(operators: &mut OperatorsReader<'a>, visitor: &mut V) -> bool
+where
+    V: TellOperator<'a, Output = std::result::Result<(), E>> + TellPlain<'a, E>,
+    ensures { result ≡ true → VisitsPlain V.visits operators.old visitor.old (Ok tt) operators.new visitor.new }
+{
+    match operators.tell_operator(visitor) {
+        Ok(Ok(())) => true,
+        Ok(Err(_)) => false,
+        Err(_) => false,
+    }
 }

@@ -32,6 +32,17 @@ impl<'a> BinaryReader<'a> {
         if let Some(value) = self.short_u32() {
             return Ok(value);
         }
+        self.long_var_u32()
+    }
+
+    /// The same of a number of any length, out of line.
+    #[inline(never)]
+    #[tactic(auto, using(crate::proofs::AtOnce::given, crate::proofs::AtOnce::goes_forward, crate::proofs::AtOnce::flawed))]
+    fn long_var_u32(&mut self) -> Result<u32>
+        ensures answer { Answers (λ v. v) result self.old self.new (u32_decoder self.old) }
+        ensures no_memory { NeedsNoMemory result }
+        ensures forward { Reaches self.old self.new }
+    {
         match long_u32_at(self.rest(), 0) {
             Ok((value, length)) => {
                 self.advance(length);

@@ -174,6 +174,11 @@ module _ (m : Meaning) (bits x : ℕ) (σ : State) (b : Begins m bits x σ) wher
         subst (λ (ν : State). AcceptsExpression m ν t) (sym begins_behind)
         ((bodies_are_expressions m (given_with τ.given.locals) (block.FuncType x) none_saved t).1 (c, spelled, of_params))
 
+-- the locals were taken, and the expression behind them was accepted
+pub accepted_body : (m : Meaning) (bits x : ℕ) (σ : State) → Begins m bits x σ → (s t : Bytes) (τ ω : State) → TakesLocals m (under bits s) σ t τ → Validates m τ t (Ok tt) ω
+    → SpellsValidFunction (judged_by bits s.settings) m.«module» x s.rest
+accepted_body m bits x σ b s t τ ω h v = accepted_valid m bits x σ b (under bits s) t τ refl h v.exact
+
 -- ---- whole bodies
 
 tells_same : (answer : Result (Unit {0}) ErrorValue) (P Q : Type 0) → (P → Q) → (Q → P) → Tells answer P → Tells answer Q

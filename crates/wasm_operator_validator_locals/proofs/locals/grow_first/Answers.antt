@@ -11,4 +11,4 @@ returns-clause-front c = λ all n f.
     let held = ap (λ (x : List ValType). length x) c.as_slice-held.ensures.value in
     front_resized _ _ all c.args.ty.now (length c.as_slice-held.result.now) _ _ c.args.count f
     (omega (arith, n, c.if-held-defined.false)) (sym held) (sym c.as_slice-held.ensures.len)
-    (search rules) c.in_ok-resize.ensures.items
+    (search rules) c.in-Ok.ensures.items

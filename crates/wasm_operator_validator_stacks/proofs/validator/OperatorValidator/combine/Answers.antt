@@ -35,7 +35,7 @@ invariant_of-self-in-Some g c =
     let e : operand_at (held w c.self.inside.control.0 c.self.inside.operands.0 c.self.inside.inits.set).opens 1 ≡ Some (Known c.args.popped.now) = rw
     (← c.self.view_is) at (c.lie_same.ensures.under c.if-lie_same.true) in (
       (held_combine m w c.self.inside.control.0 c.self.inside.operands.0 c.pop_outside.new.self.0 c.replace_last.new.self.0 c.self.inside.inits.set _
-          c.args.popped.now c.args.pushed.now d e c.self.invariant.0 c.in-Some.ensures.popped c.in-Ok.ensures.replaced).1,
+          c.args.popped.now c.args.pushed.now d e c.self.invariant.0 c.in-Some.ensures.popped (rw c.new.ensures at c.in-Ok.ensures.replaced)).1,
       rw (c.replace_last.ensures.saved, c.pop_outside.ensures.saved) c.self.invariant.1,
       c.self.invariant.2,
     )
@@ -52,4 +52,4 @@ returns-in-Some-clause-does g c =
     rw (← c.self.view_is)
     (rw (c.replace_last.ensures.saved, c.pop_outside.ensures.saved)
     (held_combine m w c.self.inside.control.0 c.self.inside.operands.0 c.pop_outside.new.self.0 c.replace_last.new.self.0 c.self.inside.inits.set _
-    c.args.popped.now c.args.pushed.now d e c.self.invariant.0 c.in-Some.ensures.popped c.in-Ok.ensures.replaced).0)
+    c.args.popped.now c.args.pushed.now d e c.self.invariant.0 c.in-Some.ensures.popped (rw c.new.ensures at c.in-Ok.ensures.replaced)).0)

@@ -17,7 +17,7 @@ returns-then-is_same-clause-top c = λ t.
     c.self.inside.control.1 c.self.inside.inits.saved c.self.inside.failed_before c.self.inside.failed) c.self.inside.control.0
     c.self.inside.operands.0 c.as_slice-operands.result.now c.self.inside.inits.set c.in-Some.frame 0
     (n - 1) c.index-operands-top.result _ c.args.ty.now (sym e) c.as_slice-operands.ensures
-    j h i c.index-operands-top.is (c.is_same.ensures c.if-is_same.true))
+    j h i c.index-operands-top.is (sym c.get.ensures ∙ c.is_same.ensures c.if-is_same.true))
 
 pub returns-then-is_same-clause-under : goal.returns-then-is_same-clause-under
 returns-then-is_same-clause-under c = λ t.
@@ -33,4 +33,4 @@ returns-then-is_same-clause-under c = λ t.
     c.self.inside.control.1 c.self.inside.inits.saved c.self.inside.failed_before c.self.inside.failed) c.self.inside.control.0
     c.self.inside.operands.0 c.as_slice-operands.result.now c.self.inside.inits.set c.in-Some.frame 1
     (n - 1 - 1) c.index-operands-top-then-is_same.result _ c.args.ty.now (sym e) c.as_slice-operands.ensures
-    j h i c.index-operands-top-then-is_same.is (c.is_same-then-is_same.ensures t))
+    j h i c.index-operands-top-then-is_same.is (sym c.get-then-is_same.ensures ∙ c.is_same-then-is_same.ensures t))

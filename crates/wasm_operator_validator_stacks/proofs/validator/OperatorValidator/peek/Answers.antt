@@ -27,5 +27,5 @@ returns c =
     let h = c.if-depth-operands.false in
     let k = c.if-operands-depth.false in
     rw (← c.self.view_is)
-    (held_peek (fixed c.self.inside.features.0 c.self.inside.locals c.self.inside.params c.self.inside.shared c.self.inside.operands.1 c.self.inside.control.1 c.self.inside.inits.saved c.self.inside.failed_before c.self.inside.failed) c.self.inside.control.0 c.self.inside.operands.0 c.as_slice-operands.result.now c.self.inside.inits.set c.in-Some.frame c.args.depth c.index-operands-operands.result _ (sym e) c.as_slice-operands.ensures
+    (ap Some c.get.ensures ∙ held_peek (fixed c.self.inside.features.0 c.self.inside.locals c.self.inside.params c.self.inside.shared c.self.inside.operands.1 c.self.inside.control.1 c.self.inside.inits.saved c.self.inside.failed_before c.self.inside.failed) c.self.inside.control.0 c.self.inside.operands.0 c.as_slice-operands.result.now c.self.inside.inits.set c.in-Some.frame c.args.depth c.index-operands-operands.result _ (sym e) c.as_slice-operands.ensures
     h k c.index-operands-operands.is)

@@ -17,7 +17,7 @@ pub returns-clause-popped : goal.returns-clause-popped
 returns-clause-popped c = λ t m.
     let e : Some c.in-Some.frame ≡ slice_get c.self.inside.control.0 (length c.self.inside.control.0 - 1) =
     rw (← c.as_slice.ensures) (c.in-Some.ensures ∙ c.last.ensures.value) in
-    let s = c.is_same.ensures c.if-not-is_same.false in
+    let s = sym c.get.ensures ∙ c.is_same.ensures c.if-not-is_same.false in
     let d = last_is c.self.inside.operands.0 c.pop_outside.new.self.0 _ c.in-Some-last.top.now c.in-Some-pop_outside.ensures.popped (rw (← c.as_slice-operands.ensures) c.in-Some-last.ensures.value) in
     rw (← c.self.view_is)
     (rw c.pop_outside.ensures.saved

@@ -6,11 +6,11 @@ pub invariant_of-self-2 : goal.invariant_of-self-2
 invariant_of-self-2 c =
     let w = fixed c.self.inside.features.0 c.self.inside.locals c.self.inside.params c.self.inside.shared c.self.inside.operands.1 c.self.inside.control.1 c.self.inside.inits.saved c.self.inside.failed_before c.self.inside.failed in
     let o : IsOpen (held w c.self.inside.control.0 c.self.inside.operands.0 c.self.inside.inits.set).opens = rw (← c.self.view_is) at c.requires in
-    (rw c.in-Ok.ensures.pushed (sound_push w c.self.inside.control.0 c.self.inside.operands.0 c.self.inside.inits.set c.args.operand o c.self.invariant.0), rw c.in-Ok.ensures.saved c.self.invariant.1, c.self.invariant.2)
+    (rw (c.in-Ok.ensures.pushed, c.new.ensures) (sound_push w c.self.inside.control.0 c.self.inside.operands.0 c.self.inside.inits.set c.args.operand o c.self.invariant.0), rw c.in-Ok.ensures.saved c.self.invariant.1, c.self.invariant.2)
 
 pub returns-clause-does : goal.returns-clause-does
 returns-clause-does c = λ m.
     let w = fixed c.self.inside.features.0 c.self.inside.locals c.self.inside.params c.self.inside.shared c.self.inside.operands.1 c.self.inside.control.1 c.self.inside.inits.saved c.self.inside.failed_before c.self.inside.failed in
     let o : IsOpen (held w c.self.inside.control.0 c.self.inside.operands.0 c.self.inside.inits.set).opens = rw (← c.self.view_is) at c.requires in
-    rw (← c.self.view_is) (rw (c.in-Ok.ensures.pushed, c.in-Ok.ensures.saved)
+    rw (← c.self.view_is) (rw (c.in-Ok.ensures.pushed, c.in-Ok.ensures.saved, c.new.ensures)
     (held_push m w c.self.inside.control.0 c.self.inside.operands.0 c.self.inside.inits.set c.args.operand o c.self.invariant.0).0)
