@@ -2,6 +2,7 @@
 
 ghost use Rattle.std.specs.Prelude.{◌≡◌, ◌+◌, IfOk, IfErr};
 
+use std::mem::forget;
 use wasm_operators_read_short::{short_control_at, short_operator_at};
 use wasm_operators_visiting::{Operator, TellOperator, TellPlain, Visitor};
 use wasm_types::WasmFeatures;
@@ -52,9 +53,11 @@ impl<'a> TellOperator<'a> for Counter {
         at: usize,
         features: WasmFeatures,
     ) -> Option<(Result<(), Full>, usize)> {
-        let Some((_op, end)) = short_operator_at(bytes, at, features) else {
+        let Some((op, end)) = short_operator_at(bytes, at, features) else {
             return None;
         };
+        // a frequent operator owns nothing
+        forget(op);
         Some((self.count(), end))
     }
 
@@ -65,9 +68,10 @@ impl<'a> TellOperator<'a> for Counter {
         at: usize,
         features: WasmFeatures,
     ) -> Option<(Result<(), Full>, usize)> {
-        let Some((_op, end)) = short_control_at(bytes, at, features) else {
+        let Some((op, end)) = short_control_at(bytes, at, features) else {
             return None;
         };
+        forget(op);
         Some((self.count(), end))
     }
 }

@@ -39,15 +39,7 @@ impl BodyJudge {
             inits,
         } = OperatorValidatorAllocations::new(alloc);
         BodyJudge {
-            validator: OperatorValidator::new(
-                operands,
-                control,
-                features,
-                locals,
-                inits,
-                0,
-                false,
-            ),
+            validator: OperatorValidator::new(operands, control, features, locals, inits, 0, false),
             frames: OperatorsReaderAllocations::new(alloc),
             alloc,
         }
