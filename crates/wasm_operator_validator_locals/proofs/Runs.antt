@@ -151,7 +151,8 @@ run_fits items ts n count t a is e fits within =
 pub taken_back : (rs held more back : List Run) (r : Run) → held ≡ rs → more ≡ rs ++ r ∷ [] → back ≡ take (length held) more → back ≡ rs
 taken_back rs held more back r e f g = (rw (f, e) at g) ∙ take-append_seam rs (r ∷ [])
 
-pub local_past : (rs items : List Run) (ts : List ValType) (index i : ℕ) → rs ≡ items → AreRunsFrom 0 items → locals_from 0 items ≡ ts → i ≡ length rs → Ends index rs i → None ≡ slice_get ts index
+pub local_past : (rs items : List Run) (ts : List ValType) (index i : ℕ) → rs ≡ items → AreRunsFrom 0 items → locals_from 0 items ≡ ts
+    → i ≡ length rs → Ends index rs i → None ≡ slice_get ts index
 local_past rs items ts index i same a is past p =
     let p' : Ends index items i = subst (λ (x : List Run). Ends index x i) same p in
     let k : length items ≤ i = omega (arith, ap (λ (x : List Run). length x) same) in
@@ -185,7 +186,8 @@ nothing_left [] e = refl
 nothing_left (t ∷ ts) e = absurd (omega (arith, e))
 
 -- where the first are all, some of what comes at the end are the next of them
-pub front_grown : (front all : List ValType) (t : ValType) (k count : ℕ) → IsFront front all → length front ≡ length all → k ≤ count → IsFront (front ++ replicate k t) (all ++ replicate count t)
+pub front_grown : (front all : List ValType) (t : ValType) (k count : ℕ) → IsFront front all → length front ≡ length all
+    → k ≤ count → IsFront (front ++ replicate k t) (all ++ replicate count t)
 front_grown front all t k count f same le =
     let none : f.0 ≡ [] = nothing_left f.0 (omega (arith, same, ap (λ (xs : List ValType). length xs) f.1, length-append front f.0)) in
     let whole : all ≡ front = f.1 ∙ ap (λ (xs : List ValType). front ++ xs) none ∙ append-nil front in (

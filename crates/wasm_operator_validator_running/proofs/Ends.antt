@@ -27,7 +27,8 @@ two k r text i l a low =
     let n : i + 1 + 1 ≡ i + 2 = omega arith in
     rw n at (more (suc k) r text i (i + 1 + 1) (omega (arith, l)) a (one k r text (i + 1) (omega (arith, l)) low))
 
-three : (k r : ℕ) (text : List ℕ) (i : ℕ) → i + 6 ≤ length text → 128 ≤ get_or text i 0 → 128 ≤ get_or text (i + 1) 0 → get_or text (i + 2) 0 < 128 → Ends (suc (suc (suc k))) r text i (i + 3)
+three : (k r : ℕ) (text : List ℕ) (i : ℕ) → i + 6 ≤ length text → 128 ≤ get_or text i 0 → 128 ≤ get_or text (i + 1) 0 → get_or text (i + 2) 0 < 128
+    → Ends (suc (suc (suc k))) r text i (i + 3)
 three k r text i l a b low =
     let m : i + 2 + 1 ≡ i + 3 = omega arith in
     let n : i + 1 + 1 ≡ i + 2 = omega arith in

@@ -47,7 +47,13 @@ impl OperatorValidator {
     /// What is known where no frame is open yet, in place of all that was known: these parameters are the locals. It says whether it was
     /// done; else there are too many of them, or there is no memory, and no more is known of the validator.
     pub fn restart(&mut self, features: WasmFeatures, params: &[ValType], shared: bool) -> bool
-        ensures { result ≡ true → self.new ≡ record { given = record { bits = features.0; locals = params.now; params = length params.now; shared = shared }; inits = []; opens = []; failed = false; saved = none_saved } }
+        ensures { result ≡ true → self.new ≡ record {
+          given = record { bits = features.0; locals = params.now; params = length params.now; shared = shared };
+          inits = [];
+          opens = [];
+          failed = false;
+          saved = none_saved;
+        } }
     {
         self.operands.clear();
         self.control.clear();

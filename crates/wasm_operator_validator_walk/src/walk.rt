@@ -325,7 +325,7 @@ pub fn accepts_expression<R: WasmModuleResources>(
     accepts
 }
 
-/// The same, at a walk: it keeps the validator that it was lent, and the module.
+/// The same, at a walk: where it says yes, it keeps the validator that it was lent.
 fn accepts_walk<R: WasmModuleResources>(
     alloc: Global,
     frames: &mut OperatorsReaderAllocations,
