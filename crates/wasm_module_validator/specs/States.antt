@@ -1,25 +1,15 @@
 -- How far a validator is behind a module that it judged.
 use Rattle.std.specs.Prelude.{◌≡◌, ◌⊎◌, ℕ, List, Result, Ok, Err}
-use Rattle.std.specs.List.{AllZip}
 use Rattle.wasm_types.specs.error.Denials.{Denies}
 use Rattle.wasm_types.specs.error.ErrorValue.{ErrorValue}
 use Rattle.wasm_types.specs.error.declared.error.ErrorKind.{ErrorKind}
 use Rattle.wasm_types.specs.error.declared.error.ErrorKind.TheVariants.{OutOfMemory}
 use Rattle.wasm_types.specs.limits.Settings.{Settings}
 use Rattle.wasm_types.specs.reader.Reading.{IsNotMemory}
-use Rattle.wasm_module_validator_sharing.specs.reading.progress.standing.steps.contexts.rules.Syntax.{Function}
-use Rattle.wasm_module_validator_sharing.specs.reading.progress.standing.steps.contexts.rules.Spaces.{module_of}
-use Rattle.wasm_module_validator_sharing.specs.reading.progress.standing.steps.contexts.rules.Binary.{SpelledFunction}
-use Rattle.wasm_module_validator_sharing.specs.reading.progress.standing.steps.contexts.rules.Valid.{HasValidBody}
 use Rattle.wasm_module_validator_sharing.specs.reading.progress.standing.steps.Steps.{SoFar}
 use Rattle.wasm_module_validator_sharing.specs.reading.Reading.{IsReadAs}
 use Rattle.wasm_module_validator.specs.declared.validator.State.{State}
 use Rattle.wasm_module_validator.specs.declared.validator.State.TheVariants.{Ended, Failed}
-
--- each body of what was read is that of a valid function of its type
-abbrev pub AreBodies : Settings → SoFar → Type 0
-AreBodies z q =
-    AllZip (λ x body. (f : Function) × SpelledFunction z f body × HasValidBody z (module_of q.tree) x f) q.tree.functions q.bodies
 
 -- where a body was refused by an error of this kind, it has ended, but where there was no memory
 abbrev pub IsLeft : ErrorKind → State → Type 0

@@ -1,2 +1,3 @@
 pub mod Beginning
 pub mod Verdict
+pub mod StateRows

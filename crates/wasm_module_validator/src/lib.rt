@@ -8,11 +8,13 @@
 //! `specs/Methods.antt`. [`Validator::code_section_entry`] hands each function out, to be judged whenever it suits.
 #![tactic(auto)]
 
+mod laws;
 mod methods;
 mod payloads;
 mod types;
 mod validator;
 
+pub use laws::states_are_worked;
 pub use payloads::ValidPayload;
 pub use types::Types;
 pub use validator::{State, Validator, validate};

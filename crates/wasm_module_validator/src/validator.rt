@@ -1,20 +1,18 @@
 //! The validator of whole modules.
 
-ghost use Rattle.std.specs.Prelude.{◌≡◌, ◌↔◌, IsTrue, IfOk, length};
+ghost use Rattle.std.specs.Prelude.{◌≡◌, ◌↔◌, IsTrue, IfOk};
 ghost use Rattle.wasm_types.specs.error.Denials.{Tells};
 ghost use Rattle.wasm_types.specs.features.Sets.{bits_of, default_features};
 ghost use Rattle.wasm_module_validator_sharing.specs.reading.progress.standing.steps.contexts.rules.Accepts.{AcceptsUnder};
-ghost use Rattle.wasm_module_validator_sharing.specs.reading.progress.standing.steps.Steps.{SoFar};
 ghost use Rattle.wasm_module_validator_sharing.specs.reading.Reading.{under};
-ghost use Rattle.wasm_module_validator_sharing.specs.reading.progress.Progress.{IsAt};
 ghost use Rattle.wasm_module_validator.specs.declared.validator.State.TheVariants as states;
 ghost use Rattle.wasm_module_validator.specs.Accepts.{Accepts, IsShown, default_settings};
-ghost use Rattle.wasm_module_validator.specs.States.{AreBodies, IsLeft, Leaves};
+ghost use Rattle.wasm_module_validator.specs.States.{IsLeft, Leaves};
 
 use crate::types::Types;
 use std::alloc::Global;
 use wasm_module_validator_lookups::ValidatorId;
-use wasm_module_validator_sharing::{ReadModule, SharedProgress, judge_bodies, read_module};
+use wasm_module_validator_sharing::{SharedProgress, judge, read_module};
 use wasm_types::{Error, ErrorKind, Result, WasmFeatures};
 
 /// How far a validator is.
@@ -99,7 +97,7 @@ impl Validator {
             Ok(read) => read,
             Err(error) => return Err(error),
         };
-        match judge(self.alloc, self.features, &read) {
+        match judge(self.alloc, self.features, &read.progress, read.bodies.as_slice()) {
             Ok(()) => {
                 self.state = State::Ended;
                 Ok(Types {
@@ -123,15 +121,6 @@ fn state_after(kind: ErrorKind) -> State
         ErrorKind::OutOfMemory => State::Failed,
         _ => State::Ended,
     }
-}
-
-/// Judges the bodies of a module whose sections were read.
-fn judge(alloc: Global, features: WasmFeatures, read: &ReadModule<'_>) -> Result<()>
-    ensures { (q : SoFar) → IsAt (under features.0) read.now.progress read.now.bodies.items q → length q.bodies ≡ length q.tree.functions
-        → Tells result (AreBodies (under features.0) q) }
-{
-    let resources = read.progress.resources();
-    judge_bodies(alloc, &resources, features, read.bodies.as_slice())
 }
 
 /// Validates a module that is all of these bytes, with the default features (WebAssembly 3.0, validation, modules).

@@ -1,3 +1,3 @@
-pub use Rattle.wasm_module_validator_progress.proofs.Adding
-pub use Rattle.wasm_module_validator_progress.proofs.Arms
-pub use Rattle.wasm_module_validator_progress.proofs.Counting
+pub use Rattle.wasm_module_validator_judging.proofs.Adding
+pub use Rattle.wasm_module_validator_judging.proofs.Arms
+pub use Rattle.wasm_module_validator_judging.proofs.Counting

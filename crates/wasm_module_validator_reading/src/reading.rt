@@ -2,12 +2,12 @@
 
 ghost use Rattle.std.specs.Prelude.{IfOk};
 ghost use Rattle.wasm_types.specs.error.Denials.{Tells};
-ghost use Rattle.wasm_module_validator_progress.specs.standing.steps.Steps.{SoFar};
-ghost use Rattle.wasm_module_validator_progress.specs.Progress.{IsAt};
+ghost use Rattle.wasm_module_validator_judging.specs.progress.standing.steps.Steps.{SoFar};
+ghost use Rattle.wasm_module_validator_judging.specs.progress.Progress.{IsAt};
 ghost use Rattle.wasm_module_validator_reading.specs.Reading.{under, IsReadAs};
 
 use std::alloc::Global;
-use wasm_module_validator_progress::{Body, InProgress};
+use wasm_module_validator_judging::{Body, InProgress};
 use wasm_sections_payloads::Parser;
 use wasm_types::{Result, WasmFeatures};
 

@@ -15,5 +15,5 @@ pub use resources::ValidatorResources;
 pub use sharing::SharedProgress;
 pub use wasm_module_validator_reading::{
     FuncToValidate, FuncValidator, FuncValidatorAllocations, InProgress, ReadModule, check_header,
-    judge_bodies, read_module,
+    judge, read_module,
 };

@@ -15,15 +15,15 @@ use Rattle.wasm_sections_parser_laws.specs.Calls.{settings_of, shapes_of}
 use Rattle.wasm_sections_payloads.specs.declared.payload.Payload.{Payload}
 use Rattle.wasm_sections_payloads.specs.Payloads.{IsPayloadOf}
 use Rattle.wasm_sections_payloads.specs.Walking.{Standing, NextPayload}
-use Rattle.wasm_module_validator_progress.specs.code.declared.bodies.Body.{Body}
-use Rattle.wasm_module_validator_progress.specs.standing.steps.Steps.{SoFar, nothing, JudgesShape, JudgesShapes}
-use Rattle.wasm_module_validator_progress.specs.standing.steps.laws.Judged.{nothing_is_judged, judged_joined}
-use Rattle.wasm_module_validator_progress.specs.standing.laws.Worked.{worked_nothing}
-use Rattle.wasm_module_validator_progress.specs.fronts.Walks.{HasSettings, IsBehind}
-use Rattle.wasm_module_validator_progress.specs.fronts.FrontLaws.{modules_one}
-use Rattle.wasm_module_validator_progress.specs.fronts.WalkLaws.{behind_nothing, payload_next, walk_ended}
-use Rattle.wasm_module_validator_progress.specs.fronts.JudgedLaws.{judged_more, judged_less, judged_next, judged_not_refused, judged_ended}
-use Rattle.wasm_module_validator_progress.specs.Progress.{Progress, IsAt, nothing_kept}
+use Rattle.wasm_module_validator_judging.specs.progress.code.declared.bodies.Body.{Body}
+use Rattle.wasm_module_validator_judging.specs.progress.standing.steps.Steps.{SoFar, nothing, JudgesShape, JudgesShapes}
+use Rattle.wasm_module_validator_judging.specs.progress.standing.steps.laws.Judged.{nothing_is_judged, judged_joined}
+use Rattle.wasm_module_validator_judging.specs.progress.standing.laws.Worked.{worked_nothing}
+use Rattle.wasm_module_validator_judging.specs.progress.fronts.Walks.{HasSettings, IsBehind}
+use Rattle.wasm_module_validator_judging.specs.progress.fronts.FrontLaws.{modules_one}
+use Rattle.wasm_module_validator_judging.specs.progress.fronts.WalkLaws.{behind_nothing, payload_next, walk_ended}
+use Rattle.wasm_module_validator_judging.specs.progress.fronts.JudgedLaws.{judged_more, judged_less, judged_next, judged_not_refused, judged_ended}
+use Rattle.wasm_module_validator_judging.specs.progress.Progress.{Progress, IsAt, nothing_kept}
 use Rattle.wasm_module_validator_reading.specs.Reading.{under, IsReadAs}
 
 -- what implies one of many things, each of which is denied, is denied

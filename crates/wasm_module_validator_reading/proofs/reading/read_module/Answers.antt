@@ -4,9 +4,9 @@ use Rattle.wasm_sections_parser_laws.specs.Runs.{fresh}
 use Rattle.wasm_sections_parser.specs.declared.parser.Parser.{Parser}
 use Rattle.wasm_sections_payloads.specs.declared.payload.Payload.{Payload}
 use Rattle.wasm_sections_payloads.specs.Walking.{NextPayload}
-use Rattle.wasm_module_validator_progress.specs.code.declared.bodies.Body.{Body}
-use Rattle.wasm_module_validator_progress.specs.Progress.{Progress, IsAt}
-use Rattle.wasm_module_validator_progress.specs.standing.steps.Steps.{nothing}
+use Rattle.wasm_module_validator_judging.specs.progress.code.declared.bodies.Body.{Body}
+use Rattle.wasm_module_validator_judging.specs.progress.Progress.{Progress, IsAt}
+use Rattle.wasm_module_validator_judging.specs.progress.standing.steps.Steps.{nothing}
 use Rattle.wasm_module_validator_reading.specs.Reading.{under}
 use Rattle.wasm_module_validator_reading.specs.laws.Walking.{Goes, goes_first, goes_on, refused_payload, refused_bytes, is_read, stands_for, nothing_is_at}
 use Rattle.wasm_module_validator_reading.proofs.reading.read_module.Goals as goal
