@@ -1,15 +1,15 @@
-//! The program `wasm-check`, except for `main`.
+//! The program `wasm-check`, except for `main`: its calls, over the validator of modules.
 //!
 //! [`check`] judges inputs one after another and writes a line for each. [`run`] reads the words of a command line,
-//! opens the files that they name, judges them by [`check`] and gives the exit status. `main`, which hands over the
-//! words and the streams of the process, stands alone in `wasm_check`. `specs/` defines the lines, the files, the words
-//! and the faults.
+//! opens the files that they name, judges them as [`check`] does and gives the exit status. Each is one call of
+//! `wasm_check_command`, whose `specs/` defines the lines, the files, the words and the faults over whatever says which bytes
+//! are valid: here `Accepts` does. `main`, which hands over the words and the streams of the process, stands alone in
+//! `wasm_check`.
 #![tactic(auto)]
 
 mod command;
-mod error;
 mod judging;
 
-pub use command::{reads_worked_words, run};
-pub use error::CheckError;
-pub use judging::{Input, MAX_BYTES, Status, check};
+pub use command::run;
+pub use judging::check;
+pub use wasm_check_command::{CheckError, Input, MAX_BYTES, Status, reads_worked_words};

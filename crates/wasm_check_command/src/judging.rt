@@ -1,0 +1,219 @@
+//! Inputs are judged one after another, and a line is written for each.
+ghost use Rattle.std.specs.Prelude.{◌≡◌, ℕ, List, IfOk, IfErr, OnOk, string_bytes};
+ghost use Rattle.std.specs.Io.KnownBytes.{Appends};
+ghost use Rattle.wasm_types.specs.error.Denials.{Tells};
+ghost use Rattle.wasm_check_command.specs.Lines.{HasBytes, invalid_line};
+ghost use Rattle.wasm_check_command.specs.Faults.{FailsReading};
+ghost use Rattle.wasm_check_command.specs.Verdict.{WritesFront, IsVerdict, WritesLine, IsJudged, FailsWriting, FailsAt};
+ghost use Rattle.wasm_check_command.specs.declared.error.CheckError.TheVariants.{Write as TheWrite};
+ghost use Rattle.wasm_check_command.specs.Reports.{sources_of, IsReported, Stops};
+
+use crate::error::CheckError;
+use std::alloc::{AllocError, Global};
+use std::io::{self, Read, Write};
+use wasm_types::{Error, ErrorKind};
+
+/// The most bytes that an input may have.
+pub const MAX_BYTES: usize = 0x4000_0000;
+
+/// How many bytes a read asks for.
+const CHUNK: usize = 0x1_0000;
+
+/// What says of bytes whether they are valid.
+pub trait Judge {
+    /// Which bytes are valid.
+    ghost accepts: { List ℕ → Type 0 };
+
+    /// Judges these bytes, which are those of the input at this place.
+    ///
+    /// # Errors
+    ///
+    /// The bytes are not valid, for the reason and at the offset that the error has; or there was no memory.
+    fn judge(&self, alloc: Global, index: usize, bytes: &[u8]) -> Result<(), Error>
+        ensures { Tells result (accepts bytes.now) };
+}
+
+/// What is to be judged: a name, and what gives the bytes.
+#[derive(Debug, Drop)]
+pub struct Input<'a, R> {
+    /// The name that stands at the head of the line.
+    pub name: &'a str,
+    /// What gives the bytes.
+    pub reader: R,
+}
+
+/// Whether all inputs were valid.
+#[derive(Clone, Copy, Debug, PartialEq, Eq)]
+pub enum Status {
+    /// Each input is a valid module, or there was none.
+    AllValid,
+    /// Some input is no valid module.
+    SomeInvalid,
+}
+
+/// Puts what a reader has left into the buffer, in place of what stood there.
+fn read_whole<R: Read>(index: usize, reader: &mut R, buffer: &mut Vec<u8>) -> Result<(), CheckError>
+    ensures ok { OnOk result (HasBytes (R.remaining reader.old) buffer.new.items) }
+    ensures err { IfErr result (FailsReading index (R.remaining reader.old)) }
+{
+    buffer.clear();
+    let mut chunk = [0u8; CHUNK];
+    for _turn in 0..=MAX_BYTES {
+        let Ok(count) = reader.read(&mut chunk) else {
+            return Err(CheckError::Read(index));
+        };
+        if count == 0 {
+            return Ok(());
+        }
+        if count > MAX_BYTES - buffer.len() {
+            return Err(CheckError::TooLong(index));
+        }
+        if buffer.extend_from_slice(&chunk[..count]).is_err() {
+            return Err(CheckError::OutOfMemory(index));
+        }
+    }
+    unreachable!()
+}
+
+/// The line of a module that was refused at this offset, for this reason.
+fn invalid_line(alloc: Global, name: &str, offset: u64, message: &str) -> Result<String, AllocError>
+    ensures { IfOk result (λ line.
+        string_bytes line ≡ invalid_line name.now offset message.now) }
+{
+    format!(in alloc; "{name}: invalid at 0x{offset:x}: {message}\n")
+}
+
+/// The line of a module that was refused by this error: at its offset, for its reason.
+fn refusal_line(alloc: Global, name: &str, error: &Error) -> Result<String, AllocError>
+    ensures { IfOk result (λ line. (message : List ℕ) × (string_bytes line ≡ invalid_line name.now error.now.offset message)) }
+{
+    invalid_line(alloc, name, error.offset(), error.message())
+}
+
+/// The line of these bytes, and whether they spell a valid module.
+fn verdict_line<J: Judge>(
+    judge: &J,
+    alloc: Global,
+    index: usize,
+    name: &str,
+    bytes: &[u8],
+) -> Result<(bool, String), AllocError>
+    ensures { IfOk result (λ r. IsVerdict J.accepts name.now bytes.now r.0 (string_bytes r.1)) }
+{
+    match judge.judge(alloc, index, bytes) {
+        Ok(()) => Ok((true, format!(in alloc; "{name}: valid\n")?)),
+        Err(error) => {
+            if error.kind() == ErrorKind::OutOfMemory {
+                return Err(AllocError);
+            }
+            let line = refusal_line(alloc, name, &error)?;
+            Ok((false, line))
+        }
+    }
+}
+
+/// Writes a text. Where that fails, what stands written is a front of it: `write_all` would not promise this.
+pub(crate) fn write_text<W: Write>(text: &[u8], out: &mut W) -> Result<(), CheckError>
+    ensures ok { OnOk result (Appends (W.contents out.old) (W.contents out.new) text.now) }
+    ensures err { IfErr result (λ e. (e ≡ TheWrite)
+        × WritesFront text.now (W.contents out.old) (W.contents out.new)) }
+{
+    let mut written = 0;
+    for _turn in 0..u64::MAX {
+        if written == text.len() {
+            return Ok(());
+        }
+        match out.write(&text[written..]) {
+            Ok(0) => return Err(CheckError::Write),
+            Ok(count) => written += count,
+            Err(error) => {
+                if error.kind() != io::ErrorKind::Interrupted {
+                    return Err(CheckError::Write);
+                }
+            }
+        }
+    }
+    Err(CheckError::Write)
+}
+
+/// Judges these bytes, writes their line, and says whether they spell a valid module.
+fn judge_bytes<J: Judge, W: Write>(
+    judge: &J,
+    alloc: Global,
+    index: usize,
+    name: &str,
+    bytes: &[u8],
+    out: &mut W,
+) -> Result<bool, CheckError>
+    ensures ok { IfOk result (λ valid.
+        WritesLine J.accepts name.now bytes.now valid (W.contents out.old) (W.contents out.new)) }
+    ensures err { IfErr result
+        (FailsWriting J.accepts index name.now bytes.now (W.contents out.old) (W.contents out.new)) }
+{
+    let Ok((is_valid, line)) = verdict_line(judge, alloc, index, name, bytes) else {
+        return Err(CheckError::OutOfMemory(index));
+    };
+    write_text(line.as_bytes(), out)?;
+    Ok(is_valid)
+}
+
+/// Judges an input, writes its line, and says whether it is a valid module.
+fn judge_input<J: Judge, R: Read + Drop, W: Write>(
+    judge: &J,
+    alloc: Global,
+    index: usize,
+    mut input: Input<'_, R>,
+    buffer: &mut Vec<u8>,
+    out: &mut W,
+) -> Result<bool, CheckError>
+    ensures ok { IfOk result (λ valid. IsJudged J.accepts input.entry.name.now
+        (R.remaining input.entry.reader) valid (W.contents out.old) (W.contents out.new)) }
+    ensures err { IfErr result (FailsAt J.accepts index input.entry.name.now
+        (R.remaining input.entry.reader) (W.contents out.old) (W.contents out.new)) }
+{
+    read_whole(index, &mut input.reader, buffer)?;
+    judge_bytes(judge, alloc, index, input.name, buffer.as_slice(), out)
+}
+
+/// Judges the inputs in order and writes their lines, through the first fault.
+fn judge_all<J: Judge, R: Read + Drop, W: Write>(
+    judge: &J,
+    alloc: Global,
+    inputs: Vec<Input<'_, R>>,
+    out: &mut W,
+) -> Result<Status, CheckError>
+    ensures ok { IfOk result (IsReported J.accepts (sources_of R.remaining inputs.entry.items)
+        (W.contents out.old) (W.contents out.new)) }
+    ensures err { IfErr result (Stops J.accepts (sources_of R.remaining inputs.entry.items)
+        (W.contents out.old) (W.contents out.new)) }
+{
+    let mut buffer = Vec::new(alloc);
+    let mut status = Status::AllValid;
+    let mut index = 0;
+    for input in inputs {
+        if !judge_input(judge, alloc, index, input, &mut buffer, out)? {
+            status = Status::SomeInvalid;
+        }
+        index += 1;
+    }
+    Ok(status)
+}
+
+/// Has each input judged, in order, and writes a line for each.
+pub fn check_by<J: Judge, R: Read + Drop, W: Write>(
+    judge: &J,
+    alloc: Global,
+    inputs: Vec<Input<'_, R>>,
+    out: &mut W,
+) -> Result<Status, CheckError>
+    ensures ok { IfOk result (IsReported J.accepts (sources_of R.remaining inputs.entry.items)
+        (W.contents out.old) (W.contents out.new)) }
+    ensures err { IfErr result (Stops J.accepts (sources_of R.remaining inputs.entry.items)
+        (W.contents out.old) (W.contents out.new)) }
+{
+    let judged = judge_all(judge, alloc, inputs, out);
+    if out.flush().is_err() {
+        return Err(CheckError::Write);
+    }
+    judged
+}

@@ -1,0 +1,15 @@
+//! The program `wasm-check`, except for its judge and for `main`.
+//!
+//! [`check_by`] has inputs judged one after another and writes a line for each. [`run_by`] reads the words of a command line,
+//! opens the files that they name, has them judged by [`check_by`] and gives the exit status. Both are handed a [`Judge`], which
+//! says of bytes whether they are valid: `wasm_check_program` hands over the validator of modules. `specs/` defines the lines, the
+//! files, the words and the faults; what it says of verdicts takes the judge's `accepts`.
+#![tactic(auto)]
+
+mod command;
+mod error;
+mod judging;
+
+pub use command::{reads_worked_words, run_by};
+pub use error::CheckError;
+pub use judging::{Input, Judge, MAX_BYTES, Status, check_by};

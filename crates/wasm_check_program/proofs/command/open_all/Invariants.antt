@@ -1,7 +1,0 @@
-use Rattle.std.proofs.Common.{◌≡◌, map, take}
-use Rattle.wasm_check_program.specs.Files.{texts}
-use Rattle.wasm_check_program.proofs.command.open_all.Given as goal
-
--- the inputs so far have the names so far
-abbrev pub invariant-loop-name : goal.invariant-loop-name
-invariant-loop-name g l = map (λ i. i.name.now) l.inputs.items ≡ texts (take l.name-index l.names)
