@@ -97,7 +97,12 @@ impl Validator {
             Ok(read) => read,
             Err(error) => return Err(error),
         };
-        match judge(self.alloc, self.features, &read.progress, read.bodies.as_slice()) {
+        match judge(
+            self.alloc,
+            self.features,
+            &read.progress,
+            read.bodies.as_slice(),
+        ) {
             Ok(()) => {
                 self.state = State::Ended;
                 Ok(Types {
