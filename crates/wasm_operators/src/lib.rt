@@ -27,8 +27,8 @@ pub use wasm_operators_visiting::{
     ParametricOperator, Proposal, ReadOperators, ReadToSimdVisitor, ReadToVisitor, ResumeTable,
     SharedOperator, SimdNumericOperator, SimdOperator, TellOperator, TellPlain, TellSimdOperator,
     TryTable, V128, VisitAtomic, VisitControl, VisitFloats, VisitGc, VisitIntegers, VisitMemory,
-    VisitOperator, VisitShared, VisitSimd, VisitSimdFloats, VisitSimdNarrow, VisitSimdOperator,
-    VisitSimdWide, Visitor, is_simd, read_expression, tell_expression_with_offset,
-    tell_operator_in_frame_simd, tell_operator_simd, visit_expression,
+    VisitNext, VisitNextSimd, VisitOperator, VisitShared, VisitSimd, VisitSimdFloats,
+    VisitSimdNarrow, VisitSimdOperator, VisitSimdWide, Visitor, is_simd, read_expression,
+    tell_expression_with_offset, tell_operator_in_frame_simd, tell_operator_simd, visit_expression,
     visit_expression_with_offset,
 };

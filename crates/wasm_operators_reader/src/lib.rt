@@ -3,7 +3,8 @@
 //! An [`OperatorsReader`] reads one operator after the other and keeps the list of open frames; it refuses an operator
 //! that may not come next. [`read_expression`] reads a whole expression, exactly where all the bytes spell one.
 //! `specs/Standing.antt` defines what is read from where a reader stands and why it refuses, `specs/Iterating.antt`
-//! what the iterators give, and `specs/Visiting.antt` what a visitor is told.
+//! what the iterators give, and `specs/Visiting.antt` what a visitor is told. The visits themselves are not named here: whoever reads
+//! operators would pass on all of them (`wasm_operators_visiting` has what visits).
 #![tactic(auto)]
 
 mod cursor;
@@ -29,9 +30,5 @@ pub use wasm_operators_expression::{
     GcOperator, Handle, MemArg, MemArgOrdering, MemArgTarget, MemoryOperator, Operator,
     OperatorInfo, Ordering, ParametricOperator, Proposal, ResumeTable, Role, TryTable, V128,
 };
-pub use wasm_operators_read_short::{LentVisitor, TellOperator, TellPlain};
-pub use wasm_operators_visit_simd_operator::{
-    VisitAtomic, VisitControl, VisitFloats, VisitGc, VisitIntegers, VisitMemory, VisitOperator,
-    VisitShared, VisitSimd, VisitSimdFloats, VisitSimdNarrow, VisitSimdOperator, VisitSimdWide,
-    Visitor, is_simd,
-};
+pub use wasm_operators_read_short::{TellOperator, TellPlain};
+pub use wasm_operators_visit_simd_operator::{Visitor, is_simd};

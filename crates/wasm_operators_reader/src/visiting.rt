@@ -1,4 +1,4 @@
-//! Operators that are read and visited.
+//! Operators that are read and told.
 
 ghost use Rattle.std.specs.Prelude.{◌≡◌, false, IfOk, IfErr};
 ghost use Rattle.wasm_types.specs.error.declared.error.ErrorKind.TheVariants.{Other};
@@ -11,34 +11,16 @@ ghost use Rattle.wasm_operators_reader.specs.Visiting.{Visits, VisitsPlain, Refu
 use crate::OperatorsReader;
 use wasm_operators_expression::Operator;
 use wasm_operators_read_short::TellOperator;
-use wasm_operators_visit_simd_operator::{VisitOperator, VisitSimdOperator, is_simd};
+use wasm_operators_visit_simd_operator::is_simd;
 use wasm_types::{Error, Result};
 
 impl<'a> OperatorsReader<'a> {
-    /// Reads the next operator, as `read` does, and calls the visit that belongs to it.
+    /// Reads the next operator, as `read` does, and tells the visitor of it.
     ///
     /// # Errors
     ///
     /// As `read`; and where the operator is one on vectors, which is refused where it begins. The reader stays as it was, and the
     /// visitor is told nothing.
-    pub fn visit_operator<V: VisitOperator<'a>>(&mut self, visitor: &mut V) -> Result<V::Output>
-        ensures visited { IfOk result (λ answer. VisitsPlain V.visits self.old visitor.old answer self.new visitor.new) }
-        ensures refused { IfErr result (λ e. RefusesPlain self.old e × (self.new ≡ self.old)) }
-        ensures told { IfErr result (λ _. visitor.new ≡ visitor.old) }
-        ensures no_memory { (WantsMemory self.old → ⊥) → NeedsNoMemory result }
-    {
-        let op = match self.read_plain() {
-            Ok(op) => op,
-            Err(error) => return Err(error),
-        };
-        Ok(visitor.visit_owned(op))
-    }
-
-    /// Reads the next operator, as `read` does, and tells the visitor of it.
-    ///
-    /// # Errors
-    ///
-    /// As `visit_operator`. The reader stays as it was, and the visitor is told nothing.
     #[inline(never)]
     pub fn tell_operator<V: TellOperator<'a>>(&mut self, visitor: &mut V) -> Result<V::Output>
         ensures visited { IfOk result (λ answer. VisitsPlain V.visits self.old visitor.old answer self.new visitor.new) }
@@ -53,29 +35,12 @@ impl<'a> OperatorsReader<'a> {
         Ok(visitor.tell(op))
     }
 
-    /// Reads the next operator, as `read` does, and calls the visit that belongs to it, also where it is one on vectors.
+    /// Reads the next operator, as `read` does, where it is not one on vectors.
     ///
     /// # Errors
     ///
-    /// As `read`. The reader stays as it was, and the visitor is told nothing.
-    pub fn visit_operator_simd<V: VisitSimdOperator<'a>>(
-        &mut self,
-        visitor: &mut V,
-    ) -> Result<V::Output>
-        ensures visited { IfOk result (λ answer. Visits V.visits self.old visitor.old answer self.new visitor.new) }
-        ensures refused { IfErr result (λ e. Refuses self.old e × (self.new ≡ self.old)) }
-        ensures told { IfErr result (λ _. visitor.new ≡ visitor.old) }
-        ensures no_memory { (WantsMemory self.old → ⊥) → NeedsNoMemory result }
-    {
-        let op = match self.read() {
-            Ok(op) => op,
-            Err(error) => return Err(error),
-        };
-        Ok(visitor.visit_simd_owned(op))
-    }
-
-    /// The next operator, which is not one on vectors.
-    fn read_plain(&mut self) -> Result<Operator<'a>>
+    /// As `read`; and where the operator is one on vectors, which is refused where it begins. The reader stays as it was.
+    pub fn read_plain(&mut self) -> Result<Operator<'a>>
         ensures read { IfOk result (λ op. Reads self.old (op_of op) self.new × (is_simd (op_of op) ≡ false)) }
         ensures refused { IfErr result (λ e. RefusesPlain self.old e × (self.new ≡ self.old)) }
         ensures no_memory { (WantsMemory self.old → ⊥) → NeedsNoMemory result }

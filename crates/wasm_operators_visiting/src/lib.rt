@@ -10,21 +10,26 @@
 pub mod laws;
 mod read_operators;
 mod telling;
+mod visits;
 mod walking;
 
 pub use read_operators::{ReadOperators, ReadToSimdVisitor, ReadToVisitor};
 pub use telling::{TellSimdOperator, tell_operator_in_frame_simd, tell_operator_simd};
+pub use visits::{VisitNext, VisitNextSimd};
 pub use walking::{
     tell_expression_with_offset, tells_whole, visit_expression, visit_expression_with_offset,
 };
+pub use wasm_operators_read_short::LentVisitor;
 pub use wasm_operators_reader::{
     AtomicOperator, BlockType, BrTable, BrTableTargets, BulkOperator, Catch, ConstOperator,
     ContinuationOperator, ControlOperator, ControlStack, DescriptorOperator, ExceptionOperator,
-    FrameKind, FrameStack, GcOperator, Handle, LentVisitor, MemArg, MemArgOrdering, MemArgTarget,
+    FrameKind, FrameStack, GcOperator, Handle, MemArg, MemArgOrdering, MemArgTarget,
     MemoryOperator, NumericOperator, Operator, OperatorInfo, OperatorsIterator,
     OperatorsIteratorWithOffsets, OperatorsReader, OperatorsReaderAllocations, Ordering,
     ParametricOperator, Proposal, ResumeTable, SharedOperator, SimdNumericOperator, SimdOperator,
-    TellOperator, TellPlain, TryTable, V128, VisitAtomic, VisitControl, VisitFloats, VisitGc,
-    VisitIntegers, VisitMemory, VisitOperator, VisitShared, VisitSimd, VisitSimdFloats,
-    VisitSimdNarrow, VisitSimdOperator, VisitSimdWide, Visitor, is_simd, read_expression,
+    TellOperator, TellPlain, TryTable, V128, Visitor, is_simd, read_expression,
+};
+pub use wasm_operators_visit_simd_operator::{
+    VisitAtomic, VisitControl, VisitFloats, VisitGc, VisitIntegers, VisitMemory, VisitOperator,
+    VisitShared, VisitSimd, VisitSimdFloats, VisitSimdNarrow, VisitSimdOperator, VisitSimdWide,
 };

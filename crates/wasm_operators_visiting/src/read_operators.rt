@@ -11,9 +11,9 @@ ghost use Rattle.wasm_operators_visiting.specs.InFrame.{ReadsIn, RefusesIn, Refu
 
 use std::alloc::Global;
 use wasm_operators_reader::{
-    FrameKind, FrameStack, Operator, VisitOperator, VisitSimdOperator, is_simd, misplaced,
-    read_operator, unexpected_vector,
+    FrameKind, FrameStack, Operator, is_simd, misplaced, read_operator, unexpected_vector,
 };
+use wasm_operators_visit_simd_operator::{VisitOperator, VisitSimdOperator};
 use wasm_types::{BinaryReader, Error, Result};
 
 /// Looks at operators, where a stack knows which frames are open. With no frame open nothing is read: that is refused before a

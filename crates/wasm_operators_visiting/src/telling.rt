@@ -10,9 +10,9 @@ ghost use Rattle.wasm_operators_visiting.specs.InFrame.{ReadsIn, RefusesIn};
 
 use crate::read_operators::read_in_frame;
 use std::alloc::Global;
-use wasm_operators_reader::{
-    FrameStack, LentVisitor, Operator, OperatorsReader, VisitSimdOperator, Visitor,
-};
+use wasm_operators_read_short::LentVisitor;
+use wasm_operators_reader::{FrameStack, Operator, OperatorsReader, Visitor};
+use wasm_operators_visit_simd_operator::VisitSimdOperator;
 use wasm_types::{BinaryReader, Result};
 
 /// Can be told of any operator, those on vectors too. A [`LentVisitor`] is told by the visit that belongs to the operator. A type that

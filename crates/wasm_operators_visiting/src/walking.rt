@@ -10,10 +10,11 @@ ghost use Rattle.wasm_operators_reader.specs.Walking.{HasNoVectors, VisitsAll, W
 
 use std::alloc::Global;
 use std::mem::replace;
+use wasm_operators_read_short::LentVisitor;
 use wasm_operators_reader::{
-    FrameStack, LentVisitor, OperatorsReader, OperatorsReaderAllocations, TellOperator, TellPlain,
-    VisitOperator,
+    FrameStack, OperatorsReader, OperatorsReaderAllocations, TellOperator, TellPlain,
 };
+use wasm_operators_visit_simd_operator::VisitOperator;
 use wasm_types::{BinaryReader, Result};
 
 /// Visits the operators of an expression in their order, to the end of the bytes. The visitor answers whether to go on: the walk

@@ -1,11 +1,12 @@
-use Rattle.std.proofs.Common.{List, sym, subst}
+use Rattle.std.proofs.Common.{◌≡◌, List, length, sym, subst}
 use Rattle.wasm_types.specs.error.Denials.{Tells}
 use Rattle.wasm_types.specs.error.DenialLaws.{denies_from}
 use Rattle.wasm_types.specs.limits.Settings.{Settings}
 use Rattle.wasm_module_validator_sharing.specs.reading.progress.code.declared.bodies.Body.{Body}
 use Rattle.wasm_module_validator_sharing.specs.reading.progress.standing.steps.contexts.rules.Accepts.{AcceptsUnder}
 use Rattle.wasm_module_validator_sharing.specs.reading.progress.standing.steps.Steps.{SoFar}
-use Rattle.wasm_module_validator_sharing.specs.reading.progress.Progress.{Progress}
+use Rattle.wasm_module_validator_sharing.specs.reading.progress.Progress.{Progress, IsAt}
+use Rattle.wasm_module_validator_sharing.specs.reading.judging.Bodies.{AreBodies}
 use Rattle.wasm_module_validator_sharing.specs.reading.Reading.{under, IsReadAs}
 use Rattle.wasm_module_validator_sharing.specs.Sharing.{Reached}
 use Rattle.wasm_module_validator.specs.Accepts.{IsShown}
@@ -24,7 +25,8 @@ returns-in-Ok-judge-clause-verdict c =
     let r : Progress = c.in-Ok.read.progress in
     let bodies : List Body = c.in-Ok.read.bodies.items in
     subst (λ answer. Tells answer (AcceptsUnder z c.args.bytes.now)) c.in-Ok-judge.is
-    (tells_accepted z c.args.bytes.now r bodies c.in-Ok.ensures.answer c.in-Ok.ensures.stands c.judge.result c.judge.ensures)
+    (tells_accepted z c.args.bytes.now r bodies c.in-Ok.ensures.answer c.in-Ok.ensures.stands c.judge.result
+    (subst (λ (xs : List Body). (q : SoFar) → IsAt z r xs q → length q.bodies ≡ length q.tree.functions → Tells c.judge.result (AreBodies z q)) c.as_slice.ensures.value c.judge.ensures))
 
 pub returns-in-Ok-judge-clause-shown : goal.returns-in-Ok-judge-clause-shown
 returns-in-Ok-judge-clause-shown c =
@@ -41,4 +43,5 @@ returns-in-Err-judge-clause-verdict c =
     let r : Progress = c.in-Ok.read.progress in
     let bodies : List Body = c.in-Ok.read.bodies.items in
     subst (λ answer. Tells answer (AcceptsUnder z c.args.bytes.now)) c.in-Err-judge.is
-    (tells_accepted z c.args.bytes.now r bodies c.in-Ok.ensures.answer c.in-Ok.ensures.stands c.judge.result c.judge.ensures)
+    (tells_accepted z c.args.bytes.now r bodies c.in-Ok.ensures.answer c.in-Ok.ensures.stands c.judge.result
+    (subst (λ (xs : List Body). (q : SoFar) → IsAt z r xs q → length q.bodies ≡ length q.tree.functions → Tells c.judge.result (AreBodies z q)) c.as_slice.ensures.value c.judge.ensures))
