@@ -1,5 +1,5 @@
 -- What a validator promises of a payload: what the method for it does (WebAssembly 3.0, binary format, modules).
-use Rattle.std.specs.Prelude.{◌≡◌, ℕ, Result, Ok, Err}
+use Rattle.std.specs.Prelude.{◌≡◌, Result, Ok, Err}
 use Rattle.wasm_types.specs.decoding.Decoder.{State as Bytes}
 use Rattle.wasm_types.specs.error.ErrorValue.{ErrorValue}
 use Rattle.wasm_sections_payloads.specs.declared.payload.Payload.{Payload}
@@ -10,7 +10,7 @@ use Rattle.wasm_module_validator.specs.declared.validator.Validator.{Validator}
 use Rattle.wasm_module_validator.specs.declared.payloads.ValidPayload.{ValidPayload}
 use Rattle.wasm_module_validator.specs.declared.payloads.ValidPayload.TheVariants as valid
 use Rattle.wasm_module_validator.specs.Shown.{Learned}
-use Rattle.wasm_module_validator.specs.Methods.{InTurn, failure, ReadsHeader, Takes, TakesData, BeginsCode, TakesBody, RefusesUnknown, Ends}
+use Rattle.wasm_module_validator.specs.Methods.{failure, ReadsHeader, Takes, TakesData, BeginsCode, TakesBody, RefusesUnknown, Ends}
 
 -- ---- answers
 

@@ -1,6 +1,5 @@
 -- How far a validator is behind a module: worked rows.
-use Rattle.std.proofs.Common.{ℕ, List, refl, Ok}
-use Rattle.wasm_types.specs.error.ErrorValue.{ErrorValue}
+use Rattle.std.proofs.Common.{ℕ, List, Ok}
 use Rattle.wasm_types.specs.error.declared.error.ErrorKind.TheVariants.{OutOfMemory, Other}
 use Rattle.wasm_types.specs.limits.Settings.{Settings}
 use Rattle.wasm_module_validator.specs.declared.validator.State.TheVariants.{Ended, Failed}
@@ -15,5 +14,5 @@ pub record LeftRows : Type 0 where
 
 -- behind a module that was accepted
 pub record AcceptedRows (z : Settings) (bytes : List ℕ) : Type 0 where
-  pub ended : Leaves z bytes (Ok tt) Ended
-  pub not_failed : Leaves z bytes (Ok tt) Failed → ⊥
+  pub ended : Leaves {X = ℕ} z bytes (Ok 0) Ended
+  pub not_failed : Leaves {X = ℕ} z bytes (Ok 0) Failed → ⊥

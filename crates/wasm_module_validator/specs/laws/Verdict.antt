@@ -1,30 +1,18 @@
 -- A module is accepted exactly where it is read and each of its bodies is judged valid.
-use Rattle.std.proofs.Common.{◌≡◌, ◌∙◌, ℕ, List, [], ◌∷◌, length, map, take, Result, Ok, Err, sym, ap, subst}
-use Rattle.std.specs.Prelude.{◌↔◌}
-use Rattle.std.specs.List.{AllZip}
-use Rattle.std.proofs.Math.Seq.{take-length}
-use Rattle.std.proofs.lemmas.List.{length-map}
+use Rattle.std.proofs.Common.{◌≡◌, ℕ, List, [], length, Result, Ok, Err, subst}
 use Rattle.wasm_types.specs.error.Denials.{Denies, Tells}
-use Rattle.wasm_types.specs.error.DenialLaws.{denies_from}
 use Rattle.wasm_types.specs.error.ErrorValue.{ErrorValue}
 use Rattle.wasm_types.specs.error.declared.error.ErrorKind.{ErrorKind}
 use Rattle.wasm_types.specs.error.declared.error.ErrorKind.TheVariants.{EndOfData, MissingFeature, OutOfMemory, Failed, Other}
 use Rattle.wasm_types.specs.limits.Settings.{Settings}
-use Rattle.wasm_operator_validator_stacks.specs.rules.Context.{Module}
-use Rattle.wasm_module_validator_resources.specs.Reading.{context_of}
-use Rattle.wasm_module_validator_sharing.specs.reading.progress.so_far.laws.Judging.{body_is_judged}
-use Rattle.wasm_module_validator_sharing.specs.reading.progress.code.Code.{IsFunctionOf}
 use Rattle.wasm_module_validator_sharing.specs.reading.progress.code.declared.bodies.Body.{Body}
 use Rattle.wasm_module_validator_sharing.specs.reading.progress.standing.steps.contexts.rules.Accepts.{AcceptsUnder, Judges}
-use Rattle.wasm_module_validator_sharing.specs.reading.progress.standing.steps.contexts.rules.Syntax.{Function, ModuleTree}
-use Rattle.wasm_module_validator_sharing.specs.reading.progress.standing.steps.contexts.rules.Spaces.{module_of}
-use Rattle.wasm_module_validator_sharing.specs.reading.progress.standing.steps.contexts.rules.Binary.{SpelledFunction}
-use Rattle.wasm_module_validator_sharing.specs.reading.progress.standing.steps.contexts.rules.Valid.{Each, HasValidBody}
+use Rattle.wasm_module_validator_sharing.specs.reading.progress.standing.steps.contexts.rules.Syntax.{ModuleTree}
 use Rattle.wasm_module_validator_sharing.specs.reading.progress.standing.steps.Steps.{SoFar}
 use Rattle.wasm_module_validator_sharing.specs.reading.progress.standing.Standing.{Stands}
 use Rattle.wasm_module_validator_framed.specs.laws.Complete.{module_comes}
 use Rattle.wasm_module_validator_framed.specs.laws.Accepted.{accepted_comes, accepted_exactly, bodies_of_functions}
-use Rattle.wasm_module_validator_sharing.specs.reading.progress.Progress.{Progress, IsAt, text_of, type_of}
+use Rattle.wasm_module_validator_sharing.specs.reading.progress.Progress.{Progress, IsAt}
 use Rattle.wasm_module_validator_sharing.specs.reading.Reading.{IsReadAs}
 use Rattle.wasm_module_validator_sharing.specs.reading.judging.Bodies.{AreBodies}
 

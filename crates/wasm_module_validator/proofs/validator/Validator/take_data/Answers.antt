@@ -1,4 +1,4 @@
-use Rattle.std.proofs.Common.{true, refl, sym, ap}
+use Rattle.std.proofs.Common.{true, refl}
 use Rattle.wasm_module_validator.specs.Methods.{refusal}
 use Rattle.wasm_module_validator.proofs.Turns.{out_of_turn, in_turn}
 use Rattle.wasm_module_validator.proofs.validator.Validator.take_data.Goals as goal

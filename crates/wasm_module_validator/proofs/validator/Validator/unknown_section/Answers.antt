@@ -1,4 +1,4 @@
-use Rattle.std.proofs.Common.{◌∙◌, refl, sym, ap, Some}
+use Rattle.std.proofs.Common.{refl, ap, Some}
 use Rattle.wasm_module_validator.specs.Methods.{failure}
 use Rattle.wasm_module_validator.proofs.Turns.{out_of_turn, in_turn}
 use Rattle.wasm_module_validator.proofs.validator.Validator.unknown_section.Goals as goal

@@ -1,4 +1,4 @@
-use Rattle.std.proofs.Common.{◌∙◌, refl, sym, ap}
+use Rattle.std.proofs.Common.{refl, sym, ap}
 use Rattle.wasm_module_validator.specs.Methods.{header_refusal}
 use Rattle.wasm_module_validator.proofs.Turns.{out_of_turn, in_turn}
 use Rattle.wasm_module_validator.proofs.validator.Validator.version.Goals as goal
