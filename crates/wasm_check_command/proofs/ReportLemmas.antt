@@ -1,5 +1,6 @@
 -- On the lines of a list of inputs.
-use Rattle.std.proofs.Common.{◌≡◌, ℕ, ◌<◌, List, [], ◌∷◌, ◌++◌, Bool, true, false, IsTrue, IfOk, IfErr, Some, None, inl, subst, Option, Result, Ok, Err, length, take, map, slice_get, get_or, append_assoc, append-nil, refl, sym, ap, ◌∙◌, lit<, arith}
+use Rattle.std.proofs.Common.{◌≡◌, ℕ, ◌<◌, List, [], ◌∷◌, ◌++◌, Bool, true, false, IsTrue, IfOk, IfErr, Some, None, inl, Option, Result, Ok, Err}
+use Rattle.std.proofs.Common.{subst, length, take, map, slice_get, get_or, append_assoc, append-nil, refl, sym, ap, ◌∙◌, lit<, arith}
 use Rattle.std.specs.Io.KnownBytes.{Appends, Keeps}
 use Rattle.std.proofs.KnownBytes.{Appends-nil, Appends-trans, Appends-kept}
 use Rattle.std.proofs.lemmas.List.Elements.{All-append, All-cons, All-nil, Contains-append_left, Contains-append_right}
@@ -42,7 +43,8 @@ module _ (accepts : List ℕ → Type 0) where
   -- one input more, with the status that follows
   pub IsReported-more : (sources : List Source) (s : Source) (old mid new : Option (List ℕ)) (status next : Status) (valid : Bool)
       → IsReported accepts sources old mid status → IsJudged accepts s.name s.said valid mid new
-      → ((contents : List (List ℕ)) (bytes : List ℕ) → Sums accepts contents status → (IsTrue valid → accepts bytes) → (accepts bytes → IsTrue valid) → Sums accepts (contents ++ bytes ∷ []) next)
+      → ((contents : List (List ℕ)) (bytes : List ℕ) → Sums accepts contents status → (IsTrue valid → accepts bytes)
+          → (accepts bytes → IsTrue valid) → Sums accepts (contents ++ bytes ∷ []) next)
       → IsReported accepts (sources ++ s ∷ []) old new next
   IsReported-more sources s old mid new status next valid r j sums = record {
     contents = r.contents ++ j.bytes ∷ [];
@@ -143,17 +145,20 @@ module _ (accepts : List ℕ → Type 0) where
   }
 
   -- whatever was answered before a flush failed
-  pub flush_failed : (r : Result Status CheckError) (sources : List Source) (old mid new : Option (List ℕ)) → IfOk r (IsReported accepts sources old mid) → IfErr r (Stops accepts sources old mid)
+  pub flush_failed : (r : Result Status CheckError) (sources : List Source) (old mid new : Option (List ℕ))
+      → IfOk r (IsReported accepts sources old mid) → IfErr r (Stops accepts sources old mid)
       → Keeps mid new → StopsWriting accepts sources old new
   flush_failed (Ok status) sources old mid new h e kept =
-      stops_behind sources (length sources) h.contents old mid new (subst (λ (l : List Source). WritesLines accepts l h.contents old mid) (sym (take_all (length sources) sources (omega arith))) h.written) kept
+      stops_behind sources (length sources) h.contents old mid new
+      (subst (λ (l : List Source). WritesLines accepts l h.contents old mid) (sym (take_all (length sources) sources (omega arith))) h.written) kept
   flush_failed (Err (Read i)) sources old mid new h e kept = stops_behind sources i e.contents old mid new e.written kept
   flush_failed (Err (TooLong i)) sources old mid new h e kept = stops_behind sources i e.0.contents old mid new e.0.written kept
   flush_failed (Err (OutOfMemory i)) sources old mid new h e kept = stops_behind sources i e.contents old mid new e.written kept
   flush_failed (Err Write) sources old mid new h e kept = Stops-kept sources old mid new Write e kept
 
   -- Stops-kept, at what a call answered
-  pub IfErr-kept : {T : Type 0} (r : Result T CheckError) (sources : List Source) (old mid new : Option (List ℕ)) → IfErr r (Stops accepts sources old mid) → Keeps mid new → IfErr r (Stops accepts sources old new)
+  pub IfErr-kept : {T : Type 0} (r : Result T CheckError) (sources : List Source) (old mid new : Option (List ℕ))
+      → IfErr r (Stops accepts sources old mid) → Keeps mid new → IfErr r (Stops accepts sources old new)
   IfErr-kept (Ok x) sources old mid new h kept = h
   IfErr-kept (Err e) sources old mid new h kept = Stops-kept sources old mid new e h kept
 

@@ -1,6 +1,6 @@
 //! Worked bytes of bodies and constants, as rows that compute. The crate has no code of its own.
 //!
-//! The messages of refusals, which no contract promises, are judged by the stored run of `wasm_worked`.
+//! The messages of refusals, which no contract promises, are judged by `tests/run` (`tests/worked`).
 #![tactic(auto)]
 
 ghost use Rattle.wasm_operators_bodies_tests.specs.Rows.{LocalRows, BodyRows, ConstantRows};

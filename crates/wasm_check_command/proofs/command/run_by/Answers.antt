@@ -10,7 +10,8 @@ returns-else-is_empty-clause-valid g c z =
     let words = map g.S.AsStr.text c.args.words.now in
     let is : c.get_strs.result ≡ Some c.in-Some.names = search rules in
     let named = named_by words c.in-Ok.matches c.get_strs.result c.in-Some.names c.in-Ok.ensures.ok c.get_strs.ensures is in
-    inr (judged_valid g.J.Judge.accepts (texts c.in-Some.names.now) (files_of words) (g.W.Write.contents c.args.out.now) (g.W.Write.contents c.judge_files.new.out) c.judge_files.result c.conclude.result named
+    inr (judged_valid g.J.Judge.accepts (texts c.in-Some.names.now) (files_of words) (g.W.Write.contents c.args.out.now)
+    (g.W.Write.contents c.judge_files.new.out) c.judge_files.result c.conclude.result named
     (some_texts c.in-Some.names.now c.if-is_empty.ensures) c.judge_files.ensures.ok c.conclude.ensures.code z)
 
 pub returns-else-is_empty-clause-invalid : goal.returns-else-is_empty-clause-invalid
@@ -18,7 +19,8 @@ returns-else-is_empty-clause-invalid g c z =
     let words = map g.S.AsStr.text c.args.words.now in
     let is : c.get_strs.result ≡ Some c.in-Some.names = search rules in
     let named = named_by words c.in-Ok.matches c.get_strs.result c.in-Some.names c.in-Ok.ensures.ok c.get_strs.ensures is in
-    judged_invalid g.J.Judge.accepts (texts c.in-Some.names.now) (files_of words) (g.W.Write.contents c.args.out.now) (g.W.Write.contents c.judge_files.new.out) c.judge_files.result c.conclude.result named
+    judged_invalid g.J.Judge.accepts (texts c.in-Some.names.now) (files_of words) (g.W.Write.contents c.args.out.now)
+    (g.W.Write.contents c.judge_files.new.out) c.judge_files.result c.conclude.result named
     (some_texts c.in-Some.names.now c.if-is_empty.ensures) c.judge_files.ensures.ok c.conclude.ensures.code z
 
 pub returns-else-is_empty-clause-stopped : goal.returns-else-is_empty-clause-stopped
@@ -26,5 +28,6 @@ returns-else-is_empty-clause-stopped g c z =
     let words = map g.S.AsStr.text c.args.words.now in
     let is : c.get_strs.result ≡ Some c.in-Some.names = search rules in
     let named = named_by words c.in-Ok.matches c.get_strs.result c.in-Some.names c.in-Ok.ensures.ok c.get_strs.ensures is in
-    inr (inr (judged_stopped g.J.Judge.accepts (texts c.in-Some.names.now) (files_of words) (g.W.Write.contents c.args.out.now) (g.W.Write.contents c.judge_files.new.out) c.judge_files.result c.conclude.result named
+    inr (inr (judged_stopped g.J.Judge.accepts (texts c.in-Some.names.now) (files_of words) (g.W.Write.contents c.args.out.now)
+    (g.W.Write.contents c.judge_files.new.out) c.judge_files.result c.conclude.result named
     c.judge_files.ensures.err c.conclude.ensures.code z))

@@ -13,11 +13,13 @@ loop-input-init g c = record { can = tt; finite = tt; counted = refl; reported =
 
 pub returns-in_err-judge_input-clause-err : goal.returns-in_err-judge_input-clause-err
 returns-in_err-judge_input-clause-err g c =
-    let road = YieldsList-from_vec {s = c.into_iter-input-iterator.result} c.args.inputs.items c.into_iter-input-iterator.ensures.into_iter_gives.0 (c.into_iter-input-iterator.ensures.into_iter_gives.1 ∙ c.args.inputs.ok.0) in
+    let road = YieldsList-from_vec {s = c.into_iter-input-iterator.result} c.args.inputs.items
+        c.into_iter-input-iterator.ensures.into_iter_gives.0 (c.into_iter-input-iterator.ensures.into_iter_gives.1 ∙ c.args.inputs.ok.0) in
     let so_far = YieldsList-so_far road c.loop-input.yielded c.loop-input.input-iterator c.loop-input.yielded_by in
     let turn = YieldsList-turn road c.loop-input.yielded c.loop-input.input-iterator c.loop-input.yielded_by c.next.result c.next.new.self c.in-Some.input c.in-Some.is c.next.ensures.steps in
     let failed = err_from_is_err_and c.from_residual.result c.from_residual.ensures.1 in
-    rw (failed.1, failed.2) (Stops-after g.J.Judge.accepts (sources_of g.R.Read.remaining c.args.inputs.items) (sources_of g.R.Read.remaining c.loop-input.yielded) (source_of g.R.Read.remaining c.in-Some.input)
+    rw (failed.1, failed.2) (Stops-after g.J.Judge.accepts (sources_of g.R.Read.remaining c.args.inputs.items) (sources_of g.R.Read.remaining c.loop-input.yielded)
+    (source_of g.R.Read.remaining c.in-Some.input)
     c.loop-input.index (g.W.Write.contents c.args.out.now) (g.W.Write.contents c.loop-input.out) (g.W.Write.contents c.judge_input.new.out) c.loop-input.status c.in_err-judge_input.field-0.0
     c.loop-input.invariant.reported
     (sources_so_far g.R.Read.remaining c.loop-input.yielded c.args.inputs.items c.loop-input.index c.loop-input.invariant.counted so_far)
