@@ -44,7 +44,7 @@ module _ (accepts : List ℕ → Type 0) where
   pub IsReported-more : (sources : List Source) (s : Source) (old mid new : Option (List ℕ)) (status next : Status) (valid : Bool)
       → IsReported accepts sources old mid status → IsJudged accepts s.name s.said valid mid new
       → ((contents : List (List ℕ)) (bytes : List ℕ) → Sums accepts contents status → (IsTrue valid → accepts bytes)
-          → (accepts bytes → IsTrue valid) → Sums accepts (contents ++ bytes ∷ []) next)
+      → (accepts bytes → IsTrue valid) → Sums accepts (contents ++ bytes ∷ []) next)
       → IsReported accepts (sources ++ s ∷ []) old new next
   IsReported-more sources s old mid new status next valid r j sums = record {
     contents = r.contents ++ j.bytes ∷ [];

@@ -14,7 +14,7 @@ loop-input-init g c = record { can = tt; finite = tt; counted = refl; reported =
 pub returns-in_err-judge_input-clause-err : goal.returns-in_err-judge_input-clause-err
 returns-in_err-judge_input-clause-err g c =
     let road = YieldsList-from_vec {s = c.into_iter-input-iterator.result} c.args.inputs.items
-        c.into_iter-input-iterator.ensures.into_iter_gives.0 (c.into_iter-input-iterator.ensures.into_iter_gives.1 ∙ c.args.inputs.ok.0) in
+    c.into_iter-input-iterator.ensures.into_iter_gives.0 (c.into_iter-input-iterator.ensures.into_iter_gives.1 ∙ c.args.inputs.ok.0) in
     let so_far = YieldsList-so_far road c.loop-input.yielded c.loop-input.input-iterator c.loop-input.yielded_by in
     let turn = YieldsList-turn road c.loop-input.yielded c.loop-input.input-iterator c.loop-input.yielded_by c.next.result c.next.new.self c.in-Some.input c.in-Some.is c.next.ensures.steps in
     let failed = err_from_is_err_and c.from_residual.result c.from_residual.ensures.1 in
