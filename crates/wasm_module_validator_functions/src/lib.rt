@@ -15,6 +15,7 @@
 //! that is valid, and why others are refused.
 #![tactic(auto)]
 
+mod arity;
 mod beginning;
 mod heights;
 mod judging;

@@ -11,8 +11,8 @@ ghost use Rattle.wasm_module_validator_functions.specs.Trying.{Tries};
 
 use crate::FuncValidator;
 use wasm_operator_validator_expression::TellOperator;
-use wasm_operator_validator_stacks::{OperatorValidator, Reason, Refusal, WasmModuleResources};
-use wasm_operator_validator_walk::{ValidatingVisitor, ValidatingWalk};
+use wasm_operator_validator_stacks::{OperatorValidator, Refusal, WasmModuleResources};
+use wasm_operator_validator_walk::{AsRefusal, ValidatingVisitor, ValidatingWalk};
 use wasm_operators_visit::Operator;
 use wasm_operators_visit_operator::is_simd;
 use wasm_types::Result;
@@ -73,12 +73,13 @@ fn judge<R: WasmModuleResources>(
     ensures visits { Visits (R.meaning resources.now) validator.old (op_of operator.entry) (refused result) validator.new }
 {
     if is_simd(&operator) {
-        return Err(refuse_vectors(validator));
+        return Err(refuse_vectors(validator, operator.info().name));
     }
     let mut walk = ValidatingWalk {
         visitor: ValidatingVisitor {
             inner: validator,
             resources,
+            answer: AsRefusal,
         },
     };
     let answer = tell(&mut walk, operator);
@@ -110,18 +111,19 @@ fn lent_validator<'v, 'r, R: WasmModuleResources>(
     let ValidatingVisitor {
         inner,
         resources: _resources,
+        answer: _answer,
     } = visitor;
     inner
 }
 
-/// Refuses an operator on vectors: none has a rule.
+/// Refuses an operator on vectors, by its name: none has a rule.
 #[cold]
-fn refuse_vectors(validator: &mut OperatorValidator) -> Refusal
+fn refuse_vectors(validator: &mut OperatorValidator, name: &'static str) -> Refusal
     ensures visits { (m : Meaning) (o : Op) → is_simd o ≡ true → Visits m validator.old o (Some (kind_of result)) validator.new }
 {
     if validator.has_failed() {
         return Refusal::AfterRefusal;
     }
     validator.fail();
-    Refusal::Because(Reason::Unsupported)
+    Refusal::Unsupported { name }
 }

@@ -15,14 +15,15 @@
 //! let allocs = validator.into_allocations();
 //! ```
 //!
-//! A caller that reads the operators itself tells a [`WasmProposalValidator`] of each: it holds a [`ValidatingVisitor`], which is the
-//! validator and the module, and the offset of the operator, at which it answers an error where the operator may not come.
+//! A caller that reads the operators itself tells a [`WasmProposalValidator`] of each: the validator and the module, and the offset of
+//! the operator, at which it answers an error where the operator may not come.
 //!
 //! ```text
-//! let inner = ValidatingVisitor { inner: &mut validator, resources: &module };
-//! let mut visitor = WasmProposalValidator { inner, offset };
+//! let mut visitor = WasmProposalValidator { inner: &mut validator, resources: &module, answer: AsError { offset } };
 //! visitor.visit_i32_const(42)?;
 //! ```
+//!
+//! It is a [`ValidatingVisitor`], whose visits answer as their `answer` says: [`AsRefusal`] answers in few bytes, without a text.
 //!
 //! [`check_const_expr`] judges a whole constant expression, and [`new_const_expr`] makes the validator of one.
 //!
@@ -39,13 +40,16 @@
 #![tactic(auto)]
 
 pub use wasm_operator_validator_accepted::accepted_bodies_are_sound;
-pub use wasm_operator_validator_arity::{ModuleArity, OperatorArity, WasmProposalValidator};
+pub use wasm_operator_validator_arity::{ModuleArity, OperatorArity};
 pub use wasm_operator_validator_constants::{ConstExpr, check_const_expr, new_const_expr};
 pub use wasm_operator_validator_functions::new_func;
 pub use wasm_operator_validator_log::{
     RollbackLog, RollbackLogAllocations, Transaction, ty_to_str,
 };
+pub use wasm_operator_validator_visits::{
+    AnswerAs, AsError, AsRefusal, ValidatingVisitor, WasmProposalValidator,
+};
 pub use wasm_operator_validator_walk::{
     BlockType, Frame, FrameKind, LocalInits, Locals, MaybeType, OperatorValidator,
-    OperatorValidatorAllocations, ValidatingVisitor, WasmModuleResources, validate_expression,
+    OperatorValidatorAllocations, WasmModuleResources, validate_expression,
 };

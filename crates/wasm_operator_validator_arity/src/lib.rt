@@ -12,9 +12,8 @@ pub mod laws;
 mod looking_up;
 mod module_arity;
 mod operator_arity;
-mod proposal;
 
 pub use answering::{func_type_of_cont_type, sub_type_of_ref_type, tag_type_arity};
 pub use module_arity::ModuleArity;
 pub use operator_arity::OperatorArity;
-pub use wasm_operator_validator_proposal::WasmProposalValidator;
+pub use wasm_operator_validator_arity_tables::in_u32;

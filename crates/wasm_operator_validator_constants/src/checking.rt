@@ -11,7 +11,7 @@ use std::mem::replace;
 use wasm_operator_validator_stacks::{
     OperatorValidator, OperatorValidatorAllocations, WasmModuleResources,
 };
-use wasm_operator_validator_walk::{ValidatingVisitor, ValidatingWalk};
+use wasm_operator_validator_walk::{AsRefusal, ValidatingVisitor, ValidatingWalk};
 use wasm_operators_bodies::ConstExpr;
 use wasm_types::{BinaryReader, Result, ValType, WasmFeatures};
 
@@ -71,6 +71,7 @@ fn validate_constant<R: WasmModuleResources>(
     let visitor = ValidatingVisitor {
         inner: validator,
         resources,
+        answer: AsRefusal,
     };
     let mut constant = ConstantWalk {
         walk: ValidatingWalk { visitor },
@@ -87,6 +88,7 @@ fn validate_constant<R: WasmModuleResources>(
     let ValidatingVisitor {
         inner: _,
         resources: _,
+        answer: _,
     } = visitor;
     answer
 }

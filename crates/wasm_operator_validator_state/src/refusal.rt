@@ -6,7 +6,7 @@ ghost use Rattle.wasm_operator_validator_state.specs.Refusals.{kind_of, OfConten
 
 use crate::texts::{
     empty_stack, expected_reference, feature_text, mismatch, reason_text, type_feature_text,
-    uninitialized_local, unknown, unknown_local,
+    uninitialized_local, unknown, unknown_local, unsupported,
 };
 use crate::{MaybeType, ty_to_str};
 use wasm_types::{Error, ValType, WasmFeatures};
@@ -42,6 +42,8 @@ pub enum Refusal {
     Unknown { space: Space, index: u32 },
     /// The operand on top is no reference.
     ExpectedReference { found: MaybeType },
+    /// The operator of this name has no rule here yet.
+    Unsupported { name: &'static str },
     /// For another reason.
     Because(Reason),
 }
@@ -108,8 +110,6 @@ pub enum Reason {
     SelectOfTypes,
     /// A choice is of no type or of several.
     SelectArity,
-    /// The operator has no rule here yet.
-    Unsupported,
 }
 
 impl Refusal {
@@ -142,6 +142,7 @@ impl Refusal {
             Refusal::UninitializedLocal { local_index } => uninitialized_local(offset, local_index),
             Refusal::Unknown { space, index } => unknown(offset, space, index),
             Refusal::ExpectedReference { found } => expected_reference(offset, found),
+            Refusal::Unsupported { name } => unsupported(offset, name),
             Refusal::Because(reason) => Error::new(reason_text(reason), offset),
         }
     }

@@ -88,6 +88,15 @@ pub fn unknown_local(offset: u64, local_index: u32) -> Error
     )
 }
 
+/// An operator that has no rule yet, by its name in the text format.
+#[cold]
+pub fn unsupported(offset: u64, name: &str) -> Error
+    ensures kind { result.kind ≡ Other }
+    ensures offset { result.offset ≡ offset }
+{
+    Error::fmt(format_args!("{name} is not supported yet"), offset)
+}
+
 /// A local that has no value yet.
 #[cold]
 pub fn uninitialized_local(offset: u64, local_index: u32) -> Error
@@ -267,6 +276,5 @@ pub fn reason_text(reason: Reason) -> &'static str {
         Reason::SelectOfReferences => "type mismatch: select only takes integral types",
         Reason::SelectOfTypes => "type mismatch: select operands have different types",
         Reason::SelectArity => "invalid result arity",
-        Reason::Unsupported => "the operator is not supported yet",
     }
 }

@@ -24,7 +24,7 @@ use Rattle.wasm_operator_validator_br_table.specs.rules.Context.{Context, Initia
 use Rattle.wasm_operator_validator_br_table.specs.rules.InstructionTypes.{instruction_type}
 use Rattle.wasm_operator_validator_br_table.specs.rules.Row.{TableRow, GroupRow}
 use Rattle.wasm_operator_validator_br_table.specs.resources.Meaning.{Meaning}
-use Rattle.wasm_operator_validator_br_table.specs.state.State.{Open, State, InFrame, Accepts, Visits}
+use Rattle.wasm_operator_validator_br_table.specs.state.State.{Open, State, InFrame, Accepts, Checks}
 use Rattle.wasm_operator_validator_br_table.specs.state.Steps.{IsOpen}
 use Rattle.wasm_operator_validator_br_table.specs.state.Refusals.{kind_of}
 use Rattle.wasm_operator_validator_br_table.specs.state.declared.refusal.Refusal.{Refusal}
@@ -32,7 +32,7 @@ use Rattle.wasm_operator_validator_br_table.specs.state.Entering.{MayBegin, Stop
 use Rattle.wasm_operator_validator_br_table.specs.state.laws.Accepting.{accepts_no_more, accepts_not_failed}
 use Rattle.wasm_operator_validator_br_table.specs.state.laws.Frames.{may_open}
 use Rattle.wasm_operator_validator_br_table.specs.state.laws.Rows.{by_no_row}
-use Rattle.wasm_operator_validator_br_table.specs.state.laws.Checks.{checks_going, stopped_so, visits_refused}
+use Rattle.wasm_operator_validator_br_table.specs.state.laws.Checks.{checks_going, stopped_so}
 use Rattle.wasm_operator_validator_visits.specs.Unsupported.{IsWithoutRule, is_on_references, is_older_try, is_in_older_try}
 
 -- ---- operators that neither open nor end a frame, and have no row
@@ -197,30 +197,28 @@ pub failed_without : (m : Meaning) (σ : State) (o : ExceptionTree) (p : Proposa
 failed_without m σ o p f e = record { of = e; never = λ os x. accepts_not_failed m σ (op.Exception o ∷ os) f x }
 
 -- no verdict
-pub not_judged : (m : Meaning) (σ ρ : State) (o : Op) → σ.failed ≡ false → ρ ≡ record σ { failed = true } → Visits m σ o (Some kinds.OutOfMemory) ρ
-not_judged m σ ρ o f e = visits_refused kinds.OutOfMemory m σ σ ρ o (record {
+pub not_judged : (m : Meaning) (σ : State) (o : Op) → σ.failed ≡ false → Checks m σ o (Some kinds.OutOfMemory) σ
+not_judged m σ o f = record {
   decides = tt;
   stopped = λ h. let x : true ≡ false = sym h ∙ f in cc;
   given = refl;
   failed = refl;
   saved = refl;
-}) e
+}
 
--- ---- what a visit of one promises
+-- ---- what the check of one promises
 
 -- behind the entry
-pub refused_within : (k : ErrorKind) (m : Meaning) (σ ρ : State) (o : Op) (p : Proposal) → IsWithoutRule m σ o p → MayBegin σ p false → ρ ≡ record σ { failed = true }
-    → Visits m σ o (Some k) ρ
-refused_within k m σ ρ o p n b e =
-    visits_refused k m σ σ ρ o (checks_going (Some k) m σ σ o p false b (denies k _ (λ (os, x). n.never os x)) refl refl refl) e
+pub refused_within : (k : ErrorKind) (m : Meaning) (σ : State) (o : Op) (p : Proposal) → IsWithoutRule m σ o p → MayBegin σ p false → Checks m σ o (Some k) σ
+refused_within k m σ o p n b = checks_going (Some k) m σ σ o p false b (denies k _ (λ (os, x). n.never os x)) refl refl refl
 
 -- at the entry
-pub refused_before : (r : Refusal) (m : Meaning) (σ ρ : State) (o : Op) (p : Proposal) → IsWithoutRule m σ o p → StopsWith σ p false r → ρ ≡ record σ { failed = true }
-    → Visits m σ o (Some (kind_of r)) ρ
-refused_before r m σ ρ o p n s e = visits_refused (kind_of r) m σ σ ρ o (record {
+pub refused_before : (r : Refusal) (m : Meaning) (σ : State) (o : Op) (p : Proposal) → IsWithoutRule m σ o p → StopsWith σ p false r
+    → Checks m σ o (Some (kind_of r)) σ
+refused_before r m σ o p n s = record {
   decides = denies (kind_of r) _ (λ (os, x). n.never os x);
   stopped = stopped_so σ p false r s;
   given = refl;
   failed = refl;
   saved = refl;
-}) e
+}

@@ -1,4 +1,5 @@
 -- Operators that have no rule yet.
+pub mod Told
 pub mod Unsupported
 -- The rules and laws of the crates below, under their names: crates above cite them here.
 pub use Rattle.wasm_operator_validator_br_table.specs.expression as expression

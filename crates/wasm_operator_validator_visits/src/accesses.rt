@@ -3,21 +3,19 @@
 ghost use Rattle.std.specs.Prelude.{◌≡◌};
 ghost use Rattle.wasm_operators_visit.specs.operator.Op.{Op};
 ghost use Rattle.wasm_operator_validator_br_table.specs.rules.Accesses.{load, store, modify, compare_exchange, wait};
-ghost use Rattle.wasm_operator_validator_br_table.specs.state.State.{Visits};
-ghost use Rattle.wasm_operator_validator_br_table.specs.state.Refusals.{refused};
 ghost use Rattle.wasm_operator_validator_atomics.specs.memory.Reaching.{IsAccess};
 ghost use Rattle.wasm_operator_validator_atomics.specs.Atomics.{IsAtomic};
 
-use crate::ValidatingVisitor;
+use crate::{AnswerAs, ValidatingVisitor};
 use wasm_operator_validator_atomics::{
     check_atomic_compare_exchange, check_atomic_load, check_atomic_modify, check_atomic_store,
     check_atomic_wait, check_load, check_store,
 };
-use wasm_operator_validator_br_table::{MemArg, MemoryOperator, Refusal, WasmModuleResources};
+use wasm_operator_validator_br_table::{MemArg, MemoryOperator, WasmModuleResources};
 use wasm_operators_visit::AtomicOperator;
 use wasm_types::ValType;
 
-impl<'v, 'r, R: WasmModuleResources> ValidatingVisitor<'v, 'r, R> {
+impl<'v, 'r, R: WasmModuleResources, A: AnswerAs> ValidatingVisitor<'v, 'r, R, A> {
     /// A load of this type by this argument; the type is a float or not.
     #[inline(always)]
     pub fn load(
@@ -26,19 +24,14 @@ impl<'v, 'r, R: WasmModuleResources> ValidatingVisitor<'v, 'r, R> {
         memarg: &MemArg,
         floats: bool,
         ty: &ValType,
-    ) -> Result<(), Refusal>
+    ) -> A::Output
         requires { IsAccess load op memarg.now floats ty.now }
-        ensures visits { Visits (R.meaning self.old.resources.now) self.old.inner.now (Op.Memory op) (refused result) self.new.inner.now }
+        ensures tells { A.tells (R.meaning self.old.resources.now) self.old.inner.now self.old.answer (Op.Memory op) result self.new.inner.now self.new.answer }
         ensures lent { self.new.inner.ghost_name ≡ self.old.inner.ghost_name }
         ensures resources { self.new.resources.now ≡ self.old.resources.now }
     {
-        match check_load(self.inner, self.resources, op, memarg, floats, ty) {
-            Ok(()) => Ok(()),
-            Err(refusal) => {
-                self.inner.fail();
-                Err(refusal)
-            }
-        }
+        let checked = check_load(self.inner, self.resources, op, memarg, floats, ty);
+        self.tell(checked)
     }
 
     /// A store of this type by this argument; the type is a float or not.
@@ -49,19 +42,14 @@ impl<'v, 'r, R: WasmModuleResources> ValidatingVisitor<'v, 'r, R> {
         memarg: &MemArg,
         floats: bool,
         ty: &ValType,
-    ) -> Result<(), Refusal>
+    ) -> A::Output
         requires { IsAccess store op memarg.now floats ty.now }
-        ensures visits { Visits (R.meaning self.old.resources.now) self.old.inner.now (Op.Memory op) (refused result) self.new.inner.now }
+        ensures tells { A.tells (R.meaning self.old.resources.now) self.old.inner.now self.old.answer (Op.Memory op) result self.new.inner.now self.new.answer }
         ensures lent { self.new.inner.ghost_name ≡ self.old.inner.ghost_name }
         ensures resources { self.new.resources.now ≡ self.old.resources.now }
     {
-        match check_store(self.inner, self.resources, op, memarg, floats, ty) {
-            Ok(()) => Ok(()),
-            Err(refusal) => {
-                self.inner.fail();
-                Err(refusal)
-            }
-        }
+        let checked = check_store(self.inner, self.resources, op, memarg, floats, ty);
+        self.tell(checked)
     }
 
     /// An atomic load of this type by this argument.
@@ -71,19 +59,14 @@ impl<'v, 'r, R: WasmModuleResources> ValidatingVisitor<'v, 'r, R> {
         op: AtomicOperator,
         memarg: &MemArg,
         ty: &ValType,
-    ) -> Result<(), Refusal>
+    ) -> A::Output
         requires { IsAtomic load op memarg.now ty.now }
-        ensures visits { Visits (R.meaning self.old.resources.now) self.old.inner.now (Op.Atomic op) (refused result) self.new.inner.now }
+        ensures tells { A.tells (R.meaning self.old.resources.now) self.old.inner.now self.old.answer (Op.Atomic op) result self.new.inner.now self.new.answer }
         ensures lent { self.new.inner.ghost_name ≡ self.old.inner.ghost_name }
         ensures resources { self.new.resources.now ≡ self.old.resources.now }
     {
-        match check_atomic_load(self.inner, self.resources, op, memarg, ty) {
-            Ok(()) => Ok(()),
-            Err(refusal) => {
-                self.inner.fail();
-                Err(refusal)
-            }
-        }
+        let checked = check_atomic_load(self.inner, self.resources, op, memarg, ty);
+        self.tell(checked)
     }
 
     /// An atomic store of this type by this argument.
@@ -93,19 +76,14 @@ impl<'v, 'r, R: WasmModuleResources> ValidatingVisitor<'v, 'r, R> {
         op: AtomicOperator,
         memarg: &MemArg,
         ty: &ValType,
-    ) -> Result<(), Refusal>
+    ) -> A::Output
         requires { IsAtomic store op memarg.now ty.now }
-        ensures visits { Visits (R.meaning self.old.resources.now) self.old.inner.now (Op.Atomic op) (refused result) self.new.inner.now }
+        ensures tells { A.tells (R.meaning self.old.resources.now) self.old.inner.now self.old.answer (Op.Atomic op) result self.new.inner.now self.new.answer }
         ensures lent { self.new.inner.ghost_name ≡ self.old.inner.ghost_name }
         ensures resources { self.new.resources.now ≡ self.old.resources.now }
     {
-        match check_atomic_store(self.inner, self.resources, op, memarg, ty) {
-            Ok(()) => Ok(()),
-            Err(refusal) => {
-                self.inner.fail();
-                Err(refusal)
-            }
-        }
+        let checked = check_atomic_store(self.inner, self.resources, op, memarg, ty);
+        self.tell(checked)
     }
 
     /// An atomic change of a number of this type by another.
@@ -115,19 +93,14 @@ impl<'v, 'r, R: WasmModuleResources> ValidatingVisitor<'v, 'r, R> {
         op: AtomicOperator,
         memarg: &MemArg,
         ty: &ValType,
-    ) -> Result<(), Refusal>
+    ) -> A::Output
         requires { IsAtomic modify op memarg.now ty.now }
-        ensures visits { Visits (R.meaning self.old.resources.now) self.old.inner.now (Op.Atomic op) (refused result) self.new.inner.now }
+        ensures tells { A.tells (R.meaning self.old.resources.now) self.old.inner.now self.old.answer (Op.Atomic op) result self.new.inner.now self.new.answer }
         ensures lent { self.new.inner.ghost_name ≡ self.old.inner.ghost_name }
         ensures resources { self.new.resources.now ≡ self.old.resources.now }
     {
-        match check_atomic_modify(self.inner, self.resources, op, memarg, ty) {
-            Ok(()) => Ok(()),
-            Err(refusal) => {
-                self.inner.fail();
-                Err(refusal)
-            }
-        }
+        let checked = check_atomic_modify(self.inner, self.resources, op, memarg, ty);
+        self.tell(checked)
     }
 
     /// An atomic exchange of a number of this type where it is as expected.
@@ -137,19 +110,14 @@ impl<'v, 'r, R: WasmModuleResources> ValidatingVisitor<'v, 'r, R> {
         op: AtomicOperator,
         memarg: &MemArg,
         ty: &ValType,
-    ) -> Result<(), Refusal>
+    ) -> A::Output
         requires { IsAtomic compare_exchange op memarg.now ty.now }
-        ensures visits { Visits (R.meaning self.old.resources.now) self.old.inner.now (Op.Atomic op) (refused result) self.new.inner.now }
+        ensures tells { A.tells (R.meaning self.old.resources.now) self.old.inner.now self.old.answer (Op.Atomic op) result self.new.inner.now self.new.answer }
         ensures lent { self.new.inner.ghost_name ≡ self.old.inner.ghost_name }
         ensures resources { self.new.resources.now ≡ self.old.resources.now }
     {
-        match check_atomic_compare_exchange(self.inner, self.resources, op, memarg, ty) {
-            Ok(()) => Ok(()),
-            Err(refusal) => {
-                self.inner.fail();
-                Err(refusal)
-            }
-        }
+        let checked = check_atomic_compare_exchange(self.inner, self.resources, op, memarg, ty);
+        self.tell(checked)
     }
 
     /// A thread waits while a number of this type is as expected.
@@ -159,18 +127,13 @@ impl<'v, 'r, R: WasmModuleResources> ValidatingVisitor<'v, 'r, R> {
         op: AtomicOperator,
         memarg: &MemArg,
         ty: &ValType,
-    ) -> Result<(), Refusal>
+    ) -> A::Output
         requires { IsAtomic wait op memarg.now ty.now }
-        ensures visits { Visits (R.meaning self.old.resources.now) self.old.inner.now (Op.Atomic op) (refused result) self.new.inner.now }
+        ensures tells { A.tells (R.meaning self.old.resources.now) self.old.inner.now self.old.answer (Op.Atomic op) result self.new.inner.now self.new.answer }
         ensures lent { self.new.inner.ghost_name ≡ self.old.inner.ghost_name }
         ensures resources { self.new.resources.now ≡ self.old.resources.now }
     {
-        match check_atomic_wait(self.inner, self.resources, op, memarg, ty) {
-            Ok(()) => Ok(()),
-            Err(refusal) => {
-                self.inner.fail();
-                Err(refusal)
-            }
-        }
+        let checked = check_atomic_wait(self.inner, self.resources, op, memarg, ty);
+        self.tell(checked)
     }
 }

@@ -1,24 +1,20 @@
 //! Visits of atomic accesses to memories.
 
-use crate::ValidatingVisitor;
+use crate::{AnswerAs, ValidatingVisitor};
 use wasm_operator_validator_atomics::{check_atomic_fence, check_atomic_notify};
-use wasm_operator_validator_br_table::{MemArg, Refusal, WasmModuleResources};
+use wasm_operator_validator_br_table::{MemArg, WasmModuleResources};
 use wasm_operators_visit::AtomicOperator;
 use wasm_operators_visit_operator::VisitAtomic;
 use wasm_types::ValType;
 
-impl<'a, 'v, 'r, R: WasmModuleResources> VisitAtomic<'a> for ValidatingVisitor<'v, 'r, R> {
-    fn visit_memory_atomic_notify(&mut self, memarg: MemArg) -> Result<(), Refusal> {
-        match check_atomic_notify(self.inner, self.resources, memarg) {
-            Ok(()) => Ok(()),
-            Err(refusal) => {
-                self.inner.fail();
-                Err(refusal)
-            }
-        }
+impl<'a, 'v, 'r, R: WasmModuleResources, A: AnswerAs> VisitAtomic<'a>
+    for ValidatingVisitor<'v, 'r, R, A> {
+    fn visit_memory_atomic_notify(&mut self, memarg: MemArg) -> A::Output {
+        let checked = check_atomic_notify(self.inner, self.resources, memarg);
+        self.tell(checked)
     }
 
-    fn visit_memory_atomic_wait32(&mut self, memarg: MemArg) -> Result<(), Refusal> {
+    fn visit_memory_atomic_wait32(&mut self, memarg: MemArg) -> A::Output {
         self.atomic_wait(
             AtomicOperator::MemoryAtomicWait32 { memarg },
             &memarg,
@@ -26,7 +22,7 @@ impl<'a, 'v, 'r, R: WasmModuleResources> VisitAtomic<'a> for ValidatingVisitor<'
         )
     }
 
-    fn visit_memory_atomic_wait64(&mut self, memarg: MemArg) -> Result<(), Refusal> {
+    fn visit_memory_atomic_wait64(&mut self, memarg: MemArg) -> A::Output {
         self.atomic_wait(
             AtomicOperator::MemoryAtomicWait64 { memarg },
             &memarg,
@@ -34,17 +30,12 @@ impl<'a, 'v, 'r, R: WasmModuleResources> VisitAtomic<'a> for ValidatingVisitor<'
         )
     }
 
-    fn visit_atomic_fence(&mut self) -> Result<(), Refusal> {
-        match check_atomic_fence(self.inner, self.resources) {
-            Ok(()) => Ok(()),
-            Err(refusal) => {
-                self.inner.fail();
-                Err(refusal)
-            }
-        }
+    fn visit_atomic_fence(&mut self) -> A::Output {
+        let checked = check_atomic_fence(self.inner, self.resources);
+        self.tell(checked)
     }
 
-    fn visit_i32_atomic_load(&mut self, memarg: MemArg) -> Result<(), Refusal> {
+    fn visit_i32_atomic_load(&mut self, memarg: MemArg) -> A::Output {
         self.atomic_load(
             AtomicOperator::I32AtomicLoad { memarg },
             &memarg,
@@ -52,7 +43,7 @@ impl<'a, 'v, 'r, R: WasmModuleResources> VisitAtomic<'a> for ValidatingVisitor<'
         )
     }
 
-    fn visit_i64_atomic_load(&mut self, memarg: MemArg) -> Result<(), Refusal> {
+    fn visit_i64_atomic_load(&mut self, memarg: MemArg) -> A::Output {
         self.atomic_load(
             AtomicOperator::I64AtomicLoad { memarg },
             &memarg,
@@ -60,7 +51,7 @@ impl<'a, 'v, 'r, R: WasmModuleResources> VisitAtomic<'a> for ValidatingVisitor<'
         )
     }
 
-    fn visit_i32_atomic_load8_u(&mut self, memarg: MemArg) -> Result<(), Refusal> {
+    fn visit_i32_atomic_load8_u(&mut self, memarg: MemArg) -> A::Output {
         self.atomic_load(
             AtomicOperator::I32AtomicLoad8U { memarg },
             &memarg,
@@ -68,7 +59,7 @@ impl<'a, 'v, 'r, R: WasmModuleResources> VisitAtomic<'a> for ValidatingVisitor<'
         )
     }
 
-    fn visit_i32_atomic_load16_u(&mut self, memarg: MemArg) -> Result<(), Refusal> {
+    fn visit_i32_atomic_load16_u(&mut self, memarg: MemArg) -> A::Output {
         self.atomic_load(
             AtomicOperator::I32AtomicLoad16U { memarg },
             &memarg,
@@ -76,7 +67,7 @@ impl<'a, 'v, 'r, R: WasmModuleResources> VisitAtomic<'a> for ValidatingVisitor<'
         )
     }
 
-    fn visit_i64_atomic_load8_u(&mut self, memarg: MemArg) -> Result<(), Refusal> {
+    fn visit_i64_atomic_load8_u(&mut self, memarg: MemArg) -> A::Output {
         self.atomic_load(
             AtomicOperator::I64AtomicLoad8U { memarg },
             &memarg,
@@ -84,7 +75,7 @@ impl<'a, 'v, 'r, R: WasmModuleResources> VisitAtomic<'a> for ValidatingVisitor<'
         )
     }
 
-    fn visit_i64_atomic_load16_u(&mut self, memarg: MemArg) -> Result<(), Refusal> {
+    fn visit_i64_atomic_load16_u(&mut self, memarg: MemArg) -> A::Output {
         self.atomic_load(
             AtomicOperator::I64AtomicLoad16U { memarg },
             &memarg,
@@ -92,7 +83,7 @@ impl<'a, 'v, 'r, R: WasmModuleResources> VisitAtomic<'a> for ValidatingVisitor<'
         )
     }
 
-    fn visit_i64_atomic_load32_u(&mut self, memarg: MemArg) -> Result<(), Refusal> {
+    fn visit_i64_atomic_load32_u(&mut self, memarg: MemArg) -> A::Output {
         self.atomic_load(
             AtomicOperator::I64AtomicLoad32U { memarg },
             &memarg,
@@ -100,7 +91,7 @@ impl<'a, 'v, 'r, R: WasmModuleResources> VisitAtomic<'a> for ValidatingVisitor<'
         )
     }
 
-    fn visit_i32_atomic_store(&mut self, memarg: MemArg) -> Result<(), Refusal> {
+    fn visit_i32_atomic_store(&mut self, memarg: MemArg) -> A::Output {
         self.atomic_store(
             AtomicOperator::I32AtomicStore { memarg },
             &memarg,
@@ -108,7 +99,7 @@ impl<'a, 'v, 'r, R: WasmModuleResources> VisitAtomic<'a> for ValidatingVisitor<'
         )
     }
 
-    fn visit_i64_atomic_store(&mut self, memarg: MemArg) -> Result<(), Refusal> {
+    fn visit_i64_atomic_store(&mut self, memarg: MemArg) -> A::Output {
         self.atomic_store(
             AtomicOperator::I64AtomicStore { memarg },
             &memarg,
@@ -116,7 +107,7 @@ impl<'a, 'v, 'r, R: WasmModuleResources> VisitAtomic<'a> for ValidatingVisitor<'
         )
     }
 
-    fn visit_i32_atomic_store8(&mut self, memarg: MemArg) -> Result<(), Refusal> {
+    fn visit_i32_atomic_store8(&mut self, memarg: MemArg) -> A::Output {
         self.atomic_store(
             AtomicOperator::I32AtomicStore8 { memarg },
             &memarg,
@@ -124,7 +115,7 @@ impl<'a, 'v, 'r, R: WasmModuleResources> VisitAtomic<'a> for ValidatingVisitor<'
         )
     }
 
-    fn visit_i32_atomic_store16(&mut self, memarg: MemArg) -> Result<(), Refusal> {
+    fn visit_i32_atomic_store16(&mut self, memarg: MemArg) -> A::Output {
         self.atomic_store(
             AtomicOperator::I32AtomicStore16 { memarg },
             &memarg,
@@ -132,7 +123,7 @@ impl<'a, 'v, 'r, R: WasmModuleResources> VisitAtomic<'a> for ValidatingVisitor<'
         )
     }
 
-    fn visit_i64_atomic_store8(&mut self, memarg: MemArg) -> Result<(), Refusal> {
+    fn visit_i64_atomic_store8(&mut self, memarg: MemArg) -> A::Output {
         self.atomic_store(
             AtomicOperator::I64AtomicStore8 { memarg },
             &memarg,
@@ -140,7 +131,7 @@ impl<'a, 'v, 'r, R: WasmModuleResources> VisitAtomic<'a> for ValidatingVisitor<'
         )
     }
 
-    fn visit_i64_atomic_store16(&mut self, memarg: MemArg) -> Result<(), Refusal> {
+    fn visit_i64_atomic_store16(&mut self, memarg: MemArg) -> A::Output {
         self.atomic_store(
             AtomicOperator::I64AtomicStore16 { memarg },
             &memarg,
@@ -148,7 +139,7 @@ impl<'a, 'v, 'r, R: WasmModuleResources> VisitAtomic<'a> for ValidatingVisitor<'
         )
     }
 
-    fn visit_i64_atomic_store32(&mut self, memarg: MemArg) -> Result<(), Refusal> {
+    fn visit_i64_atomic_store32(&mut self, memarg: MemArg) -> A::Output {
         self.atomic_store(
             AtomicOperator::I64AtomicStore32 { memarg },
             &memarg,
@@ -156,7 +147,7 @@ impl<'a, 'v, 'r, R: WasmModuleResources> VisitAtomic<'a> for ValidatingVisitor<'
         )
     }
 
-    fn visit_i32_atomic_rmw_add(&mut self, memarg: MemArg) -> Result<(), Refusal> {
+    fn visit_i32_atomic_rmw_add(&mut self, memarg: MemArg) -> A::Output {
         self.atomic_modify(
             AtomicOperator::I32AtomicRmwAdd { memarg },
             &memarg,
@@ -164,7 +155,7 @@ impl<'a, 'v, 'r, R: WasmModuleResources> VisitAtomic<'a> for ValidatingVisitor<'
         )
     }
 
-    fn visit_i64_atomic_rmw_add(&mut self, memarg: MemArg) -> Result<(), Refusal> {
+    fn visit_i64_atomic_rmw_add(&mut self, memarg: MemArg) -> A::Output {
         self.atomic_modify(
             AtomicOperator::I64AtomicRmwAdd { memarg },
             &memarg,
@@ -172,7 +163,7 @@ impl<'a, 'v, 'r, R: WasmModuleResources> VisitAtomic<'a> for ValidatingVisitor<'
         )
     }
 
-    fn visit_i32_atomic_rmw8_add_u(&mut self, memarg: MemArg) -> Result<(), Refusal> {
+    fn visit_i32_atomic_rmw8_add_u(&mut self, memarg: MemArg) -> A::Output {
         self.atomic_modify(
             AtomicOperator::I32AtomicRmw8AddU { memarg },
             &memarg,
@@ -180,7 +171,7 @@ impl<'a, 'v, 'r, R: WasmModuleResources> VisitAtomic<'a> for ValidatingVisitor<'
         )
     }
 
-    fn visit_i32_atomic_rmw16_add_u(&mut self, memarg: MemArg) -> Result<(), Refusal> {
+    fn visit_i32_atomic_rmw16_add_u(&mut self, memarg: MemArg) -> A::Output {
         self.atomic_modify(
             AtomicOperator::I32AtomicRmw16AddU { memarg },
             &memarg,
@@ -188,7 +179,7 @@ impl<'a, 'v, 'r, R: WasmModuleResources> VisitAtomic<'a> for ValidatingVisitor<'
         )
     }
 
-    fn visit_i64_atomic_rmw8_add_u(&mut self, memarg: MemArg) -> Result<(), Refusal> {
+    fn visit_i64_atomic_rmw8_add_u(&mut self, memarg: MemArg) -> A::Output {
         self.atomic_modify(
             AtomicOperator::I64AtomicRmw8AddU { memarg },
             &memarg,
@@ -196,7 +187,7 @@ impl<'a, 'v, 'r, R: WasmModuleResources> VisitAtomic<'a> for ValidatingVisitor<'
         )
     }
 
-    fn visit_i64_atomic_rmw16_add_u(&mut self, memarg: MemArg) -> Result<(), Refusal> {
+    fn visit_i64_atomic_rmw16_add_u(&mut self, memarg: MemArg) -> A::Output {
         self.atomic_modify(
             AtomicOperator::I64AtomicRmw16AddU { memarg },
             &memarg,
@@ -204,7 +195,7 @@ impl<'a, 'v, 'r, R: WasmModuleResources> VisitAtomic<'a> for ValidatingVisitor<'
         )
     }
 
-    fn visit_i64_atomic_rmw32_add_u(&mut self, memarg: MemArg) -> Result<(), Refusal> {
+    fn visit_i64_atomic_rmw32_add_u(&mut self, memarg: MemArg) -> A::Output {
         self.atomic_modify(
             AtomicOperator::I64AtomicRmw32AddU { memarg },
             &memarg,
@@ -212,7 +203,7 @@ impl<'a, 'v, 'r, R: WasmModuleResources> VisitAtomic<'a> for ValidatingVisitor<'
         )
     }
 
-    fn visit_i32_atomic_rmw_sub(&mut self, memarg: MemArg) -> Result<(), Refusal> {
+    fn visit_i32_atomic_rmw_sub(&mut self, memarg: MemArg) -> A::Output {
         self.atomic_modify(
             AtomicOperator::I32AtomicRmwSub { memarg },
             &memarg,
@@ -220,7 +211,7 @@ impl<'a, 'v, 'r, R: WasmModuleResources> VisitAtomic<'a> for ValidatingVisitor<'
         )
     }
 
-    fn visit_i64_atomic_rmw_sub(&mut self, memarg: MemArg) -> Result<(), Refusal> {
+    fn visit_i64_atomic_rmw_sub(&mut self, memarg: MemArg) -> A::Output {
         self.atomic_modify(
             AtomicOperator::I64AtomicRmwSub { memarg },
             &memarg,
@@ -228,7 +219,7 @@ impl<'a, 'v, 'r, R: WasmModuleResources> VisitAtomic<'a> for ValidatingVisitor<'
         )
     }
 
-    fn visit_i32_atomic_rmw8_sub_u(&mut self, memarg: MemArg) -> Result<(), Refusal> {
+    fn visit_i32_atomic_rmw8_sub_u(&mut self, memarg: MemArg) -> A::Output {
         self.atomic_modify(
             AtomicOperator::I32AtomicRmw8SubU { memarg },
             &memarg,
@@ -236,7 +227,7 @@ impl<'a, 'v, 'r, R: WasmModuleResources> VisitAtomic<'a> for ValidatingVisitor<'
         )
     }
 
-    fn visit_i32_atomic_rmw16_sub_u(&mut self, memarg: MemArg) -> Result<(), Refusal> {
+    fn visit_i32_atomic_rmw16_sub_u(&mut self, memarg: MemArg) -> A::Output {
         self.atomic_modify(
             AtomicOperator::I32AtomicRmw16SubU { memarg },
             &memarg,
@@ -244,7 +235,7 @@ impl<'a, 'v, 'r, R: WasmModuleResources> VisitAtomic<'a> for ValidatingVisitor<'
         )
     }
 
-    fn visit_i64_atomic_rmw8_sub_u(&mut self, memarg: MemArg) -> Result<(), Refusal> {
+    fn visit_i64_atomic_rmw8_sub_u(&mut self, memarg: MemArg) -> A::Output {
         self.atomic_modify(
             AtomicOperator::I64AtomicRmw8SubU { memarg },
             &memarg,
@@ -252,7 +243,7 @@ impl<'a, 'v, 'r, R: WasmModuleResources> VisitAtomic<'a> for ValidatingVisitor<'
         )
     }
 
-    fn visit_i64_atomic_rmw16_sub_u(&mut self, memarg: MemArg) -> Result<(), Refusal> {
+    fn visit_i64_atomic_rmw16_sub_u(&mut self, memarg: MemArg) -> A::Output {
         self.atomic_modify(
             AtomicOperator::I64AtomicRmw16SubU { memarg },
             &memarg,
@@ -260,7 +251,7 @@ impl<'a, 'v, 'r, R: WasmModuleResources> VisitAtomic<'a> for ValidatingVisitor<'
         )
     }
 
-    fn visit_i64_atomic_rmw32_sub_u(&mut self, memarg: MemArg) -> Result<(), Refusal> {
+    fn visit_i64_atomic_rmw32_sub_u(&mut self, memarg: MemArg) -> A::Output {
         self.atomic_modify(
             AtomicOperator::I64AtomicRmw32SubU { memarg },
             &memarg,
@@ -268,7 +259,7 @@ impl<'a, 'v, 'r, R: WasmModuleResources> VisitAtomic<'a> for ValidatingVisitor<'
         )
     }
 
-    fn visit_i32_atomic_rmw_and(&mut self, memarg: MemArg) -> Result<(), Refusal> {
+    fn visit_i32_atomic_rmw_and(&mut self, memarg: MemArg) -> A::Output {
         self.atomic_modify(
             AtomicOperator::I32AtomicRmwAnd { memarg },
             &memarg,
@@ -276,7 +267,7 @@ impl<'a, 'v, 'r, R: WasmModuleResources> VisitAtomic<'a> for ValidatingVisitor<'
         )
     }
 
-    fn visit_i64_atomic_rmw_and(&mut self, memarg: MemArg) -> Result<(), Refusal> {
+    fn visit_i64_atomic_rmw_and(&mut self, memarg: MemArg) -> A::Output {
         self.atomic_modify(
             AtomicOperator::I64AtomicRmwAnd { memarg },
             &memarg,
@@ -284,7 +275,7 @@ impl<'a, 'v, 'r, R: WasmModuleResources> VisitAtomic<'a> for ValidatingVisitor<'
         )
     }
 
-    fn visit_i32_atomic_rmw8_and_u(&mut self, memarg: MemArg) -> Result<(), Refusal> {
+    fn visit_i32_atomic_rmw8_and_u(&mut self, memarg: MemArg) -> A::Output {
         self.atomic_modify(
             AtomicOperator::I32AtomicRmw8AndU { memarg },
             &memarg,
@@ -292,7 +283,7 @@ impl<'a, 'v, 'r, R: WasmModuleResources> VisitAtomic<'a> for ValidatingVisitor<'
         )
     }
 
-    fn visit_i32_atomic_rmw16_and_u(&mut self, memarg: MemArg) -> Result<(), Refusal> {
+    fn visit_i32_atomic_rmw16_and_u(&mut self, memarg: MemArg) -> A::Output {
         self.atomic_modify(
             AtomicOperator::I32AtomicRmw16AndU { memarg },
             &memarg,
@@ -300,7 +291,7 @@ impl<'a, 'v, 'r, R: WasmModuleResources> VisitAtomic<'a> for ValidatingVisitor<'
         )
     }
 
-    fn visit_i64_atomic_rmw8_and_u(&mut self, memarg: MemArg) -> Result<(), Refusal> {
+    fn visit_i64_atomic_rmw8_and_u(&mut self, memarg: MemArg) -> A::Output {
         self.atomic_modify(
             AtomicOperator::I64AtomicRmw8AndU { memarg },
             &memarg,
@@ -308,7 +299,7 @@ impl<'a, 'v, 'r, R: WasmModuleResources> VisitAtomic<'a> for ValidatingVisitor<'
         )
     }
 
-    fn visit_i64_atomic_rmw16_and_u(&mut self, memarg: MemArg) -> Result<(), Refusal> {
+    fn visit_i64_atomic_rmw16_and_u(&mut self, memarg: MemArg) -> A::Output {
         self.atomic_modify(
             AtomicOperator::I64AtomicRmw16AndU { memarg },
             &memarg,
@@ -316,7 +307,7 @@ impl<'a, 'v, 'r, R: WasmModuleResources> VisitAtomic<'a> for ValidatingVisitor<'
         )
     }
 
-    fn visit_i64_atomic_rmw32_and_u(&mut self, memarg: MemArg) -> Result<(), Refusal> {
+    fn visit_i64_atomic_rmw32_and_u(&mut self, memarg: MemArg) -> A::Output {
         self.atomic_modify(
             AtomicOperator::I64AtomicRmw32AndU { memarg },
             &memarg,
@@ -324,7 +315,7 @@ impl<'a, 'v, 'r, R: WasmModuleResources> VisitAtomic<'a> for ValidatingVisitor<'
         )
     }
 
-    fn visit_i32_atomic_rmw_or(&mut self, memarg: MemArg) -> Result<(), Refusal> {
+    fn visit_i32_atomic_rmw_or(&mut self, memarg: MemArg) -> A::Output {
         self.atomic_modify(
             AtomicOperator::I32AtomicRmwOr { memarg },
             &memarg,
@@ -332,7 +323,7 @@ impl<'a, 'v, 'r, R: WasmModuleResources> VisitAtomic<'a> for ValidatingVisitor<'
         )
     }
 
-    fn visit_i64_atomic_rmw_or(&mut self, memarg: MemArg) -> Result<(), Refusal> {
+    fn visit_i64_atomic_rmw_or(&mut self, memarg: MemArg) -> A::Output {
         self.atomic_modify(
             AtomicOperator::I64AtomicRmwOr { memarg },
             &memarg,
@@ -340,7 +331,7 @@ impl<'a, 'v, 'r, R: WasmModuleResources> VisitAtomic<'a> for ValidatingVisitor<'
         )
     }
 
-    fn visit_i32_atomic_rmw8_or_u(&mut self, memarg: MemArg) -> Result<(), Refusal> {
+    fn visit_i32_atomic_rmw8_or_u(&mut self, memarg: MemArg) -> A::Output {
         self.atomic_modify(
             AtomicOperator::I32AtomicRmw8OrU { memarg },
             &memarg,
@@ -348,7 +339,7 @@ impl<'a, 'v, 'r, R: WasmModuleResources> VisitAtomic<'a> for ValidatingVisitor<'
         )
     }
 
-    fn visit_i32_atomic_rmw16_or_u(&mut self, memarg: MemArg) -> Result<(), Refusal> {
+    fn visit_i32_atomic_rmw16_or_u(&mut self, memarg: MemArg) -> A::Output {
         self.atomic_modify(
             AtomicOperator::I32AtomicRmw16OrU { memarg },
             &memarg,
@@ -356,7 +347,7 @@ impl<'a, 'v, 'r, R: WasmModuleResources> VisitAtomic<'a> for ValidatingVisitor<'
         )
     }
 
-    fn visit_i64_atomic_rmw8_or_u(&mut self, memarg: MemArg) -> Result<(), Refusal> {
+    fn visit_i64_atomic_rmw8_or_u(&mut self, memarg: MemArg) -> A::Output {
         self.atomic_modify(
             AtomicOperator::I64AtomicRmw8OrU { memarg },
             &memarg,
@@ -364,7 +355,7 @@ impl<'a, 'v, 'r, R: WasmModuleResources> VisitAtomic<'a> for ValidatingVisitor<'
         )
     }
 
-    fn visit_i64_atomic_rmw16_or_u(&mut self, memarg: MemArg) -> Result<(), Refusal> {
+    fn visit_i64_atomic_rmw16_or_u(&mut self, memarg: MemArg) -> A::Output {
         self.atomic_modify(
             AtomicOperator::I64AtomicRmw16OrU { memarg },
             &memarg,
@@ -372,7 +363,7 @@ impl<'a, 'v, 'r, R: WasmModuleResources> VisitAtomic<'a> for ValidatingVisitor<'
         )
     }
 
-    fn visit_i64_atomic_rmw32_or_u(&mut self, memarg: MemArg) -> Result<(), Refusal> {
+    fn visit_i64_atomic_rmw32_or_u(&mut self, memarg: MemArg) -> A::Output {
         self.atomic_modify(
             AtomicOperator::I64AtomicRmw32OrU { memarg },
             &memarg,
@@ -380,7 +371,7 @@ impl<'a, 'v, 'r, R: WasmModuleResources> VisitAtomic<'a> for ValidatingVisitor<'
         )
     }
 
-    fn visit_i32_atomic_rmw_xor(&mut self, memarg: MemArg) -> Result<(), Refusal> {
+    fn visit_i32_atomic_rmw_xor(&mut self, memarg: MemArg) -> A::Output {
         self.atomic_modify(
             AtomicOperator::I32AtomicRmwXor { memarg },
             &memarg,
@@ -388,7 +379,7 @@ impl<'a, 'v, 'r, R: WasmModuleResources> VisitAtomic<'a> for ValidatingVisitor<'
         )
     }
 
-    fn visit_i64_atomic_rmw_xor(&mut self, memarg: MemArg) -> Result<(), Refusal> {
+    fn visit_i64_atomic_rmw_xor(&mut self, memarg: MemArg) -> A::Output {
         self.atomic_modify(
             AtomicOperator::I64AtomicRmwXor { memarg },
             &memarg,
@@ -396,7 +387,7 @@ impl<'a, 'v, 'r, R: WasmModuleResources> VisitAtomic<'a> for ValidatingVisitor<'
         )
     }
 
-    fn visit_i32_atomic_rmw8_xor_u(&mut self, memarg: MemArg) -> Result<(), Refusal> {
+    fn visit_i32_atomic_rmw8_xor_u(&mut self, memarg: MemArg) -> A::Output {
         self.atomic_modify(
             AtomicOperator::I32AtomicRmw8XorU { memarg },
             &memarg,
@@ -404,7 +395,7 @@ impl<'a, 'v, 'r, R: WasmModuleResources> VisitAtomic<'a> for ValidatingVisitor<'
         )
     }
 
-    fn visit_i32_atomic_rmw16_xor_u(&mut self, memarg: MemArg) -> Result<(), Refusal> {
+    fn visit_i32_atomic_rmw16_xor_u(&mut self, memarg: MemArg) -> A::Output {
         self.atomic_modify(
             AtomicOperator::I32AtomicRmw16XorU { memarg },
             &memarg,
@@ -412,7 +403,7 @@ impl<'a, 'v, 'r, R: WasmModuleResources> VisitAtomic<'a> for ValidatingVisitor<'
         )
     }
 
-    fn visit_i64_atomic_rmw8_xor_u(&mut self, memarg: MemArg) -> Result<(), Refusal> {
+    fn visit_i64_atomic_rmw8_xor_u(&mut self, memarg: MemArg) -> A::Output {
         self.atomic_modify(
             AtomicOperator::I64AtomicRmw8XorU { memarg },
             &memarg,
@@ -420,7 +411,7 @@ impl<'a, 'v, 'r, R: WasmModuleResources> VisitAtomic<'a> for ValidatingVisitor<'
         )
     }
 
-    fn visit_i64_atomic_rmw16_xor_u(&mut self, memarg: MemArg) -> Result<(), Refusal> {
+    fn visit_i64_atomic_rmw16_xor_u(&mut self, memarg: MemArg) -> A::Output {
         self.atomic_modify(
             AtomicOperator::I64AtomicRmw16XorU { memarg },
             &memarg,
@@ -428,7 +419,7 @@ impl<'a, 'v, 'r, R: WasmModuleResources> VisitAtomic<'a> for ValidatingVisitor<'
         )
     }
 
-    fn visit_i64_atomic_rmw32_xor_u(&mut self, memarg: MemArg) -> Result<(), Refusal> {
+    fn visit_i64_atomic_rmw32_xor_u(&mut self, memarg: MemArg) -> A::Output {
         self.atomic_modify(
             AtomicOperator::I64AtomicRmw32XorU { memarg },
             &memarg,
@@ -436,7 +427,7 @@ impl<'a, 'v, 'r, R: WasmModuleResources> VisitAtomic<'a> for ValidatingVisitor<'
         )
     }
 
-    fn visit_i32_atomic_rmw_xchg(&mut self, memarg: MemArg) -> Result<(), Refusal> {
+    fn visit_i32_atomic_rmw_xchg(&mut self, memarg: MemArg) -> A::Output {
         self.atomic_modify(
             AtomicOperator::I32AtomicRmwXchg { memarg },
             &memarg,
@@ -444,7 +435,7 @@ impl<'a, 'v, 'r, R: WasmModuleResources> VisitAtomic<'a> for ValidatingVisitor<'
         )
     }
 
-    fn visit_i64_atomic_rmw_xchg(&mut self, memarg: MemArg) -> Result<(), Refusal> {
+    fn visit_i64_atomic_rmw_xchg(&mut self, memarg: MemArg) -> A::Output {
         self.atomic_modify(
             AtomicOperator::I64AtomicRmwXchg { memarg },
             &memarg,
@@ -452,7 +443,7 @@ impl<'a, 'v, 'r, R: WasmModuleResources> VisitAtomic<'a> for ValidatingVisitor<'
         )
     }
 
-    fn visit_i32_atomic_rmw8_xchg_u(&mut self, memarg: MemArg) -> Result<(), Refusal> {
+    fn visit_i32_atomic_rmw8_xchg_u(&mut self, memarg: MemArg) -> A::Output {
         self.atomic_modify(
             AtomicOperator::I32AtomicRmw8XchgU { memarg },
             &memarg,
@@ -460,7 +451,7 @@ impl<'a, 'v, 'r, R: WasmModuleResources> VisitAtomic<'a> for ValidatingVisitor<'
         )
     }
 
-    fn visit_i32_atomic_rmw16_xchg_u(&mut self, memarg: MemArg) -> Result<(), Refusal> {
+    fn visit_i32_atomic_rmw16_xchg_u(&mut self, memarg: MemArg) -> A::Output {
         self.atomic_modify(
             AtomicOperator::I32AtomicRmw16XchgU { memarg },
             &memarg,
@@ -468,7 +459,7 @@ impl<'a, 'v, 'r, R: WasmModuleResources> VisitAtomic<'a> for ValidatingVisitor<'
         )
     }
 
-    fn visit_i64_atomic_rmw8_xchg_u(&mut self, memarg: MemArg) -> Result<(), Refusal> {
+    fn visit_i64_atomic_rmw8_xchg_u(&mut self, memarg: MemArg) -> A::Output {
         self.atomic_modify(
             AtomicOperator::I64AtomicRmw8XchgU { memarg },
             &memarg,
@@ -476,7 +467,7 @@ impl<'a, 'v, 'r, R: WasmModuleResources> VisitAtomic<'a> for ValidatingVisitor<'
         )
     }
 
-    fn visit_i64_atomic_rmw16_xchg_u(&mut self, memarg: MemArg) -> Result<(), Refusal> {
+    fn visit_i64_atomic_rmw16_xchg_u(&mut self, memarg: MemArg) -> A::Output {
         self.atomic_modify(
             AtomicOperator::I64AtomicRmw16XchgU { memarg },
             &memarg,
@@ -484,7 +475,7 @@ impl<'a, 'v, 'r, R: WasmModuleResources> VisitAtomic<'a> for ValidatingVisitor<'
         )
     }
 
-    fn visit_i64_atomic_rmw32_xchg_u(&mut self, memarg: MemArg) -> Result<(), Refusal> {
+    fn visit_i64_atomic_rmw32_xchg_u(&mut self, memarg: MemArg) -> A::Output {
         self.atomic_modify(
             AtomicOperator::I64AtomicRmw32XchgU { memarg },
             &memarg,
@@ -492,7 +483,7 @@ impl<'a, 'v, 'r, R: WasmModuleResources> VisitAtomic<'a> for ValidatingVisitor<'
         )
     }
 
-    fn visit_i32_atomic_rmw_cmpxchg(&mut self, memarg: MemArg) -> Result<(), Refusal> {
+    fn visit_i32_atomic_rmw_cmpxchg(&mut self, memarg: MemArg) -> A::Output {
         self.atomic_compare_exchange(
             AtomicOperator::I32AtomicRmwCmpxchg { memarg },
             &memarg,
@@ -500,7 +491,7 @@ impl<'a, 'v, 'r, R: WasmModuleResources> VisitAtomic<'a> for ValidatingVisitor<'
         )
     }
 
-    fn visit_i64_atomic_rmw_cmpxchg(&mut self, memarg: MemArg) -> Result<(), Refusal> {
+    fn visit_i64_atomic_rmw_cmpxchg(&mut self, memarg: MemArg) -> A::Output {
         self.atomic_compare_exchange(
             AtomicOperator::I64AtomicRmwCmpxchg { memarg },
             &memarg,
@@ -508,7 +499,7 @@ impl<'a, 'v, 'r, R: WasmModuleResources> VisitAtomic<'a> for ValidatingVisitor<'
         )
     }
 
-    fn visit_i32_atomic_rmw8_cmpxchg_u(&mut self, memarg: MemArg) -> Result<(), Refusal> {
+    fn visit_i32_atomic_rmw8_cmpxchg_u(&mut self, memarg: MemArg) -> A::Output {
         self.atomic_compare_exchange(
             AtomicOperator::I32AtomicRmw8CmpxchgU { memarg },
             &memarg,
@@ -516,7 +507,7 @@ impl<'a, 'v, 'r, R: WasmModuleResources> VisitAtomic<'a> for ValidatingVisitor<'
         )
     }
 
-    fn visit_i32_atomic_rmw16_cmpxchg_u(&mut self, memarg: MemArg) -> Result<(), Refusal> {
+    fn visit_i32_atomic_rmw16_cmpxchg_u(&mut self, memarg: MemArg) -> A::Output {
         self.atomic_compare_exchange(
             AtomicOperator::I32AtomicRmw16CmpxchgU { memarg },
             &memarg,
@@ -524,7 +515,7 @@ impl<'a, 'v, 'r, R: WasmModuleResources> VisitAtomic<'a> for ValidatingVisitor<'
         )
     }
 
-    fn visit_i64_atomic_rmw8_cmpxchg_u(&mut self, memarg: MemArg) -> Result<(), Refusal> {
+    fn visit_i64_atomic_rmw8_cmpxchg_u(&mut self, memarg: MemArg) -> A::Output {
         self.atomic_compare_exchange(
             AtomicOperator::I64AtomicRmw8CmpxchgU { memarg },
             &memarg,
@@ -532,7 +523,7 @@ impl<'a, 'v, 'r, R: WasmModuleResources> VisitAtomic<'a> for ValidatingVisitor<'
         )
     }
 
-    fn visit_i64_atomic_rmw16_cmpxchg_u(&mut self, memarg: MemArg) -> Result<(), Refusal> {
+    fn visit_i64_atomic_rmw16_cmpxchg_u(&mut self, memarg: MemArg) -> A::Output {
         self.atomic_compare_exchange(
             AtomicOperator::I64AtomicRmw16CmpxchgU { memarg },
             &memarg,
@@ -540,7 +531,7 @@ impl<'a, 'v, 'r, R: WasmModuleResources> VisitAtomic<'a> for ValidatingVisitor<'
         )
     }
 
-    fn visit_i64_atomic_rmw32_cmpxchg_u(&mut self, memarg: MemArg) -> Result<(), Refusal> {
+    fn visit_i64_atomic_rmw32_cmpxchg_u(&mut self, memarg: MemArg) -> A::Output {
         self.atomic_compare_exchange(
             AtomicOperator::I64AtomicRmw32CmpxchgU { memarg },
             &memarg,

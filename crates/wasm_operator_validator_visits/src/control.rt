@@ -1,9 +1,9 @@
 //! Visits of operators of control, of those that take operands of any type, of exceptions and of continuations.
 
-use crate::ValidatingVisitor;
+use crate::{AnswerAs, ValidatingVisitor};
 use wasm_operator_validator_br_table::{
-    Refusal, WasmModuleResources, check_block, check_br, check_br_if, check_br_table, check_else,
-    check_end, check_if, check_loop, check_nop, check_return, check_unreachable,
+    WasmModuleResources, check_block, check_br, check_br_if, check_br_table, check_else, check_end,
+    check_if, check_loop, check_nop, check_return, check_unreachable,
 };
 use wasm_operator_validator_calls::{
     check_call, check_call_indirect, check_return_call, check_return_call_indirect,
@@ -18,273 +18,176 @@ use wasm_operators_visit::{
 use wasm_operators_visit_operator::VisitControl;
 use wasm_types::ValType;
 
-impl<'a, 'v, 'r, R: WasmModuleResources> VisitControl<'a> for ValidatingVisitor<'v, 'r, R> {
-    fn visit_unreachable(&mut self) -> Result<(), Refusal> {
-        match check_unreachable(self.inner, self.resources) {
-            Ok(()) => Ok(()),
-            Err(refusal) => {
-                self.inner.fail();
-                Err(refusal)
-            }
-        }
+impl<'a, 'v, 'r, R: WasmModuleResources, A: AnswerAs> VisitControl<'a>
+    for ValidatingVisitor<'v, 'r, R, A> {
+    fn visit_unreachable(&mut self) -> A::Output {
+        let checked = check_unreachable(self.inner, self.resources);
+        self.tell(checked)
     }
 
-    fn visit_nop(&mut self) -> Result<(), Refusal> {
-        match check_nop(self.inner, self.resources) {
-            Ok(()) => Ok(()),
-            Err(refusal) => {
-                self.inner.fail();
-                Err(refusal)
-            }
-        }
+    fn visit_nop(&mut self) -> A::Output {
+        let checked = check_nop(self.inner, self.resources);
+        self.tell(checked)
     }
 
-    fn visit_block(&mut self, blockty: BlockType) -> Result<(), Refusal> {
-        match check_block(self.inner, self.resources, blockty) {
-            Ok(()) => Ok(()),
-            Err(refusal) => {
-                self.inner.fail();
-                Err(refusal)
-            }
-        }
+    fn visit_block(&mut self, blockty: BlockType) -> A::Output {
+        let checked = check_block(self.inner, self.resources, blockty);
+        self.tell(checked)
     }
 
-    fn visit_loop(&mut self, blockty: BlockType) -> Result<(), Refusal> {
-        match check_loop(self.inner, self.resources, blockty) {
-            Ok(()) => Ok(()),
-            Err(refusal) => {
-                self.inner.fail();
-                Err(refusal)
-            }
-        }
+    fn visit_loop(&mut self, blockty: BlockType) -> A::Output {
+        let checked = check_loop(self.inner, self.resources, blockty);
+        self.tell(checked)
     }
 
-    fn visit_if(&mut self, blockty: BlockType) -> Result<(), Refusal> {
-        match check_if(self.inner, self.resources, blockty) {
-            Ok(()) => Ok(()),
-            Err(refusal) => {
-                self.inner.fail();
-                Err(refusal)
-            }
-        }
+    fn visit_if(&mut self, blockty: BlockType) -> A::Output {
+        let checked = check_if(self.inner, self.resources, blockty);
+        self.tell(checked)
     }
 
-    fn visit_else(&mut self) -> Result<(), Refusal> {
-        match check_else(self.inner, self.resources) {
-            Ok(()) => Ok(()),
-            Err(refusal) => {
-                self.inner.fail();
-                Err(refusal)
-            }
-        }
+    fn visit_else(&mut self) -> A::Output {
+        let checked = check_else(self.inner, self.resources);
+        self.tell(checked)
     }
 
-    fn visit_end(&mut self) -> Result<(), Refusal> {
-        match check_end(self.inner, self.resources) {
-            Ok(()) => Ok(()),
-            Err(refusal) => {
-                self.inner.fail();
-                Err(refusal)
-            }
-        }
+    fn visit_end(&mut self) -> A::Output {
+        let checked = check_end(self.inner, self.resources);
+        self.tell(checked)
     }
 
-    fn visit_br(&mut self, relative_depth: u32) -> Result<(), Refusal> {
-        match check_br(self.inner, self.resources, relative_depth) {
-            Ok(()) => Ok(()),
-            Err(refusal) => {
-                self.inner.fail();
-                Err(refusal)
-            }
-        }
+    fn visit_br(&mut self, relative_depth: u32) -> A::Output {
+        let checked = check_br(self.inner, self.resources, relative_depth);
+        self.tell(checked)
     }
 
-    fn visit_br_if(&mut self, relative_depth: u32) -> Result<(), Refusal> {
-        match check_br_if(self.inner, self.resources, relative_depth) {
-            Ok(()) => Ok(()),
-            Err(refusal) => {
-                self.inner.fail();
-                Err(refusal)
-            }
-        }
+    fn visit_br_if(&mut self, relative_depth: u32) -> A::Output {
+        let checked = check_br_if(self.inner, self.resources, relative_depth);
+        self.tell(checked)
     }
 
-    fn visit_br_table(&mut self, targets: BrTable<'a>) -> Result<(), Refusal> {
-        match check_br_table(self.inner, self.resources, &targets) {
-            Ok(()) => Ok(()),
-            Err(refusal) => {
-                self.inner.fail();
-                Err(refusal)
-            }
-        }
+    fn visit_br_table(&mut self, targets: BrTable<'a>) -> A::Output {
+        let checked = check_br_table(self.inner, self.resources, &targets);
+        self.tell(checked)
     }
 
-    fn visit_return(&mut self) -> Result<(), Refusal> {
-        match check_return(self.inner, self.resources) {
-            Ok(()) => Ok(()),
-            Err(refusal) => {
-                self.inner.fail();
-                Err(refusal)
-            }
-        }
+    fn visit_return(&mut self) -> A::Output {
+        let checked = check_return(self.inner, self.resources);
+        self.tell(checked)
     }
 
-    fn visit_call(&mut self, function_index: u32) -> Result<(), Refusal> {
-        match check_call(self.inner, self.resources, function_index) {
-            Ok(()) => Ok(()),
-            Err(refusal) => {
-                self.inner.fail();
-                Err(refusal)
-            }
-        }
+    fn visit_call(&mut self, function_index: u32) -> A::Output {
+        let checked = check_call(self.inner, self.resources, function_index);
+        self.tell(checked)
     }
 
-    fn visit_call_indirect(&mut self, type_index: u32, table_index: u32) -> Result<(), Refusal> {
-        match check_call_indirect(self.inner, self.resources, type_index, table_index) {
-            Ok(()) => Ok(()),
-            Err(refusal) => {
-                self.inner.fail();
-                Err(refusal)
-            }
-        }
+    fn visit_call_indirect(&mut self, type_index: u32, table_index: u32) -> A::Output {
+        let checked = check_call_indirect(self.inner, self.resources, type_index, table_index);
+        self.tell(checked)
     }
 
-    fn visit_return_call(&mut self, function_index: u32) -> Result<(), Refusal> {
-        match check_return_call(self.inner, self.resources, function_index) {
-            Ok(()) => Ok(()),
-            Err(refusal) => {
-                self.inner.fail();
-                Err(refusal)
-            }
-        }
+    fn visit_return_call(&mut self, function_index: u32) -> A::Output {
+        let checked = check_return_call(self.inner, self.resources, function_index);
+        self.tell(checked)
     }
 
-    fn visit_return_call_indirect(
-        &mut self,
-        type_index: u32,
-        table_index: u32,
-    ) -> Result<(), Refusal> {
-        match check_return_call_indirect(self.inner, self.resources, type_index, table_index) {
-            Ok(()) => Ok(()),
-            Err(refusal) => {
-                self.inner.fail();
-                Err(refusal)
-            }
-        }
+    fn visit_return_call_indirect(&mut self, type_index: u32, table_index: u32) -> A::Output {
+        let checked = check_return_call_indirect(
+            self.inner,
+            self.resources,
+            type_index,
+            table_index,
+        );
+        self.tell(checked)
     }
 
-    fn visit_call_ref(&mut self, type_index: u32) -> Result<(), Refusal> {
+    fn visit_call_ref(&mut self, type_index: u32) -> A::Output {
         self.on_references(ControlOperator::CallRef { type_index })
     }
 
-    fn visit_return_call_ref(&mut self, type_index: u32) -> Result<(), Refusal> {
+    fn visit_return_call_ref(&mut self, type_index: u32) -> A::Output {
         self.on_references(ControlOperator::ReturnCallRef { type_index })
     }
 
-    fn visit_ref_as_non_null(&mut self) -> Result<(), Refusal> {
+    fn visit_ref_as_non_null(&mut self) -> A::Output {
         self.on_references(ControlOperator::RefAsNonNull)
     }
 
-    fn visit_br_on_null(&mut self, relative_depth: u32) -> Result<(), Refusal> {
+    fn visit_br_on_null(&mut self, relative_depth: u32) -> A::Output {
         self.on_references(ControlOperator::BrOnNull { relative_depth })
     }
 
-    fn visit_br_on_non_null(&mut self, relative_depth: u32) -> Result<(), Refusal> {
+    fn visit_br_on_non_null(&mut self, relative_depth: u32) -> A::Output {
         self.on_references(ControlOperator::BrOnNonNull { relative_depth })
     }
 
-    fn visit_drop(&mut self) -> Result<(), Refusal> {
-        match check_drop(self.inner, self.resources) {
-            Ok(()) => Ok(()),
-            Err(refusal) => {
-                self.inner.fail();
-                Err(refusal)
-            }
-        }
+    fn visit_drop(&mut self) -> A::Output {
+        let checked = check_drop(self.inner, self.resources);
+        self.tell(checked)
     }
 
-    fn visit_select(&mut self) -> Result<(), Refusal> {
-        match check_select(self.inner, self.resources) {
-            Ok(()) => Ok(()),
-            Err(refusal) => {
-                self.inner.fail();
-                Err(refusal)
-            }
-        }
+    fn visit_select(&mut self) -> A::Output {
+        let checked = check_select(self.inner, self.resources);
+        self.tell(checked)
     }
 
-    fn visit_typed_select(&mut self, ty: ValType) -> Result<(), Refusal> {
-        match check_typed_select(self.inner, self.resources, ty) {
-            Ok(()) => Ok(()),
-            Err(refusal) => {
-                self.inner.fail();
-                Err(refusal)
-            }
-        }
+    fn visit_typed_select(&mut self, ty: ValType) -> A::Output {
+        let checked = check_typed_select(self.inner, self.resources, ty);
+        self.tell(checked)
     }
 
-    fn visit_typed_select_multi(&mut self, tys: Vec<ValType>) -> Result<(), Refusal> {
-        match check_typed_select_multi(self.inner, self.resources, tys.as_slice()) {
-            Ok(()) => Ok(()),
-            Err(refusal) => {
-                self.inner.fail();
-                Err(refusal)
-            }
-        }
+    fn visit_typed_select_multi(&mut self, tys: Vec<ValType>) -> A::Output {
+        let checked = check_typed_select_multi(self.inner, self.resources, tys.as_slice());
+        self.tell(checked)
     }
 
-    fn visit_try(&mut self, blockty: BlockType) -> Result<(), Refusal> {
+    fn visit_try(&mut self, blockty: BlockType) -> A::Output {
         self.exception(ExceptionOperator::Try { blockty })
     }
 
-    fn visit_catch(&mut self, tag_index: u32) -> Result<(), Refusal> {
+    fn visit_catch(&mut self, tag_index: u32) -> A::Output {
         self.exception(ExceptionOperator::Catch { tag_index })
     }
 
-    fn visit_throw(&mut self, tag_index: u32) -> Result<(), Refusal> {
+    fn visit_throw(&mut self, tag_index: u32) -> A::Output {
         self.exception(ExceptionOperator::Throw { tag_index })
     }
 
-    fn visit_rethrow(&mut self, relative_depth: u32) -> Result<(), Refusal> {
+    fn visit_rethrow(&mut self, relative_depth: u32) -> A::Output {
         self.exception(ExceptionOperator::Rethrow { relative_depth })
     }
 
-    fn visit_throw_ref(&mut self) -> Result<(), Refusal> {
+    fn visit_throw_ref(&mut self) -> A::Output {
         self.exception(ExceptionOperator::ThrowRef)
     }
 
-    fn visit_delegate(&mut self, relative_depth: u32) -> Result<(), Refusal> {
+    fn visit_delegate(&mut self, relative_depth: u32) -> A::Output {
         self.exception(ExceptionOperator::Delegate { relative_depth })
     }
 
-    fn visit_catch_all(&mut self) -> Result<(), Refusal> {
+    fn visit_catch_all(&mut self) -> A::Output {
         self.exception(ExceptionOperator::CatchAll)
     }
 
-    fn visit_try_table(&mut self, try_table: TryTable) -> Result<(), Refusal> {
+    fn visit_try_table(&mut self, try_table: TryTable) -> A::Output {
         self.exception(ExceptionOperator::TryTable { try_table })
     }
 
-    fn visit_cont_new(&mut self, cont_type_index: u32) -> Result<(), Refusal> {
+    fn visit_cont_new(&mut self, cont_type_index: u32) -> A::Output {
         self.continuation(ContinuationOperator::ContNew { cont_type_index })
     }
 
-    fn visit_cont_bind(&mut self, argument_index: u32, result_index: u32) -> Result<(), Refusal> {
+    fn visit_cont_bind(&mut self, argument_index: u32, result_index: u32) -> A::Output {
         self.continuation(ContinuationOperator::ContBind {
             argument_index,
             result_index,
         })
     }
 
-    fn visit_suspend(&mut self, tag_index: u32) -> Result<(), Refusal> {
+    fn visit_suspend(&mut self, tag_index: u32) -> A::Output {
         self.continuation(ContinuationOperator::Suspend { tag_index })
     }
 
-    fn visit_resume(
-        &mut self,
-        cont_type_index: u32,
-        resume_table: ResumeTable,
-    ) -> Result<(), Refusal> {
+    fn visit_resume(&mut self, cont_type_index: u32, resume_table: ResumeTable) -> A::Output {
         self.continuation(ContinuationOperator::Resume {
             cont_type_index,
             resume_table,
@@ -296,7 +199,7 @@ impl<'a, 'v, 'r, R: WasmModuleResources> VisitControl<'a> for ValidatingVisitor<
         cont_type_index: u32,
         tag_index: u32,
         resume_table: ResumeTable,
-    ) -> Result<(), Refusal> {
+    ) -> A::Output {
         self.continuation(ContinuationOperator::ResumeThrow {
             cont_type_index,
             tag_index,
@@ -308,14 +211,14 @@ impl<'a, 'v, 'r, R: WasmModuleResources> VisitControl<'a> for ValidatingVisitor<
         &mut self,
         cont_type_index: u32,
         resume_table: ResumeTable,
-    ) -> Result<(), Refusal> {
+    ) -> A::Output {
         self.continuation(ContinuationOperator::ResumeThrowRef {
             cont_type_index,
             resume_table,
         })
     }
 
-    fn visit_switch(&mut self, cont_type_index: u32, tag_index: u32) -> Result<(), Refusal> {
+    fn visit_switch(&mut self, cont_type_index: u32, tag_index: u32) -> A::Output {
         self.continuation(ContinuationOperator::Switch {
             cont_type_index,
             tag_index,

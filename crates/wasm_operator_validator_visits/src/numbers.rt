@@ -3,17 +3,15 @@
 ghost use Rattle.std.specs.Prelude.{◌≡◌, ◌∷◌, [], true, false};
 ghost use Rattle.wasm_operator_validator_br_table.specs.expression.info.declared.proposal.Proposal.TheVariants.{Mvp};
 ghost use Rattle.wasm_operators_visit.specs.operator.Op.{Op};
-ghost use Rattle.wasm_operator_validator_br_table.specs.state.State.{Visits};
-ghost use Rattle.wasm_operator_validator_br_table.specs.state.Refusals.{refused};
 ghost use Rattle.wasm_operator_validator_numbers.specs.Numbers.{IsNumeric};
 
-use crate::ValidatingVisitor;
-use wasm_operator_validator_br_table::{Proposal, Refusal, WasmModuleResources, copied};
+use crate::{AnswerAs, ValidatingVisitor};
+use wasm_operator_validator_br_table::{Proposal, WasmModuleResources, copied};
 use wasm_operator_validator_numbers::{check_numbers, check_two};
 use wasm_operators_visit::NumericOperator;
 use wasm_types::ValType;
 
-impl<'v, 'r, R: WasmModuleResources> ValidatingVisitor<'v, 'r, R> {
+impl<'v, 'r, R: WasmModuleResources, A: AnswerAs> ValidatingVisitor<'v, 'r, R, A> {
     /// An operator of this proposal on numbers that takes and gives these types, with a float among them or not.
     #[inline(always)]
     pub(crate) fn numbers(
@@ -23,13 +21,13 @@ impl<'v, 'r, R: WasmModuleResources> ValidatingVisitor<'v, 'r, R> {
         op: NumericOperator,
         takes: &[ValType],
         gives: &[ValType],
-    ) -> Result<(), Refusal>
+    ) -> A::Output
         requires { IsNumeric op proposal floats takes.now gives.now }
-        ensures visits { Visits (R.meaning self.old.resources.now) self.old.inner.now (Op.Numeric op) (refused result) self.new.inner.now }
+        ensures tells { A.tells (R.meaning self.old.resources.now) self.old.inner.now self.old.answer (Op.Numeric op) result self.new.inner.now self.new.answer }
         ensures lent { self.new.inner.ghost_name ≡ self.old.inner.ghost_name }
         ensures resources { self.new.resources.now ≡ self.old.resources.now }
     {
-        match check_numbers(
+        let checked = check_numbers(
             self.inner,
             self.resources,
             op,
@@ -37,13 +35,8 @@ impl<'v, 'r, R: WasmModuleResources> ValidatingVisitor<'v, 'r, R> {
             floats,
             takes,
             gives,
-        ) {
-            Ok(()) => Ok(()),
-            Err(refusal) => {
-                self.inner.fail();
-                Err(refusal)
-            }
-        }
+        );
+        self.tell(checked)
     }
 
     /// One that makes a number of two of one type.
@@ -54,19 +47,14 @@ impl<'v, 'r, R: WasmModuleResources> ValidatingVisitor<'v, 'r, R> {
         op: NumericOperator,
         takes: &ValType,
         gives: &ValType,
-    ) -> Result<(), Refusal>
+    ) -> A::Output
         requires { IsNumeric op Mvp floats (takes.now ∷ takes.now ∷ []) (gives.now ∷ []) }
-        ensures visits { Visits (R.meaning self.old.resources.now) self.old.inner.now (Op.Numeric op) (refused result) self.new.inner.now }
+        ensures tells { A.tells (R.meaning self.old.resources.now) self.old.inner.now self.old.answer (Op.Numeric op) result self.new.inner.now self.new.answer }
         ensures lent { self.new.inner.ghost_name ≡ self.old.inner.ghost_name }
         ensures resources { self.new.resources.now ≡ self.old.resources.now }
     {
-        match check_two(self.inner, self.resources, op, floats, takes, gives) {
-            Ok(()) => Ok(()),
-            Err(refusal) => {
-                self.inner.fail();
-                Err(refusal)
-            }
-        }
+        let checked = check_two(self.inner, self.resources, op, floats, takes, gives);
+        self.tell(checked)
     }
 
     /// One that makes a number of another, both integers.
@@ -76,9 +64,9 @@ impl<'v, 'r, R: WasmModuleResources> ValidatingVisitor<'v, 'r, R> {
         op: NumericOperator,
         takes: &ValType,
         gives: &ValType,
-    ) -> Result<(), Refusal>
+    ) -> A::Output
         requires { IsNumeric op Mvp false (takes.now ∷ []) (gives.now ∷ []) }
-        ensures visits { Visits (R.meaning self.old.resources.now) self.old.inner.now (Op.Numeric op) (refused result) self.new.inner.now }
+        ensures tells { A.tells (R.meaning self.old.resources.now) self.old.inner.now self.old.answer (Op.Numeric op) result self.new.inner.now self.new.answer }
         ensures lent { self.new.inner.ghost_name ≡ self.old.inner.ghost_name }
         ensures resources { self.new.resources.now ≡ self.old.resources.now }
     {
@@ -92,9 +80,9 @@ impl<'v, 'r, R: WasmModuleResources> ValidatingVisitor<'v, 'r, R> {
         op: NumericOperator,
         takes: &ValType,
         gives: &ValType,
-    ) -> Result<(), Refusal>
+    ) -> A::Output
         requires { IsNumeric op Mvp false (takes.now ∷ takes.now ∷ []) (gives.now ∷ []) }
-        ensures visits { Visits (R.meaning self.old.resources.now) self.old.inner.now (Op.Numeric op) (refused result) self.new.inner.now }
+        ensures tells { A.tells (R.meaning self.old.resources.now) self.old.inner.now self.old.answer (Op.Numeric op) result self.new.inner.now self.new.answer }
         ensures lent { self.new.inner.ghost_name ≡ self.old.inner.ghost_name }
         ensures resources { self.new.resources.now ≡ self.old.resources.now }
     {
@@ -108,9 +96,9 @@ impl<'v, 'r, R: WasmModuleResources> ValidatingVisitor<'v, 'r, R> {
         op: NumericOperator,
         takes: &ValType,
         gives: &ValType,
-    ) -> Result<(), Refusal>
+    ) -> A::Output
         requires { IsNumeric op Mvp true (takes.now ∷ []) (gives.now ∷ []) }
-        ensures visits { Visits (R.meaning self.old.resources.now) self.old.inner.now (Op.Numeric op) (refused result) self.new.inner.now }
+        ensures tells { A.tells (R.meaning self.old.resources.now) self.old.inner.now self.old.answer (Op.Numeric op) result self.new.inner.now self.new.answer }
         ensures lent { self.new.inner.ghost_name ≡ self.old.inner.ghost_name }
         ensures resources { self.new.resources.now ≡ self.old.resources.now }
     {
@@ -124,9 +112,9 @@ impl<'v, 'r, R: WasmModuleResources> ValidatingVisitor<'v, 'r, R> {
         op: NumericOperator,
         takes: &ValType,
         gives: &ValType,
-    ) -> Result<(), Refusal>
+    ) -> A::Output
         requires { IsNumeric op Mvp true (takes.now ∷ takes.now ∷ []) (gives.now ∷ []) }
-        ensures visits { Visits (R.meaning self.old.resources.now) self.old.inner.now (Op.Numeric op) (refused result) self.new.inner.now }
+        ensures tells { A.tells (R.meaning self.old.resources.now) self.old.inner.now self.old.answer (Op.Numeric op) result self.new.inner.now self.new.answer }
         ensures lent { self.new.inner.ghost_name ≡ self.old.inner.ghost_name }
         ensures resources { self.new.resources.now ≡ self.old.resources.now }
     {

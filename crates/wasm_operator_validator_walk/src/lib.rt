@@ -14,4 +14,4 @@ pub use wasm_operator_validator_stacks::{
     BlockType, Frame, FrameKind, LocalInits, Locals, MaybeType, OperatorValidator,
     OperatorValidatorAllocations, WasmModuleResources,
 };
-pub use wasm_operator_validator_visits::ValidatingVisitor;
+pub use wasm_operator_validator_visits::{AsRefusal, ValidatingVisitor};

@@ -9,7 +9,7 @@ ghost use Rattle.wasm_operator_validator_expression.specs.state.State.{Visits};
 ghost use Rattle.wasm_operator_validator_expression.specs.state.Refusals.{refused};
 
 use wasm_operator_validator_stacks::{Refusal, WasmModuleResources};
-use wasm_operator_validator_visits::ValidatingVisitor;
+use wasm_operator_validator_visits::{AsRefusal, ValidatingVisitor};
 use wasm_operators_visit::{
     AtomicOperator, BulkOperator, ConstOperator, ContinuationOperator, ControlOperator,
     DescriptorOperator, ExceptionOperator, GcOperator, MemoryOperator, NumericOperator,
@@ -23,7 +23,7 @@ use wasm_operators_visit_operator::{
 /// Of control, branches and calls.
 #[inline]
 pub(crate) fn tell_control<'a, R: WasmModuleResources>(
-    visitor: &mut ValidatingVisitor<'_, '_, R>,
+    visitor: &mut ValidatingVisitor<'_, '_, R, AsRefusal>,
     op: ControlOperator<'a>,
 ) -> Result<(), Refusal>
     ensures visits { Visits (R.meaning visitor.old.resources.now) visitor.old.inner.now (Op.Control op.entry) (refused result) visitor.new.inner.now }
@@ -36,7 +36,7 @@ pub(crate) fn tell_control<'a, R: WasmModuleResources>(
 /// Of operands of any type.
 #[inline]
 pub(crate) fn tell_parametric<R: WasmModuleResources>(
-    visitor: &mut ValidatingVisitor<'_, '_, R>,
+    visitor: &mut ValidatingVisitor<'_, '_, R, AsRefusal>,
     op: ParametricOperator,
 ) -> Result<(), Refusal>
     ensures visits { Visits (R.meaning visitor.old.resources.now) visitor.old.inner.now (Op.Parametric (parametric_of op)) (refused result) visitor.new.inner.now }
@@ -49,7 +49,7 @@ pub(crate) fn tell_parametric<R: WasmModuleResources>(
 /// Of exceptions.
 #[inline]
 pub(crate) fn tell_exception<R: WasmModuleResources>(
-    visitor: &mut ValidatingVisitor<'_, '_, R>,
+    visitor: &mut ValidatingVisitor<'_, '_, R, AsRefusal>,
     op: ExceptionOperator,
 ) -> Result<(), Refusal>
     ensures visits { Visits (R.meaning visitor.old.resources.now) visitor.old.inner.now (Op.Exception (exception_of op)) (refused result) visitor.new.inner.now }
@@ -62,7 +62,7 @@ pub(crate) fn tell_exception<R: WasmModuleResources>(
 /// Of continuations.
 #[inline]
 pub(crate) fn tell_continuation<R: WasmModuleResources>(
-    visitor: &mut ValidatingVisitor<'_, '_, R>,
+    visitor: &mut ValidatingVisitor<'_, '_, R, AsRefusal>,
     op: ContinuationOperator,
 ) -> Result<(), Refusal>
     ensures visits { Visits (R.meaning visitor.old.resources.now) visitor.old.inner.now (Op.Continuation (continuation_of op)) (refused result) visitor.new.inner.now }
@@ -75,7 +75,7 @@ pub(crate) fn tell_continuation<R: WasmModuleResources>(
 /// Of variables and memories.
 #[inline]
 pub(crate) fn tell_memory<R: WasmModuleResources>(
-    visitor: &mut ValidatingVisitor<'_, '_, R>,
+    visitor: &mut ValidatingVisitor<'_, '_, R, AsRefusal>,
     op: MemoryOperator,
 ) -> Result<(), Refusal>
     ensures visits { Visits (R.meaning visitor.old.resources.now) visitor.old.inner.now (Op.Memory op) (refused result) visitor.new.inner.now }
@@ -88,7 +88,7 @@ pub(crate) fn tell_memory<R: WasmModuleResources>(
 /// Of constants.
 #[inline]
 pub(crate) fn tell_const<R: WasmModuleResources>(
-    visitor: &mut ValidatingVisitor<'_, '_, R>,
+    visitor: &mut ValidatingVisitor<'_, '_, R, AsRefusal>,
     op: ConstOperator,
 ) -> Result<(), Refusal>
     ensures visits { Visits (R.meaning visitor.old.resources.now) visitor.old.inner.now (Op.Const op) (refused result) visitor.new.inner.now }
@@ -101,7 +101,7 @@ pub(crate) fn tell_const<R: WasmModuleResources>(
 /// Of ranges of memories and tables, tables and references.
 #[inline]
 pub(crate) fn tell_bulk<R: WasmModuleResources>(
-    visitor: &mut ValidatingVisitor<'_, '_, R>,
+    visitor: &mut ValidatingVisitor<'_, '_, R, AsRefusal>,
     op: BulkOperator,
 ) -> Result<(), Refusal>
     ensures visits { Visits (R.meaning visitor.old.resources.now) visitor.old.inner.now (Op.Bulk op) (refused result) visitor.new.inner.now }
@@ -114,7 +114,7 @@ pub(crate) fn tell_bulk<R: WasmModuleResources>(
 /// Of numbers.
 #[inline]
 pub(crate) fn tell_numeric<R: WasmModuleResources>(
-    visitor: &mut ValidatingVisitor<'_, '_, R>,
+    visitor: &mut ValidatingVisitor<'_, '_, R, AsRefusal>,
     op: NumericOperator,
 ) -> Result<(), Refusal>
     ensures visits { Visits (R.meaning visitor.old.resources.now) visitor.old.inner.now (Op.Numeric op) (refused result) visitor.new.inner.now }
@@ -127,7 +127,7 @@ pub(crate) fn tell_numeric<R: WasmModuleResources>(
 /// Of structs, arrays and casts.
 #[inline]
 pub(crate) fn tell_gc<R: WasmModuleResources>(
-    visitor: &mut ValidatingVisitor<'_, '_, R>,
+    visitor: &mut ValidatingVisitor<'_, '_, R, AsRefusal>,
     op: GcOperator,
 ) -> Result<(), Refusal>
     ensures visits { Visits (R.meaning visitor.old.resources.now) visitor.old.inner.now (Op.Gc op) (refused result) visitor.new.inner.now }
@@ -140,7 +140,7 @@ pub(crate) fn tell_gc<R: WasmModuleResources>(
 /// Of structs with descriptors.
 #[inline]
 pub(crate) fn tell_descriptor<R: WasmModuleResources>(
-    visitor: &mut ValidatingVisitor<'_, '_, R>,
+    visitor: &mut ValidatingVisitor<'_, '_, R, AsRefusal>,
     op: DescriptorOperator,
 ) -> Result<(), Refusal>
     ensures visits { Visits (R.meaning visitor.old.resources.now) visitor.old.inner.now (Op.Descriptor op) (refused result) visitor.new.inner.now }
@@ -153,7 +153,7 @@ pub(crate) fn tell_descriptor<R: WasmModuleResources>(
 /// Of atomic accesses to memories.
 #[inline]
 pub(crate) fn tell_atomic<R: WasmModuleResources>(
-    visitor: &mut ValidatingVisitor<'_, '_, R>,
+    visitor: &mut ValidatingVisitor<'_, '_, R, AsRefusal>,
     op: AtomicOperator,
 ) -> Result<(), Refusal>
     ensures visits { Visits (R.meaning visitor.old.resources.now) visitor.old.inner.now (Op.Atomic op) (refused result) visitor.new.inner.now }
@@ -166,7 +166,7 @@ pub(crate) fn tell_atomic<R: WasmModuleResources>(
 /// Of the other atomic accesses.
 #[inline]
 pub(crate) fn tell_shared<R: WasmModuleResources>(
-    visitor: &mut ValidatingVisitor<'_, '_, R>,
+    visitor: &mut ValidatingVisitor<'_, '_, R, AsRefusal>,
     op: SharedOperator,
 ) -> Result<(), Refusal>
     ensures visits { Visits (R.meaning visitor.old.resources.now) visitor.old.inner.now (Op.Shared op) (refused result) visitor.new.inner.now }

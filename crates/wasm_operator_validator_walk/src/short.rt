@@ -6,7 +6,7 @@ ghost use Rattle.wasm_operator_validator_expression.specs.state.Refusals.{refuse
 ghost use Rattle.wasm_operators_visit_short.specs.Short.{Begins, IsTold};
 
 use wasm_operator_validator_stacks::{Refusal, WasmModuleResources};
-use wasm_operator_validator_visits::ValidatingVisitor;
+use wasm_operator_validator_visits::{AsRefusal, ValidatingVisitor};
 use wasm_operators_visit::MemoryOperator;
 use wasm_operators_visit_short::{
     access_at, memarg_of, short_alone, short_block, short_f32_const, short_f64_const, short_global,
@@ -18,7 +18,7 @@ use wasm_types::{ValType, WasmFeatures};
 /// Of one that carries nothing.
 #[inline(always)]
 pub(crate) fn tell_alone<'a, R: WasmModuleResources>(
-    visitor: &mut ValidatingVisitor<'_, '_, R>,
+    visitor: &mut ValidatingVisitor<'_, '_, R, AsRefusal>,
     bytes: &'a [u8],
     at: usize,
     code: u8,
@@ -37,7 +37,7 @@ pub(crate) fn tell_alone<'a, R: WasmModuleResources>(
 /// Of one that carries a block type.
 #[inline(always)]
 pub(crate) fn tell_block<'a, R: WasmModuleResources>(
-    visitor: &mut ValidatingVisitor<'_, '_, R>,
+    visitor: &mut ValidatingVisitor<'_, '_, R, AsRefusal>,
     bytes: &'a [u8],
     at: usize,
     code: u8,
@@ -56,7 +56,7 @@ pub(crate) fn tell_block<'a, R: WasmModuleResources>(
 /// Of one that carries a label or the index of a function.
 #[inline(always)]
 pub(crate) fn tell_index<'a, R: WasmModuleResources>(
-    visitor: &mut ValidatingVisitor<'_, '_, R>,
+    visitor: &mut ValidatingVisitor<'_, '_, R, AsRefusal>,
     bytes: &'a [u8],
     at: usize,
     code: u8,
@@ -75,7 +75,7 @@ pub(crate) fn tell_index<'a, R: WasmModuleResources>(
 /// Of a call through a table.
 #[inline(always)]
 pub(crate) fn tell_indirect<'a, R: WasmModuleResources>(
-    visitor: &mut ValidatingVisitor<'_, '_, R>,
+    visitor: &mut ValidatingVisitor<'_, '_, R, AsRefusal>,
     bytes: &'a [u8],
     at: usize,
     code: u8,
@@ -94,7 +94,7 @@ pub(crate) fn tell_indirect<'a, R: WasmModuleResources>(
 /// Of a local's value.
 #[inline(always)]
 pub(crate) fn tell_local_get<'a, R: WasmModuleResources>(
-    visitor: &mut ValidatingVisitor<'_, '_, R>,
+    visitor: &mut ValidatingVisitor<'_, '_, R, AsRefusal>,
     bytes: &'a [u8],
     at: usize,
     features: WasmFeatures,
@@ -112,7 +112,7 @@ pub(crate) fn tell_local_get<'a, R: WasmModuleResources>(
 /// Of a local that takes a value.
 #[inline(always)]
 pub(crate) fn tell_local_set<'a, R: WasmModuleResources>(
-    visitor: &mut ValidatingVisitor<'_, '_, R>,
+    visitor: &mut ValidatingVisitor<'_, '_, R, AsRefusal>,
     bytes: &'a [u8],
     at: usize,
     features: WasmFeatures,
@@ -130,7 +130,7 @@ pub(crate) fn tell_local_set<'a, R: WasmModuleResources>(
 /// Of a local that takes a value, which stays.
 #[inline(always)]
 pub(crate) fn tell_local_tee<'a, R: WasmModuleResources>(
-    visitor: &mut ValidatingVisitor<'_, '_, R>,
+    visitor: &mut ValidatingVisitor<'_, '_, R, AsRefusal>,
     bytes: &'a [u8],
     at: usize,
     features: WasmFeatures,
@@ -148,7 +148,7 @@ pub(crate) fn tell_local_tee<'a, R: WasmModuleResources>(
 /// Of one on a global.
 #[inline(always)]
 pub(crate) fn tell_global<'a, R: WasmModuleResources>(
-    visitor: &mut ValidatingVisitor<'_, '_, R>,
+    visitor: &mut ValidatingVisitor<'_, '_, R, AsRefusal>,
     bytes: &'a [u8],
     at: usize,
     code: u8,
@@ -167,7 +167,7 @@ pub(crate) fn tell_global<'a, R: WasmModuleResources>(
 /// Of a load from memory 0: `load_at`, with a place of its own for the answer, so that none is made ready in the loop.
 #[inline(always)]
 pub(crate) fn tell_load<'a, R: WasmModuleResources>(
-    visitor: &mut ValidatingVisitor<'_, '_, R>,
+    visitor: &mut ValidatingVisitor<'_, '_, R, AsRefusal>,
     bytes: &'a [u8],
     at: usize,
     code: u8,
@@ -189,7 +189,7 @@ pub(crate) fn tell_load<'a, R: WasmModuleResources>(
 /// The same, out of line: each of its visits has places of its own.
 #[inline(never)]
 fn load_at<'a, R: WasmModuleResources>(
-    visitor: &mut ValidatingVisitor<'_, '_, R>,
+    visitor: &mut ValidatingVisitor<'_, '_, R, AsRefusal>,
     bytes: &'a [u8],
     at: usize,
     code: u8,
@@ -343,7 +343,7 @@ fn load_at<'a, R: WasmModuleResources>(
 /// Of a store to memory 0: `store_at`, with a place of its own for the answer, so that none is made ready in the loop.
 #[inline(always)]
 pub(crate) fn tell_store<'a, R: WasmModuleResources>(
-    visitor: &mut ValidatingVisitor<'_, '_, R>,
+    visitor: &mut ValidatingVisitor<'_, '_, R, AsRefusal>,
     bytes: &'a [u8],
     at: usize,
     code: u8,
@@ -365,7 +365,7 @@ pub(crate) fn tell_store<'a, R: WasmModuleResources>(
 /// The same, out of line: each of its visits has places of its own.
 #[inline(never)]
 fn store_at<'a, R: WasmModuleResources>(
-    visitor: &mut ValidatingVisitor<'_, '_, R>,
+    visitor: &mut ValidatingVisitor<'_, '_, R, AsRefusal>,
     bytes: &'a [u8],
     at: usize,
     code: u8,
@@ -474,7 +474,7 @@ fn store_at<'a, R: WasmModuleResources>(
 /// Of the size of memory 0, or its growth.
 #[inline(always)]
 pub(crate) fn tell_memory_size<'a, R: WasmModuleResources>(
-    visitor: &mut ValidatingVisitor<'_, '_, R>,
+    visitor: &mut ValidatingVisitor<'_, '_, R, AsRefusal>,
     bytes: &'a [u8],
     at: usize,
     code: u8,
@@ -493,7 +493,7 @@ pub(crate) fn tell_memory_size<'a, R: WasmModuleResources>(
 /// Of a constant of type i32.
 #[inline(always)]
 pub(crate) fn tell_i32_const<'a, R: WasmModuleResources>(
-    visitor: &mut ValidatingVisitor<'_, '_, R>,
+    visitor: &mut ValidatingVisitor<'_, '_, R, AsRefusal>,
     bytes: &'a [u8],
     at: usize,
     code: u8,
@@ -512,7 +512,7 @@ pub(crate) fn tell_i32_const<'a, R: WasmModuleResources>(
 /// Of a constant of type i64.
 #[inline(always)]
 pub(crate) fn tell_i64_const<'a, R: WasmModuleResources>(
-    visitor: &mut ValidatingVisitor<'_, '_, R>,
+    visitor: &mut ValidatingVisitor<'_, '_, R, AsRefusal>,
     bytes: &'a [u8],
     at: usize,
     code: u8,
@@ -531,7 +531,7 @@ pub(crate) fn tell_i64_const<'a, R: WasmModuleResources>(
 /// Of a constant of type f32.
 #[inline(always)]
 pub(crate) fn tell_f32_const<'a, R: WasmModuleResources>(
-    visitor: &mut ValidatingVisitor<'_, '_, R>,
+    visitor: &mut ValidatingVisitor<'_, '_, R, AsRefusal>,
     bytes: &'a [u8],
     at: usize,
     code: u8,
@@ -550,7 +550,7 @@ pub(crate) fn tell_f32_const<'a, R: WasmModuleResources>(
 /// Of a constant of type f64.
 #[inline(always)]
 pub(crate) fn tell_f64_const<'a, R: WasmModuleResources>(
-    visitor: &mut ValidatingVisitor<'_, '_, R>,
+    visitor: &mut ValidatingVisitor<'_, '_, R, AsRefusal>,
     bytes: &'a [u8],
     at: usize,
     code: u8,
@@ -569,7 +569,7 @@ pub(crate) fn tell_f64_const<'a, R: WasmModuleResources>(
 /// Of one on numbers.
 #[inline(always)]
 pub(crate) fn tell_number<'a, R: WasmModuleResources>(
-    visitor: &mut ValidatingVisitor<'_, '_, R>,
+    visitor: &mut ValidatingVisitor<'_, '_, R, AsRefusal>,
     bytes: &'a [u8],
     at: usize,
     code: u8,
@@ -589,7 +589,7 @@ pub(crate) fn tell_number<'a, R: WasmModuleResources>(
 /// Of one behind the prefix `fc`: `prefixed_at`, with a place of its own for the answer, so that none is made ready in the loop.
 #[inline(always)]
 pub(crate) fn tell_prefixed<'a, R: WasmModuleResources>(
-    visitor: &mut ValidatingVisitor<'_, '_, R>,
+    visitor: &mut ValidatingVisitor<'_, '_, R, AsRefusal>,
     bytes: &'a [u8],
     at: usize,
     features: WasmFeatures,
@@ -610,7 +610,7 @@ pub(crate) fn tell_prefixed<'a, R: WasmModuleResources>(
 /// The same, out of line.
 #[inline(never)]
 fn prefixed_at<'a, R: WasmModuleResources>(
-    visitor: &mut ValidatingVisitor<'_, '_, R>,
+    visitor: &mut ValidatingVisitor<'_, '_, R, AsRefusal>,
     bytes: &'a [u8],
     at: usize,
     features: WasmFeatures,

@@ -22,14 +22,14 @@ use wasm_operator_validator_expression::{
 };
 use wasm_operator_validator_running::run_plain;
 use wasm_operator_validator_stacks::{OperatorValidator, Refusal, WasmModuleResources};
-use wasm_operator_validator_visits::ValidatingVisitor;
+use wasm_operator_validator_visits::{AsRefusal, ValidatingVisitor};
 use wasm_operators_visit::{Operator, Visitor};
 use wasm_types::{BinaryReader, WasmFeatures};
 
 /// The visitor that validates, as a walk tells it of operators: group by group.
 pub struct ValidatingWalk<'v, 'r, R: WasmModuleResources> {
     /// The visitor.
-    pub visitor: ValidatingVisitor<'v, 'r, R>,
+    pub visitor: ValidatingVisitor<'v, 'r, R, AsRefusal>,
 }
 
 impl<'a, 'v, 'r, R: WasmModuleResources> Visitor<'a> for ValidatingWalk<'v, 'r, R> {
@@ -278,6 +278,7 @@ pub fn validate_expression<R: WasmModuleResources>(
             visitor: ValidatingVisitor {
                 inner: validator,
                 resources,
+                answer: AsRefusal,
             },
         },
         refusal: Refusal::OutOfMemory,
@@ -316,6 +317,7 @@ pub fn accepts_expression<R: WasmModuleResources>(
             visitor: ValidatingVisitor {
                 inner: validator,
                 resources,
+                answer: AsRefusal,
             },
         },
         refusal: Refusal::OutOfMemory,
@@ -353,6 +355,7 @@ fn lent_validator<'v, 'r, R: WasmModuleResources>(
     let ValidatingVisitor {
         inner,
         resources: _resources,
+        answer: _answer,
     } = visitor;
     inner
 }

@@ -5,7 +5,7 @@ use Rattle.wasm_operators_visit.specs.operator.Op.{continuation_of}
 use Rattle.wasm_operator_validator_visits.proofs.WithoutRule.{continuation_without}
 use Rattle.wasm_operator_validator_visits.proofs.visitor.ValidatingVisitor.continuation.Goals as goal
 
-pub returns-clause-visits : goal.returns-clause-visits
-returns-clause-visits g c =
-    c.without_rule.ensures.visits (op.Continuation (continuation_of c.args.op))
+pub returns-clause-tells : goal.returns-clause-tells
+returns-clause-tells g c =
+    c.without_rule.ensures.tells (op.Continuation (continuation_of c.args.op))
     (continuation_without _ _ (continuation_of c.args.op) c.info.result.proposal (sym (ap (λ (i : Info). i.proposal) c.info.ensures)))

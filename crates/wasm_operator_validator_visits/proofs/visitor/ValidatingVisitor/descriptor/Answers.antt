@@ -4,6 +4,6 @@ use Rattle.wasm_operators_visit.specs.operator.Op as op
 use Rattle.wasm_operator_validator_visits.proofs.WithoutRule.{descriptor_without}
 use Rattle.wasm_operator_validator_visits.proofs.visitor.ValidatingVisitor.descriptor.Goals as goal
 
-pub returns-clause-visits : goal.returns-clause-visits
-returns-clause-visits g c =
-    c.without_rule.ensures.visits (op.Descriptor c.args.op) (descriptor_without _ _ c.args.op c.info.result.proposal (sym (ap (λ (i : Info). i.proposal) c.info.ensures)))
+pub returns-clause-tells : goal.returns-clause-tells
+returns-clause-tells g c =
+    c.without_rule.ensures.tells (op.Descriptor c.args.op) (descriptor_without _ _ c.args.op c.info.result.proposal (sym (ap (λ (i : Info). i.proposal) c.info.ensures)))

@@ -4,7 +4,7 @@ use Rattle.wasm_operators_visit.specs.operator.Op as op
 use Rattle.wasm_operator_validator_visits.proofs.WithoutRule.{references_without}
 use Rattle.wasm_operator_validator_visits.proofs.visitor.ValidatingVisitor.on_references.Goals as goal
 
-pub returns-clause-visits : goal.returns-clause-visits
-returns-clause-visits g c =
-    c.without_rule.ensures.visits (op.Control c.args.op)
+pub returns-clause-tells : goal.returns-clause-tells
+returns-clause-tells g c =
+    c.without_rule.ensures.tells (op.Control c.args.op)
     (references_without _ _ c.args.op c.info.result.proposal c.requires (sym (ap (λ (i : Info). i.proposal) c.info.ensures)))

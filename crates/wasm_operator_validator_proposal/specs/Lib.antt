@@ -1,2 +1,0 @@
--- What a visit that answers an error promises.
-pub mod Told
