@@ -6,8 +6,12 @@
 //! memory.
 #![tactic(auto)]
 
+ghost use Rattle.std.specs.Prelude.{◌≡◌};
 ghost use Rattle.wasm_operators_operator.specs.Op.{Op};
 
+mod lender;
+
+pub use lender::Lender;
 pub use wasm_operators_operator::{
     AtomicOperator, BlockType, BrTable, BulkOperator, ConstOperator, ContinuationOperator,
     ControlOperator, DescriptorOperator, ExceptionOperator, GcOperator, MemArg, MemoryOperator,
@@ -24,16 +28,12 @@ pub trait Visitor<'a> {
     ghost visits: { Self → Op → Self.Output → Self → Type 0 };
 }
 
-/// A visitor that is lent is a visitor: it visits what lies behind the reference.
-impl<'a, V: Visitor<'a>> Visitor<'a> for &mut V {
-    type Output = V::Output;
+/// What lends a visitor is a visitor: it visits what it lends, and stays what it is otherwise.
+impl<'a, P: Lender> Visitor<'a> for P
+where
+    P::Lent: Visitor<'a>,
+{
+    type Output = <P::Lent as Visitor<'a>>::Output;
 
-    ghost visits = { λ before op answer after. V.visits before.now op answer after.now };
-}
-
-/// A visitor in a box is a visitor.
-impl<'a, V: Visitor<'a>> Visitor<'a> for Box<V> {
-    type Output = V::Output;
-
-    ghost visits = { λ before op answer after. V.visits before.value op answer after.value };
+    ghost visits = { λ before op answer after. P.Lent.visits (P.lent before) op answer (P.lent after) × after ≡ P.put before (P.lent after) };
 }

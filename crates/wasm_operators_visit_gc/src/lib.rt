@@ -1,13 +1,12 @@
 //! Visits of structs, arrays, casts and descriptors.
 //!
 //! [`VisitGc`] has one visit for each operator. Each visit promises the one relation of its visitor (`Visitor` of
-//! `wasm_operators_visit`) for its own operator. So do the visits of a visitor that is lent (`&mut V`) or in a box. The
+//! `wasm_operators_visit`) for its own operator. So do the visits of what lends a visitor (`&mut V`, `Box<V>`). The
 //! functions [`visit_gc`] and [`visit_descriptor`] choose the visit that belongs to an operator.
 #![tactic(auto)]
 
-mod boxed;
 mod dispatch;
-mod forwarding;
+mod lent;
 mod visits;
 
 pub use dispatch::{visit_descriptor, visit_gc};

@@ -1,12 +1,11 @@
 //! Visits of floats.
 //!
 //! [`VisitFloats`] has one visit for each operator. Each visit promises the one relation of its visitor (`Visitor` of
-//! `wasm_operators_visit`) for its own operator. So do the visits of a visitor that is lent (`&mut V`) or in a box.
+//! `wasm_operators_visit`) for its own operator. So do the visits of what lends a visitor (`&mut V`, `Box<V>`).
 //! `wasm_operators_visit_numbers` chooses the visit that belongs to an operator.
 #![tactic(auto)]
 
-mod boxed;
-mod forwarding;
+mod lent;
 mod visits;
 
 pub use visits::VisitFloats;

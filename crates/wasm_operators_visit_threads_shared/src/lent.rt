@@ -1,16 +1,19 @@
-//! Visitors that are lent.
+//! What lends a visitor.
 
 use crate::VisitShared;
-use wasm_operators_visit::Ordering;
+use wasm_operators_visit::{Lender, Ordering};
 
-/// A visitor that is lent is told by the visits of what lies behind the reference.
-impl<'a, V: VisitShared<'a>> VisitShared<'a> for &mut V {
+/// What lends a visitor is told by the visits of what it lends.
+impl<'a, P: Lender> VisitShared<'a> for P
+where
+    P::Lent: VisitShared<'a>,
+{
     fn visit_global_atomic_get(&mut self, ordering: Ordering, global_index: u32) -> Self::Output {
-        (**self).visit_global_atomic_get(ordering, global_index)
+        self.lend().visit_global_atomic_get(ordering, global_index)
     }
 
     fn visit_global_atomic_set(&mut self, ordering: Ordering, global_index: u32) -> Self::Output {
-        (**self).visit_global_atomic_set(ordering, global_index)
+        self.lend().visit_global_atomic_set(ordering, global_index)
     }
 
     fn visit_global_atomic_rmw_add(
@@ -18,7 +21,8 @@ impl<'a, V: VisitShared<'a>> VisitShared<'a> for &mut V {
         ordering: Ordering,
         global_index: u32,
     ) -> Self::Output {
-        (**self).visit_global_atomic_rmw_add(ordering, global_index)
+        self.lend()
+            .visit_global_atomic_rmw_add(ordering, global_index)
     }
 
     fn visit_global_atomic_rmw_sub(
@@ -26,7 +30,8 @@ impl<'a, V: VisitShared<'a>> VisitShared<'a> for &mut V {
         ordering: Ordering,
         global_index: u32,
     ) -> Self::Output {
-        (**self).visit_global_atomic_rmw_sub(ordering, global_index)
+        self.lend()
+            .visit_global_atomic_rmw_sub(ordering, global_index)
     }
 
     fn visit_global_atomic_rmw_and(
@@ -34,7 +39,8 @@ impl<'a, V: VisitShared<'a>> VisitShared<'a> for &mut V {
         ordering: Ordering,
         global_index: u32,
     ) -> Self::Output {
-        (**self).visit_global_atomic_rmw_and(ordering, global_index)
+        self.lend()
+            .visit_global_atomic_rmw_and(ordering, global_index)
     }
 
     fn visit_global_atomic_rmw_or(
@@ -42,7 +48,8 @@ impl<'a, V: VisitShared<'a>> VisitShared<'a> for &mut V {
         ordering: Ordering,
         global_index: u32,
     ) -> Self::Output {
-        (**self).visit_global_atomic_rmw_or(ordering, global_index)
+        self.lend()
+            .visit_global_atomic_rmw_or(ordering, global_index)
     }
 
     fn visit_global_atomic_rmw_xor(
@@ -50,7 +57,8 @@ impl<'a, V: VisitShared<'a>> VisitShared<'a> for &mut V {
         ordering: Ordering,
         global_index: u32,
     ) -> Self::Output {
-        (**self).visit_global_atomic_rmw_xor(ordering, global_index)
+        self.lend()
+            .visit_global_atomic_rmw_xor(ordering, global_index)
     }
 
     fn visit_global_atomic_rmw_xchg(
@@ -58,7 +66,8 @@ impl<'a, V: VisitShared<'a>> VisitShared<'a> for &mut V {
         ordering: Ordering,
         global_index: u32,
     ) -> Self::Output {
-        (**self).visit_global_atomic_rmw_xchg(ordering, global_index)
+        self.lend()
+            .visit_global_atomic_rmw_xchg(ordering, global_index)
     }
 
     fn visit_global_atomic_rmw_cmpxchg(
@@ -66,15 +75,16 @@ impl<'a, V: VisitShared<'a>> VisitShared<'a> for &mut V {
         ordering: Ordering,
         global_index: u32,
     ) -> Self::Output {
-        (**self).visit_global_atomic_rmw_cmpxchg(ordering, global_index)
+        self.lend()
+            .visit_global_atomic_rmw_cmpxchg(ordering, global_index)
     }
 
     fn visit_table_atomic_get(&mut self, ordering: Ordering, table_index: u32) -> Self::Output {
-        (**self).visit_table_atomic_get(ordering, table_index)
+        self.lend().visit_table_atomic_get(ordering, table_index)
     }
 
     fn visit_table_atomic_set(&mut self, ordering: Ordering, table_index: u32) -> Self::Output {
-        (**self).visit_table_atomic_set(ordering, table_index)
+        self.lend().visit_table_atomic_set(ordering, table_index)
     }
 
     fn visit_table_atomic_rmw_xchg(
@@ -82,7 +92,8 @@ impl<'a, V: VisitShared<'a>> VisitShared<'a> for &mut V {
         ordering: Ordering,
         table_index: u32,
     ) -> Self::Output {
-        (**self).visit_table_atomic_rmw_xchg(ordering, table_index)
+        self.lend()
+            .visit_table_atomic_rmw_xchg(ordering, table_index)
     }
 
     fn visit_table_atomic_rmw_cmpxchg(
@@ -90,7 +101,8 @@ impl<'a, V: VisitShared<'a>> VisitShared<'a> for &mut V {
         ordering: Ordering,
         table_index: u32,
     ) -> Self::Output {
-        (**self).visit_table_atomic_rmw_cmpxchg(ordering, table_index)
+        self.lend()
+            .visit_table_atomic_rmw_cmpxchg(ordering, table_index)
     }
 
     fn visit_struct_atomic_get(
@@ -99,7 +111,8 @@ impl<'a, V: VisitShared<'a>> VisitShared<'a> for &mut V {
         struct_type_index: u32,
         field_index: u32,
     ) -> Self::Output {
-        (**self).visit_struct_atomic_get(ordering, struct_type_index, field_index)
+        self.lend()
+            .visit_struct_atomic_get(ordering, struct_type_index, field_index)
     }
 
     fn visit_struct_atomic_get_s(
@@ -108,7 +121,8 @@ impl<'a, V: VisitShared<'a>> VisitShared<'a> for &mut V {
         struct_type_index: u32,
         field_index: u32,
     ) -> Self::Output {
-        (**self).visit_struct_atomic_get_s(ordering, struct_type_index, field_index)
+        self.lend()
+            .visit_struct_atomic_get_s(ordering, struct_type_index, field_index)
     }
 
     fn visit_struct_atomic_get_u(
@@ -117,7 +131,8 @@ impl<'a, V: VisitShared<'a>> VisitShared<'a> for &mut V {
         struct_type_index: u32,
         field_index: u32,
     ) -> Self::Output {
-        (**self).visit_struct_atomic_get_u(ordering, struct_type_index, field_index)
+        self.lend()
+            .visit_struct_atomic_get_u(ordering, struct_type_index, field_index)
     }
 
     fn visit_struct_atomic_set(
@@ -126,7 +141,8 @@ impl<'a, V: VisitShared<'a>> VisitShared<'a> for &mut V {
         struct_type_index: u32,
         field_index: u32,
     ) -> Self::Output {
-        (**self).visit_struct_atomic_set(ordering, struct_type_index, field_index)
+        self.lend()
+            .visit_struct_atomic_set(ordering, struct_type_index, field_index)
     }
 
     fn visit_struct_atomic_rmw_add(
@@ -135,7 +151,8 @@ impl<'a, V: VisitShared<'a>> VisitShared<'a> for &mut V {
         struct_type_index: u32,
         field_index: u32,
     ) -> Self::Output {
-        (**self).visit_struct_atomic_rmw_add(ordering, struct_type_index, field_index)
+        self.lend()
+            .visit_struct_atomic_rmw_add(ordering, struct_type_index, field_index)
     }
 
     fn visit_struct_atomic_rmw_sub(
@@ -144,7 +161,8 @@ impl<'a, V: VisitShared<'a>> VisitShared<'a> for &mut V {
         struct_type_index: u32,
         field_index: u32,
     ) -> Self::Output {
-        (**self).visit_struct_atomic_rmw_sub(ordering, struct_type_index, field_index)
+        self.lend()
+            .visit_struct_atomic_rmw_sub(ordering, struct_type_index, field_index)
     }
 
     fn visit_struct_atomic_rmw_and(
@@ -153,7 +171,8 @@ impl<'a, V: VisitShared<'a>> VisitShared<'a> for &mut V {
         struct_type_index: u32,
         field_index: u32,
     ) -> Self::Output {
-        (**self).visit_struct_atomic_rmw_and(ordering, struct_type_index, field_index)
+        self.lend()
+            .visit_struct_atomic_rmw_and(ordering, struct_type_index, field_index)
     }
 
     fn visit_struct_atomic_rmw_or(
@@ -162,7 +181,8 @@ impl<'a, V: VisitShared<'a>> VisitShared<'a> for &mut V {
         struct_type_index: u32,
         field_index: u32,
     ) -> Self::Output {
-        (**self).visit_struct_atomic_rmw_or(ordering, struct_type_index, field_index)
+        self.lend()
+            .visit_struct_atomic_rmw_or(ordering, struct_type_index, field_index)
     }
 
     fn visit_struct_atomic_rmw_xor(
@@ -171,7 +191,8 @@ impl<'a, V: VisitShared<'a>> VisitShared<'a> for &mut V {
         struct_type_index: u32,
         field_index: u32,
     ) -> Self::Output {
-        (**self).visit_struct_atomic_rmw_xor(ordering, struct_type_index, field_index)
+        self.lend()
+            .visit_struct_atomic_rmw_xor(ordering, struct_type_index, field_index)
     }
 
     fn visit_struct_atomic_rmw_xchg(
@@ -180,7 +201,8 @@ impl<'a, V: VisitShared<'a>> VisitShared<'a> for &mut V {
         struct_type_index: u32,
         field_index: u32,
     ) -> Self::Output {
-        (**self).visit_struct_atomic_rmw_xchg(ordering, struct_type_index, field_index)
+        self.lend()
+            .visit_struct_atomic_rmw_xchg(ordering, struct_type_index, field_index)
     }
 
     fn visit_struct_atomic_rmw_cmpxchg(
@@ -189,7 +211,8 @@ impl<'a, V: VisitShared<'a>> VisitShared<'a> for &mut V {
         struct_type_index: u32,
         field_index: u32,
     ) -> Self::Output {
-        (**self).visit_struct_atomic_rmw_cmpxchg(ordering, struct_type_index, field_index)
+        self.lend()
+            .visit_struct_atomic_rmw_cmpxchg(ordering, struct_type_index, field_index)
     }
 
     fn visit_array_atomic_get(
@@ -197,7 +220,8 @@ impl<'a, V: VisitShared<'a>> VisitShared<'a> for &mut V {
         ordering: Ordering,
         array_type_index: u32,
     ) -> Self::Output {
-        (**self).visit_array_atomic_get(ordering, array_type_index)
+        self.lend()
+            .visit_array_atomic_get(ordering, array_type_index)
     }
 
     fn visit_array_atomic_get_s(
@@ -205,7 +229,8 @@ impl<'a, V: VisitShared<'a>> VisitShared<'a> for &mut V {
         ordering: Ordering,
         array_type_index: u32,
     ) -> Self::Output {
-        (**self).visit_array_atomic_get_s(ordering, array_type_index)
+        self.lend()
+            .visit_array_atomic_get_s(ordering, array_type_index)
     }
 
     fn visit_array_atomic_get_u(
@@ -213,7 +238,8 @@ impl<'a, V: VisitShared<'a>> VisitShared<'a> for &mut V {
         ordering: Ordering,
         array_type_index: u32,
     ) -> Self::Output {
-        (**self).visit_array_atomic_get_u(ordering, array_type_index)
+        self.lend()
+            .visit_array_atomic_get_u(ordering, array_type_index)
     }
 
     fn visit_array_atomic_set(
@@ -221,7 +247,8 @@ impl<'a, V: VisitShared<'a>> VisitShared<'a> for &mut V {
         ordering: Ordering,
         array_type_index: u32,
     ) -> Self::Output {
-        (**self).visit_array_atomic_set(ordering, array_type_index)
+        self.lend()
+            .visit_array_atomic_set(ordering, array_type_index)
     }
 
     fn visit_array_atomic_rmw_add(
@@ -229,7 +256,8 @@ impl<'a, V: VisitShared<'a>> VisitShared<'a> for &mut V {
         ordering: Ordering,
         array_type_index: u32,
     ) -> Self::Output {
-        (**self).visit_array_atomic_rmw_add(ordering, array_type_index)
+        self.lend()
+            .visit_array_atomic_rmw_add(ordering, array_type_index)
     }
 
     fn visit_array_atomic_rmw_sub(
@@ -237,7 +265,8 @@ impl<'a, V: VisitShared<'a>> VisitShared<'a> for &mut V {
         ordering: Ordering,
         array_type_index: u32,
     ) -> Self::Output {
-        (**self).visit_array_atomic_rmw_sub(ordering, array_type_index)
+        self.lend()
+            .visit_array_atomic_rmw_sub(ordering, array_type_index)
     }
 
     fn visit_array_atomic_rmw_and(
@@ -245,7 +274,8 @@ impl<'a, V: VisitShared<'a>> VisitShared<'a> for &mut V {
         ordering: Ordering,
         array_type_index: u32,
     ) -> Self::Output {
-        (**self).visit_array_atomic_rmw_and(ordering, array_type_index)
+        self.lend()
+            .visit_array_atomic_rmw_and(ordering, array_type_index)
     }
 
     fn visit_array_atomic_rmw_or(
@@ -253,7 +283,8 @@ impl<'a, V: VisitShared<'a>> VisitShared<'a> for &mut V {
         ordering: Ordering,
         array_type_index: u32,
     ) -> Self::Output {
-        (**self).visit_array_atomic_rmw_or(ordering, array_type_index)
+        self.lend()
+            .visit_array_atomic_rmw_or(ordering, array_type_index)
     }
 
     fn visit_array_atomic_rmw_xor(
@@ -261,7 +292,8 @@ impl<'a, V: VisitShared<'a>> VisitShared<'a> for &mut V {
         ordering: Ordering,
         array_type_index: u32,
     ) -> Self::Output {
-        (**self).visit_array_atomic_rmw_xor(ordering, array_type_index)
+        self.lend()
+            .visit_array_atomic_rmw_xor(ordering, array_type_index)
     }
 
     fn visit_array_atomic_rmw_xchg(
@@ -269,7 +301,8 @@ impl<'a, V: VisitShared<'a>> VisitShared<'a> for &mut V {
         ordering: Ordering,
         array_type_index: u32,
     ) -> Self::Output {
-        (**self).visit_array_atomic_rmw_xchg(ordering, array_type_index)
+        self.lend()
+            .visit_array_atomic_rmw_xchg(ordering, array_type_index)
     }
 
     fn visit_array_atomic_rmw_cmpxchg(
@@ -277,10 +310,11 @@ impl<'a, V: VisitShared<'a>> VisitShared<'a> for &mut V {
         ordering: Ordering,
         array_type_index: u32,
     ) -> Self::Output {
-        (**self).visit_array_atomic_rmw_cmpxchg(ordering, array_type_index)
+        self.lend()
+            .visit_array_atomic_rmw_cmpxchg(ordering, array_type_index)
     }
 
     fn visit_ref_i31_shared(&mut self) -> Self::Output {
-        (**self).visit_ref_i31_shared()
+        self.lend().visit_ref_i31_shared()
     }
 }
