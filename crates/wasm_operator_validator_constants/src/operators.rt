@@ -1,14 +1,14 @@
 //! The test of one operator.
 
 ghost use Rattle.std.specs.Prelude.{◌≡◌, ℕ, false, IfOk, IfErr};
-ghost use Rattle.wasm_operators_visiting.specs.reader.operator.Op.{Op, op_of};
+ghost use Rattle.wasm_operators_walking.specs.reader.operator.Op.{Op, op_of};
 ghost use Rattle.wasm_operator_validator_constant_rules.specs.Constants.{IsConstantOperator};
 ghost use Rattle.wasm_operator_validator_constants.specs.Operators.{global_read, is_sum, is_object, is_described, is_reference, is_shared_number, ends_frame, is_listed, is_allowed, allowing, IsOf, RefusesOperator};
 
 use crate::ConstantRefusal;
 use crate::globals::check_global;
 use wasm_operator_validator_stacks::{BulkOperator, MemoryOperator, WasmModuleResources};
-use wasm_operators_visiting::{
+use wasm_operators_walking::{
     ControlOperator, DescriptorOperator, GcOperator, NumericOperator, Operator, SharedOperator,
 };
 use wasm_types::WasmFeatures;

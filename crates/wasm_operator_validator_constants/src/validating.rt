@@ -2,14 +2,14 @@
 
 ghost use Rattle.std.specs.Prelude.{◌≡◌, ◌↔◌, Result, IsTrue, [], false};
 ghost use Rattle.wasm_types.specs.error.declared.error.ErrorKind.TheVariants.{Other};
-ghost use Rattle.wasm_operators_visiting.specs.reader.operator.Op.{Op};
+ghost use Rattle.wasm_operators_walking.specs.reader.operator.Op.{Op};
 ghost use Rattle.wasm_operator_validator_expression.specs.state.State.{State};
 ghost use Rattle.wasm_operator_validator_constants.specs.Refusals.{refused_constant};
 ghost use Rattle.wasm_operator_validator_constants.specs.Checked.{Surroundings, VisitsConstant, ValidatesConstant};
 
 use crate::ConstantRefusal;
 use std::alloc::Global;
-use wasm_operators_visiting::{TellOperator, TellPlain, tell_expression_with_offset};
+use wasm_operators_walking::{TellOperator, TellPlain, tell_expression_with_offset};
 use wasm_types::{BinaryReader, Error, Result};
 
 /// A visitor that tests each operator, and validates those that are constant.

@@ -10,7 +10,7 @@ use crate::operators::is_constant_operator;
 use crate::validating::ValidatingConstants;
 use wasm_operator_validator_stacks::WasmModuleResources;
 use wasm_operator_validator_walk::ValidatingWalk;
-use wasm_operators_visiting::{Operator, TellOperator, TellPlain, Visitor};
+use wasm_operators_walking::{Operator, TellOperator, TellPlain, Visitor};
 use wasm_types::WasmFeatures;
 
 /// The walk that validates, where each operator has to be constant first.

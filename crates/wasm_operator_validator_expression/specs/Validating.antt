@@ -5,11 +5,11 @@ use Rattle.wasm_types.specs.error.Denials.{Tells}
 use Rattle.wasm_types.specs.error.ErrorValue.{ErrorValue}
 use Rattle.wasm_types.specs.error.declared.error.ErrorKind.{ErrorKind}
 use Rattle.wasm_types.specs.error.declared.error.ErrorKind.TheVariants as kinds
-use Rattle.wasm_operators_visiting.specs.reader.immediates.declared.block.BlockType.{BlockType}
-use Rattle.wasm_operators_visiting.specs.reader.expression.Code.{Code, walk}
-use Rattle.wasm_operators_visiting.specs.reader.expression.Spelling.{SpelledExpression}
-use Rattle.wasm_operators_visiting.specs.reader.Standing.{Standing, at_start}
-use Rattle.wasm_operators_visiting.specs.Walking.{VisitsAll, WalksTo, WalksUntilAt, StopsPlain}
+use Rattle.wasm_operators_walking.specs.reader.immediates.declared.block.BlockType.{BlockType}
+use Rattle.wasm_operators_walking.specs.reader.expression.Code.{Code, walk}
+use Rattle.wasm_operators_walking.specs.reader.expression.Spelling.{SpelledExpression}
+use Rattle.wasm_operators_walking.specs.reader.Standing.{Standing, at_start}
+use Rattle.wasm_operators_walking.specs.Walking.{VisitsAll, WalksTo, WalksUntilAt, StopsPlain}
 use Rattle.wasm_operator_validator_state.specs.rules.Typed.{IsBody}
 use Rattle.wasm_operator_validator_state.specs.resources.Meaning.{Meaning}
 use Rattle.wasm_operator_validator_state.specs.declared.refusal.Refusal.{Refusal}

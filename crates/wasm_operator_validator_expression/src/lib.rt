@@ -8,4 +8,4 @@ pub mod laws;
 mod validating;
 
 pub use validating::{Refused, Validating, accepts_operators, validate_operators};
-pub use wasm_operators_visiting::{OperatorsReaderAllocations, TellOperator, TellPlain};
+pub use wasm_operators_walking::{OperatorsReaderAllocations, TellOperator, TellPlain};

@@ -2,14 +2,14 @@
 
 ghost use Rattle.std.specs.Prelude.{◌≡◌, ◌↔◌, Result, Ok, IsTrue, [], true};
 ghost use Rattle.wasm_types.specs.error.declared.error.ErrorKind.TheVariants.{Other};
-ghost use Rattle.wasm_operators_visiting.specs.reader.operator.Op.{Op};
+ghost use Rattle.wasm_operators_walking.specs.reader.operator.Op.{Op};
 ghost use Rattle.wasm_operator_validator_state.specs.resources.Meaning.{Meaning};
 ghost use Rattle.wasm_operator_validator_state.specs.State.{State, Visits};
 ghost use Rattle.wasm_operator_validator_expression.specs.Validating.{Validates};
 
 use std::alloc::Global;
 use wasm_operator_validator_state::Refusal;
-use wasm_operators_visiting::{
+use wasm_operators_walking::{
     OperatorsReaderAllocations, TellOperator, TellPlain, tell_expression_with_offset, tells_whole,
 };
 use wasm_types::{BinaryReader, Error, Result};

@@ -1,8 +1,6 @@
--- The rules, in reading order.
-pub mod InFrame
--- What is proved of it.
-pub mod InFrameLaws
+-- What is proved of visitors that are lent.
 pub mod LendingLaws
 -- The rules and laws of the crates below, under their names: crates above cite them here.
-pub use Rattle.wasm_operators_reader.specs as reader
-pub use Rattle.wasm_operators_reader.specs.Walking as Walking
+pub use Rattle.wasm_operators_walking.specs.InFrame as InFrame
+pub use Rattle.wasm_operators_walking.specs.reader as reader
+pub use Rattle.wasm_operators_walking.specs.Walking as Walking

@@ -6,13 +6,13 @@ ghost use Rattle.wasm_operators_reader.specs.operator.Op.{Op, op_of};
 ghost use Rattle.wasm_operators_reader.specs.decode.Memory.{keeps_list_at};
 ghost use Rattle.wasm_operators_reader.specs.Standing.{Refuses, WantsMemory};
 ghost use Rattle.wasm_operators_reader.specs.Visiting.{Visits};
-ghost use Rattle.wasm_operators_visiting.specs.InFrame.{ReadsIn, RefusesIn};
+ghost use Rattle.wasm_operators_walking.specs.InFrame.{ReadsIn, RefusesIn};
 
-use crate::read_operators::read_in_frame;
 use std::alloc::Global;
 use wasm_operators_read_short::LentVisitor;
 use wasm_operators_reader::{FrameStack, Operator, OperatorsReader, Visitor};
 use wasm_operators_visit_simd_operator::VisitSimdOperator;
+use wasm_operators_walking::read_in_frame;
 use wasm_types::{BinaryReader, Result};
 
 /// Can be told of any operator, those on vectors too. A [`LentVisitor`] is told by the visit that belongs to the operator. A type that

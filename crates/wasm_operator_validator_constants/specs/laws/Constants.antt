@@ -7,10 +7,10 @@ use Rattle.wasm_types.specs.error.ErrorValue.{ErrorValue}
 use Rattle.wasm_types.specs.error.declared.error.ErrorKind.{ErrorKind}
 use Rattle.wasm_types.specs.error.declared.error.ErrorKind.TheVariants as kinds
 use Rattle.wasm_types.specs.values.declared.value.ValType.{ValType}
-use Rattle.wasm_operators_visiting.specs.reader.immediates.declared.block.BlockType.TheVariants as block
-use Rattle.wasm_operators_visiting.specs.reader.operator.Op.{Op}
-use Rattle.wasm_operators_visiting.specs.reader.expression.Code.{Code, walk}
-use Rattle.wasm_operators_visiting.specs.reader.expression.Spelling.{SpelledOperators, SpelledExpression}
+use Rattle.wasm_operators_walking.specs.reader.immediates.declared.block.BlockType.TheVariants as block
+use Rattle.wasm_operators_walking.specs.reader.operator.Op.{Op}
+use Rattle.wasm_operators_walking.specs.reader.expression.Code.{Code, walk}
+use Rattle.wasm_operators_walking.specs.reader.expression.Spelling.{SpelledOperators, SpelledExpression}
 use Rattle.wasm_operator_validator_constant_rules.specs.Constants.{IsConstantOperator, AreConstantOperators, IsConstant}
 use Rattle.wasm_operator_validator_constant_rules.specs.rules.Context.{Module}
 use Rattle.wasm_operator_validator_expression.specs.state.laws.Bodies.{bodies_are_accepted}

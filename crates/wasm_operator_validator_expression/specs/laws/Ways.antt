@@ -7,14 +7,14 @@ use Rattle.wasm_types.specs.error.ErrorValue.{ErrorValue}
 use Rattle.wasm_types.specs.error.declared.error.ErrorKind.{ErrorKind}
 use Rattle.wasm_types.specs.error.declared.error.ErrorKind.TheVariants as kinds
 use Rattle.wasm_types.specs.reader.Reading.{IsNotMemory}
-use Rattle.wasm_operators_visiting.specs.reader.operator.Op.{Op}
-use Rattle.wasm_operators_visiting.specs.reader.expression.Code.{Code, walk}
-use Rattle.wasm_operators_visiting.specs.reader.expression.Spelling.{SpelledOperators, SpelledExpression}
-use Rattle.wasm_operators_visiting.specs.reader.expression.SpellingLaws.{one_expression}
-use Rattle.wasm_operators_visiting.specs.reader.Standing.{Standing, at_start}
-use Rattle.wasm_operators_visiting.specs.reader.RunLaws.{expression_run}
-use Rattle.wasm_operators_visiting.specs.reader.MeetLaws.{meets_end}
-use Rattle.wasm_operators_visiting.specs.Walking.{HasNoVectors, VisitsAll, WalksTo, WalksUntilAt, StopsPlain}
+use Rattle.wasm_operators_walking.specs.reader.operator.Op.{Op}
+use Rattle.wasm_operators_walking.specs.reader.expression.Code.{Code, walk}
+use Rattle.wasm_operators_walking.specs.reader.expression.Spelling.{SpelledOperators, SpelledExpression}
+use Rattle.wasm_operators_walking.specs.reader.expression.SpellingLaws.{one_expression}
+use Rattle.wasm_operators_walking.specs.reader.Standing.{Standing, at_start}
+use Rattle.wasm_operators_walking.specs.reader.RunLaws.{expression_run}
+use Rattle.wasm_operators_walking.specs.reader.MeetLaws.{meets_end}
+use Rattle.wasm_operators_walking.specs.Walking.{HasNoVectors, VisitsAll, WalksTo, WalksUntilAt, StopsPlain}
 use Rattle.wasm_operator_validator_state.specs.resources.Meaning.{Meaning}
 use Rattle.wasm_operator_validator_state.specs.Refusals.{OfContent}
 use Rattle.wasm_operator_validator_state.specs.State.{State, Accepts, Visits}
