@@ -11,7 +11,7 @@ ghost use Rattle.wasm_module_validator_functions.specs.Trying.{Tries};
 
 use crate::FuncValidator;
 use wasm_operator_validator_expression::TellOperator;
-use wasm_operator_validator_stacks::{OperatorValidator, Refusal, WasmModuleResources};
+use wasm_operator_validator_stacks::{OperatorValidator, Reason, Refusal, WasmModuleResources};
 use wasm_operator_validator_walk::{AsRefusal, ValidatingVisitor, ValidatingWalk};
 use wasm_operators_visit::Operator;
 use wasm_operators_visit_operator::is_simd;
@@ -32,9 +32,10 @@ impl<R: WasmModuleResources> FuncValidator<R> {
         ensures resources { self.new.resources ≡ self.old.resources }
         ensures index { self.new.index ≡ self.old.index }
     {
+        let name = operator.info().name;
         match judge(&mut self.validator, &self.resources, operator) {
             Ok(()) => Ok(()),
-            Err(refusal) => Err(refusal.error(offset)),
+            Err(refusal) => Err(refusal.error_of(name, offset)),
         }
     }
 
@@ -50,6 +51,7 @@ impl<R: WasmModuleResources> FuncValidator<R> {
         ensures resources { self.new.resources ≡ self.old.resources }
         ensures index { self.new.index ≡ self.old.index }
     {
+        let name = operator.info().name;
         self.validator.begin_try_op();
         match judge(&mut self.validator, &self.resources, operator) {
             Ok(()) => {
@@ -58,7 +60,7 @@ impl<R: WasmModuleResources> FuncValidator<R> {
             }
             Err(refusal) => {
                 self.validator.rollback();
-                Err(refusal.error(offset))
+                Err(refusal.error_of(name, offset))
             }
         }
     }
@@ -73,7 +75,7 @@ fn judge<R: WasmModuleResources>(
     ensures visits { Visits (R.meaning resources.now) validator.old (op_of operator.entry) (refused result) validator.new }
 {
     if is_simd(&operator) {
-        return Err(refuse_vectors(validator, operator.info().name));
+        return Err(refuse_vectors(validator));
     }
     let mut walk = ValidatingWalk {
         visitor: ValidatingVisitor {
@@ -116,14 +118,14 @@ fn lent_validator<'v, 'r, R: WasmModuleResources>(
     inner
 }
 
-/// Refuses an operator on vectors, by its name: none has a rule.
+/// Refuses an operator on vectors: none has a rule.
 #[cold]
-fn refuse_vectors(validator: &mut OperatorValidator, name: &'static str) -> Refusal
+fn refuse_vectors(validator: &mut OperatorValidator) -> Refusal
     ensures visits { (m : Meaning) (o : Op) → is_simd o ≡ true → Visits m validator.old o (Some (kind_of result)) validator.new }
 {
     if validator.has_failed() {
         return Refusal::AfterRefusal;
     }
     validator.fail();
-    Refusal::Unsupported { name }
+    Refusal::Because(Reason::Unsupported)
 }

@@ -5,7 +5,9 @@
 #![tactic(auto)]
 
 pub mod laws;
+mod naming;
 mod validating;
 
+pub use naming::error_at;
 pub use validating::{Refused, Validating, accepts_operators, validate_operators};
 pub use wasm_operators_walking::{OperatorsReaderAllocations, TellOperator, TellPlain};

@@ -7,6 +7,7 @@ ghost use Rattle.wasm_operator_validator_state.specs.resources.Meaning.{Meaning}
 ghost use Rattle.wasm_operator_validator_state.specs.State.{State, Visits};
 ghost use Rattle.wasm_operator_validator_expression.specs.Validating.{Validates};
 
+use crate::naming::error_at;
 use std::alloc::Global;
 use wasm_operator_validator_state::Refusal;
 use wasm_operators_walking::{
@@ -84,6 +85,7 @@ pub fn validate_operators<'a, V: Validating<'a>>(
     if visitor.has_failed() {
         return Err(Error::failed("an operator was refused before", whole.start));
     }
+    let start = reader.clone();
     let end = match tell_expression_with_offset(alloc, reader, visitor) {
         Ok(end) => end,
         Err(error) => {
@@ -92,7 +94,7 @@ pub fn validate_operators<'a, V: Validating<'a>>(
         }
     };
     if let Err(last) = end {
-        let refusal = visitor.refusal().error(last.1);
+        let refusal = error_at(alloc, start, visitor.refusal(), last.1);
         return Err(refusal);
     }
     if !visitor.is_done() {

@@ -42,8 +42,6 @@ pub enum Refusal {
     Unknown { space: Space, index: u32 },
     /// The operand on top is no reference.
     ExpectedReference { found: MaybeType },
-    /// The operator of this name has no rule here yet.
-    Unsupported { name: &'static str },
     /// For another reason.
     Because(Reason),
 }
@@ -110,6 +108,8 @@ pub enum Reason {
     SelectOfTypes,
     /// A choice is of no type or of several.
     SelectArity,
+    /// The operator has no rule here yet.
+    Unsupported,
 }
 
 impl Refusal {
@@ -142,8 +142,20 @@ impl Refusal {
             Refusal::UninitializedLocal { local_index } => uninitialized_local(offset, local_index),
             Refusal::Unknown { space, index } => unknown(offset, space, index),
             Refusal::ExpectedReference { found } => expected_reference(offset, found),
-            Refusal::Unsupported { name } => unsupported(offset, name),
             Refusal::Because(reason) => Error::new(reason_text(reason), offset),
+        }
+    }
+
+    /// The same, where the operator has this name: one without a rule is told by it.
+    #[cold]
+    #[inline(never)]
+    pub fn error_of(self, name: &str, offset: u64) -> Error
+        ensures kind { result.kind ≡ kind_of self }
+        ensures at { OfContent result.kind (result.offset ≡ offset) }
+    {
+        match self {
+            Refusal::Because(Reason::Unsupported) => unsupported(offset, name),
+            other => other.error(offset),
         }
     }
 }

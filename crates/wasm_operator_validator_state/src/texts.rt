@@ -276,5 +276,6 @@ pub fn reason_text(reason: Reason) -> &'static str {
         Reason::SelectOfReferences => "type mismatch: select only takes integral types",
         Reason::SelectOfTypes => "type mismatch: select operands have different types",
         Reason::SelectArity => "invalid result arity",
+        Reason::Unsupported => "the operator is not supported yet",
     }
 }

@@ -24,7 +24,7 @@ use Rattle.wasm_operator_validator_br_table.specs.rules.Context.{Context, Initia
 use Rattle.wasm_operator_validator_br_table.specs.rules.InstructionTypes.{instruction_type}
 use Rattle.wasm_operator_validator_br_table.specs.rules.Row.{TableRow, GroupRow}
 use Rattle.wasm_operator_validator_br_table.specs.resources.Meaning.{Meaning}
-use Rattle.wasm_operator_validator_br_table.specs.state.State.{Open, State, InFrame, Accepts, Checks}
+use Rattle.wasm_operator_validator_br_table.specs.state.State.{Open, State, InFrame, Accepts, Checks, Visits}
 use Rattle.wasm_operator_validator_br_table.specs.state.Steps.{IsOpen}
 use Rattle.wasm_operator_validator_br_table.specs.state.Refusals.{kind_of}
 use Rattle.wasm_operator_validator_br_table.specs.state.declared.refusal.Refusal.{Refusal}
@@ -32,7 +32,7 @@ use Rattle.wasm_operator_validator_br_table.specs.state.Entering.{MayBegin, Stop
 use Rattle.wasm_operator_validator_br_table.specs.state.laws.Accepting.{accepts_no_more, accepts_not_failed}
 use Rattle.wasm_operator_validator_br_table.specs.state.laws.Frames.{may_open}
 use Rattle.wasm_operator_validator_br_table.specs.state.laws.Rows.{by_no_row}
-use Rattle.wasm_operator_validator_br_table.specs.state.laws.Checks.{checks_going, stopped_so}
+use Rattle.wasm_operator_validator_br_table.specs.state.laws.Checks.{checks_going, stopped_so, visits_refused}
 use Rattle.wasm_operator_validator_visits.specs.Unsupported.{IsWithoutRule, is_on_references, is_older_try, is_in_older_try}
 
 -- ---- operators that neither open nor end a frame, and have no row
@@ -206,11 +206,13 @@ not_judged m σ o f = record {
   saved = refl;
 }
 
--- ---- what the check of one promises
+-- ---- what is promised of one
 
 -- behind the entry
-pub refused_within : (k : ErrorKind) (m : Meaning) (σ : State) (o : Op) (p : Proposal) → IsWithoutRule m σ o p → MayBegin σ p false → Checks m σ o (Some k) σ
-refused_within k m σ o p n b = checks_going (Some k) m σ σ o p false b (denies k _ (λ (os, x). n.never os x)) refl refl refl
+pub refused_within : (k : ErrorKind) (m : Meaning) (σ ρ : State) (o : Op) (p : Proposal) → IsWithoutRule m σ o p → MayBegin σ p false → ρ ≡ record σ { failed = true }
+    → Visits m σ o (Some k) ρ
+refused_within k m σ ρ o p n b e =
+    visits_refused k m σ σ ρ o (checks_going (Some k) m σ σ o p false b (denies k _ (λ (os, x). n.never os x)) refl refl refl) e
 
 -- at the entry
 pub refused_before : (r : Refusal) (m : Meaning) (σ : State) (o : Op) (p : Proposal) → IsWithoutRule m σ o p → StopsWith σ p false r

@@ -21,11 +21,13 @@ impl<'v, 'r, R: WasmModuleResources, A: AnswerAs> ValidatingVisitor<'v, 'r, R, A
         ensures lent { self.new.inner.ghost_name ≡ self.old.inner.ghost_name }
         ensures resources { self.new.resources.now ≡ self.old.resources.now }
     {
-        let refusal = match self.inner.begin(proposal, false) {
-            Ok(()) => Refusal::Unsupported { name },
-            Err(refusal) => refusal,
-        };
-        self.tell(Err(refusal))
+        match self.inner.begin(proposal, false) {
+            Ok(()) => {
+                self.inner.fail();
+                self.answer.unsupported(name)
+            }
+            Err(refusal) => self.tell(Err(refusal)),
+        }
     }
 
     /// Refuses an operator on aggregates, or a cast.

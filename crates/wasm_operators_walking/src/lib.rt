@@ -15,5 +15,5 @@ pub use read_operators::{ReadOperators, read_in_frame, read_plain_in_frame};
 pub use walking::{tell_expression_with_offset, tells_whole};
 pub use wasm_operators_reader::{
     ControlOperator, DescriptorOperator, GcOperator, NumericOperator, Operator,
-    OperatorsReaderAllocations, SharedOperator, TellOperator, TellPlain, Visitor,
+    OperatorsReaderAllocations, SharedOperator, TellOperator, TellPlain, Visitor, read_operator,
 };
