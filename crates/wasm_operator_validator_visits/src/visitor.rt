@@ -2,7 +2,7 @@
 
 ghost use Rattle.std.specs.Prelude.{◌≡◌};
 ghost use Rattle.wasm_operators_visit.specs.operator.Op.{Op};
-ghost use Rattle.wasm_operator_validator_br_table.specs.state.State.{Checks};
+ghost use Rattle.wasm_operator_validator_br_table.specs.state.State.{Checks, State};
 ghost use Rattle.wasm_operator_validator_br_table.specs.state.Refusals.{refused};
 
 use crate::answer::{AnswerAs, AsError};

@@ -6,14 +6,14 @@
 //! pass it on.
 #![tactic(auto)]
 
+mod expressions;
 mod read_operators;
 mod telling;
-mod visit_expression;
 mod visits;
 
+pub use expressions::{visit_expression, visit_expression_with_offset};
 pub use read_operators::{ReadToSimdVisitor, ReadToVisitor};
 pub use telling::{TellSimdOperator, tell_operator_in_frame_simd, tell_operator_simd};
-pub use visit_expression::{visit_expression, visit_expression_with_offset};
 pub use visits::{VisitNext, VisitNextSimd};
 pub use wasm_operators_read_short::LentVisitor;
 pub use wasm_operators_reader::{

@@ -8,4 +8,4 @@ use Rattle.wasm_operator_validator_visits.proofs.visitor.ValidatingVisitor.conti
 pub returns-clause-tells : goal.returns-clause-tells
 returns-clause-tells g c =
     c.without_rule.ensures.tells (op.Continuation (continuation_of c.args.op))
-    (continuation_without _ _ (continuation_of c.args.op) c.info.result.proposal (sym (ap (λ (i : Info). i.proposal) c.info.ensures)))
+    (continuation_without _ _ (continuation_of c.args.op) c.info-info.result.proposal (sym (ap (λ (i : Info). i.proposal) c.info-info.ensures)))

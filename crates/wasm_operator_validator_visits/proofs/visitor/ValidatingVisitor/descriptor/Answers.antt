@@ -6,4 +6,4 @@ use Rattle.wasm_operator_validator_visits.proofs.visitor.ValidatingVisitor.descr
 
 pub returns-clause-tells : goal.returns-clause-tells
 returns-clause-tells g c =
-    c.without_rule.ensures.tells (op.Descriptor c.args.op) (descriptor_without _ _ c.args.op c.info.result.proposal (sym (ap (λ (i : Info). i.proposal) c.info.ensures)))
+    c.without_rule.ensures.tells (op.Descriptor c.args.op) (descriptor_without _ _ c.args.op c.info-info.result.proposal (sym (ap (λ (i : Info). i.proposal) c.info-info.ensures)))

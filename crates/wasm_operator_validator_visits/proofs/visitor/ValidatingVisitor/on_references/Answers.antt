@@ -7,4 +7,4 @@ use Rattle.wasm_operator_validator_visits.proofs.visitor.ValidatingVisitor.on_re
 pub returns-clause-tells : goal.returns-clause-tells
 returns-clause-tells g c =
     c.without_rule.ensures.tells (op.Control c.args.op)
-    (references_without _ _ c.args.op c.info.result.proposal c.requires (sym (ap (λ (i : Info). i.proposal) c.info.ensures)))
+    (references_without _ _ c.args.op c.info-info.result.proposal c.requires (sym (ap (λ (i : Info). i.proposal) c.info-info.ensures)))

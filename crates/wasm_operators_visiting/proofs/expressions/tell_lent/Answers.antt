@@ -4,7 +4,7 @@ use Rattle.wasm_operators_reader.specs.expression.Spelling.{SpelledExpression}
 use Rattle.wasm_operators_reader.specs.Standing.{at_start}
 use Rattle.wasm_operators_reader.specs.Walking.{HasNoVectors}
 use Rattle.wasm_operators_visiting.specs.LendingLaws.{whole_lent, ended_lent, stopped_lent, stays_lent}
-use Rattle.wasm_operators_visiting.proofs.visit_expression.tell_lent.Goals as goal
+use Rattle.wasm_operators_visiting.proofs.expressions.tell_lent.Goals as goal
 
 pub returns-clause-whole : goal.returns-clause-whole
 returns-clause-whole g c =

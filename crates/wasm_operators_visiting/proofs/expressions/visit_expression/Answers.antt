@@ -1,7 +1,7 @@
 use Rattle.std.proofs.Common.{refl, Ok, Err}
 use Rattle.wasm_operators_reader.specs.Standing.{at_start}
 use Rattle.wasm_operators_reader.specs.WalkingLaws.{until_somewhere}
-use Rattle.wasm_operators_visiting.proofs.visit_expression.visit_expression.Goals as goal
+use Rattle.wasm_operators_visiting.proofs.expressions.visit_expression.Goals as goal
 
 pub visit_expression_with_offset-requires : goal.visit_expression_with_offset-requires
 visit_expression_with_offset-requires g c κs = (refl, tt)
