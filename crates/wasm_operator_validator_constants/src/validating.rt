@@ -32,7 +32,8 @@ pub trait ValidatingConstants<'a>: TellOperator<
         ensures { IsTrue result ↔ ((state self.now).opens ≡ []) };
 
     // Each visit tests its operator, and then decides it.
-    ghost visited: { (v : Self) (o : Op) (a : Result (Unit {0}) Why) (w : Self) → Self.visits v o a w → VisitsConstant (around v) (state v) o (refused_constant a) (state w) × (around w ≡ around v) };
+    ghost visited: { (v : Self) (o : Op) (a : Result (Unit {0}) Why) (w : Self) → Self.visits v o a w
+        → VisitsConstant (around v) (state v) o (refused_constant a) (state w) × (around w ≡ around v) };
 }
 
 /// Validates the operators of a constant to the end of the bytes, and asks that every frame has ended then.

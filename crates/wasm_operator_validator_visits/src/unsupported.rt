@@ -17,7 +17,8 @@ impl<'v, 'r, R: WasmModuleResources, A: AnswerAs> ValidatingVisitor<'v, 'r, R, A
     /// Refuses an operator of this proposal and name that has no rule, behind what is asked of each operator.
     #[cold]
     fn without_rule(&mut self, proposal: Proposal, name: &'static str) -> A::Output
-        ensures tells { (o : Op) → IsWithoutRule (R.meaning self.old.resources.now) self.old.inner.now o proposal → A.tells (R.meaning self.old.resources.now) self.old.inner.now self.old.answer o result self.new.inner.now self.new.answer }
+        ensures tells { (o : Op) → IsWithoutRule (R.meaning self.old.resources.now) self.old.inner.now o proposal
+            → A.tells (R.meaning self.old.resources.now) self.old.inner.now self.old.answer o result self.new.inner.now self.new.answer }
         ensures lent { self.new.inner.ghost_name ≡ self.old.inner.ghost_name }
         ensures resources { self.new.resources.now ≡ self.old.resources.now }
     {

@@ -9,13 +9,15 @@ visit_all-requires g c κs = (refl, tt)
 
 pub returns-in-Err-clause-refused : goal.returns-in-Err-clause-refused
 returns-in-Err-clause-refused g c =
-    let told = subst (λ (s : Standing). WalksTo g.V.Visitor.visits (Ok tt) s c.args.visitor.now c.visit_all.new.operators c.visit_all.new.visitor) c.new-operators.ensures c.in-Err.ensures.refused.0 in
+    let told = subst (λ (s : Standing). WalksTo g.V.Visitor.visits (Ok tt) s c.args.visitor.now c.visit_all.new.operators c.visit_all.new.visitor)
+    c.new-operators.ensures c.in-Err.ensures.refused.0 in
     λ n code spelled none. stop_denies g.V.Visitor.visits
     (Ok tt) c.args.reader c.visit_all.new.operators c.args.visitor.now c.visit_all.new.visitor told c.in-Err.error n code spelled none c.in-Err.ensures.refused.1
 
 pub returns-in-Err-clause-stops : goal.returns-in-Err-clause-stops
 returns-in-Err-clause-stops g c =
-    let told = subst (λ (s : Standing). WalksTo g.V.Visitor.visits (Ok tt) s c.args.visitor.now c.visit_all.new.operators c.visit_all.new.visitor) c.new-operators.ensures c.in-Err.ensures.refused.0 in
+    let told = subst (λ (s : Standing). WalksTo g.V.Visitor.visits (Ok tt) s c.args.visitor.now c.visit_all.new.operators c.visit_all.new.visitor)
+    c.new-operators.ensures c.in-Err.ensures.refused.0 in
     (c.visit_all.new.operators, told, c.in-Err.ensures.refused.1)
 
 pub returns-in-Err-end-clause-ended : goal.returns-in-Err-end-clause-ended
@@ -26,13 +28,15 @@ returns-in-Err-end-clause-ended g c =
 pub returns-in-Ok-finish-clause-whole : goal.returns-in-Ok-finish-clause-whole
 returns-in-Ok-finish-clause-whole g c =
     let whole = rw c.in_default.is at c.in-Ok.ensures.whole in
-    let told = subst (λ (s : Standing). WalksTo g.V.Visitor.visits (Ok tt) s c.args.visitor.now c.visit_all.new.operators c.visit_all.new.visitor) c.new-operators.ensures whole.0 in
+    let told = subst (λ (s : Standing). WalksTo g.V.Visitor.visits (Ok tt) s c.args.visitor.now c.visit_all.new.operators c.visit_all.new.visitor)
+    c.new-operators.ensures whole.0 in
     walk_whole g.V.Visitor.visits (Ok tt) c.args.reader c.visit_all.new.operators c.args.visitor.now c.visit_all.new.visitor told c.in-Ok-finish.ensures.finished
 
 pub returns-clause-refused : goal.returns-clause-refused
 returns-clause-refused g c =
     let whole = rw c.in_default.is at c.in-Ok.ensures.whole in
-    let told = subst (λ (s : Standing). WalksTo g.V.Visitor.visits (Ok tt) s c.args.visitor.now c.visit_all.new.operators c.visit_all.new.visitor) c.new-operators.ensures whole.0 in
+    let told = subst (λ (s : Standing). WalksTo g.V.Visitor.visits (Ok tt) s c.args.visitor.now c.visit_all.new.operators c.visit_all.new.visitor)
+    c.new-operators.ensures whole.0 in
     let cut = c.in-Err-finish.ensures.refused in
     let stops = cut_short c.visit_all.new.operators c.in-Err-finish.error whole.1 cut.0 cut.1 cut.2 in
     λ n code spelled none. stop_denies g.V.Visitor.visits
@@ -41,6 +45,7 @@ returns-clause-refused g c =
 pub returns-clause-stops : goal.returns-clause-stops
 returns-clause-stops g c =
     let whole = rw c.in_default.is at c.in-Ok.ensures.whole in
-    let told = subst (λ (s : Standing). WalksTo g.V.Visitor.visits (Ok tt) s c.args.visitor.now c.visit_all.new.operators c.visit_all.new.visitor) c.new-operators.ensures whole.0 in
+    let told = subst (λ (s : Standing). WalksTo g.V.Visitor.visits (Ok tt) s c.args.visitor.now c.visit_all.new.operators c.visit_all.new.visitor)
+    c.new-operators.ensures whole.0 in
     let cut = c.in-Err-finish.ensures.refused in
     (c.visit_all.new.operators, told, cut_short c.visit_all.new.operators c.in-Err-finish.error whole.1 cut.0 cut.1 cut.2)
