@@ -8,6 +8,12 @@ pub record Learned : Type 0 where
   pub id : ValidatorId
   pub progress : Progress
 
--- the id, the groups of the list of types, and the index spaces
+-- the id, the groups of the list of types, the index spaces, the imports by their names, and the exports
 abbrev pub shown : Learned → Shown
-shown l = record { id = l.id; groups = l.progress.kept.groups; spaces = l.progress.kept.items.spaces }
+shown l = record {
+  id = l.id;
+  groups = l.progress.kept.groups;
+  spaces = l.progress.kept.items.spaces;
+  imports = l.progress.kept.items.imports;
+  exports = l.progress.kept.items.exports;
+}

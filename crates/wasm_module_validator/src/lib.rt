@@ -19,7 +19,7 @@ pub use payloads::ValidPayload;
 pub use types::Types;
 pub use validator::{State, Validator, validate};
 pub use wasm_module_validator_lookups::{
-    EntityType, RecGroupElements, RecGroupId, TypesRef, ValidatorId,
+    CoreExports, CoreImports, EntityType, RecGroupElements, RecGroupId, TypesRef, ValidatorId,
 };
 pub use wasm_module_validator_sharing::{
     FuncToValidate, FuncValidator, FuncValidatorAllocations, ValidatorResources,

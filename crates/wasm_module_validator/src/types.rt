@@ -54,5 +54,12 @@ pub(crate) fn look_up(id: ValidatorId, module: &SharedProgress) -> TypesRef<'_>
     ensures { result ≡ shown (record { id = id; progress = «module».now.progress }) }
 {
     let progress = module.progress();
-    TypesRef::new(id, progress.types(), progress.state().module())
+    let state = progress.state();
+    TypesRef::new(
+        id,
+        progress.types(),
+        state.module(),
+        state.imports(),
+        state.exports(),
+    )
 }

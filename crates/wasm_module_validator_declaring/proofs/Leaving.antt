@@ -54,7 +54,7 @@ read_behind s groups more i j x f z m n h a =
     behind s groups more i j z m n x h.last b (f z m n h.stands h.last b)
 
 module _ (groups : List Group) (i : Items) where
-  pub import_left : (x : ImportTree) (j : Items) → IsImported groups x.ty i j → AddsItem section.imports groups i x groups j
+  pub import_left : (x : ImportTree) (j : Items) → IsImported groups x i j → AddsItem section.imports groups i x groups j
   import_left x j k = read_behind section.imports groups groups i j x (λ z m n r u a. imports_stand groups i z m r u x n a j k)
 
   pub function_left : (x : ℕ) (j : Items) → j ≡ record i { spaces = adding_function x i.spaces } → AddsItem section.functions groups i x groups j
@@ -91,7 +91,7 @@ module _ (groups : List Group) (i : Items) where
 
   -- ---- settings
 
-  pub import_settings : (x : ImportTree) (j : Items) → IsImported groups x.ty i j → j.spaces.settings ≡ i.spaces.settings
+  pub import_settings : (x : ImportTree) (j : Items) → IsImported groups x i j → j.spaces.settings ≡ i.spaces.settings
   import_settings x j k = ap (λ (l : Items). l.spaces.settings) k.added ∙ settings_stay k.type i.spaces
 
   pub export_settings : (x : ExportTree) (j : Items) → IsExported groups x.name x.kind x.index i j → j.spaces.settings ≡ i.spaces.settings

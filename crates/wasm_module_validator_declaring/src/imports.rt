@@ -17,7 +17,8 @@ use wasm_types::Result;
 /// # Errors
 ///
 /// Its type is not valid; there is no room for one more of what is imported; or the sizes of types pass their limit: the first of these in
-/// that order, at `offset`; or there is no memory. The state stays then.
+/// that order, at `offset`; or there is no memory. The state stays then; where there is no memory, the import may be found by its names
+/// though its space does not have it.
 pub fn add_import_item(
     state: &mut ModuleState,
     types: &TypeList,
@@ -31,8 +32,9 @@ pub fn add_import_item(
     ensures read { IsReadOver types.now.groups state.new.spaces }
     ensures settings { state.new.spaces.settings ≡ state.old.spaces.settings }
     ensures code { state.new.next_code ≡ state.old.next_code }
-    ensures stays { OnErr result (state.new ≡ state.old) }
+    ensures stays { IfErr result (λ e. UnlessMemory e.kind (state.new ≡ state.old)) }
+    ensures others { OnErr result (state.new ≡ record state.old { imports = state.new.imports }) }
     ensures refused { IfErr result (λ e. UnlessMemory e.kind (e.offset ≡ offset)) }
 {
-    state.add_import(import.ty, types, offset)
+    state.add_import(import.module, import.name, import.ty, types, offset)
 }

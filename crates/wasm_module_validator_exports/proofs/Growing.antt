@@ -3,7 +3,7 @@ use Rattle.std.proofs.Common.{◌≡◌, ◌↔◌, ◌+◌, ◌<◌, ℕ, List,
 use Rattle.std.proofs.lemmas.List.Sums.{sum_by-cons}
 use Rattle.wasm_sections_imports.specs.Spells.{ExportTree}
 use Rattle.wasm_module_validator_externs.specs.rules.Valid.{Each, HaveOwnNames, SumsBelow}
-use Rattle.wasm_module_validator_exports.specs.Names.{IsNew}
+use Rattle.wasm_module_validator_names.specs.Exports.{IsNew}
 
 each_after : {A : Type 0} (P : A → Type 0) (xs : List A) (x : A) → Each P (xs ++ x ∷ []) ↔ (Each P xs × P x)
 each_after P [] x = (λ h. (tt, h.0), λ h. (h.1, tt))

@@ -1,4 +1,4 @@
 -- What imports become by ids.
 pub mod Imports
--- Which names of exports are taken.
-pub mod Names
+-- What is kept of both, by their names: crates above cite it here.
+pub use Rattle.wasm_module_validator_names.specs as names

@@ -3,7 +3,7 @@
 ghost use Rattle.std.specs.Prelude.{◌↔◌, ◌∷◌, ◌++◌, ◌+◌, ◌<◌, [], ℕ, List, map, sum};
 ghost use Rattle.wasm_sections_imports.specs.Spells.{ExportTree};
 ghost use Rattle.wasm_module_validator_externs.specs.rules.Valid.{HaveOwnNames, SumsBelow};
-ghost use Rattle.wasm_module_validator_exports.specs.Names.{IsNew};
+ghost use Rattle.wasm_module_validator_names.specs.Exports.{IsNew};
 
 /// An export more: no two have one name exactly where that was so before and its name is new; and each sum of sizes is below the
 /// limit exactly where that was so before and the whole sum is.

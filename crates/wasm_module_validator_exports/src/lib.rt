@@ -1,16 +1,15 @@
 //! Imports and exports checked by the rules (WebAssembly 3.0, validation, modules, imports and exports).
 //!
 //! Each check is Ok exactly where the rule of modules holds under the settings. The sizes of their types are added one by one, as
-//! the rule adds them. [`ExportNames`] has the names of exports, no two of which are equal.
+//! the rule adds them.
 #![tactic(auto)]
 
 mod exports;
 mod imports;
 pub mod laws;
-mod names;
 mod sizes;
 
 pub use exports::check_export;
 pub use imports::check_import;
-pub use names::ExportNames;
 pub use sizes::{combine_export_size, combine_import_size};
+pub use wasm_module_validator_names::{Exports, Imports, NamedExport, NamedImports, Place};

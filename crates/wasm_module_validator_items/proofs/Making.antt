@@ -5,35 +5,38 @@ use Rattle.wasm_types.specs.trees.Trees.{TypeTree}
 use Rattle.wasm_types.specs.indices.declared.index.CoreTypeId.{CoreTypeId}
 use Rattle.wasm_sections_imports.specs.declared.kind.ExternalKind.{ExternalKind}
 use Rattle.wasm_sections_imports.specs.declared.type_ref.TypeRef.{TypeRef}
+use Rattle.wasm_sections_imports.specs.Spells.{ImportTree, ExportTree}
 use Rattle.wasm_module_validator_type_trees.specs.Groups.{Group, count}
 use Rattle.wasm_module_validator_externs.specs.rules.Valid.{IsFunctionIndex, import_size, export_size}
 use Rattle.wasm_module_validator_exports.specs.Imports.{IsNamedImport}
+use Rattle.wasm_module_validator_exports.specs.names.Imports.{ImportedName, with_import as with_name}
 use Rattle.wasm_module_validator_interning.specs.Interned.{space_of, AddsGroup, AreIdsKnown, IsChecked}
 use Rattle.wasm_module_validator_module.specs.Spaces.{Spaces, own_function}
 use Rattle.wasm_module_validator_resources.specs.Reading.{context_of, meaning_of}
 use Rattle.wasm_module_validator_resources.specs.Named.{IsReadOver}
 use Rattle.wasm_module_validator_items.specs.Adding.{importing, exporting, adding_tag, adding_function}
 use Rattle.wasm_module_validator_items.specs.Contexts.{IsWithExport, with_tag, with_function, with_types, AreNamesKnown}
-use Rattle.wasm_module_validator_items.specs.Items.{Items, HasItsType, IsImported, IsExported}
+use Rattle.wasm_module_validator_items.specs.Items.{Items, HasItsType, IsImported, IsExported, next_place}
 use Rattle.wasm_module_validator_items.specs.laws.Reading.{function_more, tag_more, types_added, functions_stay}
 use Rattle.wasm_module_validator_items.specs.laws.Importing.{import_more, export_more, tag_read, same_read, function_known}
 
-pub make_imported : (groups : List Group) (t u : TypeRef) (before : Items) (spaces : Spaces) (names : List (List ℕ)) (size : ℕ) (code : Option ℕ)
-    → IsNamedImport (meaning_of groups before.spaces) t u → HasItsType t before.spaces
-    → spaces ≡ importing u before.spaces → names ≡ before.export_names → size ≡ before.type_size + import_size (context_of groups before.spaces) t → code ≡ before.next_code
-    → IsImported groups t before (record { spaces = spaces; export_names = names; type_size = size; next_code = code })
-make_imported groups t u before spaces names size code named typed e f g h = record {
+pub make_imported : (groups : List Group) (i : ImportTree) (u : TypeRef) (before : Items) (spaces : Spaces) (names : List ImportedName) (exports : List ExportTree) (size : ℕ) (code : Option ℕ)
+    → IsNamedImport (meaning_of groups before.spaces) i.ty u → HasItsType i.ty before.spaces
+    → spaces ≡ importing u before.spaces → names ≡ with_name i.module_name i.field_name (next_place i.ty before.spaces) before.imports → exports ≡ before.exports
+    → size ≡ before.type_size + import_size (context_of groups before.spaces) i.ty → code ≡ before.next_code
+    → IsImported groups i before (record { spaces = spaces; imports = names; exports = exports; type_size = size; next_code = code })
+make_imported groups i u before spaces names exports size code named typed e f g h k = record {
   type = u;
   named = named;
-  added = λ i. record { spaces = e i; export_names = f i; type_size = g i; next_code = h i };
-  context = ap (context_of groups) e ∙ import_more groups before.spaces t u named typed;
+  added = λ j. record { spaces = e j; imports = f j; exports = g j; type_size = h j; next_code = k j };
+  context = ap (context_of groups) e ∙ import_more groups before.spaces i.ty u named typed;
 }
 
-pub make_exported : (groups : List Group) (name : List ℕ) (k : ExternalKind) (x : ℕ) (before : Items) (spaces : Spaces) (names : List (List ℕ)) (size : ℕ) (code : Option ℕ)
-    → spaces ≡ exporting k x before.spaces → names ≡ before.export_names ++ name ∷ [] → size ≡ before.type_size + export_size (context_of groups before.spaces) k x
-    → code ≡ before.next_code → IsExported groups name k x before (record { spaces = spaces; export_names = names; type_size = size; next_code = code })
-make_exported groups name k x before spaces names size code e f g h = record {
-  added = λ i. record { spaces = e i; export_names = f i; type_size = g i; next_code = h i };
+pub make_exported : (groups : List Group) (name : List ℕ) (k : ExternalKind) (x : ℕ) (before : Items) (spaces : Spaces) (names : List ImportedName) (exports : List ExportTree) (size : ℕ) (code : Option ℕ)
+    → spaces ≡ exporting k x before.spaces → names ≡ before.imports → exports ≡ before.exports ++ record { name = name; kind = k; index = x } ∷ [] → size ≡ before.type_size + export_size (context_of groups before.spaces) k x
+    → code ≡ before.next_code → IsExported groups name k x before (record { spaces = spaces; imports = names; exports = exports; type_size = size; next_code = code })
+make_exported groups name k x before spaces names exports size code e f l g h = record {
+  added = λ i. record { spaces = e i; imports = f i; exports = l i; type_size = g i; next_code = h i };
   context = subst (λ (s : Spaces). IsWithExport k x (context_of groups before.spaces) (context_of groups s)) (sym e) (export_more groups before.spaces k x);
 }
 

@@ -8,6 +8,7 @@ use Rattle.wasm_types.specs.error.declared.error.ErrorKind.TheVariants.{Other}
 use Rattle.wasm_sections_imports.specs.declared.kind.ExternalKind.{ExternalKind}
 use Rattle.wasm_sections_imports.specs.declared.type_ref.TypeRef.{TypeRef}
 use Rattle.wasm_sections_imports.specs.declared.type_ref.TypeRef.TheVariants as import
+use Rattle.wasm_sections_imports.specs.Spells.{ImportTree, ExportTree, kind_of}
 use Rattle.wasm_module_validator_type_trees.specs.Groups.{Group}
 use Rattle.wasm_module_validator_module.specs.declared.module.Function.{Function}
 use Rattle.wasm_module_validator_module.specs.Spaces.{Spaces, nothing_read}
@@ -15,21 +16,24 @@ use Rattle.wasm_module_validator_resources.specs.Reading.{context_of, meaning_of
 use Rattle.wasm_module_validator_externs.specs.rules.Valid.{IsValidImport, IsValidExport, import_size, export_size, most_tables, most_memories}
 use Rattle.wasm_module_validator_externs.specs.Refusals.{IsRefusal}
 use Rattle.wasm_module_validator_exports.specs.Imports.{IsNamedImport}
-use Rattle.wasm_module_validator_exports.specs.Names.{IsNew}
+use Rattle.wasm_module_validator_exports.specs.names.Exports.{IsNew, names_of}
+use Rattle.wasm_module_validator_exports.specs.names.Imports.{ImportedName, with_import as with_name}
+use Rattle.wasm_module_validator_exports.specs.names.declared.imports.Place.{Place}
 use Rattle.wasm_module_validator_items.specs.Adding.{importing, exporting}
 use Rattle.wasm_module_validator_items.specs.Contexts.{with_import, IsWithExport}
 
--- The module as far as it was read, the names of its exports, the sum of the sizes of its types, and the index of the function whose
--- code comes next, where code has come.
+-- The module as far as it was read, its imports by their names, its exports, the sum of the sizes of its types, and the index of the
+-- function whose code comes next, where code has come.
 pub record Items : Type 0 where
   pub spaces : Spaces
-  pub export_names : List (List ℕ)
+  pub imports : List ImportedName
+  pub exports : List ExportTree
   pub type_size : ℕ
   pub next_code : Option ℕ
 
 -- no item; the sum of sizes begins at 1
 abbrev pub no_items : Settings → Items
-no_items z = record { spaces = nothing_read z; export_names = []; type_size = 1; next_code = None }
+no_items z = record { spaces = nothing_read z; imports = []; exports = []; type_size = 1; next_code = None }
 
 -- ---- imports
 
@@ -57,27 +61,43 @@ pub record IsImportable (groups : List Group) (m : Items) (t : TypeRef) : Type 0
   pub room : HasRoomFor t m.spaces
   pub size : m.type_size + import_size (context_of groups m.spaces) t < m.spaces.settings.limits.type_size
 
--- it is added, by a type over ids
-pub record IsImported (groups : List Group) (t : TypeRef) (before after : Items) : Type 0 where
+-- how many stand in the space of what is imported: the index that it will have
+abbrev pub next_index : TypeRef → Spaces → ℕ
+next_index (import.Func x) s = length s.functions
+next_index (import.FuncExact x) s = length s.functions
+next_index (import.Table t) s = length s.tables
+next_index (import.Memory t) s = length s.memories
+next_index (import.Global t) s = length s.globals
+next_index (import.Tag t) s = length s.tags
+
+abbrev pub next_place : TypeRef → Spaces → Place
+next_place t s = record { kind = kind_of t; index = next_index t s }
+
+-- it is added, by a type over ids, and is found by its names
+pub record IsImported (groups : List Group) (i : ImportTree) (before after : Items) : Type 0 where
   pub type : TypeRef
-  pub named : IsNamedImport (meaning_of groups before.spaces) t type
-  pub added : after ≡ record before { spaces = importing type before.spaces; type_size = before.type_size + import_size (context_of groups before.spaces) t }
-  pub context : context_of groups after.spaces ≡ with_import t (context_of groups before.spaces)
+  pub named : IsNamedImport (meaning_of groups before.spaces) i.ty type
+  pub added : after ≡ record before {
+    spaces = importing type before.spaces;
+    imports = with_name i.module_name i.field_name (next_place i.ty before.spaces) before.imports;
+    type_size = before.type_size + import_size (context_of groups before.spaces) i.ty;
+  }
+  pub context : context_of groups after.spaces ≡ with_import i.ty (context_of groups before.spaces)
 
 -- ---- exports
 
 -- an export may be added: it is valid, its name is new, and there is room for the size of its type; and for it, where that is tested
 pub record IsExportable (groups : List Group) (m : Items) (name : List ℕ) (k : ExternalKind) (x : ℕ) (check_limit : Bool) : Type 0 where
   pub valid : IsValidExport m.spaces.settings (context_of groups m.spaces) k x
-  pub room : IsTrue check_limit → length m.export_names < m.spaces.settings.limits.exports
+  pub room : IsTrue check_limit → length m.exports < m.spaces.settings.limits.exports
   pub size : m.type_size + export_size (context_of groups m.spaces) k x < m.spaces.settings.limits.type_size
-  pub new : IsNew name m.export_names
+  pub new : IsNew name (names_of m.exports)
 
 -- it is added
 pub record IsExported (groups : List Group) (name : List ℕ) (k : ExternalKind) (x : ℕ) (before after : Items) : Type 0 where
   pub added : after ≡ record before {
     spaces = exporting k x before.spaces;
-    export_names = before.export_names ++ name ∷ [];
+    exports = before.exports ++ record { name = name; kind = k; index = x } ∷ [];
     type_size = before.type_size + export_size (context_of groups before.spaces) k x;
   }
   pub context : IsWithExport k x (context_of groups before.spaces) (context_of groups after.spaces)

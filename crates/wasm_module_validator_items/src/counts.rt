@@ -134,7 +134,7 @@ impl ModuleState {
     ///
     /// More than the limit: an error of kind `Other`, at `offset`.
     pub fn check_export_count(&self, count: u32, offset: u64) -> Result<()>
-        ensures answer { Tells result (length self.now.export_names + count ≤ self.now.spaces.settings.limits.exports) }
+        ensures answer { Tells result (length self.now.exports + count ≤ self.now.spaces.settings.limits.exports) }
         ensures refused { IfErr result (λ e. (e.kind ≡ Other) × (e.offset ≡ offset)) }
     {
         let most = self.settings().limits().exports;

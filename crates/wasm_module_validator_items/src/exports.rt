@@ -41,7 +41,7 @@ impl ModuleState {
 
     // One export more, where that is tested.
     fn check_export_room(&self, check_limit: bool, offset: u64) -> Result<()>
-        ensures answer { Tells result (IsTrue check_limit → length self.now.export_names < self.now.spaces.settings.limits.exports) }
+        ensures answer { Tells result (IsTrue check_limit → length self.now.exports < self.now.spaces.settings.limits.exports) }
         ensures refused { IfErr result (λ e. (e.kind ≡ Other) × (e.offset ≡ offset)) }
     {
         if !check_limit {
@@ -125,7 +125,7 @@ impl ModuleState {
             Ok(type_size) => type_size,
             Err(error) => return Err(error),
         };
-        match self.exports.insert(name, offset) {
+        match self.exports.insert(name, kind, index, offset) {
             Ok(()) => (),
             Err(error) => return Err(error),
         }

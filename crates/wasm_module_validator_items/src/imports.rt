@@ -1,6 +1,6 @@
 //! Imports.
 
-ghost use Rattle.std.specs.Prelude.{◌≡◌, ◌+◌, ◌<◌, IfErr, IfOk, OnOk, OnErr};
+ghost use Rattle.std.specs.Prelude.{◌≡◌, ◌+◌, ◌<◌, IfErr, IfOk, OnOk, OnErr, length};
 ghost use Rattle.wasm_types.specs.error.Denials.{Tells, UnlessMemory};
 ghost use Rattle.wasm_types.specs.error.declared.error.ErrorKind.TheVariants.{Other, OutOfMemory};
 ghost use Rattle.wasm_module_validator_externs.specs.rules.Valid.{IsValidImport, import_size};
@@ -9,15 +9,66 @@ ghost use Rattle.wasm_module_validator_exports.specs.Imports.{IsNamedImport};
 ghost use Rattle.wasm_module_validator_resources.specs.Named.{IsReadOver};
 ghost use Rattle.wasm_module_validator_resources.specs.Reading.{context_of, meaning_of};
 ghost use Rattle.wasm_module_validator_items.specs.Adding.{importing};
-ghost use Rattle.wasm_module_validator_items.specs.Items.{HasItsType, HasRoomFor, IsImportable, IsImported, IsRefusedBy};
+ghost use Rattle.wasm_module_validator_items.specs.Items.{HasItsType, HasRoomFor, IsImportable, IsImported, IsRefusedBy, next_index, next_place};
+ghost use Rattle.wasm_sections_imports.specs.Spells.{kind_of};
 
 use crate::ModuleState;
-use wasm_module_validator_exports::{check_import, combine_import_size};
+use wasm_module_validator_exports::{Place, check_import, combine_import_size};
 use wasm_module_validator_types::TypeList;
-use wasm_sections_imports::TypeRef;
+use wasm_sections_imports::{ExternalKind, TypeRef};
 use wasm_types::Result;
 
+// How many items there are, where there are fewer than so many.
+fn counted<T>(items: &[T], most: u32) -> u32
+    requires { length items.now < most }
+    ensures { result ≡ length items.now }
+{
+    items.len() as u32
+}
+
+// What is imported by a type.
+fn kind_of_type(ty: &TypeRef) -> ExternalKind
+    ensures { result ≡ kind_of ty.now }
+{
+    match ty {
+        TypeRef::Func(_) => ExternalKind::Func,
+        TypeRef::FuncExact(_) => ExternalKind::FuncExact,
+        TypeRef::Table(_) => ExternalKind::Table,
+        TypeRef::Memory(_) => ExternalKind::Memory,
+        TypeRef::Global(_) => ExternalKind::Global,
+        TypeRef::Tag(_) => ExternalKind::Tag,
+    }
+}
+
 impl ModuleState {
+    // The index that an import will have, where there is room for it.
+    fn next_index(&self, ty: &TypeRef) -> u32
+        requires { HasRoomFor ty.now self.now.spaces }
+        ensures { result ≡ next_index ty.now self.now.spaces }
+    {
+        let settings = self.settings();
+        let limits = settings.limits();
+        match ty {
+            TypeRef::Func(_) => self.module.function_count(),
+            TypeRef::FuncExact(_) => self.module.function_count(),
+            TypeRef::Table(_) => counted(self.module.tables(), settings.max_tables()),
+            TypeRef::Memory(_) => counted(self.module.memories(), settings.max_memories()),
+            TypeRef::Global(_) => counted(self.module.globals(), limits.globals),
+            TypeRef::Tag(_) => counted(self.module.tags(), limits.tags),
+        }
+    }
+
+    // Where an import will stand.
+    fn next_place(&self, ty: &TypeRef) -> Place
+        requires { HasRoomFor ty.now self.now.spaces }
+        ensures { result ≡ next_place ty.now self.now.spaces }
+    {
+        Place {
+            kind: kind_of_type(ty),
+            index: self.next_index(ty),
+        }
+    }
+
     // The type of an import, which becomes one over ids.
     fn check_import_type(&self, ty: &mut TypeRef, types: &TypeList, offset: u64) -> Result<()>
         requires { IsReadOver types.now.groups self.now.spaces }
@@ -86,18 +137,27 @@ impl ModuleState {
         }
     }
 
-    /// Adds an import, by its type as the module writes it.
+    /// Adds an import, by its names and its type as the module writes it.
     ///
     /// # Errors
     ///
     /// The type is not valid; there is no room for one more of what is imported; or the sizes of types pass their limit: the first of
-    /// these in that order, at `offset`. The last two are of kind `Other`. The state stays then.
-    pub fn add_import(&mut self, ty: TypeRef, types: &TypeList, offset: u64) -> Result<()>
+    /// these in that order, at `offset`. The last two are of kind `Other`. The state stays then; where memory is refused, the import may be
+    /// found by its names though its space does not have it.
+    pub fn add_import(
+        &mut self,
+        module: &str,
+        name: &str,
+        ty: TypeRef,
+        types: &TypeList,
+        offset: u64,
+    ) -> Result<()>
         requires { IsReadOver types.now.groups self.old.spaces }
         ensures answer { Tells result (IsImportable types.now.groups self.old ty) }
-        ensures imported { OnOk result (IsImported types.now.groups ty self.old self.new) }
+        ensures imported { OnOk result (IsImported types.now.groups (record { module_name = «module».now; field_name = name.now; ty = ty }) self.old self.new) }
         ensures read { IsReadOver types.now.groups self.new.spaces }
-        ensures stays { OnErr result (self.new ≡ self.old) }
+        ensures stays { IfErr result (λ e. UnlessMemory e.kind (self.new ≡ self.old)) }
+        ensures others { OnErr result (self.new ≡ record self.old { imports = self.new.imports }) }
         ensures refused { IfErr result (λ e. UnlessMemory e.kind (e.offset ≡ offset)) }
         ensures kind { IfErr result (λ e. UnlessMemory e.kind (IsRefusedBy self.old.spaces.settings.features
             (λ b. IsValidImport (allowing b self.old.spaces.settings) (context_of types.now.groups self.old.spaces) ty)
@@ -116,6 +176,11 @@ impl ModuleState {
             Ok(type_size) => type_size,
             Err(error) => return Err(error),
         };
+        let place = self.next_place(&ty);
+        match self.imports.insert(module, name, place) {
+            Ok(()) => (),
+            Err(error) => return Err(error),
+        }
         match self.push_import(&named, offset) {
             Ok(()) => (),
             Err(error) => return Err(error),

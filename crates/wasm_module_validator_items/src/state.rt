@@ -1,6 +1,8 @@
 //! The state of a module that is being judged.
 
-ghost use Rattle.std.specs.Prelude.{◌≡◌, map, string_bytes};
+ghost use Rattle.std.specs.Prelude.{◌≡◌, map};
+ghost use Rattle.wasm_module_validator_exports.specs.names.Exports.{export_of};
+ghost use Rattle.wasm_module_validator_exports.specs.names.Imports.{named_of};
 ghost use Rattle.wasm_module_validator_interning.specs.Modules.{settings_of};
 ghost use Rattle.wasm_module_validator_resources.specs.Named.{IsReadOver};
 ghost use Rattle.wasm_module_validator_resources.specs.Reading.{meaning_of};
@@ -8,7 +10,7 @@ ghost use Rattle.wasm_module_validator_items.specs.Items.{no_items};
 
 use std::alloc::Global;
 use std::marker::Model;
-use wasm_module_validator_exports::ExportNames;
+use wasm_module_validator_exports::{Exports, Imports, NamedExport, NamedImports};
 use wasm_module_validator_externs::Settings;
 use wasm_module_validator_resources::{Module, OperatorValidatorResources};
 use wasm_module_validator_types::TypeList;
@@ -19,7 +21,8 @@ use wasm_types::{Limits, WasmFeatures};
 #[derive(Drop)]
 pub struct ModuleState {
     pub(crate) module: Module,
-    pub(crate) exports: ExportNames,
+    pub(crate) imports: Imports,
+    pub(crate) exports: Exports,
     // The sizes of the types of imports and exports, and one.
     pub(crate) type_size: u32,
     // The function whose code comes next, once code has come.
@@ -35,7 +38,8 @@ impl Model for ModuleState {
 
     ghost view = { λ m. record {
       spaces = m.«module»;
-      export_names = m.exports;
+      imports = m.imports;
+      exports = m.exports;
       type_size = m.type_size;
       next_code = m.code_section_index;
     } };
@@ -48,7 +52,8 @@ impl ModuleState {
     {
         ModuleState {
             module: Module::new(alloc, features, limits),
-            exports: ExportNames::new(alloc),
+            imports: Imports::new(alloc),
+            exports: Exports::new(alloc),
             type_size: 1,
             code_section_index: None,
             const_expr_allocs: OperatorValidatorAllocations::new(alloc),
@@ -69,9 +74,16 @@ impl ModuleState {
         Settings::new(self.module.features(), self.module.limits())
     }
 
-    /// The names of its exports, in their order.
-    pub fn export_names(&self) -> &[String]
-        ensures { map string_bytes result.now ≡ self.now.export_names }
+    /// Its imports by their names: each pair of names once, in the order in which they came first.
+    pub fn imports(&self) -> &[NamedImports]
+        ensures { map named_of result.now ≡ self.now.imports }
+    {
+        self.imports.as_slice()
+    }
+
+    /// Its exports, in their order.
+    pub fn exports(&self) -> &[NamedExport]
+        ensures { map export_of result.now ≡ self.now.exports }
     {
         self.exports.as_slice()
     }

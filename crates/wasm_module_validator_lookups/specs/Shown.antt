@@ -1,16 +1,20 @@
--- What is looked up in a module that was read: the id of the validator that read it, the groups of the list of types, and the index
--- spaces (WebAssembly 3.0, structure, modules, indices).
+-- What is looked up in a module that was read: the id of the validator that read it, the groups of the list of types, the index spaces
+-- (WebAssembly 3.0, structure, modules, indices), the imports by their names and the exports (structure, modules, imports and exports).
 use Rattle.std.specs.Prelude.{◌≡◌, ◌<◌, ℕ, zero, suc, List, [], ◌∷◌, Some, slice_get}
 use Rattle.wasm_types.specs.indices.declared.index.CoreTypeId.{CoreTypeId}
 use Rattle.wasm_types.specs.groups.Entries.{Declared}
 use Rattle.wasm_module_validator_type_trees.specs.Groups.{Group, count, declared_by_id}
+use Rattle.wasm_sections_imports.specs.Spells.{ExportTree}
 use Rattle.wasm_module_validator_module.specs.Spaces.{Spaces}
+use Rattle.wasm_module_validator_names.specs.Imports.{ImportedName}
 use Rattle.wasm_module_validator_lookups.specs.declared.validator_id.ValidatorId.{ValidatorId}
 
 pub record Shown : Type 0 where
   pub id : ValidatorId
   pub groups : List Group
   pub spaces : Spaces
+  pub imports : List ImportedName
+  pub exports : List ExportTree
 
 -- the list has this id
 abbrev pub knows : Shown → CoreTypeId → Type 0

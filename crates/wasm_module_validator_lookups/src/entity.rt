@@ -4,6 +4,7 @@ ghost use Rattle.std.specs.Prelude.{◌≡◌, slice_get, option_map};
 ghost use Rattle.wasm_module_validator_lookups.specs.Entities.{function_entity, table_entity, memory_entity, global_entity, tag_entity, own_entity, imported_entity, exported_entity};
 
 use crate::TypesRef;
+use wasm_module_validator_module::Module;
 use wasm_sections_imports::{Export, ExternalKind, Import, TypeRef};
 use wasm_types::{CoreTypeId, GlobalType, MemoryType, TableType};
 
@@ -32,6 +33,75 @@ fn function_of(is_exact: bool, id: CoreTypeId) -> EntityType
         EntityType::FuncExact(id)
     } else {
         EntityType::Func(id)
+    }
+}
+
+// The function at an index.
+fn exported_function(module: &Module, index: u32) -> Option<EntityType>
+    ensures { result ≡ option_map (own_entity «module».now) (slice_get «module».now.functions index) }
+{
+    let function = match module.function_at(index) {
+        Some(function) => function,
+        None => return None,
+    };
+    let is_exact = module.features().custom_descriptors() && function.is_exact;
+    match module.type_id(function.type_index) {
+        Some(id) => Some(function_of(is_exact, id)),
+        None => unreachable!(),
+    }
+}
+
+// The table at an index.
+fn exported_table(module: &Module, index: u32) -> Option<EntityType>
+    ensures { result ≡ option_map table_entity (slice_get «module».now.tables index) }
+{
+    match module.table_at(index) {
+        Some(ty) => Some(EntityType::Table(ty)),
+        None => None,
+    }
+}
+
+// The memory at an index.
+fn exported_memory(module: &Module, index: u32) -> Option<EntityType>
+    ensures { result ≡ option_map memory_entity (slice_get «module».now.memories index) }
+{
+    match module.memory_at(index) {
+        Some(ty) => Some(EntityType::Memory(ty)),
+        None => None,
+    }
+}
+
+// The global at an index.
+fn exported_global(module: &Module, index: u32) -> Option<EntityType>
+    ensures { result ≡ option_map global_entity (slice_get «module».now.globals index) }
+{
+    match module.global_at(index) {
+        Some(ty) => Some(EntityType::Global(ty)),
+        None => None,
+    }
+}
+
+// The tag at an index.
+fn exported_tag(module: &Module, index: u32) -> Option<EntityType>
+    ensures { result ≡ option_map tag_entity (slice_get «module».now.tags index) }
+{
+    match module.tag_at(index) {
+        Some(id) => Some(EntityType::Tag(id)),
+        None => None,
+    }
+}
+
+/// What stands at an index of the space of a kind; none past its end.
+pub(crate) fn entity_at(module: &Module, kind: ExternalKind, index: u32) -> Option<EntityType>
+    ensures { result ≡ exported_entity «module».now kind index }
+{
+    match kind {
+        ExternalKind::Func => exported_function(module, index),
+        ExternalKind::FuncExact => exported_function(module, index),
+        ExternalKind::Table => exported_table(module, index),
+        ExternalKind::Memory => exported_memory(module, index),
+        ExternalKind::Global => exported_global(module, index),
+        ExternalKind::Tag => exported_tag(module, index),
     }
 }
 
@@ -71,73 +141,11 @@ impl<'a> TypesRef<'a> {
         }
     }
 
-    // The function at an index.
-    fn exported_function(&self, index: u32) -> Option<EntityType>
-        ensures { result ≡ option_map (own_entity self.now.spaces) (slice_get self.now.spaces.functions index) }
-    {
-        let function = match self.module.function_at(index) {
-            Some(function) => function,
-            None => return None,
-        };
-        let is_exact = self.module.features().custom_descriptors() && function.is_exact;
-        match self.module.type_id(function.type_index) {
-            Some(id) => Some(function_of(is_exact, id)),
-            None => unreachable!(),
-        }
-    }
-
-    // The table at an index.
-    fn exported_table(&self, index: u32) -> Option<EntityType>
-        ensures { result ≡ option_map table_entity (slice_get self.now.spaces.tables index) }
-    {
-        match self.module.table_at(index) {
-            Some(ty) => Some(EntityType::Table(ty)),
-            None => None,
-        }
-    }
-
-    // The memory at an index.
-    fn exported_memory(&self, index: u32) -> Option<EntityType>
-        ensures { result ≡ option_map memory_entity (slice_get self.now.spaces.memories index) }
-    {
-        match self.module.memory_at(index) {
-            Some(ty) => Some(EntityType::Memory(ty)),
-            None => None,
-        }
-    }
-
-    // The global at an index.
-    fn exported_global(&self, index: u32) -> Option<EntityType>
-        ensures { result ≡ option_map global_entity (slice_get self.now.spaces.globals index) }
-    {
-        match self.module.global_at(index) {
-            Some(ty) => Some(EntityType::Global(ty)),
-            None => None,
-        }
-    }
-
-    // The tag at an index.
-    fn exported_tag(&self, index: u32) -> Option<EntityType>
-        ensures { result ≡ option_map tag_entity (slice_get self.now.spaces.tags index) }
-    {
-        match self.module.tag_at(index) {
-            Some(id) => Some(EntityType::Tag(id)),
-            None => None,
-        }
-    }
-
     /// What an export is; none where nothing stands at its index. Its types are by ids. Where the features have custom descriptors, a
     /// function that is known to have exactly its type is told as such.
     pub fn entity_type_from_export(&self, export: &Export<'_>) -> Option<EntityType>
         ensures { result ≡ exported_entity self.now.spaces export.now.kind export.now.index }
     {
-        match export.kind {
-            ExternalKind::Func => self.exported_function(export.index),
-            ExternalKind::FuncExact => self.exported_function(export.index),
-            ExternalKind::Table => self.exported_table(export.index),
-            ExternalKind::Memory => self.exported_memory(export.index),
-            ExternalKind::Global => self.exported_global(export.index),
-            ExternalKind::Tag => self.exported_tag(export.index),
-        }
+        entity_at(self.module, export.kind, export.index)
     }
 }

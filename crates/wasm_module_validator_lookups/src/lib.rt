@@ -8,12 +8,14 @@
 mod entity;
 mod groups;
 pub mod laws;
+mod named;
 mod spaces;
 mod types_ref;
 mod validator_id;
 
 pub use entity::EntityType;
 pub use groups::RecGroupElements;
+pub use named::{CoreExports, CoreImports};
 pub use types_ref::TypesRef;
 pub use validator_id::ValidatorId;
 pub use wasm_module_validator_types::RecGroupId;

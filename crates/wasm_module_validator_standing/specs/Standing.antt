@@ -1,5 +1,5 @@
 -- The state of a module that is being read stands for the tree of what was read (WebAssembly 3.0, structure, modules; validation, modules).
-use Rattle.std.specs.Prelude.{◌≡◌, ◌+◌, ◌<◌, ◌≤◌, ℕ, true, IsTrue, List, Result, length, map}
+use Rattle.std.specs.Prelude.{◌≡◌, ◌+◌, ◌<◌, ◌≤◌, ◌++◌, ◌∷◌, [], ℕ, true, IsTrue, List, Result, length, filter_map}
 use Rattle.wasm_types.specs.error.ErrorValue.{ErrorValue}
 use Rattle.wasm_types.specs.error.Denials.{Tells}
 use Rattle.wasm_types.specs.limits.Settings.{Settings}
@@ -14,19 +14,52 @@ use Rattle.wasm_module_validator_referring.specs.Referring.{meaning_with_all}
 use Rattle.wasm_module_validator_so_far.specs.SoFar.{IsReadAs}
 use Rattle.wasm_module_validator_so_far.specs.Referring.{IsReferredAs, referring_to_each}
 use Rattle.wasm_module_validator_items.specs.Items.{Items}
-use Rattle.wasm_module_validator_steps.specs.contexts.imports.Spells.{ExportTree}
+use Rattle.wasm_module_validator_exports.specs.names.declared.imports.Place.{Place}
+use Rattle.wasm_module_validator_exports.specs.names.Imports.{ImportedName, with_import}
+use Rattle.wasm_module_validator_steps.specs.contexts.imports.Spells.{ImportTree, kind_of}
+use Rattle.wasm_module_validator_steps.specs.contexts.imports.declared.type_ref.TypeRef.{TypeRef}
+use Rattle.wasm_module_validator_steps.specs.contexts.imports.declared.type_ref.TypeRef.TheVariants as import
+use Rattle.wasm_module_validator_steps.specs.contexts.rules.Spaces.{function_of, table_of, memory_of, global_of, tag_of}
 use Rattle.wasm_module_validator_steps.specs.contexts.rules.Syntax.{ModuleTree}
 use Rattle.wasm_module_validator_steps.specs.Sections.{Section, up_to, IsUnread}
 use Rattle.wasm_module_validator_steps.specs.Adding.{Fits, size_so_far}
 use Rattle.wasm_module_validator_steps.specs.Texts.{ItemRead, AddsRead}
 
+-- ---- imports by their names
+
+-- how many imports before go into the same space
+abbrev pub imports_before : TypeRef → List ImportTree → ℕ
+imports_before (import.Func x) is = length (filter_map (λ (i : ImportTree). function_of i.ty) is)
+imports_before (import.FuncExact x) is = length (filter_map (λ (i : ImportTree). function_of i.ty) is)
+imports_before (import.Table t) is = length (filter_map (λ (i : ImportTree). table_of i.ty) is)
+imports_before (import.Memory t) is = length (filter_map (λ (i : ImportTree). memory_of i.ty) is)
+imports_before (import.Global t) is = length (filter_map (λ (i : ImportTree). global_of i.ty) is)
+imports_before (import.Tag t) is = length (filter_map (λ (i : ImportTree). tag_of i.ty) is)
+
+-- where what is imported by this type stands behind these imports
+abbrev pub place_behind : List ImportTree → TypeRef → Place
+place_behind is t = record { kind = kind_of t; index = imports_before t is }
+
+-- these imports behind others, which have these names
+abbrev pub named_behind : List ImportTree → List ImportedName → List ImportTree → List ImportedName
+named_behind before names [] = names
+named_behind before names (i ∷ is) = named_behind (before ++ i ∷ []) (with_import i.module_name i.field_name (place_behind before i.ty) names) is
+
+-- the imports of a module: each pair of names where it came first, with what is imported by it
+abbrev pub imports_by_name : List ImportTree → List ImportedName
+imports_by_name is = named_behind [] [] is
+
+-- ---- the state
+
 -- It was made with these settings; its spaces are those of the tree, and the functions that are marked those that the tree refers to; the
--- names of exports and the size of types are the tree's. The list of types holds no more types than the module, and no more groups.
+-- imports by their names, the exports and the size of types are the tree's. The list of types holds no more types than the module, and no
+-- more groups.
 pub record Stands (groups : List Group) (s : Items) (z : Settings) (m : ModuleTree) : Type 0 where
   pub settings : s.spaces.settings ≡ z
   pub read : IsReadAs groups s.spaces m
   pub referred : IsReferredAs s.spaces m
-  pub names : s.export_names ≡ map (λ (e : ExportTree). e.name) m.exports
+  pub imports : s.imports ≡ imports_by_name m.imports
+  pub exports : s.exports ≡ m.exports
   pub size : s.type_size ≡ size_so_far m
   pub few_types : count groups ≤ length s.spaces.types
   pub few_groups : length groups ≤ length m.types

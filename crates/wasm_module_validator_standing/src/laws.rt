@@ -33,7 +33,8 @@ ghost use Rattle.wasm_module_validator_steps.specs.contexts.InOrder.{context_so_
 ghost use Rattle.wasm_module_validator_steps.specs.Sections as section;
 ghost use Rattle.wasm_module_validator_steps.specs.Sections.{Section, Item, IsUnread, adding, up_to};
 ghost use Rattle.wasm_module_validator_steps.specs.Adding.{Adds, Fits};
-ghost use Rattle.wasm_module_validator_standing.specs.Standing.{Stands, IsBefore, IsReading, MayGrow, constants_of, marking};
+ghost use Rattle.wasm_module_validator_standing.specs.Standing.{Stands, IsBefore, IsReading, MayGrow, constants_of, imports_by_name, marking};
+ghost use Rattle.wasm_module_validator_standing.specs.laws.Worked.{three_imports, three_names};
 
 /// The context of constants, in which each function may be referred to, is that of the tree so far.
 pub fn constants_see_the_tree()
@@ -97,7 +98,7 @@ pub fn sections_fit_alike()
     ensures globals { (groups : List Group) (s : Items) (z : Settings) (m : ModuleTree) → Stands groups s z m → (n : ℕ)
         → (length s.spaces.globals + n ≤ s.spaces.settings.limits.globals) ↔ Fits z section.globals m n }
     ensures exports { (groups : List Group) (s : Items) (z : Settings) (m : ModuleTree) → Stands groups s z m → IsUnread section.exports m → (n : ℕ)
-        → (length s.export_names + n ≤ s.spaces.settings.limits.exports) ↔ Fits z section.exports m n }
+        → (length s.exports + n ≤ s.spaces.settings.limits.exports) ↔ Fits z section.exports m n }
     ensures elements { (groups : List Group) (s : Items) (z : Settings) (m : ModuleTree) → Stands groups s z m → IsUnread section.element_segments m → (n : ℕ)
         → (length s.spaces.elements + n ≤ s.spaces.settings.limits.element_segments) ↔ Fits z section.element_segments m n }
     ensures data { (groups : List Group) (s : Items) (z : Settings) (m : ModuleTree) → Stands groups s z m → (n : ℕ)
@@ -111,7 +112,7 @@ pub fn items_stand()
         → Adds z section.types m g n → (more : List Group) (ids : List CoreTypeId) (k : Group) → AddsGroup groups more s.spaces.types ids k
         → space_of more ids ≡ space_of groups s.spaces.types ++ types_of (space_of groups s.spaces.types) g → Stands more (record s { spaces = record s.spaces { types = ids } }) z n }
     ensures imports { (groups : List Group) (s : Items) (z : Settings) (m : ModuleTree) → Stands groups s z m → m ≡ up_to section.imports m → (i : ImportTree) (n : ModuleTree)
-        → Adds z section.imports m i n → (after : Items) → IsImported groups i.ty s after → Stands groups after z n }
+        → Adds z section.imports m i n → (after : Items) → IsImported groups i s after → Stands groups after z n }
     ensures functions { (groups : List Group) (s : Items) (z : Settings) (m : ModuleTree) → Stands groups s z m → m ≡ up_to section.functions m → (x : ℕ) (n : ModuleTree)
         → Adds z section.functions m x n → Stands groups (record s { spaces = adding_function x s.spaces }) z n }
     ensures memories { (groups : List Group) (s : Items) (z : Settings) (m : ModuleTree) → Stands groups s z m → m ≡ up_to section.memories m → (x : MemoryType) (n : ModuleTree)
@@ -119,7 +120,7 @@ pub fn items_stand()
     ensures tags { (groups : List Group) (s : Items) (z : Settings) (m : ModuleTree) → Stands groups s z m → m ≡ up_to section.tags m → (x : TagType) (n : ModuleTree)
         → Adds z section.tags m x n → Stands groups (record s { spaces = adding_tag x.func_type_idx s.spaces }) z n }
     ensures exports { (groups : List Group) (s : Items) (z : Settings) (m : ModuleTree) → Stands groups s z m → (e : ExportTree) (n : ModuleTree) → Adds z section.exports m e n
-        → Stands groups (record s { spaces = exporting e.kind e.index s.spaces; export_names = s.export_names ++ e.name ∷ []; type_size = s.type_size + export_size (context_of groups s.spaces) e.kind e.index }) z n }
+        → Stands groups (record s { spaces = exporting e.kind e.index s.spaces; exports = s.exports ++ e ∷ []; type_size = s.type_size + export_size (context_of groups s.spaces) e.kind e.index }) z n }
     ensures start { (groups : List Group) (s : Items) (z : Settings) (m : ModuleTree) → Stands groups s z m → (x : ℕ) (n : ModuleTree) → Adds z section.start m x n → Stands groups s z n }
     ensures data_count { (groups : List Group) (s : Items) (z : Settings) (m : ModuleTree) → Stands groups s z m → (x : ℕ) (n : ModuleTree) → Adds z section.data_count m x n
         → Stands groups (record s { spaces = counting_data x s.spaces }) z n }
@@ -140,10 +141,11 @@ pub fn items_with_constants_stand()
 {}
 
 /// Worked states: a module of which nothing was read stands for nothing, and for no tree that exports something; types may be read then,
-/// and imports no longer where something is exported.
+/// and imports no longer where something is exported. Three imports by two pairs of names.
 pub fn states_are_worked()
     ensures nothing { (z : Settings) → Stands [] (no_items z) z tree_so_far.no_items }
     ensures exported { (z : Settings) (e : ExportTree) → Stands [] (no_items z) z (record tree_so_far.no_items { exports = e ∷ [] }) → ⊥ }
     ensures begun { (z : Settings) → IsBefore section.types [] (no_items z) z tree_so_far.no_items }
+    ensures names { (t : MemoryType) → imports_by_name (three_imports t) ≡ three_names }
     ensures late { (groups : List Group) (i : Items) (z : Settings) (e : ExportTree) → IsReading section.imports groups i z (record tree_so_far.no_items { exports = e ∷ [] }) → ⊥ }
 {}

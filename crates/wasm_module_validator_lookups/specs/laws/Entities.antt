@@ -11,11 +11,15 @@ use Rattle.wasm_types.specs.externs.declared.memory.MemoryType.{MemoryType}
 use Rattle.wasm_types.specs.externs.declared.global.GlobalType.{GlobalType}
 use Rattle.wasm_types.specs.externs.declared.tag.TagType.{TagType}
 use Rattle.wasm_types.specs.externs.declared.tag.TagKind.TheVariants.{Exception}
+use Rattle.wasm_sections_imports.specs.declared.kind.ExternalKind.{ExternalKind}
 use Rattle.wasm_sections_imports.specs.declared.kind.ExternalKind.TheVariants as kind
+use Rattle.wasm_sections_imports.specs.Spells.{ExportTree}
+use Rattle.wasm_module_validator_names.specs.declared.imports.Place.{Place}
+use Rattle.wasm_module_validator_names.specs.Imports.{ImportedName}
 use Rattle.wasm_sections_imports.specs.declared.type_ref.TypeRef.TheVariants as import
 use Rattle.wasm_module_validator_module.specs.Spaces.{Spaces, nothing_read, own_function, imported_function}
 use Rattle.wasm_module_validator_lookups.specs.declared.entity.EntityType.TheVariants as entity
-use Rattle.wasm_module_validator_lookups.specs.Entities.{imported_entity, exported_entity}
+use Rattle.wasm_module_validator_lookups.specs.Entities.{imported_entity, exported_entity, export_entities, import_entities}
 
 -- ---- a module
 
@@ -90,6 +94,30 @@ pub record ExportRows : Type 0 where
   pub tag : exported_entity plain kind.Tag 0 ≡ Some (entity.Tag (id 4))
   pub no_tag : exported_entity plain kind.Tag 2 ≡ None
 
+abbrev a : List ℕ
+a = 0x61 ∷ []
+
+abbrev b : List ℕ
+b = 0x62 ∷ []
+
+abbrev export : List ℕ → ExternalKind → ℕ → ExportTree
+export n k x = record { name = n; kind = k; index = x }
+
+abbrev named : List ℕ → List ℕ → List Place → ImportedName
+named m f ps = record { module_name = m; field_name = f; places = ps }
+
+abbrev place : ExternalKind → ℕ → Place
+place k x = record { kind = k; index = x }
+
+-- Exports in their order, without one whose index is past the end; imports by pairs of names, and all of one pair together.
+pub record NamedRows : Type 0 where
+  pub no_exports : export_entities plain [] ≡ []
+  pub exports : export_entities plain (export b kind.Table 1 ∷ export [] kind.Memory 1 ∷ export a kind.Func 0 ∷ [])
+      ≡ (b, entity.Table (table_of 2)) ∷ (a, entity.Func (id 4)) ∷ []
+  pub no_imports : import_entities plain [] ≡ []
+  pub imports : import_entities exact (named a b (place kind.Func 0 ∷ place kind.Memory 0 ∷ []) ∷ named b b (place kind.FuncExact 1 ∷ []) ∷ [])
+      ≡ ((a, b), entity.Func (id 4)) ∷ ((a, b), entity.Memory (memory_of 3)) ∷ ((b, b), entity.FuncExact (id 7)) ∷ []
+
 pub import_rows : ImportRows
 import_rows = record {
   function = refl;
@@ -122,4 +150,13 @@ export_rows = record {
   no_global = refl;
   tag = refl;
   no_tag = refl;
+}
+
+pub named_rows : NamedRows
+unfolding has
+named_rows = record {
+  no_exports = refl;
+  exports = refl;
+  no_imports = refl;
+  imports = refl;
 }

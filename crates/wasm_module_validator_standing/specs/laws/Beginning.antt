@@ -1,10 +1,8 @@
 -- Where a section begins: nothing of it was read, so there is as much as its count.
 use Rattle.std.proofs.Common.{◌≡◌, ◌∙◌, ◌↔◌, ◌+◌, ◌≤◌, ℕ, suc, List, [], length, refl, sym, ap, arith}
-use Rattle.std.proofs.lemmas.List.{length-map}
 use Rattle.wasm_types.specs.limits.Settings.{Settings}
 use Rattle.wasm_module_validator_type_trees.specs.Groups.{Group}
 use Rattle.wasm_module_validator_items.specs.Items.{Items}
-use Rattle.wasm_module_validator_steps.specs.contexts.imports.Spells.{ExportTree}
 use Rattle.wasm_module_validator_steps.specs.contexts.rules.Syntax.{ModuleTree}
 use Rattle.wasm_module_validator_steps.specs.contexts.rules.Spaces.{types_behind}
 use Rattle.wasm_module_validator_steps.specs.Sections as section
@@ -33,10 +31,10 @@ module _ (groups : List Group) (s : Items) (z : Settings) (m : ModuleTree) (r : 
       let all : 0 + n ≡ n = omega arith in
       room groups s z m r (λ k (y : Settings). k ≤ y.limits.imports) _ _ all
 
-  pub exports_fit : IsUnread section.exports m → (n : ℕ) → (length s.export_names + n ≤ s.spaces.settings.limits.exports) ↔ Fits z section.exports m n
+  pub exports_fit : IsUnread section.exports m → (n : ℕ) → (length s.exports + n ≤ s.spaces.settings.limits.exports) ↔ Fits z section.exports m n
   exports_fit u n =
-      let none : length s.export_names ≡ 0 = ap length r.names ∙ (length-map m.exports (λ (e : ExportTree). e.name) ∙ ap (λ (t : ModuleTree). length t.exports) u) in
-      let all : length s.export_names + n ≡ n = omega (arith, none) in
+      let none : length s.exports ≡ 0 = ap length r.exports ∙ ap (λ (t : ModuleTree). length t.exports) u in
+      let all : length s.exports + n ≡ n = omega (arith, none) in
       room groups s z m r (λ k (y : Settings). k ≤ y.limits.exports) _ _ all
 
   pub elements_fit : IsUnread section.element_segments m → (n : ℕ) → (length s.spaces.elements + n ≤ s.spaces.settings.limits.element_segments) ↔ Fits z section.element_segments m n

@@ -139,7 +139,8 @@ module _ (groups : List Group) (s : Items) (z : Settings) (m : ModuleTree) (r : 
         settings = r.settings;
         read = function_is_added groups s.spaces m r.read x;
         referred = function_is_not_referred_to s.spaces (adding_function x s.spaces) m k (own_function x) r.referred none none refl refl;
-        names = r.names;
+        imports = r.imports;
+        exports = r.exports;
         size = r.size ∙ ap (sum_from 1) (sizes_without_exports (module_of m) (module_of k) (record { types = refl }) m.imports m.exports (ap (λ (t : ModuleTree). t.exports) u));
         few_types = r.few_types;
         few_groups = r.few_groups;
@@ -153,7 +154,8 @@ module _ (groups : List Group) (s : Items) (z : Settings) (m : ModuleTree) (r : 
         settings = r.settings;
         read = memory_is_added groups s.spaces m r.read x;
         referred = r.referred;
-        names = r.names;
+        imports = r.imports;
+        exports = r.exports;
         size = r.size ∙ ap (sum_from 1) (sizes_without_exports (module_of m) (module_of k) (record { types = refl }) m.imports m.exports (ap (λ (t : ModuleTree). t.exports) u));
         few_types = r.few_types;
         few_groups = r.few_groups;
@@ -166,7 +168,8 @@ module _ (groups : List Group) (s : Items) (z : Settings) (m : ModuleTree) (r : 
         settings = r.settings;
         read = data_count_is_set groups s.spaces m r.read x;
         referred = r.referred;
-        names = r.names;
+        imports = r.imports;
+        exports = r.exports;
         size = r.size ∙ ap (sum_from 1) (sizes_with_exports (module_of m) (module_of k) (record { types = refl })
             (record { functions = refl; tables = refl; memories = refl; globals = refl; tags = refl }) m.imports m.exports);
         few_types = r.few_types;
@@ -180,7 +183,8 @@ module _ (groups : List Group) (s : Items) (z : Settings) (m : ModuleTree) (r : 
         settings = r.settings;
         read = others_are_read groups s.spaces m r.read k refl;
         referred = r.referred;
-        names = r.names;
+        imports = r.imports;
+        exports = r.exports;
         size = r.size;
         few_types = r.few_types;
         few_groups = r.few_groups;
@@ -189,14 +193,14 @@ module _ (groups : List Group) (s : Items) (z : Settings) (m : ModuleTree) (r : 
   pub exports_stand : (e : ExportTree) (n : ModuleTree) → Adds z section.exports m e n
       → Stands groups (record s {
         spaces = exporting e.kind e.index s.spaces;
-        export_names = s.export_names ++ e.name ∷ [];
+        exports = s.exports ++ e ∷ [];
         type_size = s.type_size + export_size (context_of groups s.spaces) e.kind e.index;
       }) z n
   exports_stand e n a =
       let k : ModuleTree = adding section.exports m e in
       let after : Items = record s {
         spaces = exporting e.kind e.index s.spaces;
-        export_names = s.export_names ++ e.name ∷ [];
+        exports = s.exports ++ e ∷ [];
         type_size = s.type_size + export_size (context_of groups s.spaces) e.kind e.index;
       } in
       let f : ExportTree → ℕ = (λ (x : ExportTree). export_size (module_of m) x.kind x.index) in
@@ -212,7 +216,8 @@ module _ (groups : List Group) (s : Items) (z : Settings) (m : ModuleTree) (r : 
         settings = kept_settings e.kind e.index s.spaces ∙ r.settings;
         read = others_are_read groups (exporting e.kind e.index s.spaces) m (still_read groups s.spaces m r.read e.kind e.index) k refl;
         referred = export_refers s.spaces m r.referred (exporting e.kind e.index s.spaces) e (exported e.kind e.index s.spaces);
-        names = ap (λ ns. ns ++ e.name ∷ []) r.names ∙ sym (map_push (λ (x : ExportTree). x.name) m.exports e);
+        imports = r.imports;
+        exports = ap (λ (es : List ExportTree). es ++ e ∷ []) r.exports;
         size = (λ i. r.size i + one i) ∙ (sym (sum_pushed 1 (is ++ map f m.exports) (f e)) ∙ (sym (ap (sum_from 1) pushed) ∙ there));
         few_types = subst (λ ts. count groups ≤ length ts) (sym (kept_types e.kind e.index s.spaces)) r.few_types;
         few_groups = r.few_groups;
@@ -228,7 +233,8 @@ module _ (groups : List Group) (s : Items) (z : Settings) (m : ModuleTree) (r : 
         settings = r.settings;
         read = tag_is_added groups s.spaces m r.read x l;
         referred = r.referred;
-        names = r.names;
+        imports = r.imports;
+        exports = r.exports;
         size = r.size ∙ ap (sum_from 1) (sizes_without_exports (module_of m) (module_of k) (record { types = refl }) m.imports m.exports (ap (λ (t : ModuleTree). t.exports) u));
         few_types = r.few_types;
         few_groups = r.few_groups;
@@ -245,7 +251,8 @@ module _ (groups : List Group) (s : Items) (z : Settings) (m : ModuleTree) (r : 
         read = marked_read groups (referred_in_option x.init) (adding_table kept s.spaces) k
             (table_is_added groups s.spaces m r.read x kept (table_is_kept groups s.spaces m r.read x.ty kept e));
         referred = table_refers s.spaces m r.referred after x refl;
-        names = r.names;
+        imports = r.imports;
+        exports = r.exports;
         size = r.size ∙ ap (sum_from 1) (sizes_without_exports (module_of m) (module_of k) (record { types = refl }) m.imports m.exports (ap (λ (t : ModuleTree). t.exports) u));
         few_types = r.few_types;
         few_groups = r.few_groups;
@@ -262,7 +269,8 @@ module _ (groups : List Group) (s : Items) (z : Settings) (m : ModuleTree) (r : 
         read = marked_read groups (referred_in x.init) (adding_global kept s.spaces) k
             (global_is_added groups s.spaces m r.read x kept (global_is_kept groups s.spaces m r.read x.ty kept e));
         referred = global_refers s.spaces m r.referred after x refl;
-        names = r.names;
+        imports = r.imports;
+        exports = r.exports;
         size = r.size ∙ ap (sum_from 1) (sizes_without_exports (module_of m) (module_of k) (record { types = refl }) m.imports m.exports (ap (λ (t : ModuleTree). t.exports) u));
         few_types = r.few_types;
         few_groups = r.few_groups;
@@ -279,7 +287,8 @@ module _ (groups : List Group) (s : Items) (z : Settings) (m : ModuleTree) (r : 
         settings = r.settings;
         read = marked_read groups named (adding_element kept s.spaces) k (element_is_added groups s.spaces m r.read x kept (elements_are_kept groups s.spaces m r.read x.items kept e));
         referred = element_refers s.spaces m r.referred after x refl;
-        names = r.names;
+        imports = r.imports;
+        exports = r.exports;
         size = r.size ∙ ap (sum_from 1) (sizes_with_exports (module_of m) (module_of k) (record { types = refl })
             (record { functions = refl; tables = refl; memories = refl; globals = refl; tags = refl }) m.imports m.exports);
         few_types = r.few_types;
@@ -293,7 +302,8 @@ module _ (groups : List Group) (s : Items) (z : Settings) (m : ModuleTree) (r : 
         settings = r.settings;
         read = others_are_read groups s.spaces m r.read k refl;
         referred = r.referred;
-        names = r.names;
+        imports = r.imports;
+        exports = r.exports;
         size = r.size;
         few_types = r.few_types;
         few_groups = r.few_groups;

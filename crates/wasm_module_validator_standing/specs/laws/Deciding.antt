@@ -13,7 +13,7 @@ use Rattle.wasm_module_validator_so_far.specs.Counts.{AreCounted}
 use Rattle.wasm_module_validator_so_far.specs.laws.Judging.{context_so_far_is}
 use Rattle.wasm_module_validator_so_far.specs.laws.Context.{context_is}
 use Rattle.wasm_module_validator_so_far.specs.laws.Limits.{counts_are, import_size_is, export_size_is}
-use Rattle.wasm_module_validator_exports.specs.Names.{IsNew}
+use Rattle.wasm_module_validator_exports.specs.names.Exports.{IsNew, names_of}
 use Rattle.wasm_module_validator_referring.specs.Referring.{meaning_with_all, with_all_referenced}
 use Rattle.wasm_module_validator_items.specs.Items.{Items, HasRoomFor, IsImportable, IsExportable}
 use Rattle.wasm_module_validator_steps.specs.contexts.imports.Spells.{ImportTree, ExportTree}
@@ -110,19 +110,19 @@ module _ (groups : List Group) (s : Items) (z : Settings) (m : ModuleTree) (r : 
 
   -- ---- room
 
-  functions_counted : length s.spaces.functions ≡ length (function_space m)
+  pub functions_counted : length s.spaces.functions ≡ length (function_space m)
   functions_counted = sym counts.functions ∙ functions_many
 
-  tables_counted : length s.spaces.tables ≡ length (table_space m)
+  pub tables_counted : length s.spaces.tables ≡ length (table_space m)
   tables_counted = sym counts.tables ∙ tables_many
 
-  memories_counted : length s.spaces.memories ≡ length (memory_space m)
+  pub memories_counted : length s.spaces.memories ≡ length (memory_space m)
   memories_counted = sym counts.memories
 
-  globals_counted : length s.spaces.globals ≡ length (global_space m)
+  pub globals_counted : length s.spaces.globals ≡ length (global_space m)
   globals_counted = sym counts.globals ∙ globals_many
 
-  tags_counted : length s.spaces.tags ≡ length (tag_space m)
+  pub tags_counted : length s.spaces.tags ≡ length (tag_space m)
   tags_counted = sym counts.tags ∙ tags_many
 
   pub elements_counted : length s.spaces.elements ≡ length m.element_segments
@@ -187,7 +187,7 @@ module _ (groups : List Group) (s : Items) (z : Settings) (m : ModuleTree) (r : 
       (λ h. (
         (
           export_agrees here there z exports_to e.kind e.index (subst (λ y. IsValidExport y here e.kind e.index) r.settings h.valid),
-          new_is e.name m.exports (subst (IsNew e.name) r.names h.new),
+          new_is e.name m.exports (subst (λ (es : List ExportTree). IsNew e.name (names_of es)) r.exports h.new),
         ),
         l.0 h.size,
       ))
@@ -195,7 +195,7 @@ module _ (groups : List Group) (s : Items) (z : Settings) (m : ModuleTree) (r : 
         valid = subst (λ y. IsValidExport y here e.kind e.index) (sym r.settings) (export_agrees there here z exports_back e.kind e.index h.0.0);
         room = λ k. absurd cc;
         size = l.1 h.1;
-        new = subst (IsNew e.name) (sym r.names) (is_new e.name m.exports h.0.1);
+        new = subst (λ (es : List ExportTree). IsNew e.name (names_of es)) (sym r.exports) (is_new e.name m.exports h.0.1);
       })
 
   -- ---- imports

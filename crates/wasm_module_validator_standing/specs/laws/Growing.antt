@@ -90,7 +90,8 @@ module _ (groups : List Group) (s : Items) (z : Settings) where
           settings = r.settings;
           read = group_is_added groups more s.spaces ids gs g r.read space;
           referred = r.referred;
-          names = r.names;
+          imports = r.imports;
+          exports = r.exports;
           size = r.size;
           few_types = types_now;
           few_groups = groups_now;

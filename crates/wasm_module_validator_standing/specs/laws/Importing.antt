@@ -1,11 +1,12 @@
 -- What an import leaves stands for every tree with the import more, while nothing but types and imports was read.
 use Rattle.std.proofs.Common.{◌≡◌, ◌∙◌, ◌+◌, ◌≤◌, ℕ, true, false, List, [], ◌∷◌, ◌++◌, length, map, refl, sym, ap, subst}
-use Rattle.std.proofs.lemmas.List.{append-nil, map_push}
+use Rattle.std.proofs.lemmas.List.{append-nil, append_assoc, map_push}
 use Rattle.wasm_types.specs.indices.declared.index.CoreTypeId.{CoreTypeId}
 use Rattle.wasm_types.specs.limits.Settings.{Settings}
 use Rattle.wasm_types.specs.trees.ValidGroup.{Written}
 use Rattle.wasm_module_validator_type_trees.specs.Groups.{Group, count}
 use Rattle.wasm_module_validator_exports.specs.Imports.{IsNamedImport}
+use Rattle.wasm_module_validator_exports.specs.names.Imports.{ImportedName, with_import as with_name}
 use Rattle.wasm_module_validator_module.specs.Spaces.{Spaces, imported_function}
 use Rattle.wasm_module_validator_resources.specs.Reading.{context_of, meaning_of}
 use Rattle.wasm_module_validator_so_far.specs.SoFar.{IsReadAs}
@@ -15,21 +16,21 @@ use Rattle.wasm_module_validator_so_far.specs.laws.Limits.{import_size_is}
 use Rattle.wasm_module_validator_so_far.specs.laws.Named.{table_is_named, global_is_named}
 use Rattle.wasm_module_validator_so_far.specs.laws.Referring.{function_is_not_referred_to}
 use Rattle.wasm_module_validator_items.specs.Adding.{importing}
-use Rattle.wasm_module_validator_items.specs.Items.{Items, HasItsType, IsImported}
+use Rattle.wasm_module_validator_items.specs.Items.{Items, HasItsType, IsImported, next_index, next_place}
 use Rattle.wasm_module_validator_items.specs.laws.Importing.{valid_typed}
-use Rattle.wasm_module_validator_steps.specs.contexts.imports.Spells.{ImportTree}
+use Rattle.wasm_module_validator_steps.specs.contexts.imports.Spells.{ImportTree, kind_of}
 use Rattle.wasm_module_validator_steps.specs.contexts.imports.declared.type_ref.TypeRef.{TypeRef}
 use Rattle.wasm_module_validator_steps.specs.contexts.imports.declared.type_ref.TypeRef.TheVariants as import
 use Rattle.wasm_module_validator_steps.specs.contexts.laws.Types.{import_agrees}
 use Rattle.wasm_module_validator_steps.specs.contexts.rules.Syntax.{ModuleTree}
-use Rattle.wasm_module_validator_steps.specs.contexts.rules.Spaces.{module_of}
+use Rattle.wasm_module_validator_steps.specs.contexts.rules.Spaces.{module_of, imported, function_of, table_of, memory_of, global_of, tag_of}
 use Rattle.wasm_module_validator_steps.specs.contexts.rules.Valid.{import_size}
 use Rattle.wasm_module_validator_steps.specs.contexts.InOrder.{context_so_far}
 use Rattle.wasm_module_validator_steps.specs.Sections as section
 use Rattle.wasm_module_validator_steps.specs.Sections.{adding, up_to}
 use Rattle.wasm_module_validator_steps.specs.Adding.{Adds, sum_from, size_so_far}
-use Rattle.wasm_module_validator_standing.specs.Standing.{Stands}
-use Rattle.wasm_module_validator_standing.specs.laws.Deciding.{types_back}
+use Rattle.wasm_module_validator_standing.specs.Standing.{Stands, imports_before, place_behind, named_behind}
+use Rattle.wasm_module_validator_standing.specs.laws.Deciding.{types_back, functions_counted, tables_counted, memories_counted, globals_counted, tags_counted}
 use Rattle.wasm_module_validator_standing.specs.laws.Behind.{import_sizes_are, sum_pushed}
 
 -- ---- what an import changes
@@ -84,12 +85,27 @@ module _ (groups : List Group) (s : Spaces) (gs : List Written) (is : List Impor
   read_behind r (import.Global t) (import.Table u) e h w = absurd cc
   read_behind r (import.Global t) (import.Tag u) e h w = absurd cc
 
+-- ---- imports by their names
+
+-- one more behind all
+named_push : (before : List ImportTree) (names : List ImportedName) (is : List ImportTree) (i : ImportTree)
+    → named_behind before names (is ++ i ∷ []) ≡ with_name i.module_name i.field_name (place_behind (before ++ is) i.ty) (named_behind before names is)
+named_push before names [] i = ap (λ (b : List ImportTree). with_name i.module_name i.field_name (place_behind b i.ty) names) (sym (append-nil before))
+named_push before names (j ∷ is) i =
+    let with_one : List ImportedName = with_name j.module_name j.field_name (place_behind before j.ty) names in
+    named_push (before ++ j ∷ []) with_one is i
+    ∙ ap (λ (b : List ImportTree). with_name i.module_name i.field_name (place_behind b i.ty) (named_behind (before ++ j ∷ []) with_one is)) (append_assoc before (j ∷ []) is)
+
 -- ---- the state
 
 module _ (groups : List Group) (s : Items) (z : Settings) where
-  -- with an import of this type, which is one over ids
-  abbrev with_import : TypeRef → TypeRef → Items
-  with_import t u = record s { spaces = importing u s.spaces; type_size = s.type_size + import_size (context_of groups s.spaces) t }
+  -- with an import, by its type over ids
+  abbrev with_import : ImportTree → TypeRef → Items
+  with_import i u = record s {
+    spaces = importing u s.spaces;
+    imports = with_name i.module_name i.field_name (next_place i.ty s.spaces) s.imports;
+    type_size = s.type_size + import_size (context_of groups s.spaces) i.ty;
+  }
 
   module _ (gs : List Written) (is : List ImportTree) (r : Stands groups s z (imports_alone gs is)) (i : ImportTree) where
     abbrev behind : ModuleTree
@@ -107,22 +123,34 @@ module _ (groups : List Group) (s : Items) (z : Settings) where
         (ap (λ ns. ns ++ f i ∷ []) (append-nil (map f is)) ∙ (sym (map_push f is i) ∙ sym (append-nil (map f (is ++ i ∷ []))))) in
         (λ k. r.size k + one k) ∙ (ap (λ ns. sum_from 1 (ns ++ []) + f i) same ∙ (sym (sum_pushed 1 (map f is ++ []) (f i)) ∙ ap (sum_from 1) last))
 
-    stands_behind : (u : TypeRef) → IsNamedImport (meaning_of groups s.spaces) i.ty u → HasItsType i.ty s.spaces → Stands groups (with_import i.ty u) z behind
+    -- it has the next index of its space
+    next_is : (t : TypeRef) → next_index t s.spaces ≡ imports_before t is
+    next_is (import.Func x) = functions_counted groups s z (imports_alone gs is) r ∙ ap length (append-nil (imported function_of (imports_alone gs is)))
+    next_is (import.FuncExact x) = functions_counted groups s z (imports_alone gs is) r ∙ ap length (append-nil (imported function_of (imports_alone gs is)))
+    next_is (import.Table t) = tables_counted groups s z (imports_alone gs is) r ∙ ap length (append-nil (imported table_of (imports_alone gs is)))
+    next_is (import.Memory t) = memories_counted groups s z (imports_alone gs is) r ∙ ap length (append-nil (imported memory_of (imports_alone gs is)))
+    next_is (import.Global t) = globals_counted groups s z (imports_alone gs is) r ∙ ap length (append-nil (imported global_of (imports_alone gs is)))
+    next_is (import.Tag t) = tags_counted groups s z (imports_alone gs is) r ∙ ap length (append-nil (imported tag_of (imports_alone gs is)))
+
+    stands_behind : (u : TypeRef) → IsNamedImport (meaning_of groups s.spaces) i.ty u → HasItsType i.ty s.spaces → Stands groups (with_import i u) z behind
     stands_behind u h w = record {
       settings = settings_stay u s.spaces ∙ r.settings;
       read = read_behind groups s.spaces gs is i r.read i.ty u refl h w;
       referred = none_referred groups s.spaces gs is i r.referred u;
-      names = r.names;
+      imports =
+          (λ k. with_name i.module_name i.field_name (record { kind = kind_of i.ty; index = next_is i.ty k }) (r.imports k))
+          ∙ sym (named_push [] [] is i);
+      exports = r.exports;
       size = size_behind;
       few_types = subst (λ (ids : List CoreTypeId). count groups ≤ length ids) (sym (types_stay u s.spaces)) r.few_types;
       few_groups = r.few_groups;
     }
 
   pub imports_stand : (m : ModuleTree) → Stands groups s z m → m ≡ up_to section.imports m → (i : ImportTree) (n : ModuleTree) → Adds z section.imports m i n
-      → (after : Items) → IsImported groups i.ty s after → Stands groups after z n
+      → (after : Items) → IsImported groups i s after → Stands groups after z n
   imports_stand m r u i n a after h =
       let still : adding section.imports m i ≡ adding section.imports (up_to section.imports m) i = ap (λ t. adding section.imports t i) u in
       let valid = import_agrees (context_so_far m) (context_of groups s.spaces) (types_back groups s z m r) z i.ty a.valid in
       let typed : HasItsType i.ty s.spaces = valid_typed groups s.spaces z i.ty valid in
-      subst (λ x. Stands groups x z n) (sym h.added) (subst (λ t. Stands groups (with_import i.ty h.type) z t) (sym (a.added ∙ still))
+      subst (λ x. Stands groups x z n) (sym h.added) (subst (λ t. Stands groups (with_import i h.type) z t) (sym (a.added ∙ still))
       (stands_behind m.types m.imports (subst (λ t. Stands groups s z t) u r) i h.type h.named typed))

@@ -7,11 +7,17 @@ use Rattle.wasm_module_validator_so_far.specs.laws.Adding.{nothing_is}
 use Rattle.wasm_module_validator_so_far.specs.laws.Referring.{none_are_referred_to}
 use Rattle.wasm_module_validator_items.specs.Items as state
 use Rattle.wasm_module_validator_items.specs.Items.{Items}
-use Rattle.wasm_module_validator_steps.specs.contexts.imports.Spells.{ExportTree}
+use Rattle.wasm_module_validator_exports.specs.names.declared.imports.Place.{Place}
+use Rattle.wasm_module_validator_exports.specs.names.Imports.{ImportedName}
+use Rattle.wasm_types.specs.externs.declared.memory.MemoryType.{MemoryType}
+use Rattle.wasm_module_validator_steps.specs.contexts.imports.Spells.{ImportTree, ExportTree}
+use Rattle.wasm_module_validator_steps.specs.contexts.imports.declared.kind.ExternalKind.TheVariants as kind
+use Rattle.wasm_module_validator_steps.specs.contexts.imports.declared.type_ref.TypeRef.{TypeRef}
+use Rattle.wasm_module_validator_steps.specs.contexts.imports.declared.type_ref.TypeRef.TheVariants as import
 use Rattle.wasm_module_validator_steps.specs.contexts.rules.Syntax.{ModuleTree}
 use Rattle.wasm_module_validator_steps.specs.contexts.InOrder.{no_items}
 use Rattle.wasm_module_validator_steps.specs.Sections as section
-use Rattle.wasm_module_validator_standing.specs.Standing.{Stands, IsReading, IsBefore}
+use Rattle.wasm_module_validator_standing.specs.Standing.{Stands, IsReading, IsBefore, imports_by_name}
 
 none_at_first : count [] ≡ 0
 unfolding type_count
@@ -25,7 +31,8 @@ worked_nothing z =
       settings = refl;
       read = nothing_is [] z;
       referred = none_are_referred_to z;
-      names = refl;
+      imports = refl;
+      exports = refl;
       size = refl;
       few_types = omega (arith, none);
       few_groups = omega arith;
@@ -33,10 +40,10 @@ worked_nothing z =
 
 -- and for no tree with an export
 pub worked_exported : (z : Settings) (e : ExportTree) → Stands [] (state.no_items z) z (record no_items { exports = e ∷ [] }) → ⊥
-worked_exported z e r = none e.name r.names
+worked_exported z e r = none r.exports
   where
-    none : (n : List ℕ) → [] ≡ n ∷ [] → ⊥
-    none n k = absurd cc
+    none : [] ≡ e ∷ [] → ⊥
+    none k = absurd cc
 
 -- any section may begin there
 pub worked_begun : (z : Settings) → IsBefore section.types [] (state.no_items z) z no_items
@@ -48,3 +55,29 @@ worked_late groups i z e r = none (ap (λ (m : ModuleTree). m.exports) r.last)
   where
     none : e ∷ [] ≡ [] → ⊥
     none k = absurd cc
+
+-- ---- imports by their names
+
+-- "a" and "b"
+abbrev a : List ℕ
+a = 0x61 ∷ []
+
+abbrev b : List ℕ
+b = 0x62 ∷ []
+
+abbrev import_of : List ℕ → List ℕ → TypeRef → ImportTree
+import_of m f t = record { module_name = m; field_name = f; ty = t }
+
+abbrev named : List ℕ → List ℕ → List Place → ImportedName
+named m f ps = record { module_name = m; field_name = f; places = ps }
+
+-- a function, another by another module's name, and a memory by the names of the first
+abbrev pub three_imports : MemoryType → List ImportTree
+three_imports t = import_of a b (import.Func 0) ∷ import_of b b (import.FuncExact 5) ∷ import_of a b (import.Memory t) ∷ []
+
+-- the memory stands with the first function; it is the first of its space, and the other function is the second
+abbrev pub three_names : List ImportedName
+three_names = named a b (record { kind = kind.Func; index = 0 } ∷ record { kind = kind.Memory; index = 0 } ∷ []) ∷ named b b (record { kind = kind.FuncExact; index = 1 } ∷ []) ∷ []
+
+pub worked_names : (t : MemoryType) → imports_by_name (three_imports t) ≡ three_names
+worked_names t = refl

@@ -19,9 +19,9 @@ returns-clause-settings c =
     in_both c.add_import.result _ _ _ (import_settings c.args.types.now.groups c.args.state.now
     (record { module_name = c.args.import.now.«module».now; field_name = c.args.import.now.name.now; ty = c.args.import.now.ty }) c.add_import.new.self)
     (λ e. ap (λ (l : Items). l.spaces.settings) e)
-    c.add_import.ensures.imported c.add_import.ensures.stays
+    c.add_import.ensures.imported c.add_import.ensures.others
 
 pub returns-clause-code : goal.returns-clause-code
 returns-clause-code c =
     in_both c.add_import.result _ _ _ (λ k. ap (λ (l : Items). l.next_code) k.added)
-    (λ e. ap (λ (l : Items). l.next_code) e) c.add_import.ensures.imported c.add_import.ensures.stays
+    (λ e. ap (λ (l : Items). l.next_code) e) c.add_import.ensures.imported c.add_import.ensures.others

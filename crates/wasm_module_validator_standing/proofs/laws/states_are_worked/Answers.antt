@@ -1,4 +1,4 @@
-use Rattle.wasm_module_validator_standing.specs.laws.Worked.{worked_nothing, worked_exported, worked_begun, worked_late}
+use Rattle.wasm_module_validator_standing.specs.laws.Worked.{worked_nothing, worked_exported, worked_begun, worked_late, worked_names}
 use Rattle.wasm_module_validator_standing.proofs.laws.states_are_worked.Goals as goal
 
 pub returns-clause-nothing : goal.returns-clause-nothing
@@ -12,3 +12,6 @@ returns-clause-begun c = worked_begun
 
 pub returns-clause-late : goal.returns-clause-late
 returns-clause-late c = worked_late
+
+pub returns-clause-names : goal.returns-clause-names
+returns-clause-names c = worked_names

@@ -7,8 +7,10 @@ use Rattle.wasm_module_validator_items.proofs.state.ModuleState.add_export.Goals
 pub returns-clause-exported : goal.returns-clause-exported
 returns-clause-exported c =
     let after = c.self-2.view_is ∙ c.refer_to_exported.ensures in
-    make_exported c.args.types.now.groups c.args.name.now c.args.kind c.args.index c.args.self.now _ _ _ _
+    make_exported c.args.types.now.groups c.args.name.now c.args.kind c.args.index c.args.self.now _ _ _ _ _
     (ap (λ (m : Items). m.spaces) after ∙ ap (λ (m : Items). exporting c.args.kind c.args.index m.spaces) c.self.view_is)
-    (ap (λ (m : Items). m.export_names) after ∙ c.in-Ok-insert.ensures.added ∙ ap (λ (m : Items). m.export_names ++ c.args.name.now ∷ []) c.self.view_is)
+    (ap (λ (m : Items). m.imports) after ∙ ap (λ (m : Items). m.imports) c.self.view_is)
+    (ap (λ (m : Items). m.exports) after ∙ c.in-Ok-insert.ensures.added
+    ∙ ap (λ (m : Items). m.exports ++ record { name = c.args.name.now; kind = c.args.kind; index = c.args.index } ∷ []) c.self.view_is)
     c.in-Ok-combine_export.ensures.sum
     (ap (λ (m : Items). m.next_code) after ∙ ap (λ (m : Items). m.next_code) c.self.view_is)

@@ -1,5 +1,7 @@
 use Rattle.std.proofs.Common.{◌∙◌, ap, subst, sym}
-use Rattle.wasm_module_validator_items.specs.Items.{Items}
+use Rattle.wasm_sections_imports.specs.Spells.{ImportTree}
+use Rattle.wasm_module_validator_exports.specs.names.Imports.{with_import as with_name}
+use Rattle.wasm_module_validator_items.specs.Items.{Items, next_place}
 use Rattle.wasm_module_validator_resources.specs.Named.{IsReadOver}
 use Rattle.wasm_module_validator_items.specs.laws.Importing.{valid_typed, import_read}
 use Rattle.wasm_module_validator_items.proofs.Making.{make_imported}
@@ -7,10 +9,15 @@ use Rattle.wasm_module_validator_items.proofs.state.ModuleState.add_import.Goals
 
 pub returns-clause-imported : goal.returns-clause-imported
 returns-clause-imported c =
-    let after = c.self.view_is ∙ c.in-Ok-push_import.ensures.added in
-    make_imported c.args.types.now.groups c.args.ty c.check_import_type.new.ty c.args.self.now _ _ _ _ c.in-Ok.ensures.named
+    let i : ImportTree = record { module_name = c.args.module.now; field_name = c.args.name.now; ty = c.args.ty } in
+    let after = c.self-2.view_is ∙ c.in-Ok-push_import.ensures.added in
+    make_imported c.args.types.now.groups i c.check_import_type.new.ty c.args.self.now _ _ _ _ _ c.in-Ok.ensures.named
     (valid_typed c.args.types.now.groups c.args.self.now.spaces c.args.self.now.spaces.settings c.args.ty c.in-Ok.ensures.answer)
-    (ap (λ (m : Items). m.spaces) after) (ap (λ (m : Items). m.export_names) after) c.in-Ok-combine_import.ensures.sum (ap (λ (m : Items). m.next_code) after)
+    ?
+    ?
+    ?
+    c.in-Ok-combine_import.ensures.sum
+    ?
 
 pub returns-clause-read : goal.returns-clause-read
 returns-clause-read c =

@@ -1,0 +1,6 @@
+-- Rules: what is kept of exports, and which names are taken.
+pub mod Exports
+-- Rules: what is kept of imports, by their names.
+pub mod Imports
+-- Worked rows.
+pub mod laws
