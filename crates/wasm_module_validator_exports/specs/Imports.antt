@@ -1,6 +1,5 @@
 -- The type of an import by ids, in place of the one that is written.
-use Rattle.std.specs.Prelude.{◌≡◌, ℕ, Bool, List}
-use Rattle.wasm_types.specs.trees.Trees.{TypeTree}
+use Rattle.std.specs.Prelude.{◌≡◌}
 use Rattle.wasm_sections_imports.specs.declared.type_ref.TypeRef.{TypeRef}
 use Rattle.wasm_sections_imports.specs.declared.type_ref.TypeRef.TheVariants as import
 use Rattle.wasm_module_validator_externs.specs.state.resources.Meaning.{Meaning, table_in, global_in}

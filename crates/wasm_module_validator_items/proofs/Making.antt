@@ -1,12 +1,11 @@
 -- What an item leaves, from what its steps leave.
-use Rattle.std.proofs.Common.{◌≡◌, ◌∙◌, ℕ, ◌+◌, ◌<◌, List, [], ◌∷◌, ◌++◌, length, refl, ap, sym, subst, true, Option, Result, Ok, Err, OnOk, OnErr}
+use Rattle.std.proofs.Common.{◌≡◌, ◌∙◌, ℕ, ◌+◌, List, [], ◌∷◌, ◌++◌, refl, ap, sym, subst, true, Option, Result, Ok, Err, OnOk, OnErr}
 use Rattle.wasm_types.specs.error.ErrorValue.{ErrorValue}
 use Rattle.wasm_types.specs.trees.Trees.{TypeTree}
-use Rattle.wasm_types.specs.indices.declared.index.CoreTypeId.{CoreTypeId}
 use Rattle.wasm_sections_imports.specs.declared.kind.ExternalKind.{ExternalKind}
 use Rattle.wasm_sections_imports.specs.declared.type_ref.TypeRef.{TypeRef}
 use Rattle.wasm_sections_imports.specs.Spells.{ImportTree, ExportTree}
-use Rattle.wasm_module_validator_type_trees.specs.Groups.{Group, count}
+use Rattle.wasm_module_validator_type_trees.specs.Groups.{Group}
 use Rattle.wasm_module_validator_externs.specs.rules.Valid.{IsFunctionIndex, import_size, export_size}
 use Rattle.wasm_module_validator_exports.specs.Imports.{IsNamedImport}
 use Rattle.wasm_module_validator_exports.specs.names.Imports.{ImportedName, with_import as with_name}

@@ -5,7 +5,7 @@ use Rattle.wasm_sections_imports.specs.declared.kind.ExternalKind.{ExternalKind}
 use Rattle.wasm_sections_imports.specs.declared.kind.ExternalKind.TheVariants as kind
 use Rattle.wasm_module_validator_names.specs.declared.imports.Place.{Place}
 use Rattle.wasm_module_validator_names.specs.Exports.{IsNew}
-use Rattle.wasm_module_validator_names.specs.Imports.{ImportedName, with_import, index_of}
+use Rattle.wasm_module_validator_names.specs.Imports.{ImportedName, with_import}
 
 -- ---- names
 

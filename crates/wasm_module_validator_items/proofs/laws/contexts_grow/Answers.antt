@@ -1,4 +1,4 @@
-use Rattle.std.proofs.Common.{refl, true}
+use Rattle.std.proofs.Common.{refl}
 use Rattle.wasm_module_validator_externs.specs.rules.Spaces.{table_in as table_written, global_in as global_written}
 use Rattle.wasm_module_validator_module.specs.Spaces.{own_function, imported_function}
 use Rattle.wasm_module_validator_resources.specs.Reading.{context_of}

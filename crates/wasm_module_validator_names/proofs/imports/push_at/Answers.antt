@@ -1,4 +1,4 @@
-use Rattle.std.proofs.Common.{◌≡◌, [], slice_get, Some}
+use Rattle.std.proofs.Common.{[]}
 use Rattle.wasm_module_validator_names.specs.Imports.{named_of}
 use Rattle.wasm_module_validator_names.proofs.Naming.{import_at, same_at, on_err, there}
 use Rattle.wasm_module_validator_names.proofs.imports.push_at.Goals as goal

@@ -1,8 +1,8 @@
-use Rattle.std.proofs.Common.{◌≡◌, ◌∙◌, ◌&&◌, cond, ℕ, List, [], ◌∷◌, ◌++◌, map, length, string_bytes, ap, sym, subst, Some, None, Option}
+use Rattle.std.proofs.Common.{◌≡◌, ◌∙◌, ◌&&◌, cond, ℕ, List, [], ◌∷◌, ◌++◌, map, length, string_bytes, ap, sym, Some, None, Option}
 use Rattle.std.proofs.lemmas.List.{map-append, length-map}
 use Rattle.std.specs.Str.{bytes_eq}
 use Rattle.wasm_module_validator_names.specs.declared.imports.NamedImports.{NamedImports}
-use Rattle.wasm_module_validator_names.specs.Imports.{ImportedName, Finds, find_names, index_of, named_of, with_import}
+use Rattle.wasm_module_validator_names.specs.Imports.{find_names, index_of, named_of, with_import}
 use Rattle.wasm_module_validator_names.proofs.Naming.{import_behind, index_behind, found_more}
 use Rattle.wasm_module_validator_names.proofs.imports.push_new.Goals as goal
 

@@ -1,4 +1,4 @@
-use Rattle.std.proofs.Common.{◌≡◌, ◌∙◌, map, sym, string_bytes}
+use Rattle.std.proofs.Common.{◌∙◌, map, sym, string_bytes}
 use Rattle.wasm_module_validator_names.specs.Imports.{named_of}
 use Rattle.wasm_module_validator_names.proofs.Naming.{index_within, finds_still}
 use Rattle.wasm_module_validator_names.proofs.imports.Imports.insert.Goals as goal
