@@ -31,8 +31,10 @@ make_imported groups i u before spaces names exports size code named typed e f g
   context = ap (context_of groups) e ∙ import_more groups before.spaces i.ty u named typed;
 }
 
-pub make_exported : (groups : List Group) (name : List ℕ) (k : ExternalKind) (x : ℕ) (before : Items) (spaces : Spaces) (names : List ImportedName) (exports : List ExportTree) (size : ℕ) (code : Option ℕ)
-    → spaces ≡ exporting k x before.spaces → names ≡ before.imports → exports ≡ before.exports ++ record { name = name; kind = k; index = x } ∷ [] → size ≡ before.type_size + export_size (context_of groups before.spaces) k x
+pub make_exported : (groups : List Group) (name : List ℕ) (k : ExternalKind) (x : ℕ) (before : Items)
+    (spaces : Spaces) (names : List ImportedName) (exports : List ExportTree) (size : ℕ) (code : Option ℕ)
+    → spaces ≡ exporting k x before.spaces → names ≡ before.imports → exports ≡ before.exports ++ record { name = name; kind = k; index = x } ∷ []
+    → size ≡ before.type_size + export_size (context_of groups before.spaces) k x
     → code ≡ before.next_code → IsExported groups name k x before (record { spaces = spaces; imports = names; exports = exports; type_size = size; next_code = code })
 make_exported groups name k x before spaces names exports size code e f l g h = record {
   added = λ i. record { spaces = e i; imports = f i; exports = l i; type_size = g i; next_code = h i };

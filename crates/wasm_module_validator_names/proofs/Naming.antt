@@ -1,5 +1,6 @@
 -- Pairs of names by the map that they are found in.
-use Rattle.std.proofs.Common.{◌≡◌, ◌∙◌, ◌&&◌, ◌<◌, arith, cond, ℕ, zero, suc, pred, Bool, true, false, List, [], ◌∷◌, ◌++◌, map, length, set, slice_get, get_or, Option, Some, None, option_map, refl, sym, ap, subst, ⊎_elim, String, string_bytes, Result, Ok, Err, OnOk, OnErr, if◌then◌else◌}
+use Rattle.std.proofs.Common.{◌≡◌, ◌∙◌, ◌&&◌, ◌<◌, arith, cond, ℕ, zero, suc, pred, Bool, true, false, List, [], ◌∷◌, ◌++◌, map, length, set, slice_get, get_or, Option, Some, None, option_map, refl, sym, ap, subst, ⊎_elim}
+use Rattle.std.proofs.Common.{String, string_bytes, Result, Ok, Err, OnOk, OnErr, if◌then◌else◌}
 use Rattle.std.proofs.lemmas.Bool.{cases_Bool, cond-true, cond-false}
 use Rattle.std.specs.Bool.{one_answer}
 use Rattle.std.specs.Option.{unwrap_or}
@@ -47,7 +48,8 @@ module _ {Y : Type 0} (m f : List ℕ) where
   bytes_of k = (string_bytes k.0, string_bytes k.1)
 
   others : (old new : List ((String Y × String Y) × ℕ)) → KeepsOthers (eq_by_cmp (λ (x y : String Y × String Y). compare (bytes_of x) (bytes_of y))) (is_at (compare_names m f)) old new
-      → (other : String Y × String Y → Bool) → IsKeyTest (eq_by_cmp (λ (x y : String Y × String Y). compare (bytes_of x) (bytes_of y))) other → AreApart (is_at (compare_names m f)) other → lookup other new ≡ lookup other old
+      → (other : String Y × String Y → Bool) → IsKeyTest (eq_by_cmp (λ (x y : String Y × String Y). compare (bytes_of x) (bytes_of y))) other
+      → AreApart (is_at (compare_names m f)) other → lookup other new ≡ lookup other old
   unfolding KeepsOthers
   others old new h = h
 
@@ -76,7 +78,8 @@ pub import_behind : (m f : List ℕ) (p : Place) (ns : List ImportedName) → in
 import_behind m f p [] e = refl
 import_behind m f p (n ∷ ns) e = step (import_behind m f p ns) (has_names m f n) refl
   where
-    step : (index_of m f ns ≡ None → with_import m f p ns ≡ ns ++ record { module_name = m; field_name = f; places = p ∷ [] } ∷ []) → (b : Bool) → has_names m f n ≡ b → with_import m f p (n ∷ ns) ≡ (n ∷ ns) ++ record { module_name = m; field_name = f; places = p ∷ [] } ∷ []
+    step : (index_of m f ns ≡ None → with_import m f p ns ≡ ns ++ record { module_name = m; field_name = f; places = p ∷ [] } ∷ []) → (b : Bool) → has_names m f n ≡ b
+        → with_import m f p (n ∷ ns) ≡ (n ∷ ns) ++ record { module_name = m; field_name = f; places = p ∷ [] } ∷ []
     step ih true h = absurd (let k : Some 0 ≡ None = sym (ap (λ (t : Bool). if t then Some 0 else option_map suc (index_of m f ns)) h) ∙ e in cc)
     step ih false h =
         let k : option_map suc (index_of m f ns) ≡ None = sym (ap (λ (t : Bool). if t then Some 0 else option_map suc (index_of m f ns)) h) ∙ e in
@@ -109,7 +112,9 @@ module _ (m f a b : List ℕ) (p : Place) where
   index_behind [] e = (λ i. if turned a m i && turned b f i then Some 0 else option_map suc None) ∙ alone asked
   index_behind (n ∷ ns) e = step (index_behind ns) (has_names m f n) refl
     where
-      step : (index_of m f ns ≡ None → index_of a b (ns ++ record { module_name = m; field_name = f; places = p ∷ [] } ∷ []) ≡ cond asked (Some (length ns)) (index_of a b ns)) → (t : Bool) → has_names m f n ≡ t → index_of a b ((n ∷ ns) ++ record { module_name = m; field_name = f; places = p ∷ [] } ∷ []) ≡ cond asked (Some (length (n ∷ ns))) (index_of a b (n ∷ ns))
+      step : (index_of m f ns ≡ None → index_of a b (ns ++ record { module_name = m; field_name = f; places = p ∷ [] } ∷ []) ≡ cond asked (Some (length ns)) (index_of a b ns))
+          → (t : Bool) → has_names m f n ≡ t
+          → index_of a b ((n ∷ ns) ++ record { module_name = m; field_name = f; places = p ∷ [] } ∷ []) ≡ cond asked (Some (length (n ∷ ns))) (index_of a b (n ∷ ns))
       step ih true h = absurd (let k : Some 0 ≡ None = sym (ap (λ (t : Bool). if t then Some 0 else option_map suc (index_of m f ns)) h) ∙ e in cc)
       step ih false h =
           let k : option_map suc (index_of m f ns) ≡ None = sym (ap (λ (t : Bool). if t then Some 0 else option_map suc (index_of m f ns)) h) ∙ e in
@@ -141,7 +146,8 @@ module _ (m f : List ℕ) (p : Place) where
   import_at [] at x y e g k = absurd cc
   import_at (z ∷ zs) at x y e g k = step (λ i u v. import_at zs i x y u g v) (has_names m f (named_of z)) refl at e k
     where
-      step : ((i : ℕ) → slice_get zs i ≡ Some x → index_of m f (map named_of zs) ≡ Some i → map named_of (set zs i y) ≡ with_import m f p (map named_of zs)) → (t : Bool) → has_names m f (named_of z) ≡ t → (i : ℕ) → slice_get (z ∷ zs) i ≡ Some x → then_found (map named_of zs) (has_names m f (named_of z)) ≡ Some i
+      step : ((i : ℕ) → slice_get zs i ≡ Some x → index_of m f (map named_of zs) ≡ Some i → map named_of (set zs i y) ≡ with_import m f p (map named_of zs))
+          → (t : Bool) → has_names m f (named_of z) ≡ t → (i : ℕ) → slice_get (z ∷ zs) i ≡ Some x → then_found (map named_of zs) (has_names m f (named_of z)) ≡ Some i
           → map named_of (set (z ∷ zs) i y) ≡ then_more (named_of z) (map named_of zs) (has_names m f (named_of z))
       step ih true h zero e k =
           let same : z ≡ x = ap (λ o. unwrap_or o z) e in
@@ -164,7 +170,8 @@ module _ (m f : List ℕ) (p : Place) where
   index_stays a b [] i e = absurd cc
   index_stays a b (n ∷ ns) i e = step (index_stays a b ns) (has_names m f n) refl i e
     where
-      step : ((j : ℕ) → index_of m f ns ≡ Some j → index_of a b (with_import m f p ns) ≡ index_of a b ns) → (t : Bool) → has_names m f n ≡ t → (j : ℕ) → (if has_names m f n then Some 0 else option_map suc (index_of m f ns)) ≡ Some j
+      step : ((j : ℕ) → index_of m f ns ≡ Some j → index_of a b (with_import m f p ns) ≡ index_of a b ns) → (t : Bool) → has_names m f n ≡ t → (j : ℕ)
+          → (if has_names m f n then Some 0 else option_map suc (index_of m f ns)) ≡ Some j
           → index_of a b (if has_names m f n then record n { places = n.places ++ p ∷ [] } ∷ ns else n ∷ with_import m f p ns) ≡ index_of a b (n ∷ ns)
       step ih true h j k = ap (λ (t : Bool). index_of a b (if t then record n { places = n.places ++ p ∷ [] } ∷ ns else n ∷ with_import m f p ns)) h
       step ih false h zero k = absurd (first_found (index_of m f ns) (sym (ap (λ (t : Bool). if t then Some 0 else option_map suc (index_of m f ns)) h) ∙ k))
@@ -178,7 +185,8 @@ module _ (m f : List ℕ) (p : Place) where
   index_within [] i e = absurd cc
   index_within (x ∷ xs) i e = step (index_within xs) (has_names m f (named_of x)) refl i e
     where
-      step : ((j : ℕ) → index_of m f (map named_of xs) ≡ Some j → j < length xs) → (t : Bool) → has_names m f (named_of x) ≡ t → (j : ℕ) → (if has_names m f (named_of x) then Some 0 else option_map suc (index_of m f (map named_of xs))) ≡ Some j → j < suc (length xs)
+      step : ((j : ℕ) → index_of m f (map named_of xs) ≡ Some j → j < length xs) → (t : Bool) → has_names m f (named_of x) ≡ t → (j : ℕ)
+          → (if has_names m f (named_of x) then Some 0 else option_map suc (index_of m f (map named_of xs))) ≡ Some j → j < suc (length xs)
       step ih true h zero k = omega arith
       step ih true h (suc j) k = absurd (let l : Some 0 ≡ Some (suc j) = sym (ap (λ (t : Bool). if t then Some 0 else option_map suc (index_of m f (map named_of xs))) h) ∙ k in cc)
       step ih false h zero k = absurd (first_found (index_of m f (map named_of xs)) (sym (ap (λ (t : Bool). if t then Some 0 else option_map suc (index_of m f (map named_of xs))) h) ∙ k))

@@ -16,7 +16,11 @@ returns-clause-added c =
     let pushed : map named_of c.push_in_room.new.names.items ≡ names ++ record { module_name = m; field_name = f; places = c.args.place ∷ [] } ∷ [] =
     ap (map named_of) c.push_in_room.ensures ∙ map-append named_of c.reserve.new.self.items (named ∷ [])
     ∙ ap (λ (l : List NamedImports). map named_of l ++ named_of named ∷ []) c.in_ok-reserve.ensures.items
-    ∙ (λ i. names ++ record { module_name = (c.in_ok-module.ensures.ok ∙ c.as_str.ensures.value) i; field_name = (c.in_ok-name.ensures.ok ∙ c.as_str-2.ensures.value) i; places = (c.in_ok-push.ensures.items ∙ ap (λ ps. ps ++ c.args.place ∷ []) c.new-places.ensures.items) i } ∷ []) in
+    ∙ (λ i. names ++ record {
+      module_name = (c.in_ok-module.ensures.ok ∙ c.as_str.ensures.value) i;
+      field_name = (c.in_ok-name.ensures.ok ∙ c.as_str-2.ensures.value) i;
+      places = (c.in_ok-push.ensures.items ∙ ap (λ ps. ps ++ c.args.place ∷ []) c.new-places.ensures.items) i;
+    } ∷ []) in
     pushed ∙ sym (import_behind m f c.args.place names none)
 
 pub returns-clause-found : goal.returns-clause-found
