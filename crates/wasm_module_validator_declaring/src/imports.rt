@@ -3,6 +3,7 @@
 ghost use Rattle.std.specs.Prelude.{◌≡◌, IfErr, OnErr, OnOk};
 ghost use Rattle.wasm_types.specs.error.Denials.{UnlessMemory};
 ghost use Rattle.wasm_module_validator_standing.specs.resources.Named.{IsReadOver};
+ghost use Rattle.wasm_module_validator_standing.specs.items.Items.{IsLeft};
 ghost use Rattle.wasm_module_validator_standing.specs.steps.Sections as section;
 ghost use Rattle.wasm_module_validator_standing.specs.Standing.{AddsItem, TellsItem};
 
@@ -33,7 +34,7 @@ pub fn add_import_item(
     ensures settings { state.new.spaces.settings ≡ state.old.spaces.settings }
     ensures code { state.new.next_code ≡ state.old.next_code }
     ensures stays { IfErr result (λ e. UnlessMemory e.kind (state.new ≡ state.old)) }
-    ensures others { OnErr result (state.new ≡ record state.old { imports = state.new.imports }) }
+    ensures left { OnErr result (IsLeft (record { module_name = import.now.«module».now; field_name = import.now.name.now; ty = import.now.ty }) state.old state.new) }
     ensures refused { IfErr result (λ e. UnlessMemory e.kind (e.offset ≡ offset)) }
 {
     state.add_import(import.module, import.name, import.ty, types, offset)

@@ -84,6 +84,11 @@ pub record IsImported (groups : List Group) (i : ImportTree) (before after : Ite
   }
   pub context : context_of groups after.spaces ≡ with_import i.ty (context_of groups before.spaces)
 
+-- What is left where it is not added: the state stays, or, where memory is refused, it has a place by its names alone.
+abbrev pub IsLeft : ImportTree → Items → Items → Type 0
+IsLeft i before after =
+    (after ≡ before) ⊎ (after ≡ record before { imports = with_name i.module_name i.field_name (next_place i.ty before.spaces) before.imports })
+
 -- ---- exports
 
 -- an export may be added: it is valid, its name is new, and there is room for the size of its type; and for it, where that is tested

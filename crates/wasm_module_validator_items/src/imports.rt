@@ -9,7 +9,7 @@ ghost use Rattle.wasm_module_validator_exports.specs.Imports.{IsNamedImport};
 ghost use Rattle.wasm_module_validator_resources.specs.Named.{IsReadOver};
 ghost use Rattle.wasm_module_validator_resources.specs.Reading.{context_of, meaning_of};
 ghost use Rattle.wasm_module_validator_items.specs.Adding.{importing};
-ghost use Rattle.wasm_module_validator_items.specs.Items.{HasItsType, HasRoomFor, IsImportable, IsImported, IsRefusedBy, next_index, next_place};
+ghost use Rattle.wasm_module_validator_items.specs.Items.{HasItsType, HasRoomFor, IsImportable, IsImported, IsLeft, IsRefusedBy, next_index, next_place};
 ghost use Rattle.wasm_sections_imports.specs.Spells.{kind_of};
 
 use crate::ModuleState;
@@ -157,7 +157,7 @@ impl ModuleState {
         ensures imported { OnOk result (IsImported types.now.groups (record { module_name = «module».now; field_name = name.now; ty = ty }) self.old self.new) }
         ensures read { IsReadOver types.now.groups self.new.spaces }
         ensures stays { IfErr result (λ e. UnlessMemory e.kind (self.new ≡ self.old)) }
-        ensures others { OnErr result (self.new ≡ record self.old { imports = self.new.imports }) }
+        ensures left { OnErr result (IsLeft (record { module_name = «module».now; field_name = name.now; ty = ty }) self.old self.new) }
         ensures refused { IfErr result (λ e. UnlessMemory e.kind (e.offset ≡ offset)) }
         ensures kind { IfErr result (λ e. UnlessMemory e.kind (IsRefusedBy self.old.spaces.settings.features
             (λ b. IsValidImport (allowing b self.old.spaces.settings) (context_of types.now.groups self.old.spaces) ty)

@@ -1,4 +1,4 @@
-use Rattle.std.proofs.Common.{ap}
+use Rattle.std.proofs.Common.{ap, ⊎_elim}
 use Rattle.wasm_module_validator_standing.specs.items.Items.{Items}
 use Rattle.wasm_module_validator_declaring.proofs.Telling.{import_told}
 use Rattle.wasm_module_validator_declaring.proofs.Leaving.{on_ok, in_both, import_left, import_settings}
@@ -18,10 +18,10 @@ pub returns-clause-settings : goal.returns-clause-settings
 returns-clause-settings c =
     in_both c.add_import.result _ _ _ (import_settings c.args.types.now.groups c.args.state.now
     (record { module_name = c.args.import.now.«module».now; field_name = c.args.import.now.name.now; ty = c.args.import.now.ty }) c.add_import.new.self)
-    (λ e. ap (λ (l : Items). l.spaces.settings) e)
-    c.add_import.ensures.imported c.add_import.ensures.others
+    (⊎_elim (λ e. ap (λ (l : Items). l.spaces.settings) e) (λ e. ap (λ (l : Items). l.spaces.settings) e))
+    c.add_import.ensures.imported c.add_import.ensures.left
 
 pub returns-clause-code : goal.returns-clause-code
 returns-clause-code c =
     in_both c.add_import.result _ _ _ (λ k. ap (λ (l : Items). l.next_code) k.added)
-    (λ e. ap (λ (l : Items). l.next_code) e) c.add_import.ensures.imported c.add_import.ensures.others
+    (⊎_elim (λ e. ap (λ (l : Items). l.next_code) e) (λ e. ap (λ (l : Items). l.next_code) e)) c.add_import.ensures.imported c.add_import.ensures.left
