@@ -68,7 +68,8 @@ module _ {X : Type 0} (groups more : List Group) (s old new : Spaces) (e : old �
       ∙ types_added groups more s new.types g trees (subst (λ (n : Spaces). AddsGroup groups more n.types new.types g) e a) grown (λ k d lt. (read.tags k d lt).0) known
   types_context (Err v) read a grown same = tt
 
-  pub types_stay : (r : Result X ErrorValue) → IsReadOver groups s → OnOk r (AddsGroup groups more old.types new.types g) → OnOk r (IsChecked old.settings more) → OnOk r (AreIdsKnown more new.types)
+  pub types_stay : (r : Result X ErrorValue) → IsReadOver groups s → OnOk r (AddsGroup groups more old.types new.types g)
+      → OnOk r (IsChecked old.settings more) → OnOk r (AreIdsKnown more new.types)
       → new ≡ record old { types = new.types } → OnOk r (IsReadOver more new)
   types_stay (Ok v) read a checked known same =
       let first : IsReadOver more (record s { types = new.types }) = record {

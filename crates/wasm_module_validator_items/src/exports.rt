@@ -27,7 +27,8 @@ impl ModuleState {
     ) -> Result<()>
         requires { IsReadOver types.now.groups self.now.spaces }
         ensures answer { Tells result (IsValidExport self.now.spaces.settings (context_of types.now.groups self.now.spaces) kind index) }
-        ensures refused { IfErr result (λ e. IsNeeded self.now.spaces.settings.features (λ b. IsValidExport (allowing b self.now.spaces.settings) (context_of types.now.groups self.now.spaces) kind index) e.kind) }
+        ensures refused { IfErr result (λ e. IsNeeded self.now.spaces.settings.features
+            (λ b. IsValidExport (allowing b self.now.spaces.settings) (context_of types.now.groups self.now.spaces) kind index) e.kind) }
         ensures at { IfErr result (λ e. e.offset ≡ offset) }
     {
         check_export(

@@ -74,7 +74,8 @@ impl ModuleState {
         requires { IsReadOver types.now.groups self.now.spaces }
         ensures answer { Tells result (IsValidImport self.now.spaces.settings (context_of types.now.groups self.now.spaces) ty.old) }
         ensures named { OnOk result (IsNamedImport (meaning_of types.now.groups self.now.spaces) ty.old ty.new) }
-        ensures refused { IfErr result (λ e. IsRefusal self.now.spaces.settings.features (λ b. IsValidImport (allowing b self.now.spaces.settings) (context_of types.now.groups self.now.spaces) ty.old) e.kind) }
+        ensures refused { IfErr result (λ e. IsRefusal self.now.spaces.settings.features
+            (λ b. IsValidImport (allowing b self.now.spaces.settings) (context_of types.now.groups self.now.spaces) ty.old) e.kind) }
         ensures at { IfErr result (λ e. e.offset ≡ offset) }
     {
         check_import(&self.resources(types), ty, &self.settings(), offset)

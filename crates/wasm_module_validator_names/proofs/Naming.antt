@@ -1,8 +1,7 @@
 -- Pairs of names by the map that they are found in.
-use Rattle.std.proofs.Common.{◌≡◌, ◌∙◌, ◌&&◌, ◌<◌, arith, cond, ℕ, zero, suc, pred, Bool, true, false, List, [], ◌∷◌, ◌++◌, map, length, set, slice_get, get_or, Option, Some, None, option_map, refl, sym, ap, subst, ⊎_elim}
-use Rattle.std.proofs.Common.{String, string_bytes, Result, Ok, Err, OnOk, OnErr, if◌then◌else◌}
+use Rattle.std.proofs.Common.{◌≡◌, ◌∙◌, ◌&&◌, ◌<◌, arith, cond, ℕ, zero, suc, pred, Bool, true, false, List, [], ◌∷◌, ◌++◌, map, length, set, slice_get, get_or}
+use Rattle.std.proofs.Common.{Option, Some, None, option_map, refl, sym, ap, subst, ⊎_elim, String, string_bytes, Result, Ok, Err, OnOk, OnErr, if◌then◌else◌}
 use Rattle.std.proofs.lemmas.Bool.{cases_Bool, cond-true, cond-false}
-use Rattle.std.specs.Bool.{one_answer}
 use Rattle.std.specs.Option.{unwrap_or}
 use Rattle.std.specs.Cmp.{IsTotalOrder, IsEquivalence, eq_by_cmp_equiv, then_total, on_total, both_tied}
 use Rattle.std.specs.Cmp.Lexicographic.{slice_cmp, nat_list_cmp_total, texts_ties, bytes_decides}
@@ -11,6 +10,7 @@ use Rattle.std.specs.declared.cmp.Ordering.{Ordering}
 use Rattle.std.specs.Str.{bytes_eq}
 use Rattle.std.specs.BTreeMap.{BTreeMap, UpdatesBy, is_at}
 use Rattle.std.specs.Map.{lookup, KeepsOthers, IsKeyTest, AreApart}
+use Rattle.wasm_module_validator_names.proofs.Taking.{turned}
 use Rattle.wasm_module_validator_names.specs.declared.imports.Place.{Place}
 use Rattle.wasm_module_validator_names.specs.declared.imports.NamedImports.{NamedImports}
 use Rattle.wasm_module_validator_names.specs.Imports.{ImportedName, has_names, with_import, index_of, named_of, compare_names, find_names, Finds}
@@ -86,13 +86,8 @@ import_behind m f p (n ∷ ns) e = step (import_behind m f p ns) (has_names m f 
         ap (λ (t : Bool). if t then record n { places = n.places ++ p ∷ [] } ∷ ns else n ∷ with_import m f p ns) h
         ∙ ap (λ (l : List ImportedName). n ∷ l) (ih (none_behind (index_of m f ns) k))
 
--- the tests of two texts agree whichever comes first
-turned : (xs ys : List ℕ) → bytes_eq xs ys ≡ bytes_eq ys xs
-turned xs ys =
-    let d = bytes_decides ys xs in
-    one_answer (bytes_eq xs ys) (bytes_eq ys xs) (bytes_decides xs ys) (λ t. sym (d.0 t), λ e. d.1 (sym e))
-
-behind_one : (t s : Bool) (i : ℕ) (o : Option ℕ) → (s ≡ true → t ≡ false) → (if t then Some 0 else option_map suc (cond s (Some i) o)) ≡ cond s (Some (suc i)) (if t then Some 0 else option_map suc o)
+behind_one : (t s : Bool) (i : ℕ) (o : Option ℕ) → (s ≡ true → t ≡ false)
+    → (if t then Some 0 else option_map suc (cond s (Some i) o)) ≡ cond s (Some (suc i)) (if t then Some 0 else option_map suc o)
 behind_one true true i o h = absurd (let k = h refl in cc)
 behind_one true false i o h = refl
 behind_one false true i o h = refl

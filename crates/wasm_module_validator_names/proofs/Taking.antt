@@ -33,7 +33,8 @@ known_name n (x ∷ xs) e h =
     ⊎_elim (λ f. h.0 ((bytes_eq-Decides n x).0 f)) (λ g. known_name n xs g h.1)
     (either (bytes_eq n x) (list_any (bytes_eq n) xs) e)
 
-turned : (xs ys : List ℕ) → bytes_eq xs ys ≡ bytes_eq ys xs
+-- the tests of two texts agree whichever comes first
+pub turned : (xs ys : List ℕ) → bytes_eq xs ys ≡ bytes_eq ys xs
 turned xs ys =
     let d = bytes_eq-Decides ys xs in
     one_answer (bytes_eq xs ys) (bytes_eq ys xs) (bytes_eq-Decides xs ys) (λ t. sym (d.0 t), λ e. d.1 (sym e))

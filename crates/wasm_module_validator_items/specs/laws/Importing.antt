@@ -110,7 +110,11 @@ module _ (groups : List Group) (s : Spaces) where
   -- ---- the module is still read over the list
 
   pub tag_read : IsReadOver groups s → (x : ℕ) → IsFunctionIndex (context_of groups s) x → IsReadOver groups (adding_tag x s)
-  tag_read r x f = record { checked = r.checked; known = r.known; tags = All-append (IsFunctionId groups) s.tags (id_at s.types x ∷ []) r.tags (one_of_all (IsFunctionId groups) (id_at s.types x) (function_of_id r x f)) }
+  tag_read r x f = record {
+    checked = r.checked;
+    known = r.known;
+    tags = All-append (IsFunctionId groups) s.tags (id_at s.types x ∷ []) r.tags (one_of_all (IsFunctionId groups) (id_at s.types x) (function_of_id r x f));
+  }
 
   pub same_read : IsReadOver groups s → (n : Spaces) → n.settings ≡ s.settings → n.types ≡ s.types → n.tags ≡ s.tags → IsReadOver groups n
   same_read r n z t g = record {
