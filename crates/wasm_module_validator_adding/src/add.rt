@@ -30,15 +30,25 @@ pub trait AddItem<'a, T: FromReader<'a>> {
     /// With what an item that begins at an offset is refused.
     ghost refuses: { Tree → Item → ℕ → ErrorValue → Type 0 };
 
+    /// What a state with items more has to do with it before.
+    ghost grows: { Self → Self → Type 0 };
+
     /// Checks an item that was read, which begins at this offset, and adds it.
     fn add(&mut self, item: T, offset: u64) -> Result<()>
         requires read { (z : Settings) × (s : State) × (t : State) × (T.decoder z s ≡ Done (T.view item) t) }
         ensures answer { (m : Tree) → reads self.old m → Tells result ((n : Tree) × adds m (of item) n) }
         ensures added { OnOk result ((m n : Tree) → reads self.old m → adds m (of item) n → reads self.new n) }
-        ensures refused { IfErr result (λ e. (m : Tree) → reads self.old m → refuses m (of item) offset e) };
+        ensures refused { IfErr result (λ e. (m : Tree) → reads self.old m → refuses m (of item) offset e) }
+        ensures grown { OnOk result (grows self.old self.new) };
 
     /// Items whose bytes are read alike are the same.
     ghost alike: { (x y : T) → T.view x ≡ T.view y → of x ≡ of y };
+
+    /// A state that stays has it to do with itself.
+    ghost grows_by_nothing: { (s : Self) → grows s s };
+
+    /// And over what lies between.
+    ghost grows_further: { (r s t : Self) → grows r s → grows s t → grows r t };
 }
 
 /// Reads the items of a section and adds each.
@@ -56,6 +66,7 @@ pub fn add_items<'a, T: FromReader<'a>, S: AddItem<'a, T>>(
         → AreAdded (Spelled T.view S.of (T.grammar section.entry.reader.settings)) S.adds section.entry.count section.entry.reader.rest m t → S.reads state.new t) }
     ensures refused { (m : S.Tree) → S.reads state.old m
         → IfErr result (λ e. StopsAdding T.view S.of (T.decoder section.entry.reader.settings) S.adds S.refuses section.entry.count section.entry.reader m e) }
+    ensures grown { OnOk result (S.grows state.old state.new) }
 {
     for item in section.into_iter_with_offsets() {
         let item = match item {

@@ -3,10 +3,15 @@
 //! A state that stands for what was read implements [`AddItem`] for each kind of item, and [`add_items`] reads a section and adds each
 //! item. It succeeds exactly where the contents spell as many items as are counted and no byte behind them, and each may be added
 //! behind those before it (`specs/Adding.antt`), out of memory aside.
+//!
+//! [`AddLent`] and [`add_lent_items`] are the same of items that are lent, and need not be moved: the prover does not cover a function that
+//! takes an import by value.
 #![tactic(auto)]
 
 mod add;
+mod lent;
 #[cfg(test)]
 mod tests;
 
 pub use add::{AddItem, add_items};
+pub use lent::{AddLent, add_lent_items};

@@ -11,7 +11,7 @@ ghost use Rattle.wasm_module_validator_standing.specs.steps.Steps.{SoFar, Judges
 ghost use Rattle.wasm_module_validator_progress.specs.Progress.{IsAt};
 
 use crate::{Collected, InProgress};
-use wasm_module_validator_adding_lent::{AddLent, add_lent_items};
+use wasm_module_validator_adding::{AddLent, add_lent_items};
 use wasm_module_validator_declaring::add_import_item;
 use wasm_sections_imports::Import;
 use wasm_sections_payloads::ImportSectionReader;

@@ -2,6 +2,9 @@
 pub mod Jumps
 pub mod Opening
 pub mod Ending
+-- How operands fit several labels, and what a call may name.
+pub mod Fitting
+pub mod Callees
 -- How a check's promise follows from its steps: laws, with the proofs.
 pub mod laws
 -- The rules and laws of the crates below, under their names: crates above cite them here.

@@ -1,16 +1,32 @@
-//! Checks of the operators of control (WebAssembly 3.0, validation, control instructions): blocks, branches, returns.
+//! Checks of the operators of control (WebAssembly 3.0, validation, control instructions): blocks, branches, returns, branches by a table
+//! of labels, and calls: to a function by its index, through a table, and those that take the place of their caller.
 //!
 //! Each check decides its operator, and leaves the validator so that what may follow the operator may come
 //! (`Checks` of `wasm_operator_validator_state`).
+//!
+//! Where a table of labels is branched by, the operands are held against one label after the other, where they lie. What is known of an
+//! operand may stand for a shared and for an unshared reference: then labels that it fits one by one may still agree on neither, which is
+//! asked at the end.
 #![tactic(auto)]
 
+mod br_table;
 mod branches;
+mod callees;
+mod calls;
 mod frames;
+mod labels;
 mod leaving;
+mod matching;
+mod sharing;
+mod tables;
+mod tails;
 
+pub use br_table::check_br_table;
 pub use branches::{check_br, check_br_if, check_nop, check_return, check_unreachable};
+pub use calls::{check_call, check_call_indirect};
 pub use frames::{check_block, check_else, check_end, check_if, check_loop};
 pub use leaving::jump_with;
+pub use tails::{check_return_call, check_return_call_indirect};
 pub use wasm_operator_validator_blocks::{
     are_below, block_params, block_results, check_block_type, function_at, function_of, label_types,
 };

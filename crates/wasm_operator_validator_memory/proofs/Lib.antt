@@ -1,2 +1,13 @@
 pub mod Accessing
 pub mod Spaces
+pub mod Indexing
+pub mod Copying
+pub mod Referring
+pub mod Null
+pub mod ToFunctions
+pub mod Operators
+pub mod Setting
+pub mod Selecting
+pub mod WrittenTypes
+pub mod Room
+pub mod Declared

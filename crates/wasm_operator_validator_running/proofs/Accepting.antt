@@ -27,9 +27,9 @@ use Rattle.wasm_operator_validator_determined.specs.Operators.{IsPlain, IsInTabl
 use Rattle.wasm_operator_validator_determined.specs.laws.Determined.{determined, by_types}
 use Rattle.wasm_operator_validator_determined.specs.laws.Types.{i32_in}
 use Rattle.wasm_operator_validator_stacks.specs.Running.{Operands, Swaps, Drops, Surrounds, HasLocal, HasBareLabel, own_of, over}
-use Rattle.wasm_operator_validator_variables.proofs.Operators.{UsableLocal, local_known, local_get_is, local_get_row, local_set_is, local_set_row, local_tee_is, local_tee_row}
-use Rattle.wasm_operator_validator_variables.proofs.Setting.{with_local, set_in_the_end}
-use Rattle.wasm_operator_validator_variables.proofs.Selecting.{drop_op, drop_is, dropped}
+use Rattle.wasm_operator_validator_memory.proofs.Operators.{UsableLocal, local_known, local_get_is, local_get_row, local_set_is, local_set_row, local_tee_is, local_tee_row}
+use Rattle.wasm_operator_validator_memory.proofs.Setting.{with_local, set_in_the_end}
+use Rattle.wasm_operator_validator_memory.proofs.Selecting.{drop_op, drop_is, dropped}
 use Rattle.wasm_operator_validator_control.proofs.BranchRows.{br_if, br_if_is, br_if_row}
 use Rattle.wasm_operator_validator_running.proofs.Swapping.{exchanged_over, popped_over}
 

@@ -3,36 +3,36 @@ use Rattle.std.proofs.Common.{◌≡◌, ◌∙◌, ℕ, true, false, List, [], 
 use Rattle.wasm_types.specs.error.declared.error.ErrorKind.{ErrorKind}
 use Rattle.wasm_types.specs.error.declared.error.ErrorKind.TheVariants as kinds
 use Rattle.wasm_types.specs.error.DenialLaws.{denies}
-use Rattle.wasm_operator_validator_br_table.specs.expression.control.declared.control.ControlOperator.{ControlOperator}
-use Rattle.wasm_operator_validator_br_table.specs.expression.control.declared.control.ControlOperator.TheVariants as control
-use Rattle.wasm_operator_validator_br_table.specs.expression.immediates.declared.frames.FrameKind.{FrameKind}
-use Rattle.wasm_operator_validator_br_table.specs.expression.immediates.declared.frames.FrameKind.TheVariants as frames
-use Rattle.wasm_operator_validator_br_table.specs.expression.info.declared.proposal.Proposal.{Proposal}
-use Rattle.wasm_operator_validator_br_table.specs.expression.operator.Op.{Op, ExceptionTree, ContinuationTree}
-use Rattle.wasm_operator_validator_br_table.specs.expression.operator.Op as op
-use Rattle.wasm_operator_validator_br_table.specs.expression.operator.Table.{info_of}
-use Rattle.wasm_operator_validator_br_table.specs.expression.operator.declared.role.Role.TheVariants as role
-use Rattle.wasm_operator_validator_br_table.specs.expression.operator.declared.role.Effect.{Effect}
-use Rattle.wasm_operator_validator_br_table.specs.expression.operator.declared.role.Effect.TheVariants as effects
-use Rattle.wasm_operator_validator_br_table.specs.expression.operator.Roles.{role_of, effect}
-use Rattle.wasm_operator_validator_br_table.specs.expression.Code.{close, plain, nested, turn}
+use Rattle.wasm_operator_validator_control.specs.expression.control.declared.control.ControlOperator.{ControlOperator}
+use Rattle.wasm_operator_validator_control.specs.expression.control.declared.control.ControlOperator.TheVariants as control
+use Rattle.wasm_operator_validator_control.specs.expression.immediates.declared.frames.FrameKind.{FrameKind}
+use Rattle.wasm_operator_validator_control.specs.expression.immediates.declared.frames.FrameKind.TheVariants as frames
+use Rattle.wasm_operator_validator_control.specs.expression.info.declared.proposal.Proposal.{Proposal}
+use Rattle.wasm_operator_validator_control.specs.expression.operator.Op.{Op, ExceptionTree, ContinuationTree}
+use Rattle.wasm_operator_validator_control.specs.expression.operator.Op as op
+use Rattle.wasm_operator_validator_control.specs.expression.operator.Table.{info_of}
+use Rattle.wasm_operator_validator_control.specs.expression.operator.declared.role.Role.TheVariants as role
+use Rattle.wasm_operator_validator_control.specs.expression.operator.declared.role.Effect.{Effect}
+use Rattle.wasm_operator_validator_control.specs.expression.operator.declared.role.Effect.TheVariants as effects
+use Rattle.wasm_operator_validator_control.specs.expression.operator.Roles.{role_of, effect}
+use Rattle.wasm_operator_validator_control.specs.expression.Code.{close, plain, nested, turn}
 use Rattle.wasm_operators_visit.specs.gc.declared.gc.GcOperator.{GcOperator}
 use Rattle.wasm_operators_visit.specs.gc.declared.gc.DescriptorOperator.{DescriptorOperator}
 use Rattle.wasm_operators_visit.specs.threads.declared.atomic.SharedOperator.{SharedOperator}
-use Rattle.wasm_operator_validator_br_table.specs.rules.Operands.{Operand}
-use Rattle.wasm_operator_validator_br_table.specs.rules.Context.{Context, Initialised, Frame}
-use Rattle.wasm_operator_validator_br_table.specs.rules.InstructionTypes.{instruction_type}
-use Rattle.wasm_operator_validator_br_table.specs.rules.Row.{TableRow, GroupRow}
-use Rattle.wasm_operator_validator_br_table.specs.resources.Meaning.{Meaning}
-use Rattle.wasm_operator_validator_br_table.specs.state.State.{Open, State, InFrame, Accepts, Checks, Visits}
-use Rattle.wasm_operator_validator_br_table.specs.state.Steps.{IsOpen}
-use Rattle.wasm_operator_validator_br_table.specs.state.Refusals.{kind_of}
-use Rattle.wasm_operator_validator_br_table.specs.state.declared.refusal.Refusal.{Refusal}
-use Rattle.wasm_operator_validator_br_table.specs.state.Entering.{MayBegin, StopsWith}
-use Rattle.wasm_operator_validator_br_table.specs.state.laws.Accepting.{accepts_no_more, accepts_not_failed}
-use Rattle.wasm_operator_validator_br_table.specs.state.laws.Frames.{may_open}
-use Rattle.wasm_operator_validator_br_table.specs.state.laws.Rows.{by_no_row}
-use Rattle.wasm_operator_validator_br_table.specs.state.laws.Checks.{checks_going, stopped_so, visits_refused}
+use Rattle.wasm_operator_validator_control.specs.rules.Operands.{Operand}
+use Rattle.wasm_operator_validator_control.specs.rules.Context.{Context, Initialised, Frame}
+use Rattle.wasm_operator_validator_control.specs.rules.InstructionTypes.{instruction_type}
+use Rattle.wasm_operator_validator_control.specs.rules.Row.{TableRow, GroupRow}
+use Rattle.wasm_operator_validator_control.specs.resources.Meaning.{Meaning}
+use Rattle.wasm_operator_validator_control.specs.state.State.{Open, State, InFrame, Accepts, Checks, Visits}
+use Rattle.wasm_operator_validator_control.specs.state.Steps.{IsOpen}
+use Rattle.wasm_operator_validator_control.specs.state.Refusals.{kind_of}
+use Rattle.wasm_operator_validator_control.specs.state.declared.refusal.Refusal.{Refusal}
+use Rattle.wasm_operator_validator_control.specs.state.Entering.{MayBegin, StopsWith}
+use Rattle.wasm_operator_validator_control.specs.state.laws.Accepting.{accepts_no_more, accepts_not_failed}
+use Rattle.wasm_operator_validator_control.specs.state.laws.Frames.{may_open}
+use Rattle.wasm_operator_validator_control.specs.state.laws.Rows.{by_no_row}
+use Rattle.wasm_operator_validator_control.specs.state.laws.Checks.{checks_going, stopped_so, visits_refused}
 use Rattle.wasm_operator_validator_visits.specs.Unsupported.{IsWithoutRule, is_on_references, is_older_try, is_in_older_try}
 
 -- ---- operators that neither open nor end a frame, and have no row

@@ -1,14 +1,14 @@
 -- Operators that have no rule yet.
 use Rattle.std.specs.Prelude.{◌≡◌, Bool, true, false, List, [], ◌∷◌}
-use Rattle.wasm_operator_validator_br_table.specs.expression.control.declared.control.ControlOperator.{ControlOperator}
-use Rattle.wasm_operator_validator_br_table.specs.expression.control.declared.control.ControlOperator.TheVariants as control
-use Rattle.wasm_operator_validator_br_table.specs.expression.immediates.declared.frames.FrameKind.{FrameKind}
-use Rattle.wasm_operator_validator_br_table.specs.expression.immediates.declared.frames.FrameKind.TheVariants as frames
-use Rattle.wasm_operator_validator_br_table.specs.expression.info.declared.proposal.Proposal.{Proposal}
-use Rattle.wasm_operator_validator_br_table.specs.expression.operator.Op.{Op}
-use Rattle.wasm_operator_validator_br_table.specs.expression.operator.Table.{info_of}
-use Rattle.wasm_operator_validator_br_table.specs.resources.Meaning.{Meaning}
-use Rattle.wasm_operator_validator_br_table.specs.state.State.{Open, State, Accepts}
+use Rattle.wasm_operator_validator_control.specs.expression.control.declared.control.ControlOperator.{ControlOperator}
+use Rattle.wasm_operator_validator_control.specs.expression.control.declared.control.ControlOperator.TheVariants as control
+use Rattle.wasm_operator_validator_control.specs.expression.immediates.declared.frames.FrameKind.{FrameKind}
+use Rattle.wasm_operator_validator_control.specs.expression.immediates.declared.frames.FrameKind.TheVariants as frames
+use Rattle.wasm_operator_validator_control.specs.expression.info.declared.proposal.Proposal.{Proposal}
+use Rattle.wasm_operator_validator_control.specs.expression.operator.Op.{Op}
+use Rattle.wasm_operator_validator_control.specs.expression.operator.Table.{info_of}
+use Rattle.wasm_operator_validator_control.specs.resources.Meaning.{Meaning}
+use Rattle.wasm_operator_validator_control.specs.state.State.{Open, State, Accepts}
 
 -- the operator is of this proposal, and may not come here
 pub record IsWithoutRule (m : Meaning) (σ : State) (o : Op) (p : Proposal) : Type 0 where

@@ -2,7 +2,7 @@
 
 ghost use Rattle.std.specs.Prelude.{◌≡◌};
 ghost use Rattle.wasm_operators_visit.specs.operator.Op.{Op};
-ghost use Rattle.wasm_operator_validator_br_table.specs.rules.Accesses.{load, store, modify, compare_exchange, wait};
+ghost use Rattle.wasm_operator_validator_control.specs.rules.Accesses.{load, store, modify, compare_exchange, wait};
 ghost use Rattle.wasm_operator_validator_atomics.specs.memory.Reaching.{IsAccess};
 ghost use Rattle.wasm_operator_validator_atomics.specs.Atomics.{IsAtomic};
 
@@ -11,7 +11,7 @@ use wasm_operator_validator_atomics::{
     check_atomic_compare_exchange, check_atomic_load, check_atomic_modify, check_atomic_store,
     check_atomic_wait, check_load, check_store,
 };
-use wasm_operator_validator_br_table::{MemArg, MemoryOperator, WasmModuleResources};
+use wasm_operator_validator_control::{MemArg, MemoryOperator, WasmModuleResources};
 use wasm_operators_visit::AtomicOperator;
 use wasm_types::ValType;
 

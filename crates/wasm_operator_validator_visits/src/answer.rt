@@ -3,12 +3,12 @@
 ghost use Rattle.std.specs.Prelude.{◌≡◌, Some};
 ghost use Rattle.wasm_types.specs.error.declared.error.ErrorKind.TheVariants.{Other};
 ghost use Rattle.wasm_operators_visit.specs.operator.Op.{Op};
-ghost use Rattle.wasm_operator_validator_br_table.specs.resources.Meaning.{Meaning};
-ghost use Rattle.wasm_operator_validator_br_table.specs.state.Refusals.{refused};
-ghost use Rattle.wasm_operator_validator_br_table.specs.state.State.{State, Visits};
+ghost use Rattle.wasm_operator_validator_control.specs.resources.Meaning.{Meaning};
+ghost use Rattle.wasm_operator_validator_control.specs.state.Refusals.{refused};
+ghost use Rattle.wasm_operator_validator_control.specs.state.State.{State, Visits};
 ghost use Rattle.wasm_operator_validator_visits.specs.Told.{Tells};
 
-use wasm_operator_validator_br_table::{Reason, Refusal};
+use wasm_operator_validator_control::{Reason, Refusal};
 
 /// What a visit answers where its operator is accepted, and where it is refused.
 pub trait AnswerAs {

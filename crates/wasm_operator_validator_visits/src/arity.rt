@@ -1,13 +1,13 @@
 //! The visitor that validates knows its module and its frames.
 
 ghost use Rattle.std.specs.Prelude.{map};
-ghost use Rattle.wasm_operator_validator_br_table.specs.resources.Meaning.{Meaning};
+ghost use Rattle.wasm_operator_validator_control.specs.resources.Meaning.{Meaning};
 
 use crate::{AnswerAs, ValidatingVisitor};
 use wasm_operator_validator_arity::{
     ModuleArity, func_type_of_cont_type, in_u32, sub_type_of_ref_type, tag_type_arity,
 };
-use wasm_operator_validator_br_table::{BlockType, FrameKind, WasmModuleResources};
+use wasm_operator_validator_control::{BlockType, FrameKind, WasmModuleResources};
 use wasm_types::{ContType, FuncType, RefType, SubType};
 
 impl<'v, 'r, R: WasmModuleResources, A: AnswerAs> ModuleArity for ValidatingVisitor<'v, 'r, R, A> {

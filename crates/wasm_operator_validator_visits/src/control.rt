@@ -1,14 +1,12 @@
 //! Visits of operators of control, of those that take operands of any type, of exceptions and of continuations.
 
 use crate::{AnswerAs, ValidatingVisitor};
-use wasm_operator_validator_br_table::{
-    WasmModuleResources, check_block, check_br, check_br_if, check_br_table, check_else, check_end,
-    check_if, check_loop, check_nop, check_return, check_unreachable,
+use wasm_operator_validator_control::{
+    WasmModuleResources, check_block, check_br, check_br_if, check_br_table, check_call,
+    check_call_indirect, check_else, check_end, check_if, check_loop, check_nop, check_return,
+    check_return_call, check_return_call_indirect, check_unreachable,
 };
-use wasm_operator_validator_calls::{
-    check_call, check_call_indirect, check_return_call, check_return_call_indirect,
-};
-use wasm_operator_validator_variables::{
+use wasm_operator_validator_memory::{
     check_drop, check_select, check_typed_select, check_typed_select_multi,
 };
 use wasm_operators_visit::{

@@ -1,7 +1,7 @@
 //! Visits of operators on floats, and of what makes them of integers or integers of them.
 
 use crate::{AnswerAs, ValidatingVisitor};
-use wasm_operator_validator_br_table::{Proposal, WasmModuleResources};
+use wasm_operator_validator_control::{Proposal, WasmModuleResources};
 use wasm_operators_visit::NumericOperator;
 use wasm_operators_visit_operator::VisitFloats;
 use wasm_types::ValType;

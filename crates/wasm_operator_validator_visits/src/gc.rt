@@ -1,7 +1,7 @@
 //! Visits of operators on aggregates, casts and descriptors, which have no rule yet.
 
 use crate::{AnswerAs, ValidatingVisitor};
-use wasm_operator_validator_br_table::WasmModuleResources;
+use wasm_operator_validator_control::WasmModuleResources;
 use wasm_operators_visit::{DescriptorOperator, GcOperator};
 use wasm_operators_visit_operator::VisitGc;
 use wasm_types::{HeapType, RefType};

@@ -1,7 +1,7 @@
 //! Visits of operators on integers.
 
 use crate::{AnswerAs, ValidatingVisitor};
-use wasm_operator_validator_br_table::{Proposal, WasmModuleResources};
+use wasm_operator_validator_control::{Proposal, WasmModuleResources};
 use wasm_operators_visit::NumericOperator;
 use wasm_operators_visit_operator::VisitIntegers;
 use wasm_types::ValType;

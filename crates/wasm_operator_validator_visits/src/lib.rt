@@ -21,4 +21,4 @@ mod visitor;
 
 pub use answer::{AnswerAs, AsError, AsRefusal};
 pub use visitor::{ValidatingVisitor, WasmProposalValidator};
-pub use wasm_operator_validator_br_table::{OperatorValidator, Refusal, WasmModuleResources};
+pub use wasm_operator_validator_control::{OperatorValidator, Refusal, WasmModuleResources};

@@ -1,12 +1,12 @@
 //! Visits of operators on numbers, by what they take and give.
 
 ghost use Rattle.std.specs.Prelude.{◌≡◌, ◌∷◌, [], true, false};
-ghost use Rattle.wasm_operator_validator_br_table.specs.expression.info.declared.proposal.Proposal.TheVariants.{Mvp};
+ghost use Rattle.wasm_operator_validator_control.specs.expression.info.declared.proposal.Proposal.TheVariants.{Mvp};
 ghost use Rattle.wasm_operators_visit.specs.operator.Op.{Op};
 ghost use Rattle.wasm_operator_validator_numbers.specs.Numbers.{IsNumeric};
 
 use crate::{AnswerAs, ValidatingVisitor};
-use wasm_operator_validator_br_table::{Proposal, WasmModuleResources, copied};
+use wasm_operator_validator_control::{Proposal, WasmModuleResources, copied};
 use wasm_operator_validator_numbers::{check_numbers, check_two};
 use wasm_operators_visit::NumericOperator;
 use wasm_types::ValType;

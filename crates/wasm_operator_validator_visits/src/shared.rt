@@ -1,7 +1,7 @@
 //! Visits of atomic accesses to globals, tables, structs and arrays, which have no rule yet.
 
 use crate::{AnswerAs, ValidatingVisitor};
-use wasm_operator_validator_br_table::WasmModuleResources;
+use wasm_operator_validator_control::WasmModuleResources;
 use wasm_operators_visit::{Ordering, SharedOperator};
 use wasm_operators_visit_operator::VisitShared;
 

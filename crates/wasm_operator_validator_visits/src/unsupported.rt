@@ -5,7 +5,7 @@ ghost use Rattle.wasm_operators_visit.specs.operator.Op.{Op, exception_of, conti
 ghost use Rattle.wasm_operator_validator_visits.specs.Unsupported.{IsWithoutRule, is_in_older_try, is_older_try, is_on_references};
 
 use crate::{AnswerAs, ValidatingVisitor};
-use wasm_operator_validator_br_table::{
+use wasm_operator_validator_control::{
     FrameKind, OperatorValidator, Proposal, Refusal, WasmModuleResources,
 };
 use wasm_operators_visit::{

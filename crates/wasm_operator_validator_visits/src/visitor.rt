@@ -2,11 +2,11 @@
 
 ghost use Rattle.std.specs.Prelude.{◌≡◌};
 ghost use Rattle.wasm_operators_visit.specs.operator.Op.{Op};
-ghost use Rattle.wasm_operator_validator_br_table.specs.state.State.{Checks, State};
-ghost use Rattle.wasm_operator_validator_br_table.specs.state.Refusals.{refused};
+ghost use Rattle.wasm_operator_validator_control.specs.state.State.{Checks, State};
+ghost use Rattle.wasm_operator_validator_control.specs.state.Refusals.{refused};
 
 use crate::answer::{AnswerAs, AsError};
-use wasm_operator_validator_br_table::{OperatorValidator, Refusal, WasmModuleResources};
+use wasm_operator_validator_control::{OperatorValidator, Refusal, WasmModuleResources};
 use wasm_operators_immediates::{FrameKind, FrameStack};
 use wasm_operators_visit::Visitor;
 

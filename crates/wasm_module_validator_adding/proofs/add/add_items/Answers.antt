@@ -16,9 +16,11 @@ loop-item-init g c =
     let s = c.args.state.now in
     let e = c.into_iter_with_offsets-item-items.ensures in
     let made : place_with_offsets c.into_iter_with_offsets-item-items.result ≡ fresh n b = λ k. record { left = e.remaining k; reader = (e.section k).reader; over = e.fresh k } in
-    let here : place_with_offsets c.into_iter-item-iterator.result ≡ fresh n b = ap place_with_offsets c.into_iter-item-iterator.ensures.into_iter_gives ∙ made in
-    subst (λ (w : Walk). Stands i.view a.of i.decoder i.grammar a.adds b.settings a.reads n b s w s) (sym here)
-    (stands_first i.view a.of (g.met.S.AddItem c.lifetimes (assumption c)).alike i.decoder i.grammar (g.met.T.FromReader c.lifetimes (assumption c)).exact a.adds b.settings a.reads n b s refl)
+    let here : place_with_offsets c.into_iter-item-iterator.result ≡ fresh n b = ap place_with_offsets c.into_iter-item-iterator.ensures.into_iter_gives ∙ made in (
+      subst (λ (w : Walk). Stands i.view a.of i.decoder i.grammar a.adds b.settings a.reads n b s w s) (sym here)
+          (stands_first i.view a.of (g.met.S.AddItem c.lifetimes (assumption c)).alike i.decoder i.grammar (g.met.T.FromReader c.lifetimes (assumption c)).exact a.adds b.settings a.reads n b s refl),
+      (g.met.S.AddItem c.lifetimes (assumption c)).grows_by_nothing s,
+    )
 
 pub returns-in-Err-clause-answer : goal.returns-in-Err-clause-answer
 returns-in-Err-clause-answer g c =
@@ -29,7 +31,7 @@ returns-in-Err-clause-answer g c =
     let v = place_with_offsets c.next.new.self in
     let step = subst (λ (r : Result (ℕ × g.row.T.Denot) ErrorValue). NextIn (with_offset i.view i.decoder w.reader.settings) (λ d e. Fails e (i.decoder w.reader.settings d)) w (Some r) v) c.in-Err.is c.in-Some.ensures.steps.0 in
     refused_bytes i.view a.of (g.met.S.AddItem c.lifetimes (assumption c)).alike i.decoder i.grammar (g.met.T.FromReader c.lifetimes (assumption c)).exact a.adds b.settings a.reads
-    c.args.section.count b c.args.state.now (place_with_offsets c.loop-item.item-iterator) (place_with_offsets c.next.new.self) c.loop-item.state c.in-Err.error c.loop-item.invariant step
+    c.args.section.count b c.args.state.now (place_with_offsets c.loop-item.item-iterator) (place_with_offsets c.next.new.self) c.loop-item.state c.in-Err.error c.loop-item.invariant.0 step
 
 pub loop-item-preserved : goal.loop-item-preserved
 loop-item-preserved g c =
@@ -38,10 +40,12 @@ loop-item-preserved g c =
     let b = c.args.section.reader in
     let w = place_with_offsets c.loop-item.item-iterator in
     let v = place_with_offsets c.next.new.self in
-    let step = subst (λ (r : Result (ℕ × g.row.T.Denot) ErrorValue). NextIn (with_offset i.view i.decoder w.reader.settings) (λ d e. Fails e (i.decoder w.reader.settings d)) w (Some r) v) c.in-Ok.is c.in-Some.ensures.steps.0 in
-    stands_behind i.view a.of (g.met.S.AddItem c.lifetimes (assumption c)).alike i.decoder i.grammar (g.met.T.FromReader c.lifetimes (assumption c)).exact a.adds b.settings a.reads
-    c.args.section.count b c.args.state.now (place_with_offsets c.loop-item.item-iterator) (place_with_offsets c.next.new.self) c.loop-item.state c.add.new.self c.in-Ok.item c.loop-item.invariant
-    step c.in-Some.ensures.steps.2 c.in-Ok-add.ensures.answer c.in-Ok-add.ensures.added
+    let step = subst (λ (r : Result (ℕ × g.row.T.Denot) ErrorValue). NextIn (with_offset i.view i.decoder w.reader.settings) (λ d e. Fails e (i.decoder w.reader.settings d)) w (Some r) v) c.in-Ok.is c.in-Some.ensures.steps.0 in (
+      stands_behind i.view a.of (g.met.S.AddItem c.lifetimes (assumption c)).alike i.decoder i.grammar (g.met.T.FromReader c.lifetimes (assumption c)).exact a.adds b.settings a.reads
+          c.args.section.count b c.args.state.now (place_with_offsets c.loop-item.item-iterator) (place_with_offsets c.next.new.self) c.loop-item.state c.add.new.self c.in-Ok.item c.loop-item.invariant.0
+          step c.in-Some.ensures.steps.2 c.in-Ok-add.ensures.answer c.in-Ok-add.ensures.added,
+      (g.met.S.AddItem c.lifetimes (assumption c)).grows_further c.args.state.now c.loop-item.state c.add.new.self c.loop-item.invariant.1 c.in-Ok-add.ensures.grown,
+    )
 
 pub returns-in-Err-add-clause-answer : goal.returns-in-Err-add-clause-answer
 returns-in-Err-add-clause-answer g c =
@@ -52,7 +56,7 @@ returns-in-Err-add-clause-answer g c =
     let v = place_with_offsets c.next.new.self in
     let step = subst (λ (r : Result (ℕ × g.row.T.Denot) ErrorValue). NextIn (with_offset i.view i.decoder w.reader.settings) (λ d e. Fails e (i.decoder w.reader.settings d)) w (Some r) v) c.in-Ok.is c.in-Some.ensures.steps.0 in
     refused_item i.view a.of (g.met.S.AddItem c.lifetimes (assumption c)).alike i.decoder i.grammar (g.met.T.FromReader c.lifetimes (assumption c)).exact a.adds b.settings a.reads
-    c.args.section.count b c.args.state.now (place_with_offsets c.loop-item.item-iterator) (place_with_offsets c.next.new.self) c.loop-item.state c.in-Ok.item c.in-Err-add.error.kind c.loop-item.invariant
+    c.args.section.count b c.args.state.now (place_with_offsets c.loop-item.item-iterator) (place_with_offsets c.next.new.self) c.loop-item.state c.in-Ok.item c.in-Err-add.error.kind c.loop-item.invariant.0
     step c.in-Err-add.ensures.answer
 
 pub add-requires : goal.add-requires
@@ -68,7 +72,7 @@ returns-clause-answer g c =
     let a = g.S.AddItem in
     let b = c.args.section.reader in
     are_added_at_the_end i.view a.of (g.met.S.AddItem c.lifetimes (assumption c)).alike i.decoder i.grammar (g.met.T.FromReader c.lifetimes (assumption c)).exact a.adds b.settings a.reads
-    c.args.section.count b c.args.state.now (place_with_offsets c.loop-item.item-iterator) (place_with_offsets c.next.new.self) c.loop-item.state c.loop-item.invariant c.in-None.ensures.steps.0
+    c.args.section.count b c.args.state.now (place_with_offsets c.loop-item.item-iterator) (place_with_offsets c.next.new.self) c.loop-item.state c.loop-item.invariant.0 c.in-None.ensures.steps.0
 
 pub returns-clause-added : goal.returns-clause-added
 returns-clause-added g c =
@@ -76,7 +80,7 @@ returns-clause-added g c =
     let a = g.S.AddItem in
     let b = c.args.section.reader in
     stands_at_the_end i.view a.of (g.met.S.AddItem c.lifetimes (assumption c)).alike i.decoder i.grammar (g.met.T.FromReader c.lifetimes (assumption c)).exact a.adds b.settings a.reads
-    c.args.section.count b c.args.state.now (place_with_offsets c.loop-item.item-iterator) (place_with_offsets c.next.new.self) c.loop-item.state c.loop-item.invariant c.in-None.ensures.steps.0
+    c.args.section.count b c.args.state.now (place_with_offsets c.loop-item.item-iterator) (place_with_offsets c.next.new.self) c.loop-item.state c.loop-item.invariant.0 c.in-None.ensures.steps.0
 
 pub returns-in-Err-clause-refused : goal.returns-in-Err-clause-refused
 returns-in-Err-clause-refused g c =
@@ -87,7 +91,7 @@ returns-in-Err-clause-refused g c =
     let v = place_with_offsets c.next.new.self in
     let step = subst (λ (r : Result (ℕ × g.row.T.Denot) ErrorValue). NextIn (with_offset i.view i.decoder w.reader.settings) (λ d e. Fails e (i.decoder w.reader.settings d)) w (Some r) v) c.in-Err.is c.in-Some.ensures.steps.0 in
     stops_at_bytes i.view a.of (g.met.S.AddItem c.lifetimes (assumption c)).alike i.decoder i.grammar (g.met.T.FromReader c.lifetimes (assumption c)).exact a.adds b.settings a.reads
-    c.args.section.count b c.args.state.now a.refuses (place_with_offsets c.loop-item.item-iterator) (place_with_offsets c.next.new.self) c.loop-item.state c.in-Err.error c.loop-item.invariant step
+    c.args.section.count b c.args.state.now a.refuses (place_with_offsets c.loop-item.item-iterator) (place_with_offsets c.next.new.self) c.loop-item.state c.in-Err.error c.loop-item.invariant.0 step
 
 pub returns-in-Err-add-clause-refused : goal.returns-in-Err-add-clause-refused
 returns-in-Err-add-clause-refused g c =
@@ -98,5 +102,8 @@ returns-in-Err-add-clause-refused g c =
     let v = place_with_offsets c.next.new.self in
     let step = subst (λ (r : Result (ℕ × g.row.T.Denot) ErrorValue). NextIn (with_offset i.view i.decoder w.reader.settings) (λ d e. Fails e (i.decoder w.reader.settings d)) w (Some r) v) c.in-Ok.is c.in-Some.ensures.steps.0 in
     stops_at_an_item i.view a.of (g.met.S.AddItem c.lifetimes (assumption c)).alike i.decoder i.grammar (g.met.T.FromReader c.lifetimes (assumption c)).exact a.adds b.settings a.reads
-    c.args.section.count b c.args.state.now a.refuses (place_with_offsets c.loop-item.item-iterator) (place_with_offsets c.next.new.self) c.loop-item.state c.in-Ok.item c.in-Err-add.error c.loop-item.invariant
+    c.args.section.count b c.args.state.now a.refuses (place_with_offsets c.loop-item.item-iterator) (place_with_offsets c.next.new.self) c.loop-item.state c.in-Ok.item c.in-Err-add.error c.loop-item.invariant.0
     step c.in-Err-add.ensures.refused
+
+pub returns-clause-grown : goal.returns-clause-grown
+returns-clause-grown g c = c.loop-item.invariant.1

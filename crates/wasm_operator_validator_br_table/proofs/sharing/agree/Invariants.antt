@@ -1,6 +1,0 @@
-use Rattle.std.proofs.Common.{◌∷◌}
-use Rattle.wasm_operator_validator_br_table.specs.Fitting.{AllAgree}
-use Rattle.wasm_operator_validator_br_table.proofs.sharing.agree.Given as goal
-
-abbrev pub invariant-loop-place : goal.invariant-loop-place
-invariant-loop-place g l = AllAgree (g.R.WasmModuleResources.meaning l.resources) l.validator l.place (l.table.default ∷ l.table.targets)

@@ -1,5 +1,0 @@
-use Rattle.std.proofs.Common.{rules}
-use Rattle.wasm_operator_validator_calls.proofs.callees.gives_results.Goals as goal
-
-pub returns : goal.returns
-returns g c = search rules

@@ -1,2 +1,0 @@
--- What a call may name.
-pub mod Callees

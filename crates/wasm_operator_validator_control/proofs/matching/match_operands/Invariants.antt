@@ -1,0 +1,7 @@
+use Rattle.wasm_operator_validator_determined.specs.rules.Operands.{stack}
+use Rattle.wasm_operator_validator_determined.specs.state.State.{types_in}
+use Rattle.wasm_operator_validator_control.proofs.Places.{AreInUpTo}
+use Rattle.wasm_operator_validator_control.proofs.matching.match_operands.Given as goal
+
+abbrev pub invariant-loop-place : goal.invariant-loop-place
+invariant-loop-place g l = let m = g.R.WasmModuleResources.meaning l.resources in AreInUpTo m l.validator.opens (stack (types_in m l.types)) l.place

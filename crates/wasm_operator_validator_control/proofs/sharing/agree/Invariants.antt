@@ -1,0 +1,6 @@
+use Rattle.std.proofs.Common.{◌∷◌}
+use Rattle.wasm_operator_validator_control.specs.Fitting.{AllAgree}
+use Rattle.wasm_operator_validator_control.proofs.sharing.agree.Given as goal
+
+abbrev pub invariant-loop-place : goal.invariant-loop-place
+invariant-loop-place g l = AllAgree (g.R.WasmModuleResources.meaning l.resources) l.validator l.place (l.table.default ∷ l.table.targets)

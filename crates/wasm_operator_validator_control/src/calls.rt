@@ -1,0 +1,58 @@
+//! Calls.
+
+ghost use Rattle.wasm_operator_validator_determined.specs.expression.control.declared.control.ControlOperator.{ControlOperator};
+ghost use Rattle.wasm_operator_validator_determined.specs.expression.operator.Op.{Op};
+ghost use Rattle.wasm_operator_validator_determined.specs.state.Refusals.{refused};
+ghost use Rattle.wasm_operator_validator_determined.specs.state.State.{Checks};
+
+use crate::callees::{callee, callee_type};
+use crate::tables::function_table;
+use crate::{OperatorValidator, Proposal, Refusal, WasmModuleResources};
+
+/// Checks `call`.
+pub fn check_call<R: WasmModuleResources>(
+    validator: &mut OperatorValidator,
+    resources: &R,
+    function_index: u32,
+) -> Result<(), Refusal>
+    ensures { Checks (R.meaning resources.now) validator.old (Op.Control (ControlOperator.Call function_index)) (refused result) validator.new }
+{
+    match validator.begin(Proposal::Mvp, false) {
+        Ok(()) => {}
+        Err(refusal) => return Err(refusal),
+    }
+    let function = match callee(validator, resources, function_index) {
+        Ok(function) => function,
+        Err(refusal) => return Err(refusal),
+    };
+    validator.exchange(resources, function.params(), function.results())
+}
+
+/// Checks `call_indirect`.
+pub fn check_call_indirect<R: WasmModuleResources>(
+    validator: &mut OperatorValidator,
+    resources: &R,
+    type_index: u32,
+    table_index: u32,
+) -> Result<(), Refusal>
+    ensures { Checks (R.meaning resources.now) validator.old (Op.Control (ControlOperator.CallIndirect type_index table_index)) (refused result) validator.new }
+{
+    match validator.begin(Proposal::Mvp, false) {
+        Ok(()) => {}
+        Err(refusal) => return Err(refusal),
+    }
+    let table = match function_table(validator, resources, table_index) {
+        Ok(table) => table,
+        Err(refusal) => return Err(refusal),
+    };
+    let found = callee_type(validator, resources, type_index);
+    match validator.pop_operand(resources, &table.index_type()) {
+        Ok(()) => {}
+        Err(refusal) => return Err(refusal),
+    }
+    let function = match found {
+        Ok(function) => function,
+        Err(refusal) => return Err(refusal),
+    };
+    validator.exchange(resources, function.params(), function.results())
+}

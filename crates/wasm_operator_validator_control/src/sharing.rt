@@ -1,0 +1,124 @@
+//! References of which it is not known whether they are shared, against several labels.
+
+ghost use Rattle.std.specs.Prelude.{◌≡◌, ◌↔◌, ◌∷◌, IsTrue, length};
+ghost use Rattle.wasm_operator_validator_control.specs.Fitting.{labels_of, FitsAt, EachFitsAt, a_reference, either_shared, AgreesAt, AllAgree, Answers};
+
+use crate::{
+    BrTable, BrTableTargets, MaybeType, OperatorValidator, Refusal, WasmModuleResources,
+    is_abstract_fit, label_types,
+};
+use wasm_types::{AbstractHeapType, ValType};
+
+/// Whether all labels of a table agree in each place on whether a reference is shared, where that is not known. `types` are those of
+/// the default.
+pub(crate) fn agree<R: WasmModuleResources>(
+    validator: &OperatorValidator,
+    resources: &R,
+    table: &BrTable,
+    types: &[ValType],
+) -> Result<(), Refusal>
+    ensures { Answers result (AllAgree (R.meaning resources.now) validator.now (length types.now) (table.now.default ∷ table.now.targets)) }
+{
+    for place in 0..types.len() {
+        if !agrees_at(validator, resources, table, place) {
+            return Err(disagreement(validator.peek(place), types[types.len() - 1 - place]));
+        }
+    }
+    Ok(())
+}
+
+/// The refusal of labels that disagree on an operand.
+#[cold]
+fn disagreement(found: Option<MaybeType>, expected: ValType) -> Refusal {
+    match found {
+        Some(found) => Refusal::TypeMismatch { expected, found },
+        None => Refusal::EmptyStack { expected },
+    }
+}
+
+/// Whether they agree in this place, which counts from the top.
+fn agrees_at<R: WasmModuleResources>(
+    validator: &OperatorValidator,
+    resources: &R,
+    table: &BrTable,
+    place: usize,
+) -> bool
+    ensures { IsTrue result ↔ AgreesAt (R.meaning resources.now) validator.now place (table.now.default ∷ table.now.targets) }
+{
+    match unknown_sharing(validator.peek(place)) {
+        Some(ty) => {
+            fits_table(validator, resources, table, place, false, ty)
+                || fits_table(validator, resources, table, place, true, ty)
+        }
+        None => true,
+    }
+}
+
+/// The abstract type to which an operand is a reference, if it is one that may be shared or not.
+fn unknown_sharing(found: Option<MaybeType>) -> Option<AbstractHeapType>
+    ensures { result ≡ either_shared found }
+{
+    match found {
+        Some(MaybeType::Bottom) => None,
+        Some(MaybeType::UnknownRef(ty)) => ty,
+        Some(MaybeType::Known(_)) => None,
+        None => None,
+    }
+}
+
+/// Whether a reference to this abstract type may be taken for what each label of a table takes in this place.
+fn fits_table<R: WasmModuleResources>(
+    validator: &OperatorValidator,
+    resources: &R,
+    table: &BrTable,
+    place: usize,
+    shared: bool,
+    ty: AbstractHeapType,
+) -> bool
+    ensures { IsTrue result ↔ EachFitsAt (labels_of (R.meaning resources.now) validator.now) place (a_reference shared ty) (table.now.default ∷ table.now.targets) }
+{
+    if !fits_label(validator, resources, table.default(), place, shared, ty) {
+        return false;
+    }
+    fits_targets(validator, resources, table.targets(), place, shared, ty)
+}
+
+/// The same of these labels.
+fn fits_targets<R: WasmModuleResources>(
+    validator: &OperatorValidator,
+    resources: &R,
+    mut targets: BrTableTargets,
+    place: usize,
+    shared: bool,
+    ty: AbstractHeapType,
+) -> bool
+    ensures { IsTrue result ↔ EachFitsAt (labels_of (R.meaning resources.now) validator.now) place (a_reference shared ty) targets.entry }
+{
+    while let Some(target) = targets.next() {
+        if !fits_label(validator, resources, target, place, shared, ty) {
+            return false;
+        }
+    }
+    true
+}
+
+/// The same of one label.
+fn fits_label<R: WasmModuleResources>(
+    validator: &OperatorValidator,
+    resources: &R,
+    label: u32,
+    place: usize,
+    shared: bool,
+    ty: AbstractHeapType,
+) -> bool
+    ensures { IsTrue result ↔ FitsAt (labels_of (R.meaning resources.now) validator.now) place (a_reference shared ty) label }
+{
+    let Some((block_type, kind)) = validator.jump(label) else {
+        return false;
+    };
+    let types = label_types(resources, &block_type, kind);
+    if place >= types.len() {
+        return false;
+    }
+    is_abstract_fit(resources, shared, ty, &types[types.len() - 1 - place])
+}

@@ -1,0 +1,27 @@
+use Rattle.std.proofs.Common.{[], ◌∷◌, false}
+use Rattle.wasm_types.specs.values.declared.value.ValType.TheVariants as vals
+use Rattle.wasm_operator_validator_determined.specs.expression.info.declared.proposal.Proposal.TheVariants.{ReferenceTypes}
+use Rattle.wasm_operator_validator_determined.specs.expression.memory.declared.bulk.BulkOperator.TheVariants as bulk
+use Rattle.wasm_operator_validator_determined.specs.expression.operator.Op as op
+use Rattle.wasm_operator_validator_determined.specs.state.Refusals.{refused}
+use Rattle.wasm_operator_validator_determined.specs.laws.Determined.{not_begun, refused_here, undetermined, determined}
+use Rattle.wasm_operator_validator_memory.proofs.Indexing.{get_in_table, get_type, get_none}
+use Rattle.wasm_operator_validator_memory.proofs.tables.check_table_get.Goals as goal
+
+pub returns-in-Err : goal.returns-in-Err
+returns-in-Err g c =
+    let m = g.R.WasmModuleResources.meaning c.args.resources.now in
+    not_begun c.in-Err.refusal m c.args.validator.now (op.Bulk (bulk.TableGet c.args.table)) ReferenceTypes false (get_in_table c.args.table).is c.in-Err.ensures.begins c.in-Err.ensures.stops
+
+pub returns-in-Err-usable_table : goal.returns-in-Err-usable_table
+returns-in-Err-usable_table g c =
+    let m = g.R.WasmModuleResources.meaning c.args.resources.now in
+    refused_here _ m c.args.validator.now (op.Bulk (bulk.TableGet c.args.table)) ReferenceTypes false c.in-Ok.ensures.begins
+    (undetermined m c.args.validator.now (op.Bulk (bulk.TableGet c.args.table)) ReferenceTypes false (get_in_table c.args.table) c.in-Ok.ensures.begins (get_none m c.args.validator.now c.args.table c.in-Err-usable_table.ensures))
+
+pub returns : goal.returns
+returns g c =
+    let m = g.R.WasmModuleResources.meaning c.args.resources.now in
+    determined (refused c.exchange.result) m c.args.validator.now c.exchange.new.self (op.Bulk (bulk.TableGet c.args.table)) ReferenceTypes false (c.index_type.result ∷ []) (vals.Ref c.in-Ok-usable_table.found.element_type ∷ []) (get_in_table c.args.table) c.in-Ok.ensures.begins
+    (get_type m c.args.validator.now c.args.table c.in-Ok-usable_table.found c.in-Ok-usable_table.ensures c.index_type.result c.index_type.ensures)
+    c.exchange.ensures.does (record { given = c.exchange.ensures.given; failed = c.exchange.ensures.failed; saved = c.exchange.ensures.saved })

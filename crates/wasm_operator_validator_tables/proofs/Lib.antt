@@ -1,5 +1,0 @@
-pub mod Indexing
-pub mod Copying
-pub mod Referring
-pub mod Null
-pub mod ToFunctions

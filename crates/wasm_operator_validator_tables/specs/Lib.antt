@@ -1,2 +1,0 @@
--- What tables and references are, by cases.
-pub mod Tables
