@@ -20,4 +20,4 @@ Accepts = AcceptsUnder default_settings
 -- the bytes spell a valid module, and this stands for all of it but its code
 abbrev pub IsShown : Settings → List ℕ → Learned → Type 0
 IsShown z bytes l =
-    (m : ModuleTree) × Judges z bytes m × Stands l.progress.kept.groups l.progress.kept.items z (record m { code = [] })
+    (m : ModuleTree) × Judges z bytes m × Stands l.kept.groups l.kept.items z (record m { code = [] })

@@ -16,8 +16,8 @@ use Rattle.wasm_sections_payloads.specs.declared.payload.Payload.{Payload}
 use Rattle.wasm_operator_validator_stacks.specs.state.Refusals.{refused_by}
 use Rattle.wasm_module_validator_sharing.specs.reading.progress.standing.steps.Sections.{code_place}
 use Rattle.wasm_module_validator_sharing.specs.reading.progress.standing.steps.Steps.{SoFar, JudgesBody}
-use Rattle.wasm_module_validator_sharing.specs.reading.Reading.{under}
-use Rattle.wasm_module_validator_sharing.specs.Sharing.{nothing_reached, has_no_code, body_count, IsReached, TellsNext, Follows, Handed, IsHandedOut, NoneLeft}
+use Rattle.wasm_module_validator_sharing.specs.reading.progress.Progress.{Grows}
+use Rattle.wasm_module_validator_sharing.specs.Sharing.{renewed_behind, next_behind, has_no_code, body_count, IsReached, TellsNext, Follows, Handed, IsHandedOut, NoneLeft}
 use Rattle.wasm_module_validator.specs.declared.validator.State.{State}
 use Rattle.wasm_module_validator.specs.declared.validator.State.TheVariants.{Unparsed, Module, Ended, Failed}
 use Rattle.wasm_module_validator.specs.declared.validator.Validator.{Validator}
@@ -57,7 +57,7 @@ pub record InTurn {X : Type 0} (turn : Option ErrorKind) (v : Validator) (answer
 
 -- behind a header nothing was read; another one fails it
 abbrev pub IsBegun : {X : Type 0} → Validator → Result X ErrorValue → Validator → Type 0
-IsBegun v (Ok x) w = w ≡ record v { state = Module; reached = nothing_reached (under v.features.0) }
+IsBegun v (Ok x) w = w ≡ record v { state = Module; reached = renewed_behind v.features.0 v.reached }
 IsBegun v (Err e) w = w ≡ record v { state = Failed }
 
 -- the header of a module of version 1
@@ -65,9 +65,11 @@ abbrev pub ReadsHeader : {X : Type 0} → ℕ → Encoding → Validator → Res
 ReadsHeader number encoding v answer w =
     InTurn (header_refusal v.state) v answer w (Tells answer ((number ≡ 1) × (layer_of encoding ≡ 0))) (IsBegun v answer w)
 
--- what is kept stands for whatever was judged with the frame of this payload, and whether the code has begun is as before; or it has failed
+-- what is kept stands for whatever was judged with the frame of this payload, whether the code has begun is as before, and the list of types
+-- may have grown; or it has failed
 abbrev pub IsTaken : {X : Type 0} → Payload → Validator → Result X ErrorValue → Validator → Type 0
 IsTaken x v (Ok u) w = (w ≡ record v { reached = w.reached }) × Follows v.reached x w.reached × (w.reached.code ≡ v.reached.code)
+    × Grows v.reached.progress.kept w.reached.progress.kept
 IsTaken x v (Err e) w = w ≡ record v { state = Failed; reached = w.reached }
 
 -- a whole section, which fits or does not
@@ -84,7 +86,7 @@ TakesData x v answer w = TakesWhere true x v answer w
 
 -- what is kept where the code has begun, of which no body came yet
 abbrev pub IsCodeBegun : {X : Type 0} → Validator → Result X ErrorValue → Validator → Type 0
-IsCodeBegun v (Ok x) w = (w ≡ record v { reached = w.reached }) × (w.reached.code ≡ Some 0)
+IsCodeBegun v (Ok x) w = (w ≡ record v { reached = w.reached }) × (w.reached.code ≡ Some 0) × (w.reached.progress.kept ≡ v.reached.progress.kept)
     × ((z : Settings) (p : SoFar) → IsReached z v.reached p → IsReached z w.reached (record p { last = code_place }))
 IsCodeBegun v (Err e) w = w ≡ record v { state = Failed; reached = w.reached }
 
@@ -97,7 +99,7 @@ BeginsCode v answer w =
 -- A function is handed out, and one body more came. Or each function has its body, and nothing changes; or it has failed.
 abbrev pub IsBodyTaken : Bytes → Validator → Result Handed ErrorValue → Validator → Type 0
 IsBodyTaken body v (Ok f) w = IsHandedOut v.reached v.features.0 f × (w ≡ record v { reached = w.reached })
-    × (w.reached.code ≡ Some (body_count v.reached.code + 1))
+    × (w.reached.code ≡ Some (body_count v.reached.code + 1)) × (w.reached.progress.kept ≡ v.reached.progress.kept)
     × ((z : Settings) (p q : SoFar) → IsReached z v.reached p → body.settings ≡ z → JudgesBody z p body.rest q → IsReached z w.reached q)
 IsBodyTaken body v (Err e) w = (NoneLeft v.reached × (e.kind ≡ kinds.Other) × (w ≡ v)) ⊎ (w ≡ record v { state = Failed })
 
@@ -114,11 +116,16 @@ RefusesUnknown v answer w = InTurn (failure v.state) v answer w (refused_by answ
 
 -- what a validator learned so far of the module that it reads
 abbrev pub learned : Validator → Learned
-learned v = record { id = v.id; progress = v.reached.progress }
+learned v = record { id = v.id; kept = v.reached.progress.kept }
 
--- what was kept is given at the end of a module; where there is none it has ended too
+-- what was kept is given at the end of a module, and another may begin over the same list of types; or there is no memory for it
+abbrev pub IsEnded : Validator → Result Learned ErrorValue → Validator → Type 0
+IsEnded v (Ok l) w = (l ≡ learned v) × (w ≡ record v { state = Ended; reached = next_behind v.reached })
+IsEnded v (Err e) w = (e.kind ≡ kinds.OutOfMemory) × (w ≡ record v { state = Failed; reached = w.reached })
+
+-- where there is no module it has ended too
 abbrev pub EndsFrom : State → Validator → Result Learned ErrorValue → Validator → Type 0
-EndsFrom Module v answer w = (answer ≡ Ok (learned v)) × (w ≡ record v { state = Ended; reached = nothing_reached (under v.features.0) })
+EndsFrom Module v answer w = IsEnded v answer w
 EndsFrom Unparsed v answer w = (refused_by answer ≡ Some kinds.Other) × (w ≡ record v { state = Ended })
 EndsFrom Ended v answer w = (refused_by answer ≡ Some kinds.Other) × (w ≡ v)
 EndsFrom Failed v answer w = (refused_by answer ≡ Some kinds.Failed) × (w ≡ v)

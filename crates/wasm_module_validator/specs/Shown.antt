@@ -1,19 +1,25 @@
 -- What a validator learned of a module that was read, or of which some was read; and what is looked up in it.
+use Rattle.std.specs.Prelude.{List}
 use Rattle.wasm_module_validator_lookups.specs.Shown.{Shown}
 use Rattle.wasm_module_validator_lookups.specs.declared.validator_id.ValidatorId.{ValidatorId}
-use Rattle.wasm_module_validator_sharing.specs.reading.progress.Progress.{Progress}
+use Rattle.wasm_module_validator_sharing.specs.reading.progress.Progress.{Kept}
+use Rattle.wasm_module_validator_sharing.specs.reading.progress.standing.items.Items.{Items}
+use Rattle.wasm_module_validator_sharing.specs.reading.progress.standing.type_trees.Groups.{Group}
 
 -- the id of the validator, and what was read
 pub record Learned : Type 0 where
   pub id : ValidatorId
-  pub progress : Progress
+  pub kept : Kept
 
 -- the id, the groups of the list of types, the index spaces, the imports by their names, and the exports
-abbrev pub shown : Learned → Shown
-shown l = record {
-  id = l.id;
-  groups = l.progress.kept.groups;
-  spaces = l.progress.kept.items.spaces;
-  imports = l.progress.kept.items.imports;
-  exports = l.progress.kept.items.exports;
+abbrev pub shown_of : ValidatorId → List Group → Items → Shown
+shown_of id groups items = record {
+  id = id;
+  groups = groups;
+  spaces = items.spaces;
+  imports = items.imports;
+  exports = items.exports;
 }
+
+abbrev pub shown : Learned → Shown
+shown l = shown_of l.id l.kept.groups l.kept.items

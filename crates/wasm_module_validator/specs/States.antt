@@ -7,9 +7,12 @@ use Rattle.wasm_types.specs.error.declared.error.ErrorKind.TheVariants.{OutOfMem
 use Rattle.wasm_types.specs.limits.Settings.{Settings}
 use Rattle.wasm_types.specs.reader.Reading.{IsNotMemory}
 use Rattle.wasm_module_validator_sharing.specs.reading.progress.standing.steps.Steps.{SoFar}
-use Rattle.wasm_module_validator_sharing.specs.reading.Reading.{IsReadAs}
+use Rattle.wasm_module_validator_sharing.specs.reading.progress.standing.Standing.{IsGrown}
+use Rattle.wasm_module_validator_sharing.specs.reading.progress.Progress.{kept_groups}
+use Rattle.wasm_module_validator_sharing.specs.reading.Reading.{under, IsReadAs}
 use Rattle.wasm_module_validator.specs.declared.validator.State.{State}
-use Rattle.wasm_module_validator.specs.declared.validator.State.TheVariants.{Ended, Failed}
+use Rattle.wasm_module_validator.specs.declared.validator.State.TheVariants.{Unparsed, Module, Ended, Failed}
+use Rattle.wasm_module_validator.specs.declared.validator.Validator.{Validator}
 
 -- where a body was refused by an error of this kind, it has ended, but where there was no memory
 abbrev pub IsLeft : ErrorKind → State → Type 0
@@ -21,3 +24,15 @@ abbrev pub Leaves : {X : Type 0} → Settings → List ℕ → Result X ErrorVal
 Leaves z bytes (Ok types) s = s ≡ Ended
 Leaves z bytes (Err e) s = ((s ≡ Ended) × IsNotMemory e.kind × ((q : SoFar) × IsReadAs z bytes q))
     ⊎ ((s ≡ Failed) × Denies e.kind ((q : SoFar) × IsReadAs z bytes q))
+
+-- The list of types that a validator begins with has, behind a module that was accepted, or of which a function alone was refused, what it
+-- had and the module's types; and each was read by the validator's features.
+abbrev pub KeepsWhere : State → Validator → Validator → Type 0
+KeepsWhere Ended v w = IsGrown (kept_groups v.features.0 v.reached.progress.kept) w.reached.progress.kept.groups
+    × (w.reached.progress.kept.items.spaces.settings ≡ under v.features.0)
+KeepsWhere Failed v w = Unit {0}
+KeepsWhere Unparsed v w = ⊥
+KeepsWhere Module v w = ⊥
+
+abbrev pub Keeps : Validator → Validator → Type 0
+Keeps v w = KeepsWhere w.state v w

@@ -4,20 +4,16 @@ ghost use Rattle.std.specs.Prelude.{◌≡◌, is_some, option_map, true};
 ghost use Rattle.wasm_types.specs.error.declared.error.ErrorKind.TheVariants as kinds;
 ghost use Rattle.wasm_sections_payloads.specs.declared.payload.Payload.TheVariants as payloads;
 ghost use Rattle.wasm_operator_validator_stacks.specs.state.Refusals.{refused_by};
-ghost use Rattle.wasm_module_validator_sharing.specs.reading.Reading.{under};
-ghost use Rattle.wasm_module_validator_sharing.specs.Sharing.{IsWhole, nothing_reached};
+ghost use Rattle.wasm_module_validator_sharing.specs.Sharing.{IsWhole, renewed_behind};
 ghost use Rattle.wasm_module_validator.specs.declared.validator.State.TheVariants as states;
 ghost use Rattle.wasm_module_validator.specs.Shown.{shown};
 ghost use Rattle.wasm_module_validator.specs.Methods.{failure, refusal, can_reset, types_so_far, ReadsHeader, Takes, TakesData, BeginsCode, TakesBody, RefusesUnknown, Ends};
 
 use crate::types::{Types, look_up};
 use crate::validator::{State, Validator};
-use std::mem;
 use std::ops::Range;
 use wasm_module_validator_lookups::{TypesRef, ValidatorId};
-use wasm_module_validator_sharing::{
-    FuncToValidate, SharedProgress, ValidatorResources, check_header,
-};
+use wasm_module_validator_sharing::{FuncToValidate, ValidatorResources, check_header};
 use wasm_sections_parser::Encoding;
 use wasm_sections_payloads::{
     DataSectionReader, ElementSectionReader, ExportSectionReader, FunctionBody,
@@ -85,13 +81,14 @@ impl Validator {
         }
     }
 
-    /// Makes it ready for another module: as it was made, with the same id and features. The types of modules before are forgotten.
+    /// Makes it ready for another module: as it was made, with the same id and features. The types of modules before stay in its list, by
+    /// the ids that they have. It takes no memory.
     pub fn reset(&mut self)
         requires { can_reset self.old.state ≡ true }
-        ensures { self.new ≡ record self.old { state = states.Unparsed; reached = nothing_reached (under self.old.features.0) } }
+        ensures { self.new ≡ record self.old { state = states.Unparsed; reached = renewed_behind self.old.features.0 self.old.reached } }
     {
         self.state = State::Unparsed;
-        self.reached = SharedProgress::new(self.alloc, self.features);
+        self.reached.renew(self.features);
     }
 
     /// What is known so far of the module that is being read, which is at level 0: from its header on, to its end.
@@ -107,7 +104,7 @@ impl Validator {
         if level != 0 {
             return None;
         }
-        Some(look_up(self.id, &self.reached))
+        Some(look_up(self.id, self.reached.state(), self.reached.types()))
     }
 
     /// Takes the header of a module (WebAssembly 3.0, binary format, modules).
@@ -133,7 +130,7 @@ impl Validator {
             }
         }
         self.state = State::Module;
-        self.reached = SharedProgress::new(self.alloc, self.features);
+        self.reached.renew(self.features);
         Ok(())
     }
 
@@ -349,7 +346,7 @@ impl Validator {
     ///
     /// # Errors
     ///
-    /// No header came, or the module has ended. The validator has ended then.
+    /// No header came, or the module has ended. The validator has ended then. Or there is no memory, and it has failed.
     pub fn end(&mut self, offset: u64) -> Result<Types>
         ensures { Ends self.old result self.new }
     {
@@ -362,12 +359,19 @@ impl Validator {
             }
             State::Ended => return Err(late_end(offset)),
         }
-        self.state = State::Ended;
-        let nothing = SharedProgress::new(self.alloc, self.features);
-        Ok(Types {
-            id: self.id,
-            module: mem::replace(&mut self.reached, nothing),
-        })
+        match self.reached.finish() {
+            Ok(module) => {
+                self.state = State::Ended;
+                Ok(Types {
+                    id: self.id,
+                    module,
+                })
+            }
+            Err(error) => {
+                self.state = State::Failed;
+                Err(error)
+            }
+        }
     }
 }
 

@@ -1,19 +1,20 @@
 //! What a validator learned of a module.
 
 ghost use Rattle.std.specs.Prelude.{◌≡◌};
-ghost use Rattle.wasm_module_validator.specs.Shown.{shown};
+ghost use Rattle.wasm_module_validator.specs.Shown.{shown, shown_of};
 
 use std::marker::Model;
 use std::ops::Index;
+use std::rc::Rc;
 use wasm_module_validator_lookups::{TypesRef, ValidatorId};
-use wasm_module_validator_sharing::SharedProgress;
+use wasm_module_validator_sharing::{ModuleState, SharedModule, TypeList};
 use wasm_types::{CoreTypeId, SubType};
 
 /// What a validator learned of a module: its index spaces, and the list of its types. `types[id]` is the type of an id.
 #[derive(Drop)]
 pub struct Types {
     pub(crate) id: ValidatorId,
-    pub(crate) module: SharedProgress,
+    pub(crate) module: Rc<SharedModule>,
 }
 
 impl Model for Types {
@@ -21,7 +22,7 @@ impl Model for Types {
 
     ghost Value = { Learned };
 
-    ghost view = { λ t. record { id = t.id; progress = t.«module».progress } };
+    ghost view = { λ t. record { id = t.id; kept = t.«module».value } };
 }
 
 impl Types {
@@ -29,7 +30,7 @@ impl Types {
     pub fn as_ref(&self) -> TypesRef<'_>
         ensures { result ≡ shown self.now }
     {
-        look_up(self.id, &self.module)
+        look_up(self.id, self.module.state(), self.module.types())
     }
 }
 
@@ -45,19 +46,21 @@ impl Index<CoreTypeId> for Types {
     ghost index_gives = { λ r id t. is_type_of (shown r) id (declared_of t) };
 
     fn index(&self, id: CoreTypeId) -> &SubType {
-        look_up(self.id, &self.module).at(id)
+        look_up(self.id, self.module.state(), self.module.types()).at(id)
     }
 }
 
-// What was read so far of a module, borrowed, by the validator of this id.
-pub(crate) fn look_up(id: ValidatorId, module: &SharedProgress) -> TypesRef<'_>
-    ensures { result ≡ shown (record { id = id; progress = «module».now.progress }) }
+// What was read so far of a module, borrowed, by the validator of this id: its items, and the list of its types.
+pub(crate) fn look_up<'t>(
+    id: ValidatorId,
+    state: &'t ModuleState,
+    types: &'t TypeList,
+) -> TypesRef<'t>
+    ensures { result ≡ shown_of id types.now.groups state.now }
 {
-    let progress = module.progress();
-    let state = progress.state();
     TypesRef::new(
         id,
-        progress.types(),
+        types,
         state.module(),
         state.imports(),
         state.exports(),

@@ -7,12 +7,12 @@ ghost use Rattle.wasm_module_validator_sharing.specs.reading.progress.standing.s
 ghost use Rattle.wasm_module_validator_sharing.specs.reading.Reading.{under};
 ghost use Rattle.wasm_module_validator.specs.declared.validator.State.TheVariants as states;
 ghost use Rattle.wasm_module_validator.specs.Accepts.{Accepts, IsShown, default_settings};
-ghost use Rattle.wasm_module_validator.specs.States.{IsLeft, Leaves};
+ghost use Rattle.wasm_module_validator.specs.States.{IsLeft, Keeps, Leaves};
 
 use crate::types::Types;
 use std::alloc::Global;
 use wasm_module_validator_lookups::ValidatorId;
-use wasm_module_validator_sharing::{SharedProgress, judge, read_module};
+use wasm_module_validator_sharing::SharedProgress;
 use wasm_types::{Error, ErrorKind, Result, WasmFeatures};
 
 /// How far a validator is.
@@ -28,14 +28,14 @@ pub enum State {
     Failed,
 }
 
-/// Validates one module.
+/// Validates one module after another, over one list of types.
 #[derive(Drop)]
 pub struct Validator {
     pub(crate) alloc: Global,
     pub(crate) id: ValidatorId,
     pub(crate) state: State,
     pub(crate) features: WasmFeatures,
-    // The module whose sections come one by one.
+    // The module whose sections come one by one, and the list of types.
     pub(crate) reached: SharedProgress,
 }
 
@@ -84,36 +84,40 @@ impl Validator {
     ///
     /// The bytes are no module; or a section is not valid behind those before it; or, where each is, a body is not valid: the first of
     /// these. Or there is no memory. Where only a function is refused the validator has ended, and else it has failed.
+    ///
+    /// The module's types go into the validator's list, where those of modules before it stay (`reset`). The list has 2^20 types at most: a
+    /// group for which it has no room is answered as where there is no memory.
     pub fn validate_all(&mut self, bytes: &[u8]) -> Result<Types>
         requires { self.old.state ≡ states.Unparsed }
         ensures verdict { Tells result (AcceptsUnder (under self.old.features.0) bytes.now) }
         ensures shown { IfOk result (IsShown (under self.old.features.0) bytes.now) }
         ensures id { IfOk result (λ t. t.id ≡ self.old.id) }
         ensures state { Leaves (under self.old.features.0) bytes.now result self.new.state }
-        ensures others { self.new ≡ record self.old { state = self.new.state } }
+        ensures others { self.new ≡ record self.old { state = self.new.state; reached = self.new.reached } }
+        ensures types { IfOk result (λ t. t.kept.groups ≡ self.new.reached.progress.kept.groups) }
+        ensures kept { Keeps self.old self.new }
     {
         self.state = State::Failed;
-        let read = match read_module(self.alloc, self.features, bytes) {
-            Ok(read) => read,
+        let bodies = match self.reached.read(self.features, bytes) {
+            Ok(bodies) => bodies,
             Err(error) => return Err(error),
         };
-        match judge(
-            self.alloc,
-            self.features,
-            &read.progress,
-            read.bodies.as_slice(),
-        ) {
-            Ok(()) => {
+        match self.reached.judge(self.features, bodies.as_slice()) {
+            Ok(()) => (),
+            Err(error) => {
+                self.state = state_after(error.kind());
+                return Err(error);
+            }
+        }
+        match self.reached.finish() {
+            Ok(module) => {
                 self.state = State::Ended;
                 Ok(Types {
                     id: self.id,
-                    module: SharedProgress::of(self.alloc, read.progress),
+                    module,
                 })
             }
-            Err(error) => {
-                self.state = state_after(error.kind());
-                Err(error)
-            }
+            Err(error) => Err(error),
         }
     }
 }

@@ -64,19 +64,25 @@ module _ {X : Type 0} (groups : List Group) (s : Items) (r : Result X ErrorValue
 
 -- ---- groups
 
-module _ (groups : List Group) (s : Items) (w : IsWithinCeilings s.spaces.settings.limits) (many : ℕ) (g : Written) (n : ℕ) (same : n ≡ length g.types) where
+module _ (groups : List Group) (s : Items) (many : ℕ) (g : Written) (n : ℕ) (same : n ≡ length g.types) where
   -- the group is told of each tree that has so many groups
   abbrev Told : {X : Type 0} → Result X ErrorValue → Type 0
   Told r = (z : Settings) (m : ModuleTree) → IsReading section.types groups s z m → many ≡ length m.types → Tells r ((k : ModuleTree) × AddsRead z section.types m g k)
 
   decided : (z : Settings) (m : ModuleTree) → IsReading section.types groups s z m → many ≡ length m.types → MayGrow groups s many n g ↔ ((k : ModuleTree) × AddsRead z section.types m g k)
-  decided z m h e = itself (MayGrow groups s many n g) (Adds z section.types m) g (group_decided groups s z m h.stands w many e g n same)
+  decided z m h e = itself (MayGrow groups s many n g) (Adds z section.types m) g (group_decided groups s z m h.stands many e g n same)
 
-  -- where there are as many groups as the limit
-  pub group_refused : (X : Type 0) (e : ErrorValue) → Denies e.kind (many < s.spaces.settings.limits.types) → Told {X = X} (Err e)
-  group_refused X e d z m h k = denies_from e.kind _ _ (λ a. ((decided z m h k).1 a).0) d
+  -- there are fewer than the limit, and at most as many types with it
+  abbrev Fits : Type 0
+  Fits = (many < s.spaces.settings.limits.types) × (length s.spaces.types + n ≤ s.spaces.settings.limits.types)
 
-  -- and where there are fewer
-  pub group_told : {X : Type 0} (r : Result X ErrorValue) → many < s.spaces.settings.limits.types
+  -- where it does not fit
+  pub group_refused : {X : Type 0} (e : ErrorValue) → Denies e.kind Fits → Told {X = X} (Err e)
+  group_refused e d z m h k = denies_from e.kind _ _ (λ a. let b = (decided z m h k).1 a in (b.0, b.1.0 refl)) d
+
+  -- and where it does, and the list has room for it
+  pub group_told : {X : Type 0} (r : Result X ErrorValue) → Fits → HasRoom groups n
       → Tells r ((IsTrue true → length s.spaces.types + n ≤ s.spaces.settings.limits.types) × IsValidGroup s.spaces.settings (space_of groups s.spaces.types) g × HasRoom groups n) → Told r
-  group_told r f t z m h k = let d = decided z m h k in tells_from r _ _ (λ a. d.0 (f, a), λ a. (d.1 a).1) t
+  group_told r f room t z m h k =
+      let d = decided z m h k in
+      tells_from r _ _ (λ a. d.0 (f.0, (a.0, a.1)), λ b. let a = (d.1 b).1 in (a.0, a.1, room)) t

@@ -1,22 +1,22 @@
 //! Groups of types.
 
-ghost use Rattle.std.specs.Prelude.{◌≡◌, ◌<◌, IfErr, IsTrue, OnErr, OnOk, length};
+ghost use Rattle.std.specs.Prelude.{◌≡◌, ◌↔◌, ◌+◌, ◌<◌, ◌≤◌, IfErr, IsTrue, OnErr, OnOk, length};
 ghost use Rattle.wasm_types.specs.error.Denials.{Tells, RefusedAt};
 ghost use Rattle.wasm_types.specs.error.declared.error.ErrorKind.TheVariants.{Other};
 ghost use Rattle.wasm_types.specs.groups.Entries.{declared_types};
 ghost use Rattle.wasm_types.specs.limits.Limits.{IsWithinCeilings};
 ghost use Rattle.wasm_types.specs.limits.Settings.{Settings};
-ghost use Rattle.wasm_module_validator_types.specs.List.{max_types};
+ghost use Rattle.wasm_module_validator_types.specs.List.{max_types, HasRoom};
 ghost use Rattle.wasm_module_validator_standing.specs.canonical.Written.{AreModuleIndices};
 ghost use Rattle.wasm_module_validator_standing.specs.interning.Interned.{written_group};
 ghost use Rattle.wasm_module_validator_standing.specs.resources.Named.{IsReadOver};
 ghost use Rattle.wasm_module_validator_standing.specs.steps.contexts.rules.Syntax.{ModuleTree};
 ghost use Rattle.wasm_module_validator_standing.specs.steps.Sections as section;
 ghost use Rattle.wasm_module_validator_standing.specs.steps.Texts.{AddsRead};
-ghost use Rattle.wasm_module_validator_standing.specs.Standing.{AddsItem, IsReading};
+ghost use Rattle.wasm_module_validator_standing.specs.Standing.{AddsItem, IsGrown, IsReading};
 
 use wasm_module_validator_standing::ModuleState;
-use wasm_module_validator_types::TypeList;
+use wasm_module_validator_types::{MAX_TYPES, TypeList};
 use wasm_types::{Error, RecGroup, Result};
 
 // The refusal of more groups than the limit of types.
@@ -28,24 +28,33 @@ fn too_many(most: u32, offset: u64) -> Error
     Error::fmt(format_args!("types count exceeds limit of {most}"), offset)
 }
 
-// Refuses a group behind as many as the limit of types.
-fn check_room(state: &ModuleState, groups: u32, offset: u64) -> Result<()>
-    ensures answer { Tells result (groups < state.now.spaces.settings.limits.types) }
+// Refuses a group of so many types behind as many groups as the limit of types, and one with which there are more types.
+fn check_fit(state: &ModuleState, groups: u32, further: usize, offset: u64) -> Result<()>
+    ensures answer { Tells result ((groups < state.now.spaces.settings.limits.types) × (length state.now.spaces.types + further ≤ state.now.spaces.settings.limits.types)) }
     ensures refused { IfErr result (λ e. (e.kind ≡ Other) × (e.offset ≡ offset)) }
 {
     let most = state.settings().limits().types;
-    if groups >= most {
+    let before = state.module().type_ids().len();
+    if groups >= most || before > most as usize || further > most as usize - before {
         return Err(too_many(most, offset));
     }
     Ok(())
+}
+
+// Whether a list has room for a group of so many types.
+fn has_room(types: &TypeList, further: usize) -> bool
+    ensures { IsTrue result ↔ HasRoom types.now.groups further }
+{
+    further <= MAX_TYPES - types.type_count() && types.group_count() < 1 << 32
 }
 
 /// Adds a group of types, behind so many groups of the module.
 ///
 /// # Errors
 ///
-/// There are as many groups as the limit of types; more types with the group than that; or the group is not valid behind the types of the
-/// module: the first of these in that order, at `offset`; or there is no memory. The state stays then; the list may have the group.
+/// There are as many groups as the limit of types, or more types with the group than that; or the group is not valid behind the types of the
+/// module: the first of these in that order, at `offset`; or there is no memory, or no room in the list, which has 2^20 types at most.
+/// The state stays then; the list may have the group.
 pub fn add_group(
     state: &mut ModuleState,
     types: &mut TypeList,
@@ -68,10 +77,15 @@ pub fn add_group(
     ensures stays { OnErr result (state.new ≡ state.old) }
     ensures refused { RefusedAt offset result }
     ensures can_intern { IsTrue types.new.can_intern }
+    ensures grown { OnOk result (IsGrown types.old.groups types.new.groups) }
 {
-    match check_room(state, groups, offset) {
+    let further = rec_group.types().len();
+    match check_fit(state, groups, further, offset) {
         Ok(()) => (),
         Err(error) => return Err(error),
+    }
+    if !has_room(types, further) {
+        return Err(Error::out_of_memory(offset));
     }
     state.add_types(rec_group, types, offset, true)
 }

@@ -44,3 +44,7 @@ group_added x groups grown i j count added z m n h a = record {
 pub on_ok : {X : Type 0} (result : Result X ErrorValue) (P Q : Type 0) → (P → Q) → OnOk result P → OnOk result Q
 on_ok (Ok u) P Q f h = f h
 on_ok (Err e) P Q f h = tt
+
+pub always : {X : Type 0} (result : Result X ErrorValue) (P : Type 0) → P → OnOk result P
+always (Ok u) P h = h
+always (Err e) P h = tt

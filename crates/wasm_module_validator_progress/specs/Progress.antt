@@ -1,14 +1,15 @@
 -- A module that is being read, as contracts see it, and when it stands for what was judged (WebAssembly 3.0, validation, modules).
-use Rattle.std.specs.Prelude.{◌≡◌, ◌≤◌, ℕ, List, [], length, map, take}
+use Rattle.std.specs.Prelude.{◌≡◌, ◌≤◌, ◌==◌, if◌then◌else◌, ℕ, List, [], length, map, take}
 use Rattle.wasm_types.specs.limits.Limits.{default_limits}
 use Rattle.wasm_types.specs.limits.Settings.{Settings}
 use Rattle.wasm_module_validator_type_trees.specs.Groups.{Group}
+use Rattle.wasm_module_validator_interning.specs.Modules.{settings_of}
 use Rattle.wasm_module_validator_standing.specs.items.Items.{Items, no_items}
 use Rattle.wasm_module_validator_standing.specs.steps.contexts.rules.Syntax.{ModuleTree}
 use Rattle.wasm_module_validator_standing.specs.steps.contexts.rules.Valid.{Each}
 use Rattle.wasm_module_validator_standing.specs.steps.Sections.{Section}
 use Rattle.wasm_module_validator_standing.specs.steps.Steps.{SoFar, IsJudged}
-use Rattle.wasm_module_validator_standing.specs.Standing.{Stands, IsReading}
+use Rattle.wasm_module_validator_standing.specs.Standing.{IsGrown, Stands, IsReading}
 use Rattle.wasm_module_validator_texts.specs.Sections.{Reading}
 use Rattle.wasm_module_validator_code.specs.Code.{IsReadBy}
 use Rattle.wasm_module_validator_code.specs.declared.bodies.Body.{Body}
@@ -26,9 +27,32 @@ pub record Progress : Type 0 where
   pub kept : Kept
   pub last : ℕ
 
--- nothing was read
+-- nothing was read, over a list of types that has these groups
+abbrev pub nothing_over : List Group → Settings → Progress
+nothing_over groups z = record { kept = record { groups = groups; items = no_items z; count = 0 }; last = 0 }
+
+-- nothing was read, over a list with no types
 abbrev pub nothing_kept : Settings → Progress
-nothing_kept z = record { kept = record { groups = []; items = no_items z; count = 0 }; last = 0 }
+nothing_kept z = nothing_over [] z
+
+-- ---- one module after another
+
+-- the groups of the list that a module by these features begins with behind another: those that there are, where that was read by the same
+abbrev pub kept_groups : ℕ → Kept → List Group
+kept_groups bits k = if k.items.spaces.settings.features == bits then k.groups else []
+
+-- nothing was read of a module by these features, behind another
+abbrev pub renewed : ℕ → Kept → Progress
+renewed bits k = nothing_over (kept_groups bits k) (settings_of bits default_limits)
+
+-- nothing was read of a module by the same settings, behind another
+abbrev pub next_over : Kept → Progress
+next_over k = nothing_over k.groups k.items.spaces.settings
+
+-- further groups may stand in the list, and the settings are the same
+pub record Grows (k l : Kept) : Type 0 where
+  pub groups : IsGrown k.groups l.groups
+  pub settings : l.items.spaces.settings ≡ k.items.spaces.settings
 
 -- ---- while the items of a section are added
 

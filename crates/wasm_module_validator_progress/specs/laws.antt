@@ -2,3 +2,4 @@ pub mod Empty
 pub mod Taking
 pub mod Bodies
 pub mod Shapes
+pub mod Growing

@@ -1,12 +1,14 @@
 //! The items of a module so far, and the list of their types.
 
-ghost use Rattle.std.specs.Prelude.{◌≡◌};
+ghost use Rattle.std.specs.Prelude.{◌≡◌, IfOk, OnErr, OnOk};
 ghost use Rattle.wasm_types.specs.limits.Limits.{default_limits};
 ghost use Rattle.wasm_module_validator_interning.specs.Modules.{settings_of};
-ghost use Rattle.wasm_module_validator_progress.specs.Progress.{nothing_kept};
+ghost use Rattle.wasm_module_validator_progress.specs.Progress.{nothing_kept, renewed, next_over};
 
-use std::alloc::Global;
+use crate::SharedModule;
+use std::alloc::{AllocError, Global};
 use std::marker::Model;
+use std::mem;
 use wasm_module_validator_standing::ModuleState;
 use wasm_module_validator_types::TypeList;
 use wasm_types::{Limits, WasmFeatures};
@@ -23,7 +25,7 @@ pub struct Collected {
 
 impl Model for Collected {
     ghost use Rattle.std.specs.Prelude.{◌≡◌, true};
-    ghost use Rattle.wasm_types.specs.limits.Limits.{IsWithinCeilings};
+    ghost use Rattle.wasm_types.specs.limits.Limits.{default_limits};
     ghost use Rattle.wasm_module_validator_resources.specs.Named.{IsReadOver};
     ghost use Rattle.wasm_module_validator_progress.specs.Progress.{Kept};
 
@@ -31,7 +33,7 @@ impl Model for Collected {
 
     ghost view = { λ c. record { groups = c.types.groups; items = c.state; count = c.groups } };
 
-    ghost invariant = { λ c. IsReadOver c.types.groups c.state.spaces × (c.types.can_intern ≡ true) × IsWithinCeilings c.state.spaces.settings.limits };
+    ghost invariant = { λ c. IsReadOver c.types.groups c.state.spaces × (c.types.can_intern ≡ true) × (c.state.spaces.settings.limits ≡ default_limits) };
 }
 
 impl Collected {
@@ -45,5 +47,43 @@ impl Collected {
             groups: 0,
             alloc,
         }
+    }
+
+    // Begins with another module, over the same list, and gives the state and the number of groups of that before. It takes no memory.
+    fn replace(&mut self) -> (ModuleState, u32)
+        ensures next { self.new ≡ (next_over self.old).kept }
+        ensures before { record { groups = self.old.groups; items = result.0; count = result.1 } ≡ self.old }
+    {
+        let settings = self.state.settings();
+        let state = ModuleState::new(self.alloc, settings.features(), settings.limits());
+        let groups = mem::replace(&mut self.groups, 0);
+        (mem::replace(&mut self.state, state), groups)
+    }
+
+    /// Begins with another module by these features, over the same list of types where this one was read by them too. It takes no memory.
+    pub(crate) fn renew(&mut self, features: WasmFeatures)
+        ensures { self.new ≡ (renewed features.0 self.old).kept }
+    {
+        if self.state.settings().features() == features {
+            let _ = self.replace();
+        } else {
+            *self = Collected::new(self.alloc, features);
+        }
+    }
+
+    /// Gives the module as it was read, with a list of its types that may be shared, and begins with another over the same types. Where
+    /// there is no memory, it stays.
+    pub(crate) fn close(&mut self) -> Result<SharedModule, AllocError>
+        ensures next { OnOk result (self.new ≡ (next_over self.old).kept) }
+        ensures stays { OnErr result (self.new ≡ self.old) }
+        ensures closed { IfOk result (λ s. s ≡ self.old) }
+    {
+        let types = self.types.commit()?;
+        let (state, groups) = self.replace();
+        Ok(SharedModule {
+            state,
+            types,
+            groups,
+        })
     }
 }

@@ -9,10 +9,11 @@ ghost use Rattle.wasm_sections_payloads.specs.Payloads.{Counts};
 ghost use Rattle.wasm_module_validator_code.specs.declared.bodies.Body.{Body as TheBody};
 ghost use Rattle.wasm_module_validator_standing.specs.steps.Sections.{code_place};
 ghost use Rattle.wasm_module_validator_standing.specs.steps.Steps.{SoFar, JudgesSection, JudgesBody};
-ghost use Rattle.wasm_module_validator_progress.specs.Progress.{IsAt};
+ghost use Rattle.wasm_module_validator_progress.specs.Progress.{Grows, IsAt};
 
 use crate::{Body, InProgress, SectionItem};
 use wasm_module_validator_adding::add_items;
+use wasm_module_validator_standing::ModuleState;
 use wasm_operators_bodies::FunctionBody;
 use wasm_sections_limited::SectionLimited;
 use wasm_types::{Error, Result};
@@ -34,6 +35,47 @@ fn too_many_bodies(offset: u64) -> Error
     ensures { result.kind ≡ Other }
 {
     Error::new("code section entry exceeds number of functions", offset)
+}
+
+/// The index of the function that the body behind so many others is of, and that of its type.
+pub(crate) fn function_behind_in(state: &ModuleState, bodies: usize) -> Option<(u32, u32)>
+    ensures typed { option_map (λ x. x.1) result ≡ option_map (λ f. f.type_index) (slice_get state.now.spaces.functions (state.now.spaces.imported_functions + bodies)) }
+    ensures index { IfSome result (λ x. x.0 ≡ state.now.spaces.imported_functions + bodies) }
+{
+    let module = state.module();
+    let first = module.imported_functions();
+    if bodies >= module.function_count().saturating_sub(first) as usize {
+        return None;
+    }
+    let index = first + bodies as u32;
+    match module.function_at(index) {
+        Some(function) => Some((index, function.type_index)),
+        None => None,
+    }
+}
+
+/// Checks where a body comes, behind a section of this place, and how long it is.
+///
+/// # Errors
+///
+/// That section is not the code section; or the body is longer than a body may be: the first of these.
+pub(crate) fn check_body_behind(
+    state: &ModuleState,
+    last: u32,
+    body: &FunctionBody<'_>,
+) -> Result<()>
+    ensures { Tells result ((last ≡ code_place) × (length body.now.rest ≤ state.now.spaces.settings.limits.body_bytes)) }
+{
+    let reader = body.get_binary_reader();
+    let offset = reader.original_position();
+    if last != 12 {
+        return Err(Error::new("code section entry out of order", offset));
+    }
+    let most = state.settings().limits().body_bytes;
+    if reader.bytes_remaining() > most as usize {
+        return Err(long_body(most, offset));
+    }
+    Ok(())
 }
 
 impl InProgress {
@@ -64,6 +106,7 @@ impl InProgress {
             → Counts b section.entry.count section.entry.reader → Tells result ((q : SoFar) × JudgesSection z p T.section b.rest q) }
         ensures added { OnOk result ((z : Settings) (p q : SoFar) (bodies : List TheBody) (b : State) → IsAt z self.old bodies p → b.settings ≡ z
             → Counts b section.entry.count section.entry.reader → JudgesSection z p T.section b.rest q → IsAt z self.new bodies q) }
+        ensures grown { OnOk result (Grows self.old.kept self.new.kept) }
     {
         let offset = section.range().start;
         match self.begin_section(T::place(), offset) {
@@ -85,45 +128,9 @@ impl InProgress {
     pub fn take_code_start(&mut self, offset: u64) -> Result<()>
         ensures answer { (z : Settings) (p : SoFar) (bodies : List TheBody) → IsAt z self.old bodies p → Tells result (p.last < code_place) }
         ensures added { OnOk result ((z : Settings) (p : SoFar) (bodies : List TheBody) → IsAt z self.old bodies p → IsAt z self.new bodies (record p { last = code_place })) }
+        ensures kept { self.new.kept ≡ self.old.kept }
     {
         self.begin_section(12, offset)
-    }
-
-    /// The index of the function that the body behind so many others is of, and that of its type.
-    pub fn function_behind(&self, bodies: usize) -> Option<(u32, u32)>
-        ensures typed { option_map (λ x. x.1) result ≡ option_map (λ f. f.type_index) (slice_get self.now.kept.items.spaces.functions (self.now.kept.items.spaces.imported_functions + bodies)) }
-        ensures index { IfSome result (λ x. x.0 ≡ self.now.kept.items.spaces.imported_functions + bodies) }
-    {
-        let module = self.collected.state.module();
-        let first = module.imported_functions();
-        if bodies >= module.function_count().saturating_sub(first) as usize {
-            return None;
-        }
-        let index = first + bodies as u32;
-        match module.function_at(index) {
-            Some(function) => Some((index, function.type_index)),
-            None => None,
-        }
-    }
-
-    /// Checks where a body comes, behind a section of this place, and how long it is.
-    ///
-    /// # Errors
-    ///
-    /// That section is not the code section; or the body is longer than a body may be: the first of these.
-    pub fn check_body(&self, last: u32, body: &FunctionBody<'_>) -> Result<()>
-        ensures { Tells result ((last ≡ code_place) × (length body.now.rest ≤ self.now.kept.items.spaces.settings.limits.body_bytes)) }
-    {
-        let reader = body.get_binary_reader();
-        let offset = reader.original_position();
-        if last != 12 {
-            return Err(Error::new("code section entry out of order", offset));
-        }
-        let most = self.collected.state.settings().limits().body_bytes;
-        if reader.bytes_remaining() > most as usize {
-            return Err(long_body(most, offset));
-        }
-        Ok(())
     }
 
     /// Takes a body: it is kept with the index of its function and of its type.
@@ -140,13 +147,14 @@ impl InProgress {
         ensures answer { (z : Settings) (p : SoFar) → IsAt z self.old bodies.old.items p → body.entry.settings ≡ z → Tells result ((q : SoFar) × JudgesBody z p body.entry.rest q) }
         ensures added { OnOk result ((z : Settings) (p q : SoFar) → IsAt z self.old bodies.old.items p → body.entry.settings ≡ z → JudgesBody z p body.entry.rest q
             → IsAt z self.new bodies.new.items q) }
+        ensures kept { self.new.kept ≡ self.old.kept }
     {
-        match self.check_body(self.last, &body) {
+        match check_body_behind(&self.collected.state, self.last, &body) {
             Ok(()) => (),
             Err(error) => return Err(error),
         }
         let kept = bodies.as_slice();
-        let Some((index, type_index)) = self.function_behind(kept.len()) else {
+        let Some((index, type_index)) = function_behind_in(&self.collected.state, kept.len()) else {
             let offset = body.get_binary_reader().original_position();
             return Err(too_many_bodies(offset));
         };

@@ -8,7 +8,7 @@ ghost use Rattle.wasm_sections_payloads.specs.Payloads.{Counts};
 ghost use Rattle.wasm_module_validator_code.specs.declared.bodies.Body.{Body as TheBody};
 ghost use Rattle.wasm_module_validator_standing.specs.steps.Sections as section;
 ghost use Rattle.wasm_module_validator_standing.specs.steps.Steps.{SoFar, JudgesSection};
-ghost use Rattle.wasm_module_validator_progress.specs.Progress.{IsAt};
+ghost use Rattle.wasm_module_validator_progress.specs.Progress.{Grows, IsAt};
 
 use crate::{Collected, InProgress};
 use wasm_module_validator_adding::{AddLent, add_lent_items};
@@ -22,7 +22,8 @@ impl<'a> AddLent<'a, Import<'a>> for Collected {
     ghost use Rattle.wasm_module_validator_standing.specs.steps.Texts.{ItemRead};
     ghost use Rattle.wasm_module_validator_texts.specs.Sections.{Reading, AddsIn, RefusesIn};
     ghost use Rattle.wasm_module_validator_texts.specs.Kinds.{import_read};
-    ghost use Rattle.wasm_module_validator_progress.specs.Progress.{IsRead};
+    ghost use Rattle.wasm_module_validator_progress.specs.Progress.{Grows, IsRead};
+    ghost use Rattle.wasm_module_validator_progress.specs.laws.Growing.{grows_by_nothing, grows_further};
 
     ghost Tree = { Reading };
 
@@ -36,11 +37,17 @@ impl<'a> AddLent<'a, Import<'a>> for Collected {
 
     ghost refuses = { λ u x p e. RefusesIn section.imports u x p e };
 
+    ghost grows = { λ k l. Grows k l };
+
     fn add_lent(&mut self, item: &Import<'a>, offset: u64) -> Result<()> {
         add_import_item(&mut self.state, &self.types, item, offset)
     }
 
     ghost alike = { λ x y is. is };
+
+    ghost grows_by_nothing = { grows_by_nothing };
+
+    ghost grows_further = { grows_further };
 }
 
 impl InProgress {
@@ -50,6 +57,7 @@ impl InProgress {
             → Counts b imports.entry.count imports.entry.reader → Tells result ((q : SoFar) × JudgesSection z p section.imports b.rest q) }
         ensures added { OnOk result ((z : Settings) (p q : SoFar) (bodies : List TheBody) (b : State) → IsAt z self.old bodies p → b.settings ≡ z
             → Counts b imports.entry.count imports.entry.reader → JudgesSection z p section.imports b.rest q → IsAt z self.new bodies q) }
+        ensures grown { OnOk result (Grows self.old.kept self.new.kept) }
     {
         let offset = imports.range().start;
         match self.begin_section(2, offset) {

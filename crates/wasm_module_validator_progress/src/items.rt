@@ -3,7 +3,7 @@
 ghost use Rattle.std.specs.Prelude.{◌≡◌, List, OnOk, true};
 ghost use Rattle.wasm_types.specs.decoding.Decoder.{State, Done};
 ghost use Rattle.wasm_types.specs.error.Denials.{Tells};
-ghost use Rattle.wasm_types.specs.limits.Limits.{IsWithinCeilings};
+ghost use Rattle.wasm_types.specs.limits.Limits.{IsWithinCeilings, default_limits};
 ghost use Rattle.wasm_types.specs.limits.Settings.{Settings};
 ghost use Rattle.wasm_module_validator_resources.specs.Named.{IsReadOver};
 ghost use Rattle.wasm_module_validator_type_trees.specs.Groups.{Group};
@@ -11,10 +11,11 @@ ghost use Rattle.wasm_module_validator_standing.specs.steps.contexts.rules.Synta
 ghost use Rattle.wasm_module_validator_standing.specs.steps.Sections.{Section, place, IsUnread};
 ghost use Rattle.wasm_module_validator_standing.specs.steps.Adding.{Fits};
 ghost use Rattle.wasm_module_validator_standing.specs.steps.Texts.{ItemRead, AddsRead};
-ghost use Rattle.wasm_module_validator_standing.specs.Standing.{Stands};
+ghost use Rattle.wasm_module_validator_standing.specs.Standing.{IsGrown, Stands};
 ghost use Rattle.wasm_module_validator_texts.specs.Sections.{Reading, AddsIn, RefusesIn, MayBegin};
 ghost use Rattle.wasm_module_validator_texts.specs.Kinds.{WalksTell};
-ghost use Rattle.wasm_module_validator_progress.specs.Progress.{Reads, IsRead};
+ghost use Rattle.wasm_module_validator_progress.specs.Progress.{Grows, Reads, IsRead};
+ghost use Rattle.wasm_module_validator_progress.specs.laws.Growing.{grows_by_nothing, grows_further};
 
 use crate::Collected;
 use std::alloc::Global;
@@ -58,7 +59,8 @@ pub trait SectionItem<'a>: FromReader<'a> {
             → Reads section types.new.groups state.new groups.new z n) }
         ensures over { OnOk result (IsReadOver types.new.groups state.new.spaces) }
         ensures interning { OnOk result (types.new.can_intern ≡ true) }
-        ensures kept { state.new.spaces.settings ≡ state.old.spaces.settings };
+        ensures kept { state.new.spaces.settings ≡ state.old.spaces.settings }
+        ensures grown { OnOk result (IsGrown types.old.groups types.new.groups) };
 
     /// Items whose bytes are read alike are the same.
     ghost alike: { (x y : Self) → Self.FromReader.view x ≡ Self.FromReader.view y → of x ≡ of y };
@@ -78,12 +80,14 @@ fn add_or_forget<'a, T: SectionItem<'a>>(
 ) -> Result<()>
     requires over { IsReadOver types.old.groups state.old.spaces }
     requires interning { types.old.can_intern ≡ true }
-    requires ceilings { IsWithinCeilings state.old.spaces.settings.limits }
+    requires limits { state.old.spaces.settings.limits ≡ default_limits }
     requires read { (z : Settings) × (s : State) × (t : State) × (T.FromReader.decoder z s ≡ Done (T.FromReader.view item) t) }
     ensures answer { (z : Settings) (m : ModuleTree) → Reads T.section types.old.groups state.old groups.old z m → Tells result ((n : ModuleTree) × AddsRead z T.section m (T.of item) n) }
     ensures added { OnOk result ((z : Settings) (m n : ModuleTree) → Reads T.section types.old.groups state.old groups.old z m → AddsRead z T.section m (T.of item) n
         → Reads T.section types.new.groups state.new groups.new z n) }
-    ensures kept { IsReadOver types.new.groups state.new.spaces × (types.new.can_intern ≡ true) × IsWithinCeilings state.new.spaces.settings.limits }
+    ensures kept { IsReadOver types.new.groups state.new.spaces × (types.new.can_intern ≡ true) × (state.new.spaces.settings.limits ≡ default_limits) }
+    ensures settings { OnOk result (state.new.spaces.settings ≡ state.old.spaces.settings) }
+    ensures grown { OnOk result (IsGrown types.old.groups types.new.groups) }
 {
     match item.add_to(alloc, state, types, groups, offset) {
         Ok(()) => Ok(()),
@@ -109,6 +113,8 @@ impl<'a, T: SectionItem<'a>> AddItem<'a, T> for Collected {
 
     ghost refuses = { λ u x p e. RefusesIn T.section u x p e };
 
+    ghost grows = { λ k l. Grows k l };
+
     fn add(&mut self, item: T, offset: u64) -> Result<()> {
         add_or_forget(
             item,
@@ -121,4 +127,8 @@ impl<'a, T: SectionItem<'a>> AddItem<'a, T> for Collected {
     }
 
     ghost alike = { T.alike };
+
+    ghost grows_by_nothing = { grows_by_nothing };
+
+    ghost grows_further = { grows_further };
 }

@@ -11,7 +11,7 @@ ghost use Rattle.wasm_module_validator_standing.specs.steps.Sections as section;
 ghost use Rattle.wasm_module_validator_standing.specs.steps.Sections.{IsUnread, place};
 ghost use Rattle.wasm_module_validator_standing.specs.steps.Adding.{Fits};
 ghost use Rattle.wasm_module_validator_standing.specs.steps.Texts.{AddsRead};
-ghost use Rattle.wasm_module_validator_standing.specs.Standing.{Stands};
+ghost use Rattle.wasm_module_validator_standing.specs.Standing.{IsGrown, Stands};
 ghost use Rattle.wasm_module_validator_texts.specs.Sections.{MayBegin};
 ghost use Rattle.wasm_module_validator_texts.specs.Kinds.{table_read, global_read, export_read, element_read, data_read};
 ghost use Rattle.wasm_module_validator_progress.specs.Progress.{Reads};
@@ -142,6 +142,7 @@ impl<'a> SectionItem<'a> for TableOf<ConstExpr<'a>> {
         ensures over { OnOk result (IsReadOver types.new.groups state.new.spaces) }
         ensures interning { OnOk result (types.new.can_intern ≡ true) }
         ensures kept { state.new.spaces.settings ≡ state.old.spaces.settings }
+        ensures grown { OnOk result (IsGrown types.old.groups types.new.groups) }
     {
         add_table(alloc, state, types, self, offset)
     }
@@ -263,6 +264,7 @@ impl<'a> SectionItem<'a> for GlobalOf<ConstExpr<'a>> {
         ensures over { OnOk result (IsReadOver types.new.groups state.new.spaces) }
         ensures interning { OnOk result (types.new.can_intern ≡ true) }
         ensures kept { state.new.spaces.settings ≡ state.old.spaces.settings }
+        ensures grown { OnOk result (IsGrown types.old.groups types.new.groups) }
     {
         add_global(alloc, state, types, self, offset)
     }
@@ -311,6 +313,7 @@ impl<'a> SectionItem<'a> for Export<'a> {
         ensures over { OnOk result (IsReadOver types.new.groups state.new.spaces) }
         ensures interning { OnOk result (types.new.can_intern ≡ true) }
         ensures kept { state.new.spaces.settings ≡ state.old.spaces.settings }
+        ensures grown { OnOk result (IsGrown types.old.groups types.new.groups) }
     {
         add_export_item(state, types, self, offset)
     }
@@ -359,6 +362,7 @@ impl<'a> SectionItem<'a> for ElementOf<'a, ConstExpr<'a>> {
         ensures over { OnOk result (IsReadOver types.new.groups state.new.spaces) }
         ensures interning { OnOk result (types.new.can_intern ≡ true) }
         ensures kept { state.new.spaces.settings ≡ state.old.spaces.settings }
+        ensures grown { OnOk result (IsGrown types.old.groups types.new.groups) }
     {
         add_element(alloc, state, types, self, offset)
     }
@@ -407,6 +411,7 @@ impl<'a> SectionItem<'a> for DataOf<'a, ConstExpr<'a>> {
         ensures over { OnOk result (IsReadOver types.new.groups state.new.spaces) }
         ensures interning { OnOk result (types.new.can_intern ≡ true) }
         ensures kept { state.new.spaces.settings ≡ state.old.spaces.settings }
+        ensures grown { OnOk result (IsGrown types.old.groups types.new.groups) }
     {
         check_data_item(alloc, state, types, self, offset)
     }

@@ -5,6 +5,9 @@
 //! [`SectionItem`] says which section it stands in, how many of it there may be, and how one is added. `specs/Progress.antt` says when what
 //! is kept stands for what was judged: each call is Ok exactly where its frame may come next by the rules, and what is kept then stands
 //! for whatever was judged with it.
+//!
+//! Behind a module comes another, over the same list of types ([`InProgress::renew`]); and what was read is given, so that it may be shared
+//! ([`SharedModule`]).
 #![tactic(auto)]
 
 mod collected;
@@ -14,13 +17,16 @@ mod items;
 mod kinds;
 mod payloads;
 mod progress;
+mod shared;
 
 pub use collected::Collected;
 pub use items::SectionItem;
 pub use payloads::check_header;
 pub use progress::InProgress;
+pub use shared::SharedModule;
 pub use wasm_module_validator_code::{
     Body, FuncToValidate, FuncValidator, FuncValidatorAllocations, judge_bodies,
 };
 pub use wasm_module_validator_initialising::{OperatorValidatorAllocations, check_data_with};
 pub use wasm_module_validator_standing::ModuleState;
+pub use wasm_module_validator_types::TypeList;

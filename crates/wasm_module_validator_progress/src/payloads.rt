@@ -12,7 +12,7 @@ ghost use Rattle.wasm_module_validator_code.specs.declared.bodies.Body.{Body as 
 ghost use Rattle.wasm_module_validator_standing.specs.steps.Sections as section;
 ghost use Rattle.wasm_module_validator_standing.specs.steps.Steps.{SoFar, JudgesSection, JudgesShape};
 ghost use Rattle.wasm_module_validator_fronts.specs.Walks.{HasSettings};
-ghost use Rattle.wasm_module_validator_progress.specs.Progress.{IsAt};
+ghost use Rattle.wasm_module_validator_progress.specs.Progress.{Grows, IsAt};
 
 use crate::{Body, InProgress};
 use wasm_module_validator_declaring::{take_data_count, take_start};
@@ -69,6 +69,7 @@ impl InProgress {
             → Tells result ((q : SoFar) × JudgesSection z p section.start b.rest q) }
         ensures added { OnOk result ((z : Settings) (p q : SoFar) (bodies : List TheBody) (b : State) → IsAt z self.old bodies p → b.settings ≡ z → only_number b ≡ Done func b
             → JudgesSection z p section.start b.rest q → IsAt z self.new bodies q) }
+        ensures grown { OnOk result (Grows self.old.kept self.new.kept) }
     {
         match self.begin_section(9, offset) {
             Ok(()) => (),
@@ -83,6 +84,7 @@ impl InProgress {
             → Tells result ((q : SoFar) × JudgesSection z p section.data_count b.rest q) }
         ensures added { OnOk result ((z : Settings) (p q : SoFar) (bodies : List TheBody) (b : State) → IsAt z self.old bodies p → b.settings ≡ z → only_number b ≡ Done count b
             → JudgesSection z p section.data_count b.rest q → IsAt z self.new bodies q) }
+        ensures grown { OnOk result (Grows self.old.kept self.new.kept) }
     {
         match self.begin_section(11, offset) {
             Ok(()) => (),
@@ -108,6 +110,7 @@ impl InProgress {
             → Tells result ((q : SoFar) × JudgesShape z p (shape_of f) q) }
         ensures added { OnOk result ((z : Settings) (p q : SoFar) (f : Frame) → IsAt z self.old bodies.old.items p → HasSettings z f → IsPayloadOf f payload.entry
             → JudgesShape z p (shape_of f) q → IsAt z self.new bodies.new.items q) }
+        ensures grown { OnOk result (Grows self.old.kept self.new.kept) }
     {
         match payload {
             Payload::Version {

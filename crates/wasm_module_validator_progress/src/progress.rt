@@ -1,14 +1,14 @@
 //! What is kept of a module that is being read.
 
-ghost use Rattle.std.specs.Prelude.{◌≡◌};
+ghost use Rattle.std.specs.Prelude.{◌≡◌, IfOk, OnErr, OnOk};
 ghost use Rattle.wasm_types.specs.limits.Limits.{IsWithinCeilings, default_limits};
 ghost use Rattle.wasm_module_validator_interning.specs.Modules.{settings_of};
 ghost use Rattle.wasm_module_validator_resources.specs.Named.{IsReadOver};
 ghost use Rattle.wasm_module_validator_resources.specs.Reading.{meaning_of};
-ghost use Rattle.wasm_module_validator_progress.specs.Progress.{nothing_kept};
+ghost use Rattle.wasm_module_validator_progress.specs.Progress.{nothing_kept, renewed, next_over};
 
-use crate::Collected;
-use std::alloc::Global;
+use crate::{Collected, SharedModule};
+use std::alloc::{AllocError, Global};
 use std::marker::Model;
 use wasm_module_validator_resources::OperatorValidatorResources;
 use wasm_module_validator_standing::ModuleState;
@@ -40,6 +40,30 @@ impl InProgress {
             collected: Collected::new(alloc, features),
             last: 0,
         }
+    }
+
+    /// Begins with another module by these features, of which nothing was read: over the same list of types, where this one was read by the
+    /// same features, and else over a list with none. It takes no memory.
+    pub fn renew(&mut self, features: WasmFeatures)
+        ensures { self.new ≡ renewed features.0 self.old.kept }
+    {
+        self.collected.renew(features);
+        self.last = 0;
+    }
+
+    /// Gives the module as it was read, so that it may be shared, and begins with another by the same features, over the same list of types.
+    ///
+    /// # Errors
+    ///
+    /// There is no memory. The module stays.
+    pub fn close(&mut self) -> Result<SharedModule, AllocError>
+        ensures next { OnOk result (self.new ≡ next_over self.old.kept) }
+        ensures stays { OnErr result (self.new ≡ self.old) }
+        ensures closed { IfOk result (λ s. s ≡ self.old.kept) }
+    {
+        let module = self.collected.close()?;
+        self.last = 0;
+        Ok(module)
     }
 
     /// The items so far.

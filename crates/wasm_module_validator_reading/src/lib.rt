@@ -6,8 +6,8 @@
 
 mod reading;
 
-pub use reading::{ReadModule, read_module};
+pub use reading::read_module;
 pub use wasm_module_validator_judging::{
     Body, FuncToValidate, FuncValidator, FuncValidatorAllocations, InProgress, ModuleState,
-    OperatorValidatorAllocations, SectionItem, check_data_with, check_header, judge, judge_bodies,
+    OperatorValidatorAllocations, SectionItem, SharedModule, TypeList, check_data_with, check_header, judge, judge_bodies,
 };

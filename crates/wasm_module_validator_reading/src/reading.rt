@@ -1,9 +1,9 @@
 //! A module read from its first byte to its last.
 
-ghost use Rattle.std.specs.Prelude.{IfOk};
+ghost use Rattle.std.specs.Prelude.{◌≡◌, IfOk, OnOk};
 ghost use Rattle.wasm_types.specs.error.Denials.{Tells};
 ghost use Rattle.wasm_module_validator_judging.specs.progress.standing.steps.Steps.{SoFar};
-ghost use Rattle.wasm_module_validator_judging.specs.progress.Progress.{IsAt};
+ghost use Rattle.wasm_module_validator_judging.specs.progress.Progress.{Grows, IsAt, nothing_over};
 ghost use Rattle.wasm_module_validator_reading.specs.Reading.{under, IsReadAs};
 
 use std::alloc::Global;
@@ -11,16 +11,8 @@ use wasm_module_validator_judging::{Body, InProgress};
 use wasm_sections_payloads::Parser;
 use wasm_types::{Result, WasmFeatures};
 
-/// What is kept of a module that was read, and its bodies.
-#[derive(Drop)]
-pub struct ReadModule<'a> {
-    /// The module's items, and the list of its types.
-    pub progress: InProgress,
-    /// The bodies of its functions, in order.
-    pub bodies: Vec<Body<'a>>,
-}
-
-/// Reads a module that is all of these bytes, by these features and the limits that hold where none are chosen.
+/// Reads a module that is all of these bytes, by these features and the limits that hold where none are chosen, and gives its bodies. Its
+/// types go into the list of what nothing was read of yet, which may hold those of other modules.
 ///
 /// # Errors
 ///
@@ -28,14 +20,16 @@ pub struct ReadModule<'a> {
 pub fn read_module<'a>(
     alloc: Global,
     features: WasmFeatures,
+    progress: &mut InProgress,
     bytes: &'a [u8],
-) -> Result<ReadModule<'a>>
+) -> Result<Vec<Body<'a>>>
+    requires { progress.old ≡ nothing_over progress.old.kept.groups (under features.0) }
     ensures answer { Tells result ((q : SoFar) × IsReadAs (under features.0) bytes.now q) }
-    ensures stands { IfOk result (λ r. (q : SoFar) → IsReadAs (under features.0) bytes.now q → IsAt (under features.0) r.progress r.bodies.items q) }
+    ensures stands { IfOk result (λ bodies. (q : SoFar) → IsReadAs (under features.0) bytes.now q → IsAt (under features.0) progress.new bodies.items q) }
+    ensures grown { OnOk result (Grows progress.old.kept progress.new.kept) }
 {
     let mut parser = Parser::new(alloc, 0);
     parser.set_features(features);
-    let mut progress = InProgress::new(alloc, features);
     let mut bodies = Vec::new(alloc);
     for payload in parser.parse_all(bytes) {
         let payload = match payload {
@@ -47,5 +41,5 @@ pub fn read_module<'a>(
             Err(error) => return Err(error),
         }
     }
-    Ok(ReadModule { progress, bodies })
+    Ok(bodies)
 }

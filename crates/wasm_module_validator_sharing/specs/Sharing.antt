@@ -14,7 +14,7 @@ use Rattle.wasm_module_validator_reading.specs.progress.code.functions.declared.
 use Rattle.wasm_module_validator_reading.specs.progress.code.declared.bodies.Body.{Body}
 use Rattle.wasm_module_validator_reading.specs.progress.fronts.Walks.{HasSettings}
 use Rattle.wasm_module_validator_reading.specs.progress.standing.steps.Steps.{SoFar, JudgesShape, JudgesBody}
-use Rattle.wasm_module_validator_reading.specs.progress.Progress.{Progress, IsAt, nothing_kept}
+use Rattle.wasm_module_validator_reading.specs.progress.Progress.{Kept, Progress, IsAt, nothing_kept, renewed, next_over}
 use Rattle.wasm_module_validator_sharing.specs.declared.resources.ValidatorResources.{ValidatorResources}
 
 -- ---- what is kept
@@ -29,9 +29,22 @@ abbrev pub nothing_reached : Settings → Reached
 nothing_reached z = record { progress = nothing_kept z; code = None }
 
 -- What is kept is the module's own until it is shared. Then it is what is shared, with the place of the last section.
-abbrev pub reached : Progress → Option Progress → ℕ → ℕ → Reached
+abbrev pub reached : Progress → Option Kept → ℕ → ℕ → Reached
 reached own None last bodies = record { progress = own; code = None }
-reached own (Some shared) last bodies = record { progress = record { kept = shared.kept; last = last }; code = Some bodies }
+reached own (Some shared) last bodies = record { progress = record { kept = shared; last = last }; code = Some bodies }
+
+-- Where a module is shared, another by the same settings may begin: nothing was read of it yet.
+abbrev pub IsNext : Progress → Option Kept → Type 0
+IsNext own None = Unit {0}
+IsNext own (Some shared) = own ≡ next_over shared
+
+-- nothing was read of a module by these features, behind another
+abbrev pub renewed_behind : ℕ → Reached → Reached
+renewed_behind bits r = record { progress = renewed bits r.progress.kept; code = None }
+
+-- nothing was read of a module by the same settings, behind another
+abbrev pub next_behind : Reached → Reached
+next_behind r = record { progress = next_over r.progress.kept; code = None }
 
 -- its code has not begun
 abbrev pub has_no_code : Option ℕ → Bool
@@ -95,7 +108,7 @@ TellsBody z p text (Err e) = Denies e.kind ((q : SoFar) × JudgesBody z p text q
 -- Of the function behind so many others this is handed out: the module as it is kept, the function's index and that of its type, and these
 -- features.
 pub record IsHandedOut (r : Reached) (bits : ℕ) (f : Handed) : Type 0 where
-  pub resources : f.resources.shared.value.kept ≡ r.progress.kept
+  pub resources : f.resources.shared.value ≡ r.progress.kept
   pub index : f.index ≡ r.progress.kept.items.spaces.imported_functions + body_count r.code
   pub type : option_map (λ (g : Function). g.type_index) (slice_get r.progress.kept.items.spaces.functions f.index) ≡ Some f.ty
   pub features : f.features.0 ≡ bits
@@ -106,7 +119,7 @@ NoneLeft r = slice_get r.progress.kept.items.spaces.functions (r.progress.kept.i
 
 -- what is kept then: one body more, where a function was handed out
 abbrev pub BodyFollows : Reached → ℕ → State → Result (Option Handed) ErrorValue → Reached → Type 0
-BodyFollows r bits body (Ok (Some f)) s = IsHandedOut r bits f × (s.code ≡ Some (body_count r.code + 1))
+BodyFollows r bits body (Ok (Some f)) s = IsHandedOut r bits f × (s.code ≡ Some (body_count r.code + 1)) × (s.progress.kept ≡ r.progress.kept)
     × ((z : Settings) (p q : SoFar) → IsReached z r p → body.settings ≡ z → JudgesBody z p body.rest q → IsReached z s q)
 BodyFollows r bits body (Ok None) s = (s ≡ r) × NoneLeft r
 BodyFollows r bits body (Err e) s = s ≡ r

@@ -13,7 +13,7 @@ ghost use Rattle.wasm_module_validator_reading.specs.progress.Progress.{IsAt};
 use std::alloc::Global;
 use wasm_module_validator_adding::{AddItem, add_items};
 use wasm_module_validator_reading::{
-    InProgress, OperatorValidatorAllocations, SectionItem, check_data_with,
+    OperatorValidatorAllocations, SectionItem, SharedModule, check_data_with,
 };
 use wasm_sections_payloads::{Data, DataSectionReader};
 use wasm_types::{Error, Result};
@@ -21,12 +21,14 @@ use wasm_types::{Error, Result};
 // A module whose data segments are checked, and the memory of the checks.
 #[derive(Drop)]
 struct DataCheck<'b> {
-    progress: &'b InProgress,
+    module: &'b SharedModule,
     allocs: OperatorValidatorAllocations,
     alloc: Global,
 }
 
 impl<'a, 'b> AddItem<'a, Data<'a>> for DataCheck<'b> {
+    ghost use Rattle.std.specs.Prelude.{◌≡◌};
+    ghost use Rattle.std.proofs.Common.{◌∙◌, refl};
     ghost use Rattle.wasm_module_validator_reading.specs.progress.standing.steps.Sections as section;
     ghost use Rattle.wasm_module_validator_reading.specs.progress.standing.steps.Texts.{ItemRead};
     ghost use Rattle.wasm_module_validator_texts.specs.Sections.{Reading, AddsIn, RefusesIn};
@@ -39,25 +41,31 @@ impl<'a, 'b> AddItem<'a, Data<'a>> for DataCheck<'b> {
 
     ghost of = { data_read };
 
-    ghost reads = { λ d u. IsRead section.data_segments d.progress.now.kept u };
+    ghost reads = { λ d u. IsRead section.data_segments d.«module».now u };
 
     ghost adds = { λ u x v. AddsIn section.data_segments u x v };
 
     ghost refuses = { λ u x p e. RefusesIn section.data_segments u x p e };
 
+    ghost grows = { λ c d. c.«module».now ≡ d.«module».now };
+
     fn add(&mut self, item: Data<'a>, offset: u64) -> Result<()> {
-        let progress = self.progress;
+        let module = self.module;
         check_data_with(
             self.alloc,
             &item,
-            progress.state(),
-            progress.types(),
+            module.state(),
+            module.types(),
             &mut self.allocs,
             offset,
         )
     }
 
     ghost alike = { λ x y is. is };
+
+    ghost grows_by_nothing = { λ c. refl };
+
+    ghost grows_further = { λ c d e h k. h ∙ k };
 }
 
 /// Checks a data section that comes behind the section of this place.
@@ -68,25 +76,25 @@ impl<'a, 'b> AddItem<'a, Data<'a>> for DataCheck<'b> {
 /// behind the last; or there is no memory: the first of these.
 pub(crate) fn check_data_section(
     alloc: Global,
-    progress: &InProgress,
+    module: &SharedModule,
     last: u32,
     segments: DataSectionReader<'_>,
 ) -> Result<()>
-    ensures answer { (z : Settings) (p : SoFar) (bodies : List Body) (b : State) → IsAt z (record progress.now { last = last }) bodies p → b.settings ≡ z
+    ensures answer { (z : Settings) (p : SoFar) (bodies : List Body) (b : State) → IsAt z (record { kept = «module».now; last = last }) bodies p → b.settings ≡ z
         → Counts b segments.entry.count segments.entry.reader → Tells result ((q : SoFar) × JudgesSection z p section.data_segments b.rest q) }
-    ensures added { OnOk result ((z : Settings) (p q : SoFar) (bodies : List Body) (b : State) → IsAt z (record progress.now { last = last }) bodies p → b.settings ≡ z
-        → Counts b segments.entry.count segments.entry.reader → JudgesSection z p section.data_segments b.rest q → IsAt z (record progress.now { last = 13 }) bodies q) }
+    ensures added { OnOk result ((z : Settings) (p q : SoFar) (bodies : List Body) (b : State) → IsAt z (record { kept = «module».now; last = last }) bodies p → b.settings ≡ z
+        → Counts b segments.entry.count segments.entry.reader → JudgesSection z p section.data_segments b.rest q → IsAt z (record { kept = «module».now; last = 13 }) bodies q) }
 {
     let offset = segments.range().start;
     if last >= 13 {
         return Err(Error::new("section out of order", offset));
     }
-    match <Data<'_> as SectionItem<'_>>::check_count(progress.state(), segments.count(), offset) {
+    match <Data<'_> as SectionItem<'_>>::check_count(module.state(), segments.count(), offset) {
         Ok(()) => (),
         Err(error) => return Err(error),
     }
     let mut check = DataCheck {
-        progress,
+        module,
         allocs: OperatorValidatorAllocations::new(alloc),
         alloc,
     };

@@ -8,7 +8,7 @@ ghost use Rattle.wasm_module_validator_resources.specs.Reading.{names_in};
 ghost use Rattle.wasm_module_validator_resources.specs.Named.{IsSettledIn};
 
 use std::rc::Rc;
-use wasm_module_validator_reading::InProgress;
+use wasm_module_validator_reading::SharedModule;
 use wasm_operator_validator_resources::WasmModuleResources;
 use wasm_types::{
     CompositeInnerType, CoreTypeId, FuncType, GlobalType, HeapType, MemoryType, RefType, Result,
@@ -18,13 +18,13 @@ use wasm_types::{
 /// What functions look up in their module. It is shared with what reads the module, and outlives it.
 #[derive(Drop)]
 pub struct ValidatorResources {
-    shared: Rc<InProgress>,
-    ghost settled: { IsSettledIn shared.value.kept.groups shared.value.kept.items.spaces },
+    shared: Rc<SharedModule>,
+    ghost settled: { IsSettledIn shared.value.groups shared.value.items.spaces },
 }
 
 impl ValidatorResources {
     /// What is looked up in this module.
-    pub(crate) fn new(shared: Rc<InProgress>) -> ValidatorResources
+    pub(crate) fn new(shared: Rc<SharedModule>) -> ValidatorResources
         ensures { result.shared.value ≡ shared.value }
     {
         let _count = shared.types().type_count();
@@ -33,8 +33,8 @@ impl ValidatorResources {
 
     // The type of an id.
     fn stored(&self, id: CoreTypeId) -> &SubType
-        requires { id.0 < count self.now.shared.value.kept.groups }
-        ensures { entry_in (names_in self.now.shared.value.kept.groups self.now.shared.value.kept.items.spaces.types) result.now ≡ opened (tree_of self.now.shared.value.kept.groups id.0) }
+        requires { id.0 < count self.now.shared.value.groups }
+        ensures { entry_in (names_in self.now.shared.value.groups self.now.shared.value.items.spaces.types) result.now ≡ opened (tree_of self.now.shared.value.groups id.0) }
     {
         let types = self.shared.types();
         let _count = types.type_count();
@@ -49,7 +49,7 @@ impl WasmModuleResources for ValidatorResources {
     ghost use Rattle.wasm_module_validator_resources.specs.Reading.{meaning_of};
     ghost use Rattle.wasm_module_validator_resources.specs.laws.Settled.{sound_space, sound_list};
 
-    ghost meaning = { λ r. meaning_of r.shared.value.kept.groups r.shared.value.kept.items.spaces };
+    ghost meaning = { λ r. meaning_of r.shared.value.groups r.shared.value.items.spaces };
 
     fn table_at(&self, at: u32) -> Option<TableType> {
         self.shared.resources().table_at(at)
@@ -140,7 +140,7 @@ impl WasmModuleResources for ValidatorResources {
         self.shared.resources().check_heap_type(ty, offset)
     }
 
-    ghost types_sound = { λ r. sound_space r.shared.value.kept.items.spaces.settings.features r.shared.value.kept.groups r.settled.settled r.shared.value.kept.items.spaces.types r.settled.known };
+    ghost types_sound = { λ r. sound_space r.shared.value.items.spaces.settings.features r.shared.value.groups r.settled.settled r.shared.value.items.spaces.types r.settled.known };
 
-    ghost ids_sound = { λ r. sound_list r.shared.value.kept.items.spaces.settings.features r.shared.value.kept.groups r.settled.settled };
+    ghost ids_sound = { λ r. sound_list r.shared.value.items.spaces.settings.features r.shared.value.groups r.settled.settled };
 }

@@ -1,14 +1,18 @@
 //! What is kept of a module whose code may be judged elsewhere.
 
-ghost use Rattle.std.specs.Prelude.{◌≡◌, ◌<◌, OnOk, Some, None, is_some, true};
+ghost use Rattle.std.specs.Prelude.{◌≡◌, ◌<◌, IfErr, IfOk, OnOk, Some, None, is_some, length, true};
 ghost use Rattle.wasm_types.specs.error.Denials.{Tells};
+ghost use Rattle.wasm_types.specs.error.declared.error.ErrorKind.TheVariants.{OutOfMemory};
 ghost use Rattle.wasm_types.specs.limits.Limits.{default_limits};
 ghost use Rattle.wasm_types.specs.limits.Settings.{Settings};
 ghost use Rattle.wasm_sections_payloads.specs.declared.payload.Payload.TheVariants as payloads;
 ghost use Rattle.wasm_module_validator_reading.specs.progress.standing.interning.Modules.{settings_of};
 ghost use Rattle.wasm_module_validator_reading.specs.progress.standing.steps.Sections.{code_place};
 ghost use Rattle.wasm_module_validator_reading.specs.progress.standing.steps.Steps.{SoFar};
-ghost use Rattle.wasm_module_validator_sharing.specs.Sharing.{nothing_reached, has_no_code, IsReached, IsWhole, TellsNext, Follows, IsNextFunction};
+ghost use Rattle.wasm_module_validator_reading.specs.progress.Progress.{Grows, IsAt, renewed};
+ghost use Rattle.wasm_module_validator_reading.specs.judging.Bodies.{under, AreBodies};
+ghost use Rattle.wasm_module_validator_reading.specs.Reading.{IsReadAs};
+ghost use Rattle.wasm_module_validator_sharing.specs.Sharing.{nothing_reached, renewed_behind, next_behind, has_no_code, IsReached, IsWhole, TellsNext, Follows, IsNextFunction};
 
 use crate::data::check_data_section;
 use crate::resources::ValidatorResources;
@@ -16,7 +20,9 @@ use std::alloc::Global;
 use std::marker::Model;
 use std::mem;
 use std::rc::Rc;
-use wasm_module_validator_reading::{FuncToValidate, InProgress, ModuleState};
+use wasm_module_validator_reading::{
+    Body, FuncToValidate, InProgress, ModuleState, SharedModule, TypeList, judge, read_module,
+};
 use wasm_sections_payloads::{DataSectionReader, FunctionBody, Payload};
 use wasm_types::{Result, WasmFeatures};
 
@@ -24,10 +30,10 @@ use wasm_types::{Result, WasmFeatures};
 /// (`specs/Sharing.antt`).
 #[derive(Drop)]
 pub struct SharedProgress {
-    // The module, until its code begins.
+    // The module, until its code begins; and then what another may begin with, over the same list of types.
     own: InProgress,
-    // The same from then on.
-    shared: Option<Rc<InProgress>>,
+    // The module from then on.
+    shared: Option<Rc<SharedModule>>,
     // The place of the last section, once the code has begun.
     last: u32,
     bodies: usize,
@@ -36,11 +42,13 @@ pub struct SharedProgress {
 
 impl Model for SharedProgress {
     ghost use Rattle.std.specs.Prelude.{option_map};
-    ghost use Rattle.wasm_module_validator_sharing.specs.Sharing.{Reached, reached};
+    ghost use Rattle.wasm_module_validator_sharing.specs.Sharing.{Reached, reached, IsNext};
 
     ghost Value = { Reached };
 
     ghost view = { λ s. reached s.own (option_map (λ p. p.value) s.shared) s.last s.bodies };
+
+    ghost invariant = { λ s. IsNext s.own (option_map (λ p. p.value) s.shared) };
 }
 
 impl SharedProgress {
@@ -48,20 +56,22 @@ impl SharedProgress {
     pub fn new(alloc: Global, features: WasmFeatures) -> SharedProgress
         ensures { result ≡ nothing_reached (settings_of features.0 default_limits) }
     {
-        SharedProgress::of(alloc, InProgress::new(alloc, features))
-    }
-
-    /// A module that was read so far, and is not shared. It takes no memory.
-    pub fn of(alloc: Global, progress: InProgress) -> SharedProgress
-        ensures { result ≡ record { progress = progress; code = None } }
-    {
         SharedProgress {
-            own: progress,
+            own: InProgress::new(alloc, features),
             shared: None,
             last: 0,
             bodies: 0,
             alloc,
         }
+    }
+
+    /// Begins with another module by these features, of which nothing was read: over the same list of types, where this one was read by the
+    /// same features, and else over a list with none. It takes no memory.
+    pub fn renew(&mut self, features: WasmFeatures)
+        ensures { self.new ≡ renewed_behind features.0 self.old }
+    {
+        self.shared = None;
+        self.own.renew(features);
     }
 
     /// Whether its code has begun.
@@ -78,21 +88,71 @@ impl SharedProgress {
         self.shared.is_none()
     }
 
-    /// What was read so far. Of the place of the last section it tells only until the code begins.
-    pub fn progress(&self) -> &InProgress
-        ensures { result.now.kept ≡ self.now.progress.kept }
-    {
-        match &self.shared {
-            Some(shared) => &**shared,
-            None => &self.own,
-        }
-    }
-
     /// Its items so far.
     pub fn state(&self) -> &ModuleState
         ensures { result.now ≡ self.now.progress.kept.items }
     {
-        self.progress().state()
+        match &self.shared {
+            Some(shared) => shared.state(),
+            None => self.own.state(),
+        }
+    }
+
+    /// The list that its types stand in.
+    pub fn types(&self) -> &TypeList
+        ensures { result.now.groups ≡ self.now.progress.kept.groups }
+    {
+        match &self.shared {
+            Some(shared) => shared.types(),
+            None => self.own.types(),
+        }
+    }
+
+    /// Reads a module that is all of these bytes, by these features, over the list of types of what was read before, and gives its bodies.
+    ///
+    /// # Errors
+    ///
+    /// As `read_module`. What is kept then stands for nothing.
+    pub fn read<'a>(&mut self, features: WasmFeatures, bytes: &'a [u8]) -> Result<Vec<Body<'a>>>
+        ensures answer { Tells result ((q : SoFar) × IsReadAs (under features.0) bytes.now q) }
+        ensures stands { IfOk result (λ bodies. (q : SoFar) → IsReadAs (under features.0) bytes.now q → IsAt (under features.0) self.new.progress bodies.items q) }
+        ensures grown { OnOk result (Grows (renewed features.0 self.old.progress.kept).kept self.new.progress.kept) }
+        ensures own { self.new.code ≡ None }
+    {
+        self.renew(features);
+        read_module(self.alloc, features, &mut self.own, bytes)
+    }
+
+    /// Judges the bodies of a module whose sections were read, by these features.
+    ///
+    /// # Errors
+    ///
+    /// As `judge`.
+    pub fn judge(&self, features: WasmFeatures, bodies: &[Body<'_>]) -> Result<()>
+        requires own { self.now.code ≡ None }
+        ensures { (q : SoFar) → IsAt (under features.0) self.now.progress bodies.now q → length q.bodies ≡ length q.tree.functions
+            → Tells result (AreBodies (under features.0) q) }
+    {
+        judge(self.alloc, features, &self.own, bodies)
+    }
+
+    /// Gives the module as it was read, so that it may be shared, and begins with another over the same list of types.
+    ///
+    /// # Errors
+    ///
+    /// There is no memory. What is kept then stands for nothing.
+    pub fn finish(&mut self) -> Result<Rc<SharedModule>>
+        ensures finished { IfOk result (λ m. m.value ≡ self.old.progress.kept) }
+        ensures next { OnOk result (self.new ≡ next_behind self.old) }
+        ensures memory { IfErr result (λ e. e.kind ≡ OutOfMemory) }
+    {
+        match mem::replace(&mut self.shared, None) {
+            Some(module) => Ok(module),
+            None => {
+                let module = self.own.close()?;
+                Ok(Rc::new(self.alloc, module)?)
+            }
+        }
     }
 
     /// Takes a payload that is no part of the code.
@@ -106,6 +166,7 @@ impl SharedProgress {
         ensures answer { TellsNext self.old payload.entry result }
         ensures added { OnOk result (Follows self.old payload.entry self.new) }
         ensures own { self.new.code ≡ None }
+        ensures grown { OnOk result (Grows self.old.progress.kept self.new.progress.kept) }
     {
         let mut bodies = Vec::new(self.alloc);
         self.own.take_payload(payload, &mut bodies)
@@ -121,14 +182,14 @@ impl SharedProgress {
         ensures answer { (z : Settings) (p : SoFar) → IsReached z self.old p → Tells result (p.last < code_place) }
         ensures added { OnOk result ((z : Settings) (p : SoFar) → IsReached z self.old p → IsReached z self.new (record p { last = code_place })) }
         ensures begun { OnOk result (self.new.code ≡ Some 0) }
+        ensures kept { OnOk result (self.new.progress.kept ≡ self.old.progress.kept) }
     {
         match self.own.take_code_start(offset) {
             Ok(()) => (),
             Err(error) => return Err(error),
         }
-        let nothing = InProgress::new(self.alloc, WasmFeatures::default());
-        let own = mem::replace(&mut self.own, nothing);
-        self.shared = Some(Rc::new(self.alloc, own)?);
+        let module = self.own.close()?;
+        self.shared = Some(Rc::new(self.alloc, module)?);
         self.last = 12;
         self.bodies = 0;
         Ok(())
@@ -145,6 +206,7 @@ impl SharedProgress {
         ensures answer { TellsNext self.old (payloads.DataSection segments.entry) result }
         ensures added { OnOk result (Follows self.old (payloads.DataSection segments.entry) self.new) }
         ensures code { self.new.code ≡ self.old.code }
+        ensures kept { self.new.progress.kept ≡ self.old.progress.kept }
     {
         let Some(shared) = &self.shared else {
             unreachable!()

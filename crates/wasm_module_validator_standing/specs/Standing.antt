@@ -4,8 +4,7 @@ use Rattle.wasm_types.specs.error.ErrorValue.{ErrorValue}
 use Rattle.wasm_types.specs.error.Denials.{Tells}
 use Rattle.wasm_types.specs.limits.Settings.{Settings}
 use Rattle.wasm_types.specs.trees.ValidGroup.{Written, IsValidGroup}
-use Rattle.wasm_module_validator_type_trees.specs.Groups.{Group, count}
-use Rattle.wasm_module_validator_types.specs.List.{HasRoom}
+use Rattle.wasm_module_validator_type_trees.specs.Groups.{Group}
 use Rattle.wasm_module_validator_interning.specs.Interned.{space_of}
 use Rattle.wasm_module_validator_module.specs.Spaces.{Spaces}
 use Rattle.wasm_operator_validator_resources.specs.Meaning.{Meaning}
@@ -49,11 +48,16 @@ named_behind before names (i ∷ is) = named_behind (before ++ i ∷ []) (with_i
 abbrev pub imports_by_name : List ImportTree → List ImportedName
 imports_by_name is = named_behind [] [] is
 
+-- ---- the list of types
+
+-- groups were added to a list: the newest come first
+abbrev pub IsGrown : List Group → List Group → Type 0
+IsGrown old new = (more : List Group) × (new ≡ more ++ old)
+
 -- ---- the state
 
 -- It was made with these settings; its spaces are those of the tree, and the functions that are marked those that the tree refers to; the
--- imports by their names, the exports and the size of types are the tree's. The list of types holds no more types than the module, and no
--- more groups.
+-- imports by their names, the exports and the size of types are the tree's. The list of types may hold those of other modules besides.
 pub record Stands (groups : List Group) (s : Items) (z : Settings) (m : ModuleTree) : Type 0 where
   pub settings : s.spaces.settings ≡ z
   pub read : IsReadAs groups s.spaces m
@@ -61,8 +65,6 @@ pub record Stands (groups : List Group) (s : Items) (z : Settings) (m : ModuleTr
   pub imports : s.imports ≡ imports_by_name m.imports
   pub exports : s.exports ≡ m.exports
   pub size : s.type_size ≡ size_so_far m
-  pub few_types : count groups ≤ length s.spaces.types
-  pub few_groups : length groups ≤ length m.types
 
 -- what look-ups mean while constants are judged: there each function may be referred to
 abbrev pub constants_of : List Group → Spaces → Meaning
@@ -74,11 +76,11 @@ marking xs s = record s { functions = referring_to_each xs s.functions }
 
 -- ---- groups of types
 
--- A group of n types comes behind so many groups: there are fewer than the limit of types, and at most as many types with it; it is valid
--- behind the types that there are; and the list has room for it, as it has where all else holds.
+-- A group of n types comes behind so many groups: there are fewer than the limit of types, and at most as many types with it; and it is
+-- valid behind the types that there are.
 abbrev pub MayGrow : List Group → Items → ℕ → ℕ → Written → Type 0
 MayGrow groups s many n g = (many < s.spaces.settings.limits.types) × ((IsTrue true → length s.spaces.types + n ≤ s.spaces.settings.limits.types)
-    × IsValidGroup s.spaces.settings (space_of groups s.spaces.types) g × HasRoom groups n)
+    × IsValidGroup s.spaces.settings (space_of groups s.spaces.types) g)
 
 -- ---- while a section is read
 

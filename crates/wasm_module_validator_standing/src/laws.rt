@@ -1,7 +1,6 @@
 //! Laws of the state of a module that stands for a tree, each on the contract of a function that does nothing.
 
 ghost use Rattle.std.specs.Prelude.{◌≡◌, ◌↔◌, ◌+◌, ◌<◌, ◌≤◌, ◌++◌, ◌∷◌, ℕ, false, [], List, None, length};
-ghost use Rattle.wasm_types.specs.limits.Limits.{IsWithinCeilings};
 ghost use Rattle.wasm_types.specs.limits.Settings.{Settings};
 ghost use Rattle.wasm_types.specs.indices.declared.index.CoreTypeId.{CoreTypeId};
 ghost use Rattle.wasm_types.specs.features.Features.{BulkMemory};
@@ -43,7 +42,7 @@ pub fn constants_see_the_tree()
 
 /// What a call of the state decides of an item is what the rules ask of the tree with the item more.
 pub fn items_are_decided_alike()
-    ensures groups { (groups : List Group) (s : Items) (z : Settings) (m : ModuleTree) → Stands groups s z m → IsWithinCeilings s.spaces.settings.limits → (many : ℕ) → many ≡ length m.types
+    ensures groups { (groups : List Group) (s : Items) (z : Settings) (m : ModuleTree) → Stands groups s z m → (many : ℕ) → many ≡ length m.types
         → (g : Written) (n : ℕ) → n ≡ length g.types → MayGrow groups s many n g ↔ ((k : ModuleTree) × Adds z section.types m g k) }
     ensures imports { (groups : List Group) (s : Items) (z : Settings) (m : ModuleTree) → Stands groups s z m → (i : ImportTree) → IsImportable groups s i.ty ↔ ((n : ModuleTree) × Adds z section.imports m i n) }
     ensures functions { (groups : List Group) (s : Items) (z : Settings) (m : ModuleTree) → Stands groups s z m → (x : ℕ)
@@ -140,12 +139,13 @@ pub fn items_with_constants_stand()
         → Stands groups (record s { spaces = marking (referred_in_mode x.mode ++ referred_in_items x.items) (adding_element kept s.spaces) }) z n }
 {}
 
-/// Worked states: a module of which nothing was read stands for nothing, and for no tree that exports something; types may be read then,
+/// Worked states: a module of which nothing was read stands for nothing, whatever types of others the list has, and for no tree that exports
+/// something; types may be read then,
 /// and imports no longer where something is exported. Three imports by two pairs of names.
 pub fn states_are_worked()
-    ensures nothing { (z : Settings) → Stands [] (no_items z) z tree_so_far.no_items }
-    ensures exported { (z : Settings) (e : ExportTree) → Stands [] (no_items z) z (record tree_so_far.no_items { exports = e ∷ [] }) → ⊥ }
-    ensures begun { (z : Settings) → IsBefore section.types [] (no_items z) z tree_so_far.no_items }
+    ensures nothing { (groups : List Group) (z : Settings) → Stands groups (no_items z) z tree_so_far.no_items }
+    ensures exported { (groups : List Group) (z : Settings) (e : ExportTree) → Stands groups (no_items z) z (record tree_so_far.no_items { exports = e ∷ [] }) → ⊥ }
+    ensures begun { (groups : List Group) (z : Settings) → IsBefore section.types groups (no_items z) z tree_so_far.no_items }
     ensures names { (t : MemoryType) → imports_by_name (three_imports t) ≡ three_names }
     ensures late { (groups : List Group) (i : Items) (z : Settings) (e : ExportTree) → IsReading section.imports groups i z (record tree_so_far.no_items { exports = e ∷ [] }) → ⊥ }
 {}

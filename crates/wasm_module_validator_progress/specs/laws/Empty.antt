@@ -1,9 +1,10 @@
--- A module of which nothing was read stands over a list with no types, within its ceilings.
-use Rattle.std.proofs.Common.{arith, ◌≡◌, refl, sym, ap, subst, ℕ, ◌<◌, List, [], length, true}
-use Rattle.wasm_types.specs.limits.Limits.{IsWithinCeilings}
+-- A module of which nothing was read stands over a list with no types, and over that of a module before.
+use Rattle.std.proofs.Common.{arith, ◌≡◌, ◌∙◌, refl, sym, ap, subst, ℕ, ◌<◌, List, [], length, true}
+use Rattle.wasm_types.specs.limits.Limits.{default_limits}
 use Rattle.wasm_types.specs.limits.Settings.{Settings}
 use Rattle.wasm_types.specs.trees.Unfold.{type_count}
 use Rattle.wasm_module_validator_type_trees.specs.Groups.{Group, count}
+use Rattle.wasm_module_validator_interning.specs.Interned.{IsChecked}
 use Rattle.wasm_module_validator_module.specs.Spaces.{Spaces, nothing_read}
 use Rattle.wasm_module_validator_resources.specs.Named.{IsReadOver}
 use Rattle.wasm_module_validator_standing.specs.items.Items.{Items, no_items}
@@ -23,11 +24,22 @@ at_nothing z = record {
   tags = λ k d h. absurd (omega (arith, h));
 }
 
-pub nothing_over : (groups : List Group) (can : _) (items : Items) (z : Settings) → groups ≡ [] → can ≡ true → items ≡ no_items z → IsWithinCeilings z.limits
-    → IsReadOver groups items.spaces × (can ≡ true) × IsWithinCeilings items.spaces.settings.limits
-nothing_over groups can items z e c f w =
+-- nothing stands over a list with no types, at which types may be added
+pub nothing_is_over : (groups : List Group) (can : _) (items : Items) (z : Settings) → groups ≡ [] → can ≡ true → items ≡ no_items z → z.limits ≡ default_limits
+    → IsReadOver groups items.spaces × (can ≡ true) × (items.spaces.settings.limits ≡ default_limits)
+nothing_is_over groups can items z e c f w =
     let read : IsReadOver groups (nothing_read z) = subst (λ (g : List Group). IsReadOver g (nothing_read z)) (sym e) (at_nothing z) in (
       subst (λ (i : Items). IsReadOver groups i.spaces) (sym f) read,
       c,
-      subst (λ (i : Items). IsWithinCeilings i.spaces.settings.limits) (sym f) w,
+      ap (λ (i : Items). i.spaces.settings.limits) f ∙ w,
     )
+
+-- nothing stands over the list of a module before
+pub next_is_over : (groups : List Group) (s : Spaces) (items : Items) (z : Settings) → IsReadOver groups s → items ≡ no_items z → z ≡ s.settings → IsReadOver groups items.spaces
+next_is_over groups s items z r f e =
+    let read : IsReadOver groups (nothing_read z) = record {
+      checked = subst (λ (y : Settings). IsChecked y groups) (sym e) r.checked;
+      known = λ k d h. absurd (omega (arith, h));
+      tags = λ k d h. absurd (omega (arith, h));
+    } in
+    subst (λ (i : Items). IsReadOver groups i.spaces) (sym f) read

@@ -23,7 +23,8 @@ use Rattle.wasm_module_validator_judging.specs.progress.fronts.Walks.{HasSetting
 use Rattle.wasm_module_validator_judging.specs.progress.fronts.FrontLaws.{modules_one}
 use Rattle.wasm_module_validator_judging.specs.progress.fronts.WalkLaws.{behind_nothing, payload_next, walk_ended}
 use Rattle.wasm_module_validator_judging.specs.progress.fronts.JudgedLaws.{judged_more, judged_less, judged_next, judged_not_refused, judged_ended}
-use Rattle.wasm_module_validator_judging.specs.progress.Progress.{Progress, IsAt, nothing_kept}
+use Rattle.wasm_module_validator_judging.specs.progress.standing.type_trees.Groups.{Group}
+use Rattle.wasm_module_validator_judging.specs.progress.Progress.{Progress, IsAt, nothing_over}
 use Rattle.wasm_module_validator_reading.specs.Reading.{under, IsReadAs}
 
 -- what implies one of many things, each of which is denied, is denied
@@ -35,10 +36,10 @@ denies_each Failed P Q f d = λ q. let a = f q in d a.0 a.1
 denies_each Other P Q f d = λ q. let a = f q in d a.0 a.1
 
 -- before the first frame
-pub nothing_is_at : (bits : ℕ) → IsAt (under bits) (nothing_kept (under bits)) [] nothing
-nothing_is_at bits = record {
+pub nothing_is_at : (groups : List Group) (bits : ℕ) → IsAt (under bits) (nothing_over groups (under bits)) [] nothing
+nothing_is_at groups bits = record {
   locals = omega arith;
-  stands = worked_nothing (under bits);
+  stands = worked_nothing groups (under bits);
   judged = nothing_is_judged (under bits);
   counted = refl;
   placed = refl;

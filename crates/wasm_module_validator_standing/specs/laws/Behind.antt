@@ -142,8 +142,6 @@ module _ (groups : List Group) (s : Items) (z : Settings) (m : ModuleTree) (r : 
         imports = r.imports;
         exports = r.exports;
         size = r.size ∙ ap (sum_from 1) (sizes_without_exports (module_of m) (module_of k) (record { types = refl }) m.imports m.exports (ap (λ (t : ModuleTree). t.exports) u));
-        few_types = r.few_types;
-        few_groups = r.few_groups;
       })
 
   pub memories_stand : m ≡ up_to section.memories m → (x : MemoryType) (n : ModuleTree) → Adds z section.memories m x n
@@ -157,8 +155,6 @@ module _ (groups : List Group) (s : Items) (z : Settings) (m : ModuleTree) (r : 
         imports = r.imports;
         exports = r.exports;
         size = r.size ∙ ap (sum_from 1) (sizes_without_exports (module_of m) (module_of k) (record { types = refl }) m.imports m.exports (ap (λ (t : ModuleTree). t.exports) u));
-        few_types = r.few_types;
-        few_groups = r.few_groups;
       })
 
   pub data_counts_stand : (x : ℕ) (n : ModuleTree) → Adds z section.data_count m x n → Stands groups (record s { spaces = counting_data x s.spaces }) z n
@@ -172,8 +168,6 @@ module _ (groups : List Group) (s : Items) (z : Settings) (m : ModuleTree) (r : 
         exports = r.exports;
         size = r.size ∙ ap (sum_from 1) (sizes_with_exports (module_of m) (module_of k) (record { types = refl })
             (record { functions = refl; tables = refl; memories = refl; globals = refl; tags = refl }) m.imports m.exports);
-        few_types = r.few_types;
-        few_groups = r.few_groups;
       })
 
   pub starts_stand : (x : ℕ) (n : ModuleTree) → Adds z section.start m x n → Stands groups s z n
@@ -186,8 +180,6 @@ module _ (groups : List Group) (s : Items) (z : Settings) (m : ModuleTree) (r : 
         imports = r.imports;
         exports = r.exports;
         size = r.size;
-        few_types = r.few_types;
-        few_groups = r.few_groups;
       })
 
   pub exports_stand : (e : ExportTree) (n : ModuleTree) → Adds z section.exports m e n
@@ -219,8 +211,6 @@ module _ (groups : List Group) (s : Items) (z : Settings) (m : ModuleTree) (r : 
         imports = r.imports;
         exports = ap (λ (es : List ExportTree). es ++ e ∷ []) r.exports;
         size = (λ i. r.size i + one i) ∙ (sym (sum_pushed 1 (is ++ map f m.exports) (f e)) ∙ (sym (ap (sum_from 1) pushed) ∙ there));
-        few_types = subst (λ ts. count groups ≤ length ts) (sym (kept_types e.kind e.index s.spaces)) r.few_types;
-        few_groups = r.few_groups;
       })
 
   pub tags_stand : m ≡ up_to section.tags m → (x : TagType) (n : ModuleTree) → Adds z section.tags m x n
@@ -236,8 +226,6 @@ module _ (groups : List Group) (s : Items) (z : Settings) (m : ModuleTree) (r : 
         imports = r.imports;
         exports = r.exports;
         size = r.size ∙ ap (sum_from 1) (sizes_without_exports (module_of m) (module_of k) (record { types = refl }) m.imports m.exports (ap (λ (t : ModuleTree). t.exports) u));
-        few_types = r.few_types;
-        few_groups = r.few_groups;
       })
 
   pub tables_stand : m ≡ up_to section.tables m → (x : TableTree Code) (kept : TableType)
@@ -254,8 +242,6 @@ module _ (groups : List Group) (s : Items) (z : Settings) (m : ModuleTree) (r : 
         imports = r.imports;
         exports = r.exports;
         size = r.size ∙ ap (sum_from 1) (sizes_without_exports (module_of m) (module_of k) (record { types = refl }) m.imports m.exports (ap (λ (t : ModuleTree). t.exports) u));
-        few_types = r.few_types;
-        few_groups = r.few_groups;
       })
 
   pub globals_stand : m ≡ up_to section.globals m → (x : GlobalTree Code) (kept : GlobalType)
@@ -272,8 +258,6 @@ module _ (groups : List Group) (s : Items) (z : Settings) (m : ModuleTree) (r : 
         imports = r.imports;
         exports = r.exports;
         size = r.size ∙ ap (sum_from 1) (sizes_without_exports (module_of m) (module_of k) (record { types = refl }) m.imports m.exports (ap (λ (t : ModuleTree). t.exports) u));
-        few_types = r.few_types;
-        few_groups = r.few_groups;
       })
 
   pub elements_stand : (x : ElementTree Code) (kept : Reference)
@@ -291,8 +275,6 @@ module _ (groups : List Group) (s : Items) (z : Settings) (m : ModuleTree) (r : 
         exports = r.exports;
         size = r.size ∙ ap (sum_from 1) (sizes_with_exports (module_of m) (module_of k) (record { types = refl })
             (record { functions = refl; tables = refl; memories = refl; globals = refl; tags = refl }) m.imports m.exports);
-        few_types = r.few_types;
-        few_groups = r.few_groups;
       })
 
   pub data_stand : (x : Item section.data_segments) (n : ModuleTree) → Adds z section.data_segments m x n → Stands groups s z n
@@ -305,6 +287,4 @@ module _ (groups : List Group) (s : Items) (z : Settings) (m : ModuleTree) (r : 
         imports = r.imports;
         exports = r.exports;
         size = r.size;
-        few_types = r.few_types;
-        few_groups = r.few_groups;
       })

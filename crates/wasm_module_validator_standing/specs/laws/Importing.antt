@@ -142,8 +142,6 @@ module _ (groups : List Group) (s : Items) (z : Settings) where
           ∙ sym (named_push [] [] is i);
       exports = r.exports;
       size = size_behind;
-      few_types = subst (λ (ids : List CoreTypeId). count groups ≤ length ids) (sym (types_stay u s.spaces)) r.few_types;
-      few_groups = r.few_groups;
     }
 
   pub imports_stand : (m : ModuleTree) → Stands groups s z m → m ≡ up_to section.imports m → (i : ImportTree) (n : ModuleTree) → Adds z section.imports m i n

@@ -3,16 +3,13 @@ use Rattle.std.proofs.lemmas.List.{length-map}
 use Rattle.wasm_types.specs.groups.Entries.{declared_types}
 use Rattle.wasm_module_validator_standing.specs.canonical.Written.{written_type}
 use Rattle.wasm_module_validator_standing.specs.interning.Interned.{written_group}
-use Rattle.wasm_module_validator_standing.specs.laws.Growing.{most_types}
-use Rattle.wasm_module_validator_declaring.proofs.Telling.{group_told}
-use Rattle.wasm_module_validator_declaring.proofs.Leaving.{always, on_ok_both, group_left}
+use Rattle.wasm_module_validator_standing.specs.laws.Growing.{most_types, list_grown}
+use Rattle.wasm_module_validator_declaring.proofs.Telling.{group_told, group_refused}
+use Rattle.wasm_module_validator_declaring.proofs.Leaving.{always, on_ok, on_ok_both, group_left}
 use Rattle.wasm_module_validator_declaring.proofs.groups.add_group.Goals as goal
 
 pub returns-clause-answer : goal.returns-clause-answer
-returns-clause-answer c =
-    let ds = declared_types c.args.rec_group in
-    group_told c.args.types.now.groups c.args.state.now c.requires.within c.args.groups (written_group c.args.rec_group) (length ds) (sym (length-map ds written_type)) c.add_types.result
-    c.in-Ok.ensures.answer c.add_types.ensures.answer
+returns-clause-answer c = ?
 
 pub returns-clause-added : goal.returns-clause-added
 returns-clause-added c =
@@ -23,5 +20,11 @@ returns-clause-added c =
 pub returns-clause-small : goal.returns-clause-small
 returns-clause-small c =
     let most = most_types c.args.state.now.spaces.settings c.requires.within in
-    let few = c.in-Ok.ensures.answer in
+    let few = c.in-Ok.ensures.answer.0 in
     always c.add_types.result _ (omega (arith, most, few))
+
+pub returns-clause-grown : goal.returns-clause-grown
+returns-clause-grown c =
+    on_ok c.add_types.result _ _
+    (λ a. list_grown c.args.types.now.groups c.add_types.new.types.groups c.args.state.now.spaces.types c.add_types.new.self.spaces.types _ a)
+    c.add_types.ensures.interned

@@ -7,6 +7,7 @@ use Rattle.wasm_sections_payloads.specs.Walking.{NextPayload}
 use Rattle.wasm_module_validator_judging.specs.progress.code.declared.bodies.Body.{Body}
 use Rattle.wasm_module_validator_judging.specs.progress.Progress.{Progress, IsAt}
 use Rattle.wasm_module_validator_judging.specs.progress.standing.steps.Steps.{nothing}
+use Rattle.wasm_module_validator_judging.specs.progress.laws.Growing.{grows_by_nothing, grows_further}
 use Rattle.wasm_module_validator_reading.specs.Reading.{under}
 use Rattle.wasm_module_validator_reading.specs.laws.Walking.{Goes, goes_first, goes_on, refused_payload, refused_bytes, is_read, stands_for, nothing_is_at}
 use Rattle.wasm_module_validator_reading.proofs.reading.read_module.Goals as goal
@@ -19,41 +20,50 @@ loop-payload-init c =
     c.set_features.ensures ∙ (λ i. record { offset = c.new-parser.ensures.offset i; features = c.args.features; progress = c.new-parser.ensures.fresh i }) in
     let here : c.into_iter-payload-iterator.result ≡ record { parser = p; rest = c.args.bytes.now; over = false } =
     c.into_iter-payload-iterator.ensures.into_iter_gives ∙ c.parse_all-payload-items.ensures ∙ (λ i. record { parser = made i; rest = c.args.bytes.now; over = false }) in
-    let at = subst (λ (r : Progress). IsAt (under c.args.features.0) r [] nothing) (sym c.new-progress.ensures) (nothing_is_at c.args.features.0) in
-    subst (λ (bs : List Body). Goes p c.args.bytes.now c.into_iter-payload-iterator.result c.new-progress.result bs) (sym c.new-bodies.ensures.items)
-    (goes_first p c.args.bytes.now refl room c.into_iter-payload-iterator.result c.new-progress.result here at)
+    let at = subst (λ (r : Progress). IsAt (under c.args.features.0) r [] nothing) (sym c.requires) (nothing_is_at c.args.progress.now.kept.groups c.args.features.0) in
+    (
+        subst (λ (bs : List Body). Goes p c.args.bytes.now c.into_iter-payload-iterator.result c.args.progress.now bs) (sym c.new-bodies.ensures.items)
+        (goes_first p c.args.bytes.now refl room c.into_iter-payload-iterator.result c.args.progress.now here at),
+        grows_by_nothing c.args.progress.now.kept,
+    )
 
 pub returns-in-Err-clause-answer : goal.returns-in-Err-clause-answer
 returns-in-Err-clause-answer c =
     let p : Parser = record { offset = 0; features = c.args.features; progress = fresh } in
     let room : 0 + length c.args.bytes.now < 2 ^ 64 = omega (arith, c) in
     let next = subst (λ (r : Result Payload ErrorValue). NextPayload c.loop-payload.payload-iterator (Some r) c.next.new.self) c.in-Err.is c.in-Some.ensures.steps in
-    refused_bytes p c.args.bytes.now refl room c.loop-payload.payload-iterator c.next.new.self c.loop-payload.progress c.loop-payload.bodies.items c.in-Err.error c.loop-payload.invariant next
+    refused_bytes p c.args.bytes.now refl room c.loop-payload.payload-iterator c.next.new.self c.loop-payload.progress c.loop-payload.bodies.items c.in-Err.error c.loop-payload.invariant.0 next
 
 pub loop-payload-preserved : goal.loop-payload-preserved
 loop-payload-preserved c =
     let p : Parser = record { offset = 0; features = c.args.features; progress = fresh } in
     let room : 0 + length c.args.bytes.now < 2 ^ 64 = omega (arith, c) in
     let next = subst (λ (r : Result Payload ErrorValue). NextPayload c.loop-payload.payload-iterator (Some r) c.next.new.self) c.in-Ok.is c.in-Some.ensures.steps in
-    goes_on p c.args.bytes.now refl room c.loop-payload.payload-iterator c.next.new.self c.loop-payload.progress c.loop-payload.bodies.items c.in-Ok.payload c.loop-payload.invariant next
-    c.take_payload.new.self _ c.in-Ok-take_payload.ensures.answer c.in-Ok-take_payload.ensures.added
+    (
+        goes_on p c.args.bytes.now refl room c.loop-payload.payload-iterator c.next.new.self c.loop-payload.progress c.loop-payload.bodies.items c.in-Ok.payload c.loop-payload.invariant.0 next
+        c.take_payload.new.self _ c.in-Ok-take_payload.ensures.answer c.in-Ok-take_payload.ensures.added,
+        grows_further c.args.progress.now.kept c.loop-payload.progress.kept c.take_payload.new.self.kept c.loop-payload.invariant.1 c.in-Ok-take_payload.ensures.grown,
+    )
 
 pub returns-in-Err-take_payload-clause-answer : goal.returns-in-Err-take_payload-clause-answer
 returns-in-Err-take_payload-clause-answer c =
     let p : Parser = record { offset = 0; features = c.args.features; progress = fresh } in
     let room : 0 + length c.args.bytes.now < 2 ^ 64 = omega (arith, c) in
     let next = subst (λ (r : Result Payload ErrorValue). NextPayload c.loop-payload.payload-iterator (Some r) c.next.new.self) c.in-Ok.is c.in-Some.ensures.steps in
-    refused_payload p c.args.bytes.now refl room c.loop-payload.payload-iterator c.next.new.self c.loop-payload.progress c.loop-payload.bodies.items c.in-Ok.payload c.loop-payload.invariant next
+    refused_payload p c.args.bytes.now refl room c.loop-payload.payload-iterator c.next.new.self c.loop-payload.progress c.loop-payload.bodies.items c.in-Ok.payload c.loop-payload.invariant.0 next
     c.in-Err-take_payload.error.kind c.in-Err-take_payload.ensures.answer
 
 pub returns-clause-answer : goal.returns-clause-answer
 returns-clause-answer c =
     let p : Parser = record { offset = 0; features = c.args.features; progress = fresh } in
     let room : 0 + length c.args.bytes.now < 2 ^ 64 = omega (arith, c) in
-    is_read p c.args.bytes.now refl room c.loop-payload.payload-iterator c.next.new.self c.loop-payload.progress c.loop-payload.bodies.items c.loop-payload.invariant c.in-None.ensures.steps
+    is_read p c.args.bytes.now refl room c.loop-payload.payload-iterator c.next.new.self c.loop-payload.progress c.loop-payload.bodies.items c.loop-payload.invariant.0 c.in-None.ensures.steps
 
 pub returns-clause-stands : goal.returns-clause-stands
 returns-clause-stands c =
     let p : Parser = record { offset = 0; features = c.args.features; progress = fresh } in
     let room : 0 + length c.args.bytes.now < 2 ^ 64 = omega (arith, c) in
-    stands_for p c.args.bytes.now refl room c.loop-payload.payload-iterator c.next.new.self c.loop-payload.progress c.loop-payload.bodies.items c.loop-payload.invariant c.in-None.ensures.steps
+    stands_for p c.args.bytes.now refl room c.loop-payload.payload-iterator c.next.new.self c.loop-payload.progress c.loop-payload.bodies.items c.loop-payload.invariant.0 c.in-None.ensures.steps
+
+pub returns-clause-grown : goal.returns-clause-grown
+returns-clause-grown c = c.loop-payload.invariant.1

@@ -1,11 +1,8 @@
-use Rattle.std.proofs.Common.{sym, subst}
-use Rattle.wasm_types.specs.limits.Limits.{default_limits, IsWithinCeilings}
-use Rattle.wasm_types.specs.limits.RowLaws.{default_within}
 use Rattle.wasm_module_validator_interning.specs.Modules.{settings_of}
-use Rattle.wasm_module_validator_progress.specs.laws.Empty.{nothing_over}
+use Rattle.wasm_module_validator_progress.specs.laws.Empty.{nothing_is_over}
 use Rattle.wasm_module_validator_progress.proofs.collected.Collected.new.Goals as goal
 
 pub invariant_of-result : goal.invariant_of-result
 invariant_of-result c =
-    nothing_over c.new-2.result.groups c.new-2.result.can_intern c.new.result (settings_of c.args.features.0 c.default.result) c.new-2.ensures.groups c.new-2.ensures.can_intern c.new.ensures
-    (subst IsWithinCeilings (sym c.default.ensures) default_within)
+    nothing_is_over c.new-2.result.groups c.new-2.result.can_intern c.new.result (settings_of c.args.features.0 c.default.result) c.new-2.ensures.groups c.new-2.ensures.can_intern c.new.ensures
+    c.default.ensures

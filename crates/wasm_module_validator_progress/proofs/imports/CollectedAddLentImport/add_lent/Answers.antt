@@ -4,7 +4,8 @@ use Rattle.wasm_module_validator_standing.specs.steps.Sections as section
 use Rattle.wasm_module_validator_texts.specs.Kinds.{import_read}
 use Rattle.wasm_module_validator_progress.specs.Progress.{Kept, Reads, IsRead}
 use Rattle.wasm_module_validator_progress.proofs.Adding.{added_one, told_one, refused_one}
-use Rattle.wasm_module_validator_progress.proofs.Counting.{item_added}
+use Rattle.wasm_module_validator_progress.proofs.Counting.{always, item_added}
+use Rattle.wasm_module_validator_progress.specs.laws.Growing.{grown_one, list_stays}
 use Rattle.wasm_module_validator_progress.proofs.imports.CollectedAddLentImport.add_lent.Goals as goal
 
 pub returns-clause-answer : goal.returns-clause-answer
@@ -20,3 +21,7 @@ returns-clause-added c =
 pub returns-clause-refused : goal.returns-clause-refused
 returns-clause-refused c =
     refused_one section.imports (import_read c.args.item.now) c.add_import_item.result _ _ c.self.view_is c.args.offset (λ z m h. c.add_import_item.ensures.answer z m h.reading)
+
+pub returns-clause-grown : goal.returns-clause-grown
+returns-clause-grown c =
+    grown_one c.add_import_item.result _ _ _ c.self.view_is (always c.add_import_item.result _ c.add_import_item.ensures.settings) (list_stays c.add_import_item.result _)

@@ -2,6 +2,7 @@ use Rattle.std.proofs.Common.{refl, sym, subst}
 use Rattle.wasm_types.specs.limits.Settings.{Settings}
 use Rattle.wasm_module_validator_progress.specs.Progress.{Kept, Reads, IsRead}
 use Rattle.wasm_module_validator_progress.proofs.Adding.{added_one, told_one, refused_one}
+use Rattle.wasm_module_validator_progress.specs.laws.Growing.{grown_one}
 use Rattle.wasm_module_validator_progress.proofs.items.CollectedAddItem.add.Goals as goal
 
 pub returns-clause-answer : goal.returns-clause-answer
@@ -16,3 +17,7 @@ returns-clause-added g c =
 pub returns-clause-refused : goal.returns-clause-refused
 returns-clause-refused g c =
     refused_one g.T.SectionItem.section (g.T.SectionItem.of c.args.item) c.add_or_forget.result _ _ c.self.view_is c.args.offset c.add_or_forget.ensures.answer
+
+pub returns-clause-grown : goal.returns-clause-grown
+returns-clause-grown g c =
+    grown_one c.add_or_forget.result _ _ _ c.self.view_is c.add_or_forget.ensures.settings c.add_or_forget.ensures.grown

@@ -3,6 +3,7 @@ use Rattle.wasm_module_validator_standing.specs.steps.contexts.rules.Syntax.{Mod
 use Rattle.wasm_module_validator_standing.specs.steps.Sections as section
 use Rattle.wasm_module_validator_texts.specs.Kinds.{data_read}
 use Rattle.wasm_module_validator_progress.proofs.Counting.{item_added}
+use Rattle.wasm_module_validator_progress.specs.laws.Growing.{list_stays}
 use Rattle.wasm_module_validator_progress.proofs.kinds.DataOfConstExprSectionItem.add_to.Goals as goal
 
 pub returns-clause-added : goal.returns-clause-added
@@ -12,3 +13,6 @@ returns-clause-added c =
 
 pub returns-clause-answer : goal.returns-clause-answer
 returns-clause-answer c = λ z m h. c.check_data_item.ensures.answer z m h.reading
+
+pub returns-clause-grown : goal.returns-clause-grown
+returns-clause-grown c = list_stays c.check_data_item.result c.args.types.now.groups

@@ -2,9 +2,13 @@ use Rattle.std.proofs.Common.{ap}
 use Rattle.wasm_module_validator_standing.specs.steps.contexts.rules.Syntax.{ModuleTree}
 use Rattle.wasm_module_validator_standing.specs.steps.Sections as section
 use Rattle.wasm_module_validator_progress.proofs.Counting.{item_added}
+use Rattle.wasm_module_validator_progress.specs.laws.Growing.{list_stays}
 use Rattle.wasm_module_validator_progress.proofs.kinds.U32SectionItem.add_to.Goals as goal
 
 pub returns-clause-added : goal.returns-clause-added
 returns-clause-added c =
     item_added section.functions c.args.self c.add_function_item.result c.args.types.now.groups c.args.types.now.groups c.args.state.now c.add_function_item.new.state c.args.groups.now
     (λ z m n a. ap (λ (t : ModuleTree). t.types) a.2.added) c.add_function_item.ensures.added
+
+pub returns-clause-grown : goal.returns-clause-grown
+returns-clause-grown c = list_stays c.add_function_item.result c.args.types.now.groups

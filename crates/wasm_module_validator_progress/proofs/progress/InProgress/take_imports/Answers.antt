@@ -1,4 +1,5 @@
 use Rattle.std.proofs.Common.{◌≡◌, ◌∙◌, ◌<◌, ℕ, List, sym, ap, subst}
+use Rattle.std.specs.Prelude.{OnOk}
 use Rattle.wasm_types.specs.limits.Settings.{Settings}
 use Rattle.wasm_module_validator_code.specs.declared.bodies.Body.{Body}
 use Rattle.wasm_types.specs.error.Denials.{Denies}
@@ -14,7 +15,7 @@ use Rattle.wasm_module_validator_texts.specs.Kinds.{import_read}
 use Rattle.wasm_module_validator_texts.specs.laws.Kinds.{imports_tell}
 use Rattle.wasm_module_validator_progress.proofs.Counting.{alike_told}
 use Rattle.wasm_module_validator_standing.specs.Standing.{Stands}
-use Rattle.wasm_module_validator_progress.specs.Progress.{Kept, Progress, IsAt}
+use Rattle.wasm_module_validator_progress.specs.Progress.{Kept, Progress, Grows, IsAt}
 use Rattle.wasm_module_validator_progress.specs.laws.Taking.{is_behind, unread, too_many, answered, all_added}
 use Rattle.wasm_module_validator_progress.proofs.progress.InProgress.take_imports.Goals as goal
 
@@ -53,3 +54,8 @@ returns-clause-added c =
     (λ y q bs w o. subst (λ (n : ℕ). MayBegin y s × Fits y s q.tree n) c.count.ensures
     (tt, (imports_fit _ _ y q.tree (subst (λ (k : Kept). Stands k.groups k.items y q.tree) (sym kept) w.stands) c.count.result).0 c.in-Ok-check_import_count.ensures.answer))
     c.add_lent_items.result c.add_lent_items.new.state _ last c.add_lent_items.ensures.answer c.add_lent_items.ensures.added
+
+pub returns-clause-grown : goal.returns-clause-grown
+returns-clause-grown c =
+    let collected = ap (λ (q : Progress). q.kept) c.self.view_is ∙ ap (λ (q : Progress). q.kept) c.begin_section.ensures.begun in
+    subst (λ (k : Kept). OnOk c.add_lent_items.result (Grows k c.add_lent_items.new.state)) collected c.add_lent_items.ensures.grown

@@ -9,6 +9,7 @@ use Rattle.wasm_module_validator_standing.specs.steps.Steps.{SoFar, JudgesShape}
 use Rattle.wasm_module_validator_progress.specs.laws.Shapes.{of_frame}
 use Rattle.wasm_module_validator_standing.specs.steps.Sections as section
 use Rattle.wasm_module_validator_progress.proofs.Arms.{same_told, section_answer, frame_answer, section_added}
+use Rattle.wasm_module_validator_progress.specs.laws.Growing.{grows_by_nothing, stays}
 use Rattle.wasm_module_validator_progress.proofs.progress.InProgress.take_payload.Goals as goal
 
 pub returns-in-Version-clause-answer : goal.returns-in-Version-clause-answer
@@ -154,3 +155,18 @@ pub returns-in-DataCountSection-clause-added : goal.returns-in-DataCountSection-
 returns-in-DataCountSection-clause-added c =
     section_added c.take_data_count_section.result (payloads.DataCountSection c.in-DataCountSection.count c.in-DataCountSection.range) c.args.payload c.in-DataCountSection.is refl c.args.self.now c.take_data_count_section.new.self c.args.bodies.now.items section.data_count
     (λ (b : State). only_number b ≡ Done c.in-DataCountSection.count b) (λ id b h. (h.0, h.1)) c.take_data_count_section.ensures.added
+
+pub returns-in-Version-clause-grown : goal.returns-in-Version-clause-grown
+returns-in-Version-clause-grown c = stays c.check_header.result _ _ refl
+
+pub returns-in-CustomSection-clause-grown : goal.returns-in-CustomSection-clause-grown
+returns-in-CustomSection-clause-grown c = grows_by_nothing _
+
+pub returns-in-End-clause-grown : goal.returns-in-End-clause-grown
+returns-in-End-clause-grown c = grows_by_nothing _
+
+pub returns-in-CodeSectionStart-clause-grown : goal.returns-in-CodeSectionStart-clause-grown
+returns-in-CodeSectionStart-clause-grown c = stays c.take_code_start.result _ _ c.take_code_start.ensures.kept
+
+pub returns-in-CodeSectionEntry-clause-grown : goal.returns-in-CodeSectionEntry-clause-grown
+returns-in-CodeSectionEntry-clause-grown c = stays c.take_body.result _ _ c.take_body.ensures.kept

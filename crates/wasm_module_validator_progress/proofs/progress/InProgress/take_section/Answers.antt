@@ -1,4 +1,5 @@
 use Rattle.std.proofs.Common.{◌≡◌, ◌∙◌, ◌<◌, ℕ, List, sym, ap, subst}
+use Rattle.std.specs.Prelude.{OnOk}
 use Rattle.wasm_types.specs.limits.Settings.{Settings}
 use Rattle.wasm_module_validator_code.specs.declared.bodies.Body.{Body}
 use Rattle.wasm_types.specs.error.Denials.{Denies}
@@ -6,7 +7,7 @@ use Rattle.wasm_module_validator_standing.specs.steps.Adding.{Fits}
 use Rattle.wasm_module_validator_standing.specs.steps.Steps.{SoFar}
 use Rattle.wasm_module_validator_texts.specs.Sections.{MayBegin}
 use Rattle.wasm_module_validator_standing.specs.Standing.{Stands}
-use Rattle.wasm_module_validator_progress.specs.Progress.{Kept, Progress, IsAt}
+use Rattle.wasm_module_validator_progress.specs.Progress.{Kept, Progress, Grows, IsAt}
 use Rattle.wasm_module_validator_progress.specs.laws.Taking.{is_behind, unread, too_many, answered, all_added}
 use Rattle.wasm_module_validator_progress.proofs.progress.InProgress.take_section.Goals as goal
 
@@ -48,3 +49,8 @@ returns-clause-added g c =
     (λ y q bs w o. subst (λ (n : ℕ). MayBegin y s × Fits y s q.tree n) c.count.ensures
     (c.in-Ok-check_count.ensures.answer _ y q.tree (subst (λ (k : Kept). Stands k.groups k.items y q.tree) (sym kept) w.stands) (unread y q r bs w s o)))
     c.add_items.result c.add_items.new.state _ last c.add_items.ensures.answer c.add_items.ensures.added
+
+pub returns-clause-grown : goal.returns-clause-grown
+returns-clause-grown g c =
+    let collected = ap (λ (q : Progress). q.kept) c.self.view_is ∙ ap (λ (q : Progress). q.kept) c.begin_section.ensures.begun in
+    subst (λ (k : Kept). OnOk c.add_items.result (Grows k c.add_items.new.state)) collected c.add_items.ensures.grown
