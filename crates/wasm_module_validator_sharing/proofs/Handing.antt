@@ -9,23 +9,23 @@ use Rattle.wasm_types.specs.limits.Settings.{Settings}
 use Rattle.wasm_module_validator_module.specs.declared.module.Function.{Function}
 use Rattle.wasm_module_validator_reading.specs.progress.code.declared.bodies.Body.{Body}
 use Rattle.wasm_module_validator_reading.specs.progress.standing.steps.Steps.{SoFar, JudgesBody}
-use Rattle.wasm_module_validator_reading.specs.progress.Progress.{Progress, IsAt}
+use Rattle.wasm_module_validator_reading.specs.progress.Progress.{Kept, Progress, IsAt}
 use Rattle.wasm_module_validator_reading.specs.progress.laws.Bodies.{FitsBehind, fits, not_fitting, function_is, judges, body_behind, no_function}
 use Rattle.wasm_module_validator_sharing.specs.Sharing.{Reached, IsReached, Handed, IsHandedOut, NoneLeft, body_count}
 
 -- the type of the function at an index
-abbrev pub type_at : Progress → ℕ → Option ℕ
-type_at k i = option_map (λ (f : Function). f.type_index) (slice_get k.kept.items.spaces.functions i)
+abbrev pub type_at : Kept → ℕ → Option ℕ
+type_at k i = option_map (λ (f : Function). f.type_index) (slice_get k.items.spaces.functions i)
 
 -- what is handed out
-pub is_handed_out : (r : Reached) (shared : Progress) (last n bits : ℕ) (f : Handed) → r.progress ≡ record { kept = shared.kept; last = last } → body_count r.code ≡ n
-    → f.resources.shared.value ≡ shared → f.index ≡ shared.kept.items.spaces.imported_functions + n
-    → type_at shared (shared.kept.items.spaces.imported_functions + n) ≡ Some f.ty → f.features.0 ≡ bits → IsHandedOut r bits f
+pub is_handed_out : (r : Reached) (shared : Kept) (last n bits : ℕ) (f : Handed) → r.progress ≡ record { kept = shared; last = last } → body_count r.code ≡ n
+    → f.resources.shared.value ≡ shared → f.index ≡ shared.items.spaces.imported_functions + n
+    → type_at shared (shared.items.spaces.imported_functions + n) ≡ Some f.ty → f.features.0 ≡ bits → IsHandedOut r bits f
 is_handed_out r shared last n bits f same code res index type features = record {
-  resources = ap (λ (s : Progress). s.kept) res ∙ sym (ap (λ (s : Progress). s.kept) same);
-  index = index ∙ ap (λ (m : ℕ). shared.kept.items.spaces.imported_functions + m) (sym code)
+  resources = res ∙ sym (ap (λ (s : Progress). s.kept) same);
+  index = index ∙ ap (λ (m : ℕ). shared.items.spaces.imported_functions + m) (sym code)
       ∙ ap (λ (s : Progress). s.kept.items.spaces.imported_functions + body_count r.code) (sym same);
-  type = subst (λ (s : Progress). type_at s f.index ≡ Some f.ty) (sym same) (ap (type_at shared) index ∙ type);
+  type = subst (λ (s : Progress). type_at s.kept f.index ≡ Some f.ty) (sym same) (ap (type_at shared) index ∙ type);
   features = features;
 }
 
@@ -41,11 +41,11 @@ module _ (r : Reached) (here : Progress) (n : ℕ) (same : r.progress ≡ here) 
   at_here : (z : Settings) (p : SoFar) → IsReached z r p → (bodies : List Body) × (length bodies ≡ n) × IsAt z here bodies p
   at_here z p (bodies, count, at) = (bodies, count ∙ code, subst (λ (s : Progress). IsAt z s bodies p) same at)
 
-  next_type : (z : Settings) (p : SoFar) (bodies : List Body) → length bodies ≡ n → IsAt z here bodies p → type_at here place ≡ slice_get p.tree.functions (length p.bodies)
+  next_type : (z : Settings) (p : SoFar) (bodies : List Body) → length bodies ≡ n → IsAt z here bodies p → type_at here.kept place ≡ slice_get p.tree.functions (length p.bodies)
   next_type z p bodies count at =
-      ap (λ (m : ℕ). type_at here (here.kept.items.spaces.imported_functions + m)) (sym count) ∙ function_is z p here bodies at
+      ap (λ (m : ℕ). type_at here.kept (here.kept.items.spaces.imported_functions + m)) (sym count) ∙ function_is z p here bodies at
 
-  pub none_left : type_at here place ≡ None → NoneLeft r
+  pub none_left : type_at here.kept place ≡ None → NoneLeft r
   none_left e = subst (λ (s : Progress). slice_get s.kept.items.spaces.functions (s.kept.items.spaces.imported_functions + body_count r.code) ≡ None) (sym same)
       (subst (λ (m : ℕ). slice_get here.kept.items.spaces.functions (here.kept.items.spaces.imported_functions + m) ≡ None) (sym code)
       (no_type (slice_get here.kept.items.spaces.functions place) e))
@@ -53,12 +53,12 @@ module _ (r : Reached) (here : Progress) (n : ℕ) (same : r.progress ≡ here) 
   pub body_denied : (k : ErrorKind) → Denies k (FitsBehind here body.rest) → (z : Settings) (p : SoFar) → IsReached z r p → Denies k ((q : SoFar) × JudgesBody z p body.rest q)
   body_denied k d z p reached = let (bodies, count, at) = at_here z p reached in not_fitting z p here bodies at k body.rest d
 
-  pub no_body : type_at here place ≡ None → (z : Settings) (p : SoFar) → IsReached z r p → ((q : SoFar) × JudgesBody z p body.rest q) → ⊥
+  pub no_body : type_at here.kept place ≡ None → (z : Settings) (p : SoFar) → IsReached z r p → ((q : SoFar) × JudgesBody z p body.rest q) → ⊥
   no_body none z p reached =
       let (bodies, count, at) = at_here z p reached in
       no_function z p here bodies at body.rest (sym none ∙ next_type z p bodies count at)
 
-  module _ (index ty : ℕ) (found : type_at here place ≡ Some ty) where
+  module _ (index ty : ℕ) (found : type_at here.kept place ≡ Some ty) where
     abbrev taken : Body
     taken = record { index = index; type_index = ty; body = body }
 

@@ -17,7 +17,7 @@ use Rattle.wasm_module_validator_reading.specs.progress.fronts.Walks.{HasSetting
 use Rattle.wasm_module_validator_reading.specs.progress.standing.steps.Sections.{code_place, number}
 use Rattle.wasm_module_validator_reading.specs.progress.standing.steps.Sections as section
 use Rattle.wasm_module_validator_reading.specs.progress.standing.steps.Steps.{SoFar, JudgesShape, JudgesSection}
-use Rattle.wasm_module_validator_reading.specs.progress.Progress.{Progress, IsAt, text_of}
+use Rattle.wasm_module_validator_reading.specs.progress.Progress.{Kept, Progress, IsAt, text_of}
 use Rattle.wasm_module_validator_reading.specs.progress.laws.Shapes.{frame_back}
 use Rattle.wasm_module_validator_reading.proofs.Arms.{section_answer, section_added}
 use Rattle.wasm_module_validator_reading.proofs.Counting.{on_ok}
@@ -29,36 +29,36 @@ some_none : {A : Type 0} (x : A) → Some x ≡ None → ⊥
 some_none x e = absurd cc
 
 module _ (r : Reached) (own : Progress) (last n : ℕ) where
-  pub not_shared : (shared : Option Progress) → reached own shared last n ≡ r → r.code ≡ None → shared ≡ None
+  pub not_shared : (shared : Option Kept) → reached own shared last n ≡ r → r.code ≡ None → shared ≡ None
   not_shared None e none = refl
   not_shared (Some s) e none = absurd (some_none n (ap (λ (x : Reached). x.code) e ∙ none))
 
-  pub own_progress : (shared : Option Progress) → reached own shared last n ≡ r → r.code ≡ None → r.progress ≡ own
+  pub own_progress : (shared : Option Kept) → reached own shared last n ≡ r → r.code ≡ None → r.progress ≡ own
   own_progress None e none = sym (ap (λ (x : Reached). x.progress) e)
   own_progress (Some s) e none = absurd (some_none n (ap (λ (x : Reached). x.code) e ∙ none))
 
 -- what is kept as shared
-module _ (r : Reached) (own : Progress) (last n : ℕ) (o : Option Progress) (shared : Progress) (is : o ≡ Some shared) where
-  pub shared_progress : reached own o last n ≡ r → r.progress ≡ record { kept = shared.kept; last = last }
-  shared_progress e = sym (ap (λ (x : Reached). x.progress) (sym (ap (λ (s : Option Progress). reached own s last n) is) ∙ e))
+module _ (r : Reached) (own : Progress) (last n : ℕ) (o : Option Kept) (shared : Kept) (is : o ≡ Some shared) where
+  pub shared_progress : reached own o last n ≡ r → r.progress ≡ record { kept = shared; last = last }
+  shared_progress e = sym (ap (λ (x : Reached). x.progress) (sym (ap (λ (s : Option Kept). reached own s last n) is) ∙ e))
 
   pub shared_code : reached own o last n ≡ r → r.code ≡ Some n
-  shared_code e = sym (ap (λ (x : Reached). x.code) (sym (ap (λ (s : Option Progress). reached own s last n) is) ∙ e))
+  shared_code e = sym (ap (λ (x : Reached). x.code) (sym (ap (λ (s : Option Kept). reached own s last n) is) ∙ e))
 
   -- with another place and another count
-  pub shared_left : (place count : ℕ) → reached own o place count ≡ record { progress = record { kept = shared.kept; last = place }; code = Some count }
-  shared_left place count = ap (λ (s : Option Progress). reached own s place count) is
+  pub shared_left : (place count : ℕ) → reached own o place count ≡ record { progress = record { kept = shared; last = place }; code = Some count }
+  shared_left place count = ap (λ (s : Option Kept). reached own s place count) is
 
 -- what is kept as its own
-pub own_reached : (own : Progress) (shared : Option Progress) (last n : ℕ) → shared ≡ None → reached own shared last n ≡ record { progress = own; code = None }
-own_reached own shared last n e = ap (λ (s : Option Progress). reached own s last n) e
+pub own_reached : (own : Progress) (shared : Option Kept) (last n : ℕ) → shared ≡ None → reached own shared last n ≡ record { progress = own; code = None }
+own_reached own shared last n e = ap (λ (s : Option Kept). reached own s last n) e
 
 -- whether its code has begun
-pub code_shown : {A : Type 0} (f : A → Progress) (o : Option A) (own : Progress) (last n : ℕ) → is_some o ≡ is_some (reached own (option_map f o) last n).code
+pub code_shown : {A : Type 0} (f : A → Kept) (o : Option A) (own : Progress) (last n : ℕ) → is_some o ≡ is_some (reached own (option_map f o) last n).code
 code_shown f None own last n = refl
 code_shown f (Some x) own last n = refl
 
-pub own_shown : {A : Type 0} (f : A → Progress) (o : Option A) (own : Progress) (last n : ℕ) → is_none o ≡ has_no_code (reached own (option_map f o) last n).code
+pub own_shown : {A : Type 0} (f : A → Kept) (o : Option A) (own : Progress) (last n : ℕ) → is_none o ≡ has_no_code (reached own (option_map f o) last n).code
 own_shown f None own last n = refl
 own_shown f (Some x) own last n = refl
 
@@ -114,24 +114,23 @@ module _ (r : Reached) (own : Progress) (same : r.progress ≡ own) (none : r.co
   code_told result h z p (bodies, count, at) = h z p bodies (subst (λ (s : Progress). IsAt z s bodies p) same at)
 
   -- what is shared then stands for the same, with the place of the code
-  pub code_begun : (after shared : Progress) → shared ≡ after
+  pub code_begun : (after : Progress) (shared : Kept) → shared ≡ after.kept
       → ((z : Settings) (p : SoFar) (bodies : List Body) → IsAt z own bodies p → IsAt z after bodies (record p { last = code_place }))
-      → (z : Settings) (p : SoFar) → IsReached z r p → IsReached z (record { progress = record { kept = shared.kept; last = 12 }; code = Some 0 }) (record p { last = code_place })
+      → (z : Settings) (p : SoFar) → IsReached z r p → IsReached z (record { progress = record { kept = shared; last = 12 }; code = Some 0 }) (record p { last = code_place })
   code_begun after shared is h z p (bodies, count, at) =
-      let there = h z p bodies (subst (λ (s : Progress). IsAt z s bodies p) same at) in
-      let moved = subst (λ (s : Progress). IsAt z s bodies (record p { last = code_place })) (sym is) there in (
+      let there = h z p bodies (subst (λ (s : Progress). IsAt z s bodies p) same at) in (
         bodies,
         count ∙ ap body_count none,
-        record {
-          locals = moved.locals;
-          stands = moved.stands;
-          judged = moved.judged;
-          counted = moved.counted;
+        subst (λ (k : Kept). IsAt z (record { kept = k; last = 12 }) bodies (record p { last = code_place })) (sym is) (record {
+          locals = there.locals;
+          stands = there.stands;
+          judged = there.judged;
+          counted = there.counted;
           placed = refl;
-          bodies = moved.bodies;
-          types = moved.types;
-          read = moved.read;
-        },
+          bodies = there.bodies;
+          types = there.types;
+          read = there.read;
+        }),
       )
 
 -- ---- a data section of a module that is shared

@@ -19,13 +19,13 @@ use Rattle.wasm_module_validator_sharing.proofs.data.check_data_section.Goals as
 
 pub returns-then-last-ge13-clause-answer : goal.returns-then-last-ge13-clause-answer
 returns-then-last-ge13-clause-answer c = λ z p bodies b at same counts.
-    not_behind z p (record c.args.progress.now { last = c.args.last }) bodies at section.data_segments c.new.result.kind b.rest
+    not_behind z p (record { kept = c.args.«module».now; last = c.args.last }) bodies at section.data_segments c.new.result.kind b.rest
     (denies c.new.result.kind _ (λ lt. omega (arith, lt, c.if-last-ge13.true)))
 
 pub returns-in-Err-clause-answer : goal.returns-in-Err-clause-answer
 returns-in-Err-clause-answer c = λ z p bodies b at same counts.
     let s = section.data_segments in
-    let r : Progress = record c.args.progress.now { last = c.args.last } in
+    let r : Progress = record { kept = c.args.«module».now; last = c.args.last } in
     let order : c.args.last < 13 = omega (arith, c.if-last-ge13.false) in
     too_many z p r bodies at s data_read data_read (λ y. data_segment (constant y)) (λ y. SpelledData (ConstantText y)) segments_tell b c.args.segments.reader c.args.segments.count same counts
     c.in-Err.error.kind (subst (λ (n : ℕ). Denies c.in-Err.error.kind (MayBegin z s × Fits z s p.tree n)) c.count.ensures
@@ -34,7 +34,7 @@ returns-in-Err-clause-answer c = λ z p bodies b at same counts.
 pub returns-clause-answer : goal.returns-clause-answer
 returns-clause-answer c = λ z p bodies b at same counts.
     let s = section.data_segments in
-    let r : Progress = record c.args.progress.now { last = c.args.last } in
+    let r : Progress = record { kept = c.args.«module».now; last = c.args.last } in
     let order : c.args.last < 13 = omega (arith, c.if-last-ge13.false) in
     answered r s data_read data_read (λ y. data_segment (constant y)) (λ y. SpelledData (ConstantText y)) segments_tell c.args.segments.reader c.args.segments.count r.kept refl order
     (λ y q bs w o. subst (λ (n : ℕ). MayBegin y s × Fits y s q.tree n) c.count.ensures
@@ -44,7 +44,7 @@ returns-clause-answer c = λ z p bodies b at same counts.
 pub returns-clause-added : goal.returns-clause-added
 returns-clause-added c =
     let s = section.data_segments in
-    let r : Progress = record c.args.progress.now { last = c.args.last } in
+    let r : Progress = record { kept = c.args.«module».now; last = c.args.last } in
     let order : c.args.last < 13 = omega (arith, c.if-last-ge13.false) in
     all_added r s data_read data_read (λ y. data_segment (constant y)) (λ y. SpelledData (ConstantText y)) segments_tell c.args.segments.reader c.args.segments.count r.kept refl order
     (λ y q bs w o. subst (λ (n : ℕ). MayBegin y s × Fits y s q.tree n) c.count.ensures

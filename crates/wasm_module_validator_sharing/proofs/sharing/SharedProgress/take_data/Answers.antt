@@ -15,8 +15,8 @@ returns-in-Err-clause-answer c =
     let o = option_map (λ p. p.value) i.shared in
     let shared = c.in-Some.shared.value in
     let is = ap (option_map (λ p. p.value)) c.in-Some.is in
-    let here : Progress = record { kept = c.deref.result.now.kept; last = i.last } in
-    let moved = ap (λ (s : Progress). s.kept) c.deref.ensures in
+    let here : Progress = record { kept = c.deref.result.now; last = i.last } in
+    let moved = c.deref.ensures in
     let same = shared_progress v i.own i.last i.bodies o shared is c.self.view_is ∙ (λ j. record { kept = sym moved j; last = i.last }) in
     data_told v here same (payloads.DataSection c.args.segments) refl (λ (b : State). Counts b c.args.segments.count c.args.segments.reader) (λ id b k. k) {X = Unit {0}} (Err c.in-Err.error)
     c.in-Err.ensures.answer
@@ -28,8 +28,8 @@ returns-clause-answer c =
     let o = option_map (λ p. p.value) i.shared in
     let shared = c.in-Some.shared.value in
     let is = ap (option_map (λ p. p.value)) c.in-Some.is in
-    let here : Progress = record { kept = c.deref.result.now.kept; last = i.last } in
-    let moved = ap (λ (s : Progress). s.kept) c.deref.ensures in
+    let here : Progress = record { kept = c.deref.result.now; last = i.last } in
+    let moved = c.deref.ensures in
     let same = shared_progress v i.own i.last i.bodies o shared is c.self.view_is ∙ (λ j. record { kept = sym moved j; last = i.last }) in
     data_told v here same (payloads.DataSection c.args.segments) refl (λ (b : State). Counts b c.args.segments.count c.args.segments.reader) (λ id b k. k) {X = Unit {0}} (Ok tt)
     c.in-Ok.ensures.answer
@@ -41,12 +41,12 @@ returns-clause-added c =
     let o = option_map (λ p. p.value) i.shared in
     let shared = c.in-Some.shared.value in
     let is = ap (option_map (λ p. p.value)) c.in-Some.is in
-    let here : Progress = record { kept = c.deref.result.now.kept; last = i.last } in
-    let moved = ap (λ (s : Progress). s.kept) c.deref.ensures in
+    let here : Progress = record { kept = c.deref.result.now; last = i.last } in
+    let moved = c.deref.ensures in
     let same = shared_progress v i.own i.last i.bodies o shared is c.self.view_is ∙ (λ j. record { kept = sym moved j; last = i.last }) in
     let code = shared_code v i.own i.last i.bodies o shared is c.self.view_is in
     data_follows v here same (payloads.DataSection c.args.segments) refl (λ (b : State). Counts b c.args.segments.count c.args.segments.reader) (λ id b k. k) {X = Unit {0}} (Ok tt)
-    (record { kept = c.deref.result.now.kept; last = 13 }) _
+    (record { kept = c.deref.result.now; last = 13 }) _
     (shared_left v i.own i.last i.bodies o shared is 13 i.bodies ∙ (λ j. record { progress = record { kept = sym moved j; last = 13 }; code = sym code j })) c.in-Ok.ensures.added
 
 pub returns-clause-code : goal.returns-clause-code
@@ -56,3 +56,12 @@ returns-clause-code c =
     let o = option_map (λ p. p.value) i.shared in
     let is = ap (option_map (λ p. p.value)) c.in-Some.is in
     ap (λ (r : Reached). r.code) (shared_left v i.own i.last i.bodies o c.in-Some.shared.value is 13 i.bodies) ∙ sym (shared_code v i.own i.last i.bodies o c.in-Some.shared.value is c.self.view_is)
+
+pub returns-clause-kept : goal.returns-clause-kept
+returns-clause-kept c =
+    let v = c.args.self.now in
+    let i = c.self.inside in
+    let o = option_map (λ p. p.value) i.shared in
+    let is = ap (option_map (λ p. p.value)) c.in-Some.is in
+    ap (λ (r : Reached). r.progress.kept) (shared_left v i.own i.last i.bodies o c.in-Some.shared.value is 13 i.bodies)
+    ∙ sym (ap (λ (p : Progress). p.kept) (shared_progress v i.own i.last i.bodies o c.in-Some.shared.value is c.self.view_is))

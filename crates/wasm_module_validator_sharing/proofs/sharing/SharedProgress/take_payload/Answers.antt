@@ -1,7 +1,7 @@
 use Rattle.std.proofs.Common.{◌≡◌, List, sym, ap, subst}
-use Rattle.std.specs.Prelude.{option_map}
+use Rattle.std.specs.Prelude.{OnOk, option_map}
 use Rattle.wasm_module_validator_reading.specs.progress.code.declared.bodies.Body.{Body}
-use Rattle.wasm_module_validator_reading.specs.progress.Progress.{IsAt}
+use Rattle.wasm_module_validator_reading.specs.progress.Progress.{Progress, Grows, IsAt}
 use Rattle.wasm_module_validator_reading.proofs.Counting.{on_ok}
 use Rattle.wasm_module_validator_sharing.specs.Sharing.{Reached}
 use Rattle.wasm_module_validator_sharing.proofs.Keeping.{not_shared, own_progress, own_reached, told_next, payload_follows}
@@ -31,3 +31,12 @@ returns-clause-own c =
     let i = c.self.inside in
     let o = option_map (λ p. p.value) i.shared in
     ap (λ (r : Reached). r.code) (own_reached c.take_payload.new.self o i.last i.bodies (not_shared v i.own i.last i.bodies o c.self.view_is c.requires.own))
+
+pub returns-clause-grown : goal.returns-clause-grown
+returns-clause-grown c =
+    let v = c.args.self.now in
+    let i = c.self.inside in
+    let o = option_map (λ p. p.value) i.shared in
+    let left = own_reached c.take_payload.new.self o i.last i.bodies (not_shared v i.own i.last i.bodies o c.self.view_is c.requires.own) in
+    subst (λ (r : Reached). OnOk c.take_payload.result (Grows v.progress.kept r.progress.kept)) (sym left)
+    (subst (λ (p : Progress). OnOk c.take_payload.result (Grows p.kept c.take_payload.new.self.kept)) (sym (own_progress v i.own i.last i.bodies o c.self.view_is c.requires.own)) c.take_payload.ensures.grown)
