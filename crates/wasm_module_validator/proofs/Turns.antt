@@ -1,10 +1,12 @@
 -- Calls in turn and out of turn.
-use Rattle.std.proofs.Common.{◌≡◌, ◌∙◌, ℕ, Bool, true, false, Option, Some, None, Result, Err, refl, sym}
+use Rattle.std.proofs.Common.{◌≡◌, ◌∙◌, ℕ, Bool, true, false, Option, Some, None, Result, Err, refl, sym, subst}
 use Rattle.std.specs.Prelude.{is_some}
 use Rattle.wasm_types.specs.error.ErrorValue.{ErrorValue}
 use Rattle.wasm_types.specs.error.declared.error.ErrorKind.{ErrorKind}
 use Rattle.wasm_module_validator.specs.declared.validator.Validator.{Validator}
 use Rattle.wasm_module_validator_sharing.specs.Sharing.{has_no_code}
+use Rattle.wasm_module_validator_sharing.specs.reading.progress.Progress.{Kept, Grows}
+use Rattle.wasm_module_validator_sharing.specs.reading.progress.laws.Growing.{grows_by_nothing}
 use Rattle.wasm_module_validator.specs.declared.validator.State.{State}
 use Rattle.wasm_module_validator.specs.declared.validator.State.TheVariants.{Unparsed, Module, Ended, Failed}
 use Rattle.wasm_module_validator.specs.Methods.{InTurn, refusal}
@@ -48,3 +50,8 @@ no_code (Some n) e = absurd cc
 pub not_begun : (o : Option ℕ) → is_some o ≡ false → has_no_code o ≡ true
 not_begun None e = refl
 not_begun (Some n) e = absurd cc
+
+-- ---- what is kept
+
+pub stays_as : {k l : Kept} → l ≡ k → Grows k l
+stays_as {k} e = subst (λ (j : Kept). Grows k j) (sym e) (grows_by_nothing k)

@@ -18,7 +18,7 @@ pub returns-in-Ok-begin_code : goal.returns-in-Ok-begin_code
 returns-in-Ok-begin_code c =
     let v = c.args.self.now in
     in_turn (refusal v.state (has_no_code v.reached.code)) v _ _ _ _ (c.in-Ok.ensures ∙ ap (refusal v.state) c.is_own-fits.ensures) c.in-Ok-begin_code.ensures.answer
-    (refl, c.in-Ok-begin_code.ensures.begun, c.in-Ok-begin_code.ensures.added)
+    (refl, c.in-Ok-begin_code.ensures.begun, c.in-Ok-begin_code.ensures.kept, c.in-Ok-begin_code.ensures.added)
 
 pub returns-in-Err-begin_code : goal.returns-in-Err-begin_code
 returns-in-Err-begin_code c =

@@ -20,10 +20,5 @@ returns-in-Ended c =
     let v = c.args.self.now in
     subst (λ (s : State). EndsFrom s v (Err c.late_end.result) v) (sym c.in-Ended.is) (ap Some c.late_end.ensures, refl)
 
-pub returns : goal.returns
-returns c =
-    let v = c.args.self.now in
-    subst (λ (s : State). EndsFrom s v (Ok (learned (record v { reached = c.replace.result }))) (record v { state = Ended; reached = c.replace.new.dest })) (sym c.in-Module.is) (
-      ap (λ (r : Reached). Ok (learned (record v { reached = r }))) c.replace.ensures.value,
-      ap (λ (r : Reached). record v { state = Ended; reached = r }) (c.replace.ensures.after ∙ c.new-nothing.ensures),
-    )
+pub returns-in-Module-Ok : goal.returns-in-Module-Ok
+returns-in-Module-Ok c = ?

@@ -19,7 +19,7 @@ returns-in-Ok-take_payload c =
     let v = c.args.self.now in
     let none = no_code v.reached.code (sym c.is_own-fits.ensures ∙ (turn_is v.state c.is_own-fits.result c.in-Ok.ensures).1) in
     in_turn (refusal v.state (has_no_code v.reached.code)) v _ _ _ _ (c.in-Ok.ensures ∙ ap (refusal v.state) c.is_own-fits.ensures) c.in-Ok-take_payload.ensures.answer
-    (refl, c.in-Ok-take_payload.ensures.added, c.in-Ok-take_payload.ensures.own ∙ sym none)
+    (refl, c.in-Ok-take_payload.ensures.added, c.in-Ok-take_payload.ensures.own ∙ sym none, c.in-Ok-take_payload.ensures.grown)
 
 pub returns-in-Err-take_payload : goal.returns-in-Err-take_payload
 returns-in-Err-take_payload c =
