@@ -1,3 +1,4 @@
 pub mod Beginning
 pub mod Verdict
 pub mod StateRows
+pub mod Ids

@@ -1,11 +1,26 @@
 //! Worked rows, on the contract of a function that does nothing.
 
 ghost use Rattle.wasm_types.specs.limits.Settings.{Settings};
-ghost use Rattle.std.specs.Prelude.{ℕ, List};
+ghost use Rattle.std.specs.Prelude.{◌≡◌, ◌<◌, ℕ, List};
+ghost use Rattle.wasm_module_validator_sharing.specs.reading.Reading.{under};
+ghost use Rattle.wasm_module_validator_sharing.specs.reading.progress.standing.Standing.{IsGrown};
+ghost use Rattle.wasm_module_validator_sharing.specs.reading.progress.standing.steps.Steps.{nothing};
+ghost use Rattle.wasm_module_validator_sharing.specs.reading.progress.standing.type_trees.Groups.{Group, count, tree_of};
+ghost use Rattle.wasm_module_validator_sharing.specs.Sharing.{Reached, renewed_behind, IsReached};
 ghost use Rattle.wasm_module_validator.specs.laws.StateRows.{LeftRows, AcceptedRows};
 
 /// How far a validator is behind a module that is accepted, and behind one of whose bodies one is refused.
 pub const fn states_are_worked()
     ensures left { LeftRows }
     ensures accepted { (z : Settings) → (bytes : List ℕ) → AcceptedRows z bytes }
+{}
+
+/// A validator behind a header stands for a module of which nothing was judged, whatever it read before.
+pub const fn validators_begin()
+    ensures { (bits : ℕ) (r : Reached) → IsReached (under bits) (renewed_behind bits r) nothing }
+{}
+
+/// An id means the type that it meant, for as long as groups are only added to the list.
+pub const fn ids_stay()
+    ensures { (old new : List Group) → IsGrown old new → (id : ℕ) → id < count old → tree_of new id ≡ tree_of old id }
 {}

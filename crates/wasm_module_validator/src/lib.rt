@@ -14,7 +14,7 @@ mod payloads;
 mod types;
 mod validator;
 
-pub use laws::states_are_worked;
+pub use laws::{ids_stay, states_are_worked, validators_begin};
 pub use payloads::ValidPayload;
 pub use types::Types;
 pub use validator::{State, Validator, validate};

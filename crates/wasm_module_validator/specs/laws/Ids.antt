@@ -1,0 +1,16 @@
+-- An id means the same type for as long as the list of a validator grows.
+use Rattle.std.proofs.Common.{◌≡◌, ◌∙◌, ◌+◌, ◌<◌, ◌≤◌, ◌++◌, ℕ, List, [], ◌∷◌, length, ap, refl, arith}
+use Rattle.wasm_module_validator_sharing.specs.reading.progress.standing.type_trees.Groups.{Group, count, tree_of}
+use Rattle.wasm_module_validator_sharing.specs.reading.progress.standing.type_trees.laws.Unrolled.{tree_old, count_push}
+use Rattle.wasm_module_validator_sharing.specs.reading.progress.standing.Standing.{IsGrown}
+
+counts_on : (more old : List Group) → count old ≤ count (more ++ old)
+counts_on [] old = omega arith
+counts_on (g ∷ gs) old = let k = count_push g (gs ++ old) in let h = counts_on gs old in omega (arith, k, h)
+
+still : (more old : List Group) (id : ℕ) → id < count old → tree_of (more ++ old) id ≡ tree_of old id
+still [] old id h = refl
+still (g ∷ gs) old id h = let k = counts_on gs old in tree_old g (gs ++ old) id (omega (arith, k, h)) ∙ still gs old id h
+
+pub ids_stay : (old new : List Group) → IsGrown old new → (id : ℕ) → id < count old → tree_of new id ≡ tree_of old id
+ids_stay old new (more, e) id h = ap (λ gs. tree_of gs id) e ∙ still more old id h
