@@ -1,5 +1,5 @@
 -- A list of types with one more group.
-use Rattle.std.proofs.Common.{◌≡◌, ◌∙◌, ℕ, zero, suc, ◌+◌, Bool, List, [], ◌∷◌, ◌++◌, length, map, replicate, refl, ap, sym, subst, Option, arith}
+use Rattle.std.proofs.Common.{◌≡◌, ◌∙◌, ℕ, zero, suc, ◌+◌, Bool, List, [], ◌∷◌, ◌++◌, length, map, replicate, refl, ap, sym, subst, Option, None, true, is_some, arith}
 use Rattle.std.proofs.lemmas.List.{map-append, length-map}
 use Rattle.wasm_types.specs.indices.declared.index.CoreTypeId.{CoreTypeId}
 use Rattle.wasm_types.specs.groups.declared.rec_group.RecGroup.{RecGroup}
@@ -18,6 +18,7 @@ use Rattle.wasm_module_validator_types.specs.Known.{group_in, Known, KnowsMore}
 use Rattle.wasm_module_validator_types.specs.List.{groups_in, IsTypeList, HasRoom, IsAdded}
 use Rattle.wasm_module_validator_types.proofs.OverIds.{types_fit}
 use Rattle.wasm_module_validator_types.proofs.Knowing.{knows_push}
+use Rattle.wasm_module_validator_types.proofs.Depths.{places_push}
 use Rattle.wasm_module_validator_types.specs.Lists.{SameItems, AreShort}
 use Rattle.wasm_module_validator_types.proofs.Parts.{groups_push, length_groups, homes_push, ranges_push, supers_push, type_total, home_total, super_total, element_total}
 
@@ -48,8 +49,9 @@ module _ (gs : List Group) (old new : Lists) (known more : Option Known) (is : I
 
   pub list_push : TiesDeclareTheSame → map declared_of types ≡ map (declared_map (packed_by_id first.0)) (declared_types group)
       → homes ≡ replicate (length (declared_types group)) id → supertypes ≡ map supertype_id (map declared_of types) → KnowsMore canonical group id known more
+      → is_some known ≡ true → (n : ℕ) → n ≡ length (declared_types group) → new.depths.items ≡ old.depths.items ++ replicate n None
       → IsTypeList (group_in canonical group ∷ gs) new more
-  list_push ties stored copied supers learned = record {
+  list_push ties stored copied supers learned still n counted places = record {
     formed = (formed, added, is.formed);
     small = let l = room.types in omega (arith, count_push (group_in canonical group) gs);
     few = let l = room.numbers in omega arith;
@@ -64,6 +66,7 @@ module _ (gs : List Group) (old new : Lists) (known more : Option Known) (is : I
         ((count gs, count gs + length (declared_types group)) ∷ []) gains.elements_now is.elements (let a = begins in let b = ends in cc)
         ∙ sym (ranges_push (group_in canonical group) gs);
     knows = knows_push ties gs canonical group id known more at is.knows learned;
+    depths = places_push canonical group id known more (group_in canonical group) gs old.depths.items new.depths.items n learned still is.depths counted places;
   }
 
 -- as many types are stored as there are
@@ -99,8 +102,9 @@ module _ (before mid after : Lists) (known more : Option Known) (gs : List Group
       → after.groups.items ≡ mid.groups.items ++ record { is_canonical = canonical; group = group } ∷ []
       → after.types.items ≡ mid.types.items ++ types → after.homes.items ≡ mid.homes.items ++ homes → after.supertypes.items ≡ mid.supertypes.items ++ supertypes
       → after.elements.items ≡ mid.elements.items ++ record { start = first; end = end } ∷ []
+      → is_some known ≡ true → mid.depths.items ≡ before.depths.items → after.depths.items ≡ mid.depths.items ++ replicate (length types) None
       → IsTypeList (groups_in after.groups.items) after more
-  added_list ties canonical id formed added at types source homes supertypes first end start further s f b e from stored copied supers learned a1 a2 a3 a4 a5 =
+  added_list ties canonical id formed added at types source homes supertypes first end start further s f b e from stored copied supers learned a1 a2 a3 a4 a5 still d1 d2 =
       let G : Group = group_in canonical group in
       let old : IsTypeList gs before known = subst (λ (l : List Group). IsTypeList l before known) view is in
       let gains : Gains before after types homes supertypes first end = record {
@@ -116,4 +120,5 @@ module _ (before mid after : Lists) (known more : Option Known) (gs : List Group
       subst (λ (l : List Group). IsTypeList l after more) (sym groups)
       (list_push gs before after known more old canonical group id formed added room at types homes supertypes first end gains (b ∙ s) (e ∙ (let x = s in let y = f in cc)) ties
       (stored ∙ ap (map (declared_map (packed_by_id start))) from ∙ ap (λ (n : ℕ). map (declared_map (packed_by_id n)) (declared_types group)) (sym b))
-      (copied ∙ ap (λ (n : ℕ). replicate n id) f) supers learned)
+      (copied ∙ ap (λ (n : ℕ). replicate n id) f) supers learned still (length types) (stored_length types source (declared_types group) start stored from)
+      (d2 ∙ ap (λ l. l ++ replicate (length types) None) d1))

@@ -1,5 +1,6 @@
 pub mod OverIds
 pub mod Knowing
+pub mod Depths
 pub mod Parts
 pub mod Adding
 pub mod Finding

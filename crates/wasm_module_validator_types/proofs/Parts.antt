@@ -17,6 +17,7 @@ use Rattle.wasm_module_validator_type_trees.specs.laws.Ids.{stored_push, length_
 use Rattle.wasm_module_validator_types.specs.declared.lists.Interned.{Interned}
 use Rattle.wasm_module_validator_types.specs.declared.lists.Lists.{Lists}
 use Rattle.wasm_module_validator_types.specs.Known.{group_in, Known, Knows}
+use Rattle.wasm_module_validator_types.specs.Depths.{HasPlaces}
 use Rattle.wasm_module_validator_types.specs.List.{interned_group, groups_in, IsTypeList}
 
 pub groups_push : (is now : List Interned) (i : Interned) → now ≡ is ++ i ∷ [] → groups_in now ≡ interned_group i ∷ groups_in is
@@ -56,9 +57,9 @@ length_supers groups = length-map (declared_by_id groups) supertype_id ∙ lengt
 -- ---- no groups
 
 pub no_types : (lists : Lists) (known : Option Known) → lists.groups.items ≡ [] → lists.types.items ≡ [] → lists.homes.items ≡ [] → lists.supertypes.items ≡ [] → lists.elements.items ≡ []
-    → Knows [] known → IsTypeList (groups_in lists.groups.items) lists known
+    → Knows [] known → HasPlaces 0 known lists.depths.items → IsTypeList (groups_in lists.groups.items) lists known
 unfolding type_count group_numbers group_ranges declared_by_id
-no_types lists known a b c d e k =
+no_types lists known a b c d e k has =
     subst (λ (gs : List Group). IsTypeList gs lists known) (sym (ap groups_in a))
     (record {
       formed = tt;
@@ -69,6 +70,7 @@ no_types lists known a b c d e k =
       supertypes = d;
       elements = ap (map (λ r. (r.start.0, r.end.0))) e;
       knows = k;
+      depths = has;
     })
 
 nothing_missing : (k : ℕ) (g : Group) → group_at [] k ≡ Some g → ⊥
@@ -96,8 +98,8 @@ module _ (gs : List Group) (lists : Lists) (known : Option Known) (is : IsTypeLi
 
 -- the same lists under other names
 pub lists_same : (known more : Option Known) (old new : Lists) → SameItems old new → IsTypeList (groups_in old.groups.items) old known
-    → Knows (groups_in old.groups.items) more → IsTypeList (groups_in new.groups.items) new more
-lists_same known more old new same is knows =
+    → Knows (groups_in old.groups.items) more → HasPlaces (count (groups_in old.groups.items)) more new.depths.items → IsTypeList (groups_in new.groups.items) new more
+lists_same known more old new same is knows has =
     subst (λ (gs : List Group). IsTypeList gs new more) (sym (ap groups_in same.groups))
     (record {
       formed = is.formed;
@@ -108,4 +110,5 @@ lists_same known more old new same is knows =
       supertypes = same.supertypes ∙ is.supertypes;
       elements = ap (map (λ r. (r.start.0, r.end.0))) same.elements ∙ is.elements;
       knows = knows;
+      depths = has;
     })

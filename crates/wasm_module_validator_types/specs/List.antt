@@ -9,12 +9,14 @@ use Rattle.wasm_module_validator_type_trees.specs.Formed.{IsMissing, IsFormed}
 use Rattle.wasm_module_validator_types.specs.declared.lists.Interned.{Interned}
 use Rattle.wasm_module_validator_types.specs.declared.lists.Lists.{Lists}
 use Rattle.wasm_module_validator_types.specs.Known.{group_in, Known, Knows}
+use Rattle.wasm_module_validator_types.specs.Depths.{HasPlaces}
 use Rattle.wasm_module_validator_types.specs.Lookups.{IsAtPlace}
 
--- the groups, the newest first, and whether further ones may be added
+-- the groups, the newest first, whether further ones may be added, and the depths that were set
 pub record Types : Type 0 where
   pub groups : List Group
   pub can_intern : Bool
+  pub depths : List (Option ℕ)
 
 -- the most types that a list has: each id fits the 20 bits of an index
 abbrev pub max_types : ℕ
@@ -36,6 +38,7 @@ pub record IsTypeList (groups : List Group) (lists : Lists) (known : Option Know
   pub supertypes : lists.supertypes.items ≡ supertype_ids groups
   pub elements : map (λ r. (r.start.0, r.end.0)) lists.elements.items ≡ group_ranges groups
   pub knows : Knows groups known
+  pub depths : HasPlaces (count groups) known lists.depths.items
 
 -- ---- interning
 

@@ -1,8 +1,8 @@
 -- The lists that a list of types keeps side by side.
-use Rattle.std.specs.Prelude.{◌≡◌, ℕ, ◌+◌, ◌≤◌, ◌<◌, ◌^◌, length}
+use Rattle.std.specs.Prelude.{◌≡◌, ℕ, ◌+◌, ◌≤◌, ◌<◌, ◌^◌, length, vec_len, vec_capacity}
 use Rattle.wasm_module_validator_types.specs.declared.lists.Lists.{Lists}
 
--- the same items in each
+-- the same items in each, apart from the depths
 pub record SameItems (a b : Lists) : Type 0 where
   pub groups : b.groups.items ≡ a.groups.items
   pub types : b.types.items ≡ a.types.items
@@ -17,6 +17,7 @@ pub record HasRoomFor (l : Lists) (n : ℕ) : Type 0 where
   pub homes : n ≤ l.homes.room
   pub supertypes : n ≤ l.supertypes.room
   pub elements : 1 ≤ l.elements.room
+  pub depths : vec_len l.depths + n ≤ vec_capacity l.depths
 
 -- with such a group there are fewer than 2^64 items
 pub record AreShort (l : Lists) (n : ℕ) : Type 0 where

@@ -1,6 +1,6 @@
 //! The lists that a list of types keeps side by side.
 
-ghost use Rattle.std.specs.Prelude.{◌≡◌, ◌∷◌, ◌++◌, ◌+◌, ◌≤◌, ◌<◌, [], length, OnOk, IfOk};
+ghost use Rattle.std.specs.Prelude.{◌≡◌, ◌∷◌, ◌++◌, ◌+◌, ◌≤◌, ◌<◌, [], length, replicate, OnOk, IfOk, None, Some, slice_set, vec_len, vec_capacity};
 ghost use Rattle.wasm_module_validator_types.specs.Lists.{SameItems, HasRoomFor, AreShort};
 
 use crate::RecGroupId;
@@ -16,7 +16,26 @@ pub(crate) struct Interned {
     pub group: RecGroup,
 }
 
-/// The groups, and for each id its type, its group and its supertype; for each group its ids.
+// As many ids more, without a depth, in room that is there.
+fn add_places(depths: &mut Vec<Option<u8>>, further: usize)
+    requires { vec_len depths.old + further ≤ vec_capacity depths.old }
+    ensures { depths.new.items ≡ depths.old.items ++ replicate further None }
+{
+    let places = depths.len() + further;
+    let _ = depths.resize(places, None);
+}
+
+/// Sets the depth of an id.
+pub(crate) fn set_depth(depths: &mut Vec<Option<u8>>, id: CoreTypeId, depth: u8)
+    requires { id.0 < length depths.old.items }
+    ensures { depths.new.items ≡ slice_set depths.old.items id.0 (Some depth) }
+{
+    depths[id.number() as usize] = Some(depth);
+}
+
+/// The groups, and for each id its type, its group, its supertype and its depth; for each group its ids.
+///
+/// Depths are set and never shared, so a committed list holds none.
 #[derive(Drop)]
 pub(crate) struct Lists {
     pub groups: SnapshotList<Interned>,
@@ -24,6 +43,7 @@ pub(crate) struct Lists {
     pub homes: SnapshotList<RecGroupId>,
     pub supertypes: SnapshotList<Option<CoreTypeId>>,
     pub elements: SnapshotList<Range<CoreTypeId>>,
+    pub depths: Vec<Option<u8>>,
 }
 
 impl Lists {
@@ -33,6 +53,7 @@ impl Lists {
         ensures homes { result.homes.items ≡ [] }
         ensures supertypes { result.supertypes.items ≡ [] }
         ensures elements { result.elements.items ≡ [] }
+        ensures depths { result.depths.items ≡ [] }
     {
         Lists {
             groups: SnapshotList::new(alloc),
@@ -40,19 +61,22 @@ impl Lists {
             homes: SnapshotList::new(alloc),
             supertypes: SnapshotList::new(alloc),
             elements: SnapshotList::new(alloc),
+            depths: Vec::new(alloc),
         }
     }
 
     /// Makes room for a group of this many types.
     pub(crate) fn reserve(&mut self, additional: usize) -> Result<(), AllocError>
         ensures same { SameItems self.old self.new }
+        ensures depths { self.new.depths.items ≡ self.old.depths.items }
         ensures room { OnOk result (HasRoomFor self.new additional) }
     {
         self.groups.reserve(1)?;
         self.types.reserve(additional)?;
         self.homes.reserve(additional)?;
         self.supertypes.reserve(additional)?;
-        self.elements.reserve(1)
+        self.elements.reserve(1)?;
+        self.depths.reserve(additional)
     }
 
     /// Appends a group, in room that is there.
@@ -73,7 +97,9 @@ impl Lists {
         ensures homes { self.new.homes.items ≡ self.old.homes.items ++ homes.items }
         ensures supertypes { self.new.supertypes.items ≡ self.old.supertypes.items ++ supertypes.items }
         ensures elements { self.new.elements.items ≡ self.old.elements.items ++ elements ∷ [] }
+        ensures depths { self.new.depths.items ≡ self.old.depths.items ++ replicate (length types.items) None }
     {
+        add_places(&mut self.depths, types.as_slice().len());
         let _ = self.groups.push(interned);
         let _ = self.types.append(&mut types);
         let _ = self.homes.append(&mut homes);
@@ -81,22 +107,26 @@ impl Lists {
         let _ = self.elements.push(elements);
     }
 
-    /// The same lists, shared from now on.
+    /// The same lists, shared from now on, and no depths.
     pub(crate) fn commit(&mut self) -> Result<Lists, AllocError>
         ensures stays { SameItems self.old self.new }
         ensures same { IfOk result (SameItems self.old) }
+        ensures depths_stay { self.new.depths.items ≡ self.old.depths.items }
+        ensures no_depths { IfOk result (λ lists. lists.depths.items ≡ []) }
     {
         let groups = self.groups.commit()?;
         let types = self.types.commit()?;
         let homes = self.homes.commit()?;
         let supertypes = self.supertypes.commit()?;
         let elements = self.elements.commit()?;
+        let depths = Vec::new(*self.depths.allocator());
         Ok(Lists {
             groups,
             types,
             homes,
             supertypes,
             elements,
+            depths,
         })
     }
 }

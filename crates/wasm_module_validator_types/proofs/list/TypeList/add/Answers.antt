@@ -21,3 +21,4 @@ invariant_of-self-2 c =
     c.new.ensures c.new-2.ensures (ap (map declared_of) c.types.ensures)
     c.in_ok-types.ensures c.in_ok-homes.ensures (c.in_ok-supertypes.ensures ∙ ap (λ l. map supertype_id (map declared_of l)) c.as_slice.ensures.value) c.in_ok-learn.ensures.ok
     c.append.ensures.groups c.append.ensures.types c.append.ensures.homes c.append.ensures.supertypes c.append.ensures.elements
+    (ap (λ l. l.can_intern) c.self.view_is ∙ c.requires.can_intern) c.reserve.ensures.depths c.append.ensures.depths
