@@ -1,9 +1,8 @@
 -- The worked rows of lists of types.
-use Rattle.std.proofs.Common.{◌≡◌, ◌∙◌, ℕ, [], ◌∷◌, ◌++◌, get_or, refl, rules, arith, ap, sym, Some, None}
+use Rattle.std.proofs.Common.{◌≡◌, ◌∙◌, ℕ, [], ◌∷◌, refl, rules, arith, ap, sym, Some, None}
 use Rattle.std.specs.Prelude.{Option}
 use Rattle.wasm_types.specs.trees.Unfold.{type_count}
 use Rattle.wasm_module_validator_type_trees.specs.Groups.{group_ranges}
-use Rattle.wasm_module_validator_type_trees.specs.Worked.{pair}
 use Rattle.wasm_module_validator_types.specs.Worked.{ListsWorked}
 use Rattle.wasm_module_validator_types.proofs.Depths.{sets_depth, same_more, past}
 
