@@ -1,5 +1,5 @@
 -- As many types and groups are listed as there are.
-use Rattle.std.proofs.Common.{◌≡◌, ◌∙◌, ℕ, List, length, map, ap, sym}
+use Rattle.std.proofs.Common.{◌≡◌, ◌∙◌, List, length, map, ap, sym}
 use Rattle.std.proofs.lemmas.List.{length-map}
 use Rattle.std.specs.declared.ops.Range.{Range}
 use Rattle.wasm_types.specs.indices.declared.index.CoreTypeId.{CoreTypeId}

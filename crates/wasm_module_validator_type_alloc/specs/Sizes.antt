@@ -1,5 +1,5 @@
 -- The sizes of types: how much there is to visit in one.
-use Rattle.std.specs.Prelude.{ℕ, ◌+◌, ◌*◌, ◌-◌, min, List, length}
+use Rattle.std.specs.Prelude.{ℕ, ◌+◌, ◌*◌, ◌-◌, min, length}
 use Rattle.wasm_types.specs.trees.Types.{InnerOf, function, array_of, struct_of, continuation}
 
 -- no size needs more than 24 bits

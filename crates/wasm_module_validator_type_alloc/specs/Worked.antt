@@ -1,5 +1,5 @@
 -- Worked sizes.
-use Rattle.std.specs.Prelude.{◌≡◌, ℕ, false, List, [], ◌∷◌}
+use Rattle.std.specs.Prelude.{◌≡◌, ℕ, false, [], ◌∷◌}
 use Rattle.wasm_types.specs.trees.Types.{number, i32, f64, i8, function, array_of, struct_of, continuation, FieldOf}
 use Rattle.wasm_module_validator_type_alloc.specs.Sizes.{capped, size_of, size_between}
 

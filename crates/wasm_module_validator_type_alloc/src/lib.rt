@@ -8,6 +8,8 @@ mod identifier;
 mod info;
 pub mod laws;
 mod maybe_owned;
+#[cfg(test)]
+mod tests;
 
 pub use alloc::TypeAlloc;
 pub use data::TypeData;

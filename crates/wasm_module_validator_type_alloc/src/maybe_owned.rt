@@ -1,6 +1,6 @@
 //! A value that is owned until it is shared.
 
-ghost use Rattle.std.specs.Prelude.{◌≡◌, IsTrue, IfOk, OnOk, OnErr, Some, None, option_map, true, false};
+ghost use Rattle.std.specs.Prelude.{◌≡◌, IsTrue, IfOk, OnOk, OnErr, Some, None, option_map, if◌then◌else◌, true, false};
 ghost use Rattle.wasm_module_validator_type_alloc.specs.Held.{held};
 
 use std::alloc::{AllocError, Global};
@@ -92,16 +92,36 @@ fn share<T: Drop>(
 }
 
 impl<T: Drop> MaybeOwned<T> {
-    /// The value, shared from now on. Where there is no memory to share it, nothing changes.
-    pub fn arc(&mut self) -> Result<&Rc<T>, AllocError>
-        ensures value { IfOk result (λ rc. self.old.value ≡ Some rc.now.value) }
-        ensures stays { self.new.value ≡ self.old.value }
+    /// Shares the value from now on. Where there is no memory for it, nothing changes.
+    pub fn make_shared(&mut self) -> Result<(), AllocError>
+        ensures value { self.new.value ≡ self.old.value }
         ensures is_shared { OnOk result (self.new.is_owned ≡ false) }
         ensures refused { OnErr result (self.new.is_owned ≡ self.old.is_owned) }
     {
-        share(self.alloc, &mut self.own, &mut self.shared)?;
+        share(self.alloc, &mut self.own, &mut self.shared)
+    }
+
+    /// The value as it is shared, once it is.
+    pub fn shared(&self) -> Option<&Rc<T>>
+        ensures { option_map (λ rc. rc.now.value) result ≡ (if self.now.is_owned then None else self.now.value) }
+    {
+        match &self.own {
+            Some(_) => None,
+            None => self.shared.as_ref(),
+        }
+    }
+
+    /// A further owner of the value, which is shared from now on. Refused where there is no memory to share it, and where it
+    /// has as many owners as can be counted; the value stays.
+    pub fn arc(&mut self) -> Result<Rc<T>, AllocError>
+        ensures owner { IfOk result (λ rc. self.old.value ≡ Some rc.value) }
+        ensures value { self.new.value ≡ self.old.value }
+        ensures is_shared { OnOk result (self.new.is_owned ≡ false) }
+        ensures stays_shared { self.old.is_owned ≡ false → self.new.is_owned ≡ false }
+    {
+        self.make_shared()?;
         match &self.shared {
-            Some(shared) => Ok(shared),
+            Some(shared) => shared.clone(),
             None => unreachable!(),
         }
     }
