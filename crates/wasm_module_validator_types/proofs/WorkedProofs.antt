@@ -2,7 +2,8 @@
 use Rattle.std.proofs.Common.{◌≡◌, ◌∙◌, ℕ, [], ◌∷◌, refl, rules, arith, ap, sym, Some, None}
 use Rattle.std.specs.Prelude.{Option}
 use Rattle.wasm_types.specs.trees.Unfold.{type_count}
-use Rattle.wasm_module_validator_type_trees.specs.Groups.{group_ranges}
+use Rattle.wasm_module_validator_type_trees.specs.Groups.{group_ranges, declared_by_id}
+use Rattle.wasm_module_validator_types.specs.Rolled.{forms}
 use Rattle.wasm_module_validator_types.specs.Worked.{ListsWorked}
 use Rattle.wasm_module_validator_types.proofs.Depths.{sets_depth, same_more, past}
 
@@ -15,13 +16,19 @@ unfolding pair_of
 some_same a b c d o e f = let g = ap pair_of (sym e ∙ f) in (ap (λ (p : ℕ × ℕ). p.0) g, ap (λ (p : ℕ × ℕ). p.1) g)
 
 pub lists_worked : ListsWorked
-unfolding type_count group_ranges
+unfolding type_count group_ranges declared_by_id forms
 lists_worked = record {
   place = refl;
   last_id = refl;
   no_id = refl;
   own_id = refl;
   of_module = refl;
+  own_place = refl;
+  earlier_id = refl;
+  first_own_place = refl;
+  still_of_module = refl;
+  rolled_up = refl;
+  forms_in_turn = refl;
   room = record { types = omega arith; numbers = omega arith };
   no_room = λ r. let h = r.types in omega arith;
   added = search rules;

@@ -2,7 +2,9 @@
 use Rattle.std.specs.Prelude.{◌≡◌, true, false, [], ◌∷◌, Some, None}
 use Rattle.wasm_types.specs.indices.declared.index.UnpackedIndex.TheVariants.{Module, RecGroup}
 use Rattle.wasm_module_validator_type_trees.specs.Worked.{id, id_of, pair, lower, both, routine, routines}
+use Rattle.wasm_module_validator_type_trees.specs.Groups.{declared_by_id}
 use Rattle.wasm_module_validator_types.specs.Stored.{packed_by_id}
+use Rattle.wasm_module_validator_types.specs.Rolled.{rolled, rolled_groups, forms}
 use Rattle.wasm_module_validator_types.specs.Lookups.{HasIds, HasPlace, IsAtPlace}
 use Rattle.wasm_module_validator_types.specs.Depths.{depth_at, SetsDepth, KeepsDepths}
 use Rattle.wasm_module_validator_types.specs.List.{HasRoom, IsAdded, Interns}
@@ -14,6 +16,12 @@ pub record ListsWorked : Type 0 where
   pub no_id : packed_by_id 0xf_ffff (RecGroup 1) ≡ RecGroup 1
   pub own_id : packed_by_id 7 (id 2) ≡ id 2
   pub of_module : packed_by_id 7 (Module 2) ≡ Module 2
+  pub own_place : rolled 7 (id 9) ≡ RecGroup 2
+  pub earlier_id : rolled 7 (id 6) ≡ id 6
+  pub first_own_place : rolled 7 (id 7) ≡ RecGroup 0
+  pub still_of_module : rolled 7 (Module 9) ≡ Module 9
+  pub rolled_up : rolled_groups (declared_by_id both) (true ∷ true ∷ []) ((0, 2) ∷ (2, 3) ∷ []) ≡ pair ∷ lower ∷ []
+  pub forms_in_turn : forms (lower ∷ routine ∷ []) ≡ false ∷ true ∷ []
   pub room : HasRoom both 0xf_fffd
   pub no_room : HasRoom both 0xf_fffe → ⊥
   pub added : IsAdded (pair ∷ []) lower

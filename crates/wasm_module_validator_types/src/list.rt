@@ -14,7 +14,7 @@ ghost use Rattle.wasm_module_validator_types.specs.List.{max_types, HasRoom, IsA
 
 use crate::RecGroupId;
 use crate::known::{Known, learn, number_of};
-use crate::lists::{Interned, Lists, set_depth};
+use crate::lists::{Lists, set_depth};
 use crate::stored::{copies, stored_supertypes, stored_types};
 use std::alloc::{AllocError, Global};
 use std::collections::BTreeMap;
@@ -41,9 +41,9 @@ impl Model for TypeList {
 
     ghost Value = { Types };
 
-    ghost view = { λ l. record { groups = groups_in l.lists.groups.items; can_intern = is_some l.known; depths = l.lists.depths.items } };
+    ghost view = { λ l. record { groups = groups_in l.lists; can_intern = is_some l.known; depths = l.lists.depths.items } };
 
-    ghost invariant = { λ l. IsTypeList (groups_in l.lists.groups.items) l.lists l.known };
+    ghost invariant = { λ l. IsTypeList (groups_in l.lists) l.lists l.known };
 }
 
 // The refusal of a place that a group does not have.
@@ -93,7 +93,7 @@ impl TypeList {
     pub fn group_count(&self) -> usize
         ensures { result ≡ length self.now.groups }
     {
-        self.lists.groups.len()
+        self.lists.elements.len()
     }
 
     // The number of the next group, where there is room for one of this many types.
@@ -142,17 +142,13 @@ impl TypeList {
         let supertypes = stored_supertypes(self.alloc, types.as_slice())?;
         let homes = copies(self.alloc, id, further)?;
         self.lists.reserve(further)?;
-        learn(&mut self.known, is_canonical, &group, id)?;
+        learn(&mut self.known, is_canonical, group, id)?;
         let elements = Range {
             start: CoreTypeId::new(start),
             end: CoreTypeId::new(start + further as u32),
         };
-        let interned = Interned {
-            is_canonical,
-            group,
-        };
         self.lists
-            .append(interned, types, homes, supertypes, elements);
+            .append(is_canonical, types, homes, supertypes, elements);
         Ok(())
     }
 

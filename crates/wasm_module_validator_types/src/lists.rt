@@ -7,14 +7,7 @@ use crate::RecGroupId;
 use std::alloc::{AllocError, Global};
 use std::ops::Range;
 use wasm_module_validator_snapshots::SnapshotList;
-use wasm_types::{CoreTypeId, RecGroup, SubType};
-
-/// A group as it was interned.
-#[derive(Drop)]
-pub(crate) struct Interned {
-    pub is_canonical: bool,
-    pub group: RecGroup,
-}
+use wasm_types::{CoreTypeId, SubType};
 
 // As many ids more, without a depth, in room that is there.
 fn add_places(depths: &mut Vec<Option<u8>>, further: usize)
@@ -33,12 +26,12 @@ pub(crate) fn set_depth(depths: &mut Vec<Option<u8>>, id: CoreTypeId, depth: u8)
     depths[id.number() as usize] = Some(depth);
 }
 
-/// The groups, and for each id its type, its group, its supertype and its depth; for each group its ids.
+/// For each group whether it is in canonical form, and its ids; for each id its type, its group, its supertype and its depth.
 ///
-/// Depths are set and never shared, so a committed list holds none.
+/// A group is not kept beside its types over ids: they tell what it was (`specs/Rolled.antt`). Depths are set and never shared, so a committed list holds none.
 #[derive(Drop)]
 pub(crate) struct Lists {
-    pub groups: SnapshotList<Interned>,
+    pub forms: SnapshotList<bool>,
     pub types: SnapshotList<SubType>,
     pub homes: SnapshotList<RecGroupId>,
     pub supertypes: SnapshotList<Option<CoreTypeId>>,
@@ -48,7 +41,7 @@ pub(crate) struct Lists {
 
 impl Lists {
     pub(crate) fn new(alloc: Global) -> Lists
-        ensures groups { result.groups.items ≡ [] }
+        ensures forms { result.forms.items ≡ [] }
         ensures types { result.types.items ≡ [] }
         ensures homes { result.homes.items ≡ [] }
         ensures supertypes { result.supertypes.items ≡ [] }
@@ -56,7 +49,7 @@ impl Lists {
         ensures depths { result.depths.items ≡ [] }
     {
         Lists {
-            groups: SnapshotList::new(alloc),
+            forms: SnapshotList::new(alloc),
             types: SnapshotList::new(alloc),
             homes: SnapshotList::new(alloc),
             supertypes: SnapshotList::new(alloc),
@@ -71,7 +64,7 @@ impl Lists {
         ensures depths { self.new.depths.items ≡ self.old.depths.items }
         ensures room { OnOk result (HasRoomFor self.new additional) }
     {
-        self.groups.reserve(1)?;
+        self.forms.reserve(1)?;
         self.types.reserve(additional)?;
         self.homes.reserve(additional)?;
         self.supertypes.reserve(additional)?;
@@ -82,7 +75,7 @@ impl Lists {
     /// Appends a group, in room that is there.
     pub(crate) fn append(
         &mut self,
-        interned: Interned,
+        is_canonical: bool,
         mut types: Vec<SubType>,
         mut homes: Vec<RecGroupId>,
         mut supertypes: Vec<Option<CoreTypeId>>,
@@ -92,7 +85,7 @@ impl Lists {
         requires short { AreShort self.old (length types.items) }
         requires homes { length homes.items ≡ length types.items }
         requires supertypes { length supertypes.items ≡ length types.items }
-        ensures groups { self.new.groups.items ≡ self.old.groups.items ++ interned ∷ [] }
+        ensures forms { self.new.forms.items ≡ self.old.forms.items ++ is_canonical ∷ [] }
         ensures types { self.new.types.items ≡ self.old.types.items ++ types.items }
         ensures homes { self.new.homes.items ≡ self.old.homes.items ++ homes.items }
         ensures supertypes { self.new.supertypes.items ≡ self.old.supertypes.items ++ supertypes.items }
@@ -100,7 +93,7 @@ impl Lists {
         ensures depths { self.new.depths.items ≡ self.old.depths.items ++ replicate (length types.items) None }
     {
         add_places(&mut self.depths, types.as_slice().len());
-        let _ = self.groups.push(interned);
+        let _ = self.forms.push(is_canonical);
         let _ = self.types.append(&mut types);
         let _ = self.homes.append(&mut homes);
         let _ = self.supertypes.append(&mut supertypes);
@@ -114,14 +107,14 @@ impl Lists {
         ensures depths_stay { self.new.depths.items ≡ self.old.depths.items }
         ensures no_depths { IfOk result (λ lists. lists.depths.items ≡ []) }
     {
-        let groups = self.groups.commit()?;
+        let forms = self.forms.commit()?;
         let types = self.types.commit()?;
         let homes = self.homes.commit()?;
         let supertypes = self.supertypes.commit()?;
         let elements = self.elements.commit()?;
         let depths = Vec::new(*self.depths.allocator());
         Ok(Lists {
-            groups,
+            forms,
             types,
             homes,
             supertypes,
