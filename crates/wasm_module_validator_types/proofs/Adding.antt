@@ -1,5 +1,5 @@
 -- A list of types with one more group.
-use Rattle.std.proofs.Common.{◌≡◌, ◌∙◌, ℕ, zero, suc, ◌+◌, Bool, List, [], ◌∷◌, ◌++◌, length, map, replicate, refl, ap, sym, subst, Option, arith}
+use Rattle.std.proofs.Common.{◌≡◌, ◌∙◌, ℕ, zero, suc, ◌+◌, Bool, List, [], ◌∷◌, ◌++◌, length, map, replicate, refl, ap, sym, subst, Option, None, true, is_some, arith}
 use Rattle.std.proofs.lemmas.List.{map-append, length-map}
 use Rattle.wasm_types.specs.indices.declared.index.CoreTypeId.{CoreTypeId}
 use Rattle.wasm_types.specs.groups.declared.rec_group.RecGroup.{RecGroup}
@@ -18,8 +18,9 @@ use Rattle.wasm_module_validator_types.specs.Known.{group_in, Known, KnowsMore}
 use Rattle.wasm_module_validator_types.specs.List.{groups_in, IsTypeList, HasRoom, IsAdded}
 use Rattle.wasm_module_validator_types.proofs.OverIds.{types_fit}
 use Rattle.wasm_module_validator_types.proofs.Knowing.{knows_push}
+use Rattle.wasm_module_validator_types.proofs.Depths.{places_push}
 use Rattle.wasm_module_validator_types.specs.Lists.{SameItems, AreShort}
-use Rattle.wasm_module_validator_types.proofs.Parts.{groups_push, length_groups, homes_push, ranges_push, supers_push, type_total, home_total, super_total, element_total}
+use Rattle.wasm_module_validator_types.proofs.Parts.{homes_push, ranges_push, supers_push, forms_push, type_total, home_total, super_total, element_total, form_total}
 
 map_replicate : {A B : Type 0} (f : A → B) (n : ℕ) (a : A) → map f (replicate n a) ≡ replicate n (f a)
 map_replicate f zero a = refl
@@ -30,7 +31,8 @@ viewed_push : {A B : Type 0} (f : A → B) (old now more : List A) (news ends : 
 viewed_push f old now more news ends e a b = ap (map f) e ∙ map-append f old more ∙ ap (λ l. l ++ map f more) a ∙ ap (λ l. news ++ l) b
 
 -- what each list of a list of types gains by a group
-pub record Gains (old new : Lists) (types : List SubType) (homes : List RecGroupId) (supertypes : List (Option CoreTypeId)) (first end : CoreTypeId) : Type 0 where
+pub record Gains (old new : Lists) (canonical : Bool) (types : List SubType) (homes : List RecGroupId) (supertypes : List (Option CoreTypeId)) (first end : CoreTypeId) : Type 0 where
+  pub forms_now : new.forms.items ≡ old.forms.items ++ canonical ∷ []
   pub types_now : new.types.items ≡ old.types.items ++ types
   pub homes_now : new.homes.items ≡ old.homes.items ++ homes
   pub supertypes_now : new.supertypes.items ≡ old.supertypes.items ++ supertypes
@@ -38,7 +40,7 @@ pub record Gains (old new : Lists) (types : List SubType) (homes : List RecGroup
 
 module _ (gs : List Group) (old new : Lists) (known more : Option Known) (is : IsTypeList gs old known) (canonical : Bool) (group : RecGroup) (id : RecGroupId)
     (formed : IsGroupFormed (count gs) (group_in canonical group)) (added : IsAdded gs (group_in canonical group)) (room : HasRoom gs (length (declared_types group))) (at : id.0 ≡ length gs)
-    (types : List SubType) (homes : List RecGroupId) (supertypes : List (Option CoreTypeId)) (first end : CoreTypeId) (gains : Gains old new types homes supertypes first end)
+    (types : List SubType) (homes : List RecGroupId) (supertypes : List (Option CoreTypeId)) (first end : CoreTypeId) (gains : Gains old new canonical types homes supertypes first end)
     (begins : first.0 ≡ count gs) (ends : end.0 ≡ count gs + length (declared_types group)) where
   -- the types over ids
   by_ids : map declared_of types ≡ map (declared_map (packed_by_id first.0)) (declared_types group) → map declared_of types ≡ map (declared_map (by_id (count gs))) (declared_types group)
@@ -48,11 +50,13 @@ module _ (gs : List Group) (old new : Lists) (known more : Option Known) (is : I
 
   pub list_push : TiesDeclareTheSame → map declared_of types ≡ map (declared_map (packed_by_id first.0)) (declared_types group)
       → homes ≡ replicate (length (declared_types group)) id → supertypes ≡ map supertype_id (map declared_of types) → KnowsMore canonical group id known more
+      → is_some known ≡ true → (n : ℕ) → n ≡ length (declared_types group) → new.depths.items ≡ old.depths.items ++ replicate n None
       → IsTypeList (group_in canonical group ∷ gs) new more
-  list_push ties stored copied supers learned = record {
+  list_push ties stored copied supers learned still n counted places = record {
     formed = (formed, added, is.formed);
     small = let l = room.types in omega (arith, count_push (group_in canonical group) gs);
     few = let l = room.numbers in omega arith;
+    forms = gains.forms_now ∙ ap (λ l. l ++ canonical ∷ []) is.forms ∙ sym (forms_push (group_in canonical group) gs);
     types = viewed_push declared_of old.types.items new.types.items types (declared_by_id gs) (map (declared_map (by_id (count gs))) (declared_types group)) gains.types_now is.types (by_ids stored)
         ∙ sym (stored_push (group_in canonical group) gs);
     homes = viewed_push (λ n. n.0) old.homes.items new.homes.items homes (group_numbers gs) (replicate (length (declared_types group)) (length gs)) gains.homes_now is.homes
@@ -64,6 +68,7 @@ module _ (gs : List Group) (old new : Lists) (known more : Option Known) (is : I
         ((count gs, count gs + length (declared_types group)) ∷ []) gains.elements_now is.elements (let a = begins in let b = ends in cc)
         ∙ sym (ranges_push (group_in canonical group) gs);
     knows = knows_push ties gs canonical group id known more at is.knows learned;
+    depths = places_push canonical group id known more (group_in canonical group) gs old.depths.items new.depths.items n learned still is.depths counted places;
   }
 
 -- as many types are stored as there are
@@ -74,7 +79,7 @@ stored_length types source ds start e f =
     sym (length-map types declared_of) ∙ ap length (e ∙ ap (map (declared_map (packed_by_id start))) f) ∙ length-map ds (declared_map (packed_by_id start))
 
 -- the code's own names for it: the lists before, with room, and after
-module _ (before mid after : Lists) (known more : Option Known) (gs : List Group) (view : groups_in before.groups.items ≡ gs) (is : IsTypeList (groups_in before.groups.items) before known)
+module _ (before mid after : Lists) (known more : Option Known) (gs : List Group) (view : groups_in before ≡ gs) (is : IsTypeList (groups_in before) before known)
     (same : SameItems before mid) (group : RecGroup) (room : HasRoom gs (length (declared_types group))) where
   pub short_lists : (n : ℕ) → n ≡ length (declared_types group) → AreShort mid n
   short_lists n e =
@@ -83,11 +88,11 @@ module _ (before mid after : Lists) (known more : Option Known) (gs : List Group
       let small = room.types in
       let few = room.numbers in
       record {
-        groups = omega (arith, ap length same.groups, length_groups before.groups.items);
-        types = omega (arith, ap length same.types, type_total (groups_in before.groups.items) before known is);
-        homes = omega (arith, ap length same.homes, home_total (groups_in before.groups.items) before known is);
-        supertypes = omega (arith, ap length same.supertypes, super_total (groups_in before.groups.items) before known is);
-        elements = omega (arith, ap length same.elements, element_total (groups_in before.groups.items) before known is);
+        forms = omega (arith, ap length same.forms, form_total (groups_in before) before known is);
+        types = omega (arith, ap length same.types, type_total (groups_in before) before known is);
+        homes = omega (arith, ap length same.homes, home_total (groups_in before) before known is);
+        supertypes = omega (arith, ap length same.supertypes, super_total (groups_in before) before known is);
+        elements = omega (arith, ap length same.elements, element_total (groups_in before) before known is);
       }
 
   pub added_list : TiesDeclareTheSame → (canonical : Bool) (id : RecGroupId) → IsGroupFormed (count gs) (group_in canonical group) → IsAdded gs (group_in canonical group) → id.0 ≡ length gs
@@ -96,24 +101,21 @@ module _ (before mid after : Lists) (known more : Option Known) (gs : List Group
       → map declared_of source ≡ declared_types group
       → map declared_of types ≡ map (declared_map (packed_by_id start)) (map declared_of source)
       → homes ≡ replicate further id → supertypes ≡ map supertype_id (map declared_of types) → KnowsMore canonical group id known more
-      → after.groups.items ≡ mid.groups.items ++ record { is_canonical = canonical; group = group } ∷ []
+      → after.forms.items ≡ mid.forms.items ++ canonical ∷ []
       → after.types.items ≡ mid.types.items ++ types → after.homes.items ≡ mid.homes.items ++ homes → after.supertypes.items ≡ mid.supertypes.items ++ supertypes
       → after.elements.items ≡ mid.elements.items ++ record { start = first; end = end } ∷ []
-      → IsTypeList (groups_in after.groups.items) after more
-  added_list ties canonical id formed added at types source homes supertypes first end start further s f b e from stored copied supers learned a1 a2 a3 a4 a5 =
-      let G : Group = group_in canonical group in
+      → is_some known ≡ true → mid.depths.items ≡ before.depths.items → after.depths.items ≡ mid.depths.items ++ replicate (length types) None
+      → IsTypeList (group_in canonical group ∷ gs) after more
+  added_list ties canonical id formed added at types source homes supertypes first end start further s f b e from stored copied supers learned a1 a2 a3 a4 a5 still d1 d2 =
       let old : IsTypeList gs before known = subst (λ (l : List Group). IsTypeList l before known) view is in
-      let gains : Gains before after types homes supertypes first end = record {
+      let gains : Gains before after canonical types homes supertypes first end = record {
+        forms_now = a1 ∙ ap (λ l. l ++ canonical ∷ []) same.forms;
         types_now = a2 ∙ ap (λ l. l ++ types) same.types;
         homes_now = a3 ∙ ap (λ l. l ++ homes) same.homes;
         supertypes_now = a4 ∙ ap (λ l. l ++ supertypes) same.supertypes;
         elements_now = a5 ∙ ap (λ l. l ++ record { start = first; end = end } ∷ []) same.elements;
       } in
-      let groups : groups_in after.groups.items ≡ G ∷ gs =
-      groups_push before.groups.items after.groups.items (record { is_canonical = canonical; group = group })
-      (a1 ∙ ap (λ l. l ++ record { is_canonical = canonical; group = group } ∷ []) same.groups)
-      ∙ ap (λ (l : List Group). G ∷ l) view in
-      subst (λ (l : List Group). IsTypeList l after more) (sym groups)
-      (list_push gs before after known more old canonical group id formed added room at types homes supertypes first end gains (b ∙ s) (e ∙ (let x = s in let y = f in cc)) ties
+      list_push gs before after known more old canonical group id formed added room at types homes supertypes first end gains (b ∙ s) (e ∙ (let x = s in let y = f in cc)) ties
       (stored ∙ ap (map (declared_map (packed_by_id start))) from ∙ ap (λ (n : ℕ). map (declared_map (packed_by_id n)) (declared_types group)) (sym b))
-      (copied ∙ ap (λ (n : ℕ). replicate n id) f) supers learned)
+      (copied ∙ ap (λ (n : ℕ). replicate n id) f) supers learned still (length types) (stored_length types source (declared_types group) start stored from)
+      (d2 ∙ ap (λ l. l ++ replicate (length types) None) d1)

@@ -1,6 +1,9 @@
 pub mod OverIds
 pub mod Knowing
+pub mod Depths
 pub mod Parts
+pub mod Rolling
+pub mod Holding
 pub mod Adding
 pub mod Finding
 pub mod Chains

@@ -1,12 +1,11 @@
 -- What one more group adds to each part of a list.
 use Rattle.std.proofs.Common.{◌≡◌, ◌∙◌, ℕ, ◌+◌, true, List, [], ◌∷◌, ◌++◌, length, map, replicate, refl, ap, sym, subst, Option, Some, arith}
-use Rattle.std.proofs.lemmas.List.{reverse-append, length-reverse, map-append, length-map, length-append, length-replicate}
+use Rattle.std.proofs.lemmas.List.{map-append, length-map, length-append, length-replicate}
 use Rattle.std.specs.Prelude.{MatchOption}
 use Rattle.std.specs.Map.{lookup}
 use Rattle.std.specs.BTreeMap.{is_at}
 use Rattle.wasm_types.specs.groups.contracts.rec_group.RecGroupOrd.TheImpl as order
 use Rattle.wasm_module_validator_types.specs.declared.ids.RecGroupId.{RecGroupId}
-use Rattle.wasm_module_validator_types.specs.Lists.{SameItems}
 use Rattle.wasm_types.specs.trees.Unfold.{type_count}
 use Rattle.wasm_types.specs.groups.Entries.{declared_of}
 use Rattle.wasm_types.specs.groups.Remap.{declared_map}
@@ -14,16 +13,10 @@ use Rattle.wasm_module_validator_type_trees.specs.Groups.{Group, count, group_at
 use Rattle.wasm_module_validator_type_trees.specs.Formed.{IsMissing}
 use Rattle.wasm_module_validator_type_trees.specs.laws.Unrolled.{count_push}
 use Rattle.wasm_module_validator_type_trees.specs.laws.Ids.{stored_push, length_stored}
-use Rattle.wasm_module_validator_types.specs.declared.lists.Interned.{Interned}
 use Rattle.wasm_module_validator_types.specs.declared.lists.Lists.{Lists}
 use Rattle.wasm_module_validator_types.specs.Known.{group_in, Known, Knows}
-use Rattle.wasm_module_validator_types.specs.List.{interned_group, groups_in, IsTypeList}
-
-pub groups_push : (is now : List Interned) (i : Interned) → now ≡ is ++ i ∷ [] → groups_in now ≡ interned_group i ∷ groups_in is
-groups_push is now i e = ap groups_in e ∙ rw (map-append, reverse-append) refl
-
-pub length_groups : (is : List Interned) → length (groups_in is) ≡ length is
-length_groups is = simp (length-reverse, length-map)
+use Rattle.wasm_module_validator_types.specs.Rolled.{forms}
+use Rattle.wasm_module_validator_types.specs.List.{IsTypeList}
 
 pub homes_push : (g : Group) (earlier : List Group) → group_numbers (g ∷ earlier) ≡ group_numbers earlier ++ replicate (length g.types) (length earlier)
 unfolding group_numbers
@@ -33,9 +26,18 @@ pub ranges_push : (g : Group) (earlier : List Group) → group_ranges (g ∷ ear
 unfolding group_ranges
 ranges_push g earlier = refl
 
+pub forms_push : (g : Group) (earlier : List Group) → forms (g ∷ earlier) ≡ forms earlier ++ g.is_canonical ∷ []
+unfolding forms
+forms_push g earlier = refl
+
 pub supers_push : (g : Group) (earlier : List Group)
     → supertype_ids (g ∷ earlier) ≡ supertype_ids earlier ++ map supertype_id (map (declared_map (by_id (count earlier))) g.types)
 supers_push g earlier = ap (map supertype_id) (stored_push g earlier) ∙ map-append supertype_id (declared_by_id earlier) (map (declared_map (by_id (count earlier))) g.types)
+
+pub length_forms : (groups : List Group) → length (forms groups) ≡ length groups
+unfolding forms
+length_forms [] = refl
+length_forms (g ∷ earlier) = ap length (forms_push g earlier) ∙ length-append (forms earlier) (g.is_canonical ∷ []) ∙ omega (arith, length_forms earlier)
 
 pub length_homes : (groups : List Group) → length (group_numbers groups) ≡ count groups
 unfolding group_numbers type_count
@@ -54,22 +56,6 @@ pub length_supers : (groups : List Group) → length (supertype_ids groups) ≡ 
 length_supers groups = length-map (declared_by_id groups) supertype_id ∙ length_stored groups
 
 -- ---- no groups
-
-pub no_types : (lists : Lists) (known : Option Known) → lists.groups.items ≡ [] → lists.types.items ≡ [] → lists.homes.items ≡ [] → lists.supertypes.items ≡ [] → lists.elements.items ≡ []
-    → Knows [] known → IsTypeList (groups_in lists.groups.items) lists known
-unfolding type_count group_numbers group_ranges declared_by_id
-no_types lists known a b c d e k =
-    subst (λ (gs : List Group). IsTypeList gs lists known) (sym (ap groups_in a))
-    (record {
-      formed = tt;
-      small = omega arith;
-      few = omega arith;
-      types = ap (map declared_of) b;
-      homes = ap (map (λ n. n.0)) c;
-      supertypes = d;
-      elements = ap (map (λ r. (r.start.0, r.end.0))) e;
-      knows = k;
-    })
 
 nothing_missing : (k : ℕ) (g : Group) → group_at [] k ≡ Some g → ⊥
 nothing_missing k g e = cc
@@ -91,21 +77,8 @@ module _ (gs : List Group) (lists : Lists) (known : Option Known) (is : IsTypeLi
   pub super_total : length lists.supertypes.items ≡ count gs
   super_total = ap length is.supertypes ∙ length_supers gs
 
+  pub form_total : length lists.forms.items ≡ length gs
+  form_total = ap length is.forms ∙ length_forms gs
+
   pub element_total : length lists.elements.items ≡ length gs
   element_total = sym (length-map lists.elements.items (λ r. (r.start.0, r.end.0))) ∙ ap length is.elements ∙ length_ranges gs
-
--- the same lists under other names
-pub lists_same : (known more : Option Known) (old new : Lists) → SameItems old new → IsTypeList (groups_in old.groups.items) old known
-    → Knows (groups_in old.groups.items) more → IsTypeList (groups_in new.groups.items) new more
-lists_same known more old new same is knows =
-    subst (λ (gs : List Group). IsTypeList gs new more) (sym (ap groups_in same.groups))
-    (record {
-      formed = is.formed;
-      small = is.small;
-      few = is.few;
-      types = ap (map declared_of) same.types ∙ is.types;
-      homes = ap (map (λ n. n.0)) same.homes ∙ is.homes;
-      supertypes = same.supertypes ∙ is.supertypes;
-      elements = ap (map (λ r. (r.start.0, r.end.0))) same.elements ∙ is.elements;
-      knows = knows;
-    })

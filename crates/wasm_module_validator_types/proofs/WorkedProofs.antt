@@ -1,9 +1,11 @@
 -- The worked rows of lists of types.
-use Rattle.std.proofs.Common.{◌≡◌, ◌∙◌, ℕ, refl, rules, arith, ap, sym, Some, None}
+use Rattle.std.proofs.Common.{◌≡◌, ◌∙◌, ℕ, [], ◌∷◌, refl, rules, arith, ap, sym, Some, None}
 use Rattle.std.specs.Prelude.{Option}
 use Rattle.wasm_types.specs.trees.Unfold.{type_count}
-use Rattle.wasm_module_validator_type_trees.specs.Groups.{group_ranges}
+use Rattle.wasm_module_validator_type_trees.specs.Groups.{group_ranges, declared_by_id}
+use Rattle.wasm_module_validator_types.specs.Rolled.{forms}
 use Rattle.wasm_module_validator_types.specs.Worked.{ListsWorked}
+use Rattle.wasm_module_validator_types.proofs.Depths.{sets_depth, same_more, past}
 
 pair_of : Option (ℕ × ℕ) → ℕ × ℕ
 pair_of None = (0, 0)
@@ -14,13 +16,19 @@ unfolding pair_of
 some_same a b c d o e f = let g = ap pair_of (sym e ∙ f) in (ap (λ (p : ℕ × ℕ). p.0) g, ap (λ (p : ℕ × ℕ). p.1) g)
 
 pub lists_worked : ListsWorked
-unfolding type_count group_ranges
+unfolding type_count group_ranges declared_by_id forms
 lists_worked = record {
   place = refl;
   last_id = refl;
   no_id = refl;
   own_id = refl;
   of_module = refl;
+  own_place = refl;
+  earlier_id = refl;
+  first_own_place = refl;
+  still_of_module = refl;
+  rolled_up = refl;
+  forms_in_turn = refl;
   room = record { types = omega arith; numbers = omega arith };
   no_room = λ r. let h = r.types in omega arith;
   added = search rules;
@@ -37,4 +45,13 @@ lists_worked = record {
   no_place = λ p. let e = some_same 2 3 p.first p.end _ refl p.ids in let w = p.within in omega arith;
   at_place = record { first = 0; end = 2; ids = refl; at = refl };
   not_at_place = λ p. let e = some_same 2 3 p.first p.end _ refl p.ids in let w = p.at in omega arith;
+  depth = refl;
+  no_depth = refl;
+  no_type = refl;
+  set = sets_depth (Some 0 ∷ None ∷ []) _ 1 1 (omega arith) refl;
+  set_wrong = λ h. let e = h 1 in search rules;
+  set_elsewhere = λ h. let e = h 0 in search rules;
+  kept = record { kept = same_more (Some 0 ∷ None ∷ []) 1; none = λ id le. same_more (Some 0 ∷ None ∷ []) 1 id ∙ past (Some 0 ∷ None ∷ []) id le };
+  lost = λ h. let e = h.kept 0 in search rules;
+  given = λ h. let e = h.none 2 (omega arith) in search rules;
 }

@@ -1,7 +1,9 @@
 -- What a list of types stores.
 pub mod Stored
 pub mod Lists
+pub mod Rolled
 pub mod Known
+pub mod Depths
 -- What a contract sees of it.
 pub mod Lookups
 pub mod List

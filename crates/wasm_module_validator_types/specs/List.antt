@@ -6,36 +6,38 @@ use Rattle.wasm_types.specs.fields.Fields.{function_tree}
 use Rattle.wasm_types.specs.groups.Entries.{Declared, declared_of}
 use Rattle.wasm_module_validator_type_trees.specs.Groups.{Group, count, group_at, group_numbers, group_ranges, declared_by_id, supertype_ids}
 use Rattle.wasm_module_validator_type_trees.specs.Formed.{IsMissing, IsFormed}
-use Rattle.wasm_module_validator_types.specs.declared.lists.Interned.{Interned}
 use Rattle.wasm_module_validator_types.specs.declared.lists.Lists.{Lists}
-use Rattle.wasm_module_validator_types.specs.Known.{group_in, Known, Knows}
+use Rattle.wasm_module_validator_types.specs.Rolled.{rolled_groups, forms}
+use Rattle.wasm_module_validator_types.specs.Known.{Known, Knows}
+use Rattle.wasm_module_validator_types.specs.Depths.{HasPlaces}
 use Rattle.wasm_module_validator_types.specs.Lookups.{IsAtPlace}
 
--- the groups, the newest first, and whether further ones may be added
+-- the groups, the newest first, whether further ones may be added, and the depths that were set
 pub record Types : Type 0 where
   pub groups : List Group
   pub can_intern : Bool
+  pub depths : List (Option ℕ)
 
 -- the most types that a list has: each id fits the 20 bits of an index
 abbrev pub max_types : ℕ
 max_types = 0x10_0000
 
-abbrev pub interned_group : Interned → Group
-interned_group i = group_in i.is_canonical i.group
-
-abbrev pub groups_in : List Interned → List Group
-groups_in is = reverse (map interned_group is)
+-- the groups that these lists store, the newest first
+unfoldable pub groups_in : Lists → List Group
+groups_in l = reverse (rolled_groups (map declared_of l.types.items) l.forms.items (map (λ r. (r.start.0, r.end.0)) l.elements.items))
 
 -- the groups are formed, and each part says of them what it is there for
 pub record IsTypeList (groups : List Group) (lists : Lists) (known : Option Known) : Type 0 where
   pub formed : IsFormed groups
   pub small : count groups ≤ max_types
   pub few : length groups ≤ 2 ^ 32
+  pub forms : lists.forms.items ≡ forms groups
   pub types : map declared_of lists.types.items ≡ declared_by_id groups
   pub homes : map (λ n. n.0) lists.homes.items ≡ group_numbers groups
   pub supertypes : lists.supertypes.items ≡ supertype_ids groups
   pub elements : map (λ r. (r.start.0, r.end.0)) lists.elements.items ≡ group_ranges groups
   pub knows : Knows groups known
+  pub depths : HasPlaces (count groups) known lists.depths.items
 
 -- ---- interning
 

@@ -1,9 +1,12 @@
--- Worked rows: room for groups, which groups are added, and the places of groups.
-use Rattle.std.specs.Prelude.{◌≡◌, true, false, [], ◌∷◌}
+-- Worked rows: room for groups, which groups are added, the places of groups, and depths.
+use Rattle.std.specs.Prelude.{◌≡◌, true, false, [], ◌∷◌, Some, None}
 use Rattle.wasm_types.specs.indices.declared.index.UnpackedIndex.TheVariants.{Module, RecGroup}
 use Rattle.wasm_module_validator_type_trees.specs.Worked.{id, id_of, pair, lower, both, routine, routines}
+use Rattle.wasm_module_validator_type_trees.specs.Groups.{declared_by_id}
 use Rattle.wasm_module_validator_types.specs.Stored.{packed_by_id}
+use Rattle.wasm_module_validator_types.specs.Rolled.{rolled, rolled_groups, forms}
 use Rattle.wasm_module_validator_types.specs.Lookups.{HasIds, HasPlace, IsAtPlace}
+use Rattle.wasm_module_validator_types.specs.Depths.{depth_at, SetsDepth, KeepsDepths}
 use Rattle.wasm_module_validator_types.specs.List.{HasRoom, IsAdded, Interns}
 
 -- two structs with ids 0 and 1, and one below the second with id 2
@@ -13,6 +16,12 @@ pub record ListsWorked : Type 0 where
   pub no_id : packed_by_id 0xf_ffff (RecGroup 1) ≡ RecGroup 1
   pub own_id : packed_by_id 7 (id 2) ≡ id 2
   pub of_module : packed_by_id 7 (Module 2) ≡ Module 2
+  pub own_place : rolled 7 (id 9) ≡ RecGroup 2
+  pub earlier_id : rolled 7 (id 6) ≡ id 6
+  pub first_own_place : rolled 7 (id 7) ≡ RecGroup 0
+  pub still_of_module : rolled 7 (Module 9) ≡ Module 9
+  pub rolled_up : rolled_groups (declared_by_id both) (true ∷ true ∷ []) ((0, 2) ∷ (2, 3) ∷ []) ≡ pair ∷ lower ∷ []
+  pub forms_in_turn : forms (lower ∷ routine ∷ []) ≡ false ∷ true ∷ []
   pub room : HasRoom both 0xf_fffd
   pub no_room : HasRoom both 0xf_fffe → ⊥
   pub added : IsAdded (pair ∷ []) lower
@@ -29,3 +38,12 @@ pub record ListsWorked : Type 0 where
   pub no_place : HasPlace both 1 1 → ⊥
   pub at_place : IsAtPlace both 0 1 (id_of 1)
   pub not_at_place : IsAtPlace both 1 0 (id_of 1) → ⊥
+  pub depth : depth_at (Some 0 ∷ None ∷ []) 0 ≡ Some 0
+  pub no_depth : depth_at (Some 0 ∷ None ∷ []) 1 ≡ None
+  pub no_type : depth_at (Some 0 ∷ None ∷ []) 2 ≡ None
+  pub set : SetsDepth (Some 0 ∷ None ∷ []) (Some 0 ∷ Some 1 ∷ []) 1 1
+  pub set_wrong : SetsDepth (Some 0 ∷ None ∷ []) (Some 0 ∷ Some 1 ∷ []) 1 2 → ⊥
+  pub set_elsewhere : SetsDepth (Some 0 ∷ None ∷ []) (None ∷ Some 1 ∷ []) 1 1 → ⊥
+  pub kept : KeepsDepths (pair ∷ []) (Some 0 ∷ None ∷ []) (Some 0 ∷ None ∷ None ∷ [])
+  pub lost : KeepsDepths (pair ∷ []) (Some 0 ∷ None ∷ []) (None ∷ None ∷ None ∷ []) → ⊥
+  pub given : KeepsDepths (pair ∷ []) (Some 0 ∷ None ∷ []) (Some 0 ∷ None ∷ Some 1 ∷ []) → ⊥

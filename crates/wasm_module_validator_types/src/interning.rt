@@ -5,6 +5,7 @@ ghost use Rattle.wasm_types.specs.error.Denials.{Tells, RefusedAt};
 ghost use Rattle.wasm_types.specs.groups.Entries.{declared_of};
 ghost use Rattle.wasm_module_validator_type_trees.specs.Groups.{count};
 ghost use Rattle.wasm_module_validator_type_trees.specs.Formed.{IsGroupFormed};
+ghost use Rattle.wasm_module_validator_types.specs.Depths.{KeepsDepths};
 ghost use Rattle.wasm_module_validator_types.specs.List.{HasRoom, alone, InternsAlone, function_alone};
 
 use crate::TypeList;
@@ -22,6 +23,7 @@ impl TypeList {
         ensures refused { OnErr result (self.new.groups ≡ self.old.groups) }
         ensures at { RefusedAt offset result }
         ensures can_intern { self.new.can_intern ≡ true }
+        ensures depths { KeepsDepths self.old.groups self.old.depths self.new.depths }
     {
         let group = RecGroup::implicit(self.alloc, offset, sub_ty)?;
         let (_, number) = self.intern_canonical_rec_group(true, group, offset)?;
@@ -37,6 +39,7 @@ impl TypeList {
         ensures refused { OnErr result (self.new.groups ≡ self.old.groups) }
         ensures at { RefusedAt offset result }
         ensures can_intern { self.new.can_intern ≡ true }
+        ensures depths { KeepsDepths self.old.groups self.old.depths self.new.depths }
     {
         self.intern_sub_type(SubType::func(self.alloc, ty, false), offset)
     }

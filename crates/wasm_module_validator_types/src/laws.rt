@@ -2,7 +2,7 @@
 
 ghost use Rattle.wasm_module_validator_types.specs.Worked.{ListsWorked};
 
-/// Room for groups, which groups are added and which are known, and the places of groups.
+/// Room for groups, which groups are added and which are known, the places of groups, and depths.
 pub fn lists_worked()
     ensures { ListsWorked }
 {}

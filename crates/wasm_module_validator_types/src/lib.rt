@@ -5,6 +5,7 @@
 #![tactic(auto)]
 
 mod ids;
+mod index;
 mod interning;
 mod known;
 pub mod laws;

@@ -1,6 +1,6 @@
 //! The list of interned types.
 
-ghost use Rattle.std.specs.Prelude.{◌≡◌, ◌↔◌, ◌∷◌, ◌+◌, ◌≤◌, ◌<◌, [], length, true, false, IsTrue, OnOk, OnErr, IfOk, IfErr, IfSome, Some, MatchOption, slice_get, option_map};
+ghost use Rattle.std.specs.Prelude.{◌≡◌, ◌↔◌, ◌∷◌, ◌+◌, ◌≤◌, ◌<◌, [], length, map, true, false, IsTrue, OnOk, OnErr, IfOk, IfErr, IfSome, Some, None, MatchOption, slice_get, option_map};
 ghost use Rattle.wasm_types.specs.error.Denials.{Tells, RefusedAt};
 ghost use Rattle.wasm_types.specs.error.declared.error.ErrorKind.TheVariants.{OutOfMemory, Other};
 ghost use Rattle.wasm_types.specs.groups.Entries.{declared_of, declared_types};
@@ -8,17 +8,19 @@ ghost use Rattle.wasm_module_validator_type_trees.specs.Groups.{count, group_at,
 ghost use Rattle.wasm_module_validator_type_trees.specs.Formed.{IsGroupFormed, IsMissing, IsFormed};
 ghost use Rattle.wasm_module_validator_type_trees.specs.ByIds.{supertype_of, IdBelow};
 ghost use Rattle.wasm_module_validator_types.specs.Known.{group_in};
+ghost use Rattle.wasm_module_validator_types.specs.Depths.{depth_at, SetsDepth, KeepsDepths};
 ghost use Rattle.wasm_module_validator_types.specs.Lookups.{HasIds, HasPlace, IsAtPlace};
 ghost use Rattle.wasm_module_validator_types.specs.List.{max_types, HasRoom, IsAdded, Interns};
 
 use crate::RecGroupId;
 use crate::known::{Known, learn, number_of};
-use crate::lists::{Interned, Lists};
+use crate::lists::{Lists, set_depth};
 use crate::stored::{copies, stored_supertypes, stored_types};
 use std::alloc::{AllocError, Global};
 use std::collections::BTreeMap;
 use std::marker::Model;
 use std::ops::Range;
+use wasm_module_validator_snapshots::SnapshotList;
 use wasm_types::{CoreTypeId, Error, RecGroup, Result as Reading, SubType};
 use wasm_types_groups::laws::order_is_of_types;
 
@@ -39,9 +41,9 @@ impl Model for TypeList {
 
     ghost Value = { Types };
 
-    ghost view = { λ l. record { groups = groups_in l.lists.groups.items; can_intern = is_some l.known } };
+    ghost view = { λ l. record { groups = groups_in l.lists; can_intern = is_some l.known; depths = l.lists.depths.items } };
 
-    ghost invariant = { λ l. IsTypeList (groups_in l.lists.groups.items) l.lists l.known };
+    ghost invariant = { λ l. IsTypeList (groups_in l.lists) l.lists l.known };
 }
 
 // The refusal of a place that a group does not have.
@@ -61,6 +63,7 @@ impl TypeList {
     pub fn new(alloc: Global) -> TypeList
         ensures groups { result.groups ≡ [] }
         ensures can_intern { result.can_intern ≡ true }
+        ensures depths { result.depths ≡ [] }
     {
         TypeList {
             alloc,
@@ -76,11 +79,12 @@ impl TypeList {
         self.known.is_some()
     }
 
-    /// How many types there are.
+    /// How many types there are. An id behind these has no depth.
     pub fn type_count(&self) -> usize
         ensures counted { result ≡ count self.now.groups }
         ensures small { count self.now.groups ≤ max_types }
         ensures formed { IsFormed self.now.groups }
+        ensures depths { KeepsDepths self.now.groups self.now.depths self.now.depths }
     {
         self.lists.types.len()
     }
@@ -89,7 +93,7 @@ impl TypeList {
     pub fn group_count(&self) -> usize
         ensures { result ≡ length self.now.groups }
     {
-        self.lists.groups.len()
+        self.lists.elements.len()
     }
 
     // The number of the next group, where there is room for one of this many types.
@@ -97,6 +101,7 @@ impl TypeList {
         ensures answer { Tells result (HasRoom self.now.groups further) }
         ensures id { IfOk result (λ k. k.0 ≡ length self.now.groups) }
         ensures at { IfErr result (λ e. (e.kind ≡ Other) × (e.offset ≡ offset)) }
+        ensures depths { KeepsDepths self.now.groups self.now.depths self.now.depths }
     {
         if further > MAX_TYPES - self.type_count() {
             return Err(Error::new("implementation limit: too many core types", offset));
@@ -120,6 +125,7 @@ impl TypeList {
 
     // Adds a group. Where there is no memory, nothing changes.
     fn add(&mut self, is_canonical: bool, group: RecGroup, id: RecGroupId) -> Result<(), AllocError>
+        requires can_intern { IsTrue self.old.can_intern }
         requires formed { IsGroupFormed (count self.old.groups) (group_in is_canonical group) }
         requires added { IsAdded self.old.groups (group_in is_canonical group) }
         requires room { HasRoom self.old.groups (length (declared_types group)) }
@@ -127,6 +133,7 @@ impl TypeList {
         ensures ok { OnOk result (self.new.groups ≡ group_in is_canonical group ∷ self.old.groups) }
         ensures err { OnErr result (self.new.groups ≡ self.old.groups) }
         ensures can_intern { self.new.can_intern ≡ self.old.can_intern }
+        ensures depths { KeepsDepths self.old.groups self.old.depths self.new.depths }
     {
         order_is_of_types();
         let start = self.type_count() as u32;
@@ -135,24 +142,20 @@ impl TypeList {
         let supertypes = stored_supertypes(self.alloc, types.as_slice())?;
         let homes = copies(self.alloc, id, further)?;
         self.lists.reserve(further)?;
-        learn(&mut self.known, is_canonical, &group, id)?;
+        learn(&mut self.known, is_canonical, group, id)?;
         let elements = Range {
             start: CoreTypeId::new(start),
             end: CoreTypeId::new(start + further as u32),
         };
-        let interned = Interned {
-            is_canonical,
-            group,
-        };
         self.lists
-            .append(interned, types, homes, supertypes, elements);
+            .append(is_canonical, types, homes, supertypes, elements);
         Ok(())
     }
 
     /// The number of a group, and whether the group is new. A group in canonical form that the list has keeps its number and
     /// changes nothing; any other is added, with the next ids for its types. Refused are, before all else, a group whose
     /// types would pass 2^20 and one that would be the 2^32nd behind the first; and where there is no memory, a group that
-    /// would be added. A refusal changes no type and no id.
+    /// would be added. A refusal changes no type and no id. Each type keeps its depth, and a new one has none.
     pub fn intern_canonical_rec_group(
         &mut self,
         needs_type_canonicalization: bool,
@@ -167,6 +170,7 @@ impl TypeList {
         ensures at { RefusedAt offset result }
         ensures memory { IfErr result (λ e. e.kind ≡ OutOfMemory → IsAdded self.old.groups (group_in needs_type_canonicalization rec_group)) }
         ensures can_intern { self.new.can_intern ≡ true }
+        ensures depths { KeepsDepths self.old.groups self.old.depths self.new.depths }
     {
         let id = self.next_id(rec_group.types().len(), offset)?;
         if needs_type_canonicalization {
@@ -183,6 +187,20 @@ impl TypeList {
         ensures { option_map (λ t. declared_of t.now) result ≡ slice_get (declared_by_id self.now.groups) id.0 }
     {
         self.lists.types.get(id.number() as usize)
+    }
+
+    /// The types over ids, in the order of their ids.
+    pub fn sub_types(&self) -> &SnapshotList<SubType>
+        ensures { map declared_of result.now.items ≡ declared_by_id self.now.groups }
+    {
+        &self.lists.types
+    }
+
+    /// The ids of each group, from the first to that behind the last, in the order of the groups.
+    pub fn group_elements(&self) -> &SnapshotList<Range<CoreTypeId>>
+        ensures { map (λ r. (r.start.0, r.end.0)) result.now.items ≡ group_ranges self.now.groups }
+    {
+        &self.lists.elements
     }
 
     /// The group that the type of an id stands in.
@@ -233,13 +251,38 @@ impl TypeList {
         self.lists.supertypes[id.number() as usize]
     }
 
-    /// A list of the same types, which are shared from now on, and which takes no more. This list keeps its types, whether
-    /// there is memory for the other or not.
+    /// How far the type of an id stands below a type without a supertype, where that was set. A committed list knows of none.
+    pub fn get_subtyping_depth(&self, id: CoreTypeId) -> Option<u8>
+        ensures depth { result ≡ depth_at self.now.depths id.0 }
+        ensures unknown { count self.now.groups ≤ id.0 → result ≡ None }
+        ensures closed { self.now.can_intern ≡ false → result ≡ None }
+    {
+        match self.lists.depths.get(id.number() as usize) {
+            Some(depth) => *depth,
+            None => None,
+        }
+    }
+
+    /// Sets how far the type of an id stands below a type without a supertype. It takes no memory.
+    pub fn set_subtyping_depth(&mut self, id: CoreTypeId, depth: u8)
+        requires can_intern { IsTrue self.old.can_intern }
+        requires known { id.0 < count self.old.groups }
+        ensures groups { self.new.groups ≡ self.old.groups }
+        ensures depth { SetsDepth self.old.depths self.new.depths id.0 depth }
+        ensures can_intern { self.new.can_intern ≡ true }
+    {
+        set_depth(&mut self.lists.depths, id, depth);
+    }
+
+    /// A list of the same types, which are shared from now on, and which takes no more and holds no depths. This list keeps
+    /// its types and their depths, whether there is memory for the other or not.
     pub fn commit(&mut self) -> Result<TypeList, AllocError>
         ensures stays { self.new.groups ≡ self.old.groups }
         ensures still { self.new.can_intern ≡ self.old.can_intern }
         ensures same { IfOk result (λ list. list.groups ≡ self.old.groups) }
         ensures closed { IfOk result (λ list. list.can_intern ≡ false) }
+        ensures depths_stay { self.new.depths ≡ self.old.depths }
+        ensures no_depths { IfOk result (λ list. list.depths ≡ []) }
     {
         let lists = self.lists.commit()?;
         Ok(TypeList {

@@ -1,7 +1,10 @@
-use Rattle.std.proofs.Common.{◌∙◌, ap, sym, map, length}
+use Rattle.std.proofs.Common.{◌∙◌, ◌∷◌, ap, sym, map, length}
 use Rattle.std.proofs.lemmas.List.{length-map}
 use Rattle.wasm_types.specs.groups.Entries.{declared_of, declared_types, subtypes}
 use Rattle.wasm_module_validator_type_trees.specs.Groups.{supertype_id}
+use Rattle.wasm_module_validator_types.specs.Known.{group_in}
+use Rattle.wasm_module_validator_types.proofs.Holding.{holds, groups_same, lists_stay, lists_unlearned, depths_kept, on_err}
+use Rattle.wasm_module_validator_types.proofs.Rolling.{lists_give}
 use Rattle.wasm_module_validator_types.proofs.Adding.{stored_length, short_lists, added_list}
 use Rattle.wasm_module_validator_types.proofs.list.TypeList.add.Goals as goal
 
@@ -13,11 +16,47 @@ append-requires-clause-short c =
 
 pub invariant_of-self-2 : goal.invariant_of-self-2
 invariant_of-self-2 c =
-    added_list c.self.inside.lists c.reserve.new.self c.append.new.self c.self.inside.known c.learn.new.known c.args.self.now.groups (ap (λ l. l.groups) c.self.view_is) c.self.invariant
+    holds (group_in c.args.is_canonical c.args.group ∷ c.args.self.now.groups) c.append.new.self c.learn.new.known
+    (added_list c.self.inside.lists c.reserve.new.self c.append.new.self c.self.inside.known c.learn.new.known c.args.self.now.groups (ap (λ l. l.groups) c.self.view_is) c.self.invariant
     c.reserve.ensures.same c.args.group c.requires.room
     c.order_is_of_types.ensures.ties c.args.is_canonical c.args.id c.requires.formed c.requires.added c.requires.id
     c.in_ok-types.types.items c.types.result.now c.in_ok-homes.homes.items c.in_ok-supertypes.supertypes.items c.new.result c.new-2.result c.type_count-start.result (length c.types-further.result.now)
     c.type_count-start.ensures.counted (ap length c.types-further.ensures ∙ sym (length-map (subtypes c.args.group) declared_of))
     c.new.ensures c.new-2.ensures (ap (map declared_of) c.types.ensures)
     c.in_ok-types.ensures c.in_ok-homes.ensures (c.in_ok-supertypes.ensures ∙ ap (λ l. map supertype_id (map declared_of l)) c.as_slice.ensures.value) c.in_ok-learn.ensures.ok
-    c.append.ensures.groups c.append.ensures.types c.append.ensures.homes c.append.ensures.supertypes c.append.ensures.elements
+    c.append.ensures.forms c.append.ensures.types c.append.ensures.homes c.append.ensures.supertypes c.append.ensures.elements
+    (ap (λ l. l.can_intern) c.self.view_is ∙ c.requires.can_intern) c.reserve.ensures.depths c.append.ensures.depths)
+
+pub returns-clause-ok : goal.returns-clause-ok
+returns-clause-ok c =
+    lists_give (group_in c.args.is_canonical c.args.group ∷ c.args.self.now.groups) c.append.new.self c.learn.new.known
+    (added_list c.self.inside.lists c.reserve.new.self c.append.new.self c.self.inside.known c.learn.new.known c.args.self.now.groups (ap (λ l. l.groups) c.self.view_is) c.self.invariant
+    c.reserve.ensures.same c.args.group c.requires.room
+    c.order_is_of_types.ensures.ties c.args.is_canonical c.args.id c.requires.formed c.requires.added c.requires.id
+    c.in_ok-types.types.items c.types.result.now c.in_ok-homes.homes.items c.in_ok-supertypes.supertypes.items c.new.result c.new-2.result c.type_count-start.result (length c.types-further.result.now)
+    c.type_count-start.ensures.counted (ap length c.types-further.ensures ∙ sym (length-map (subtypes c.args.group) declared_of))
+    c.new.ensures c.new-2.ensures (ap (map declared_of) c.types.ensures)
+    c.in_ok-types.ensures c.in_ok-homes.ensures (c.in_ok-supertypes.ensures ∙ ap (λ l. map supertype_id (map declared_of l)) c.as_slice.ensures.value) c.in_ok-learn.ensures.ok
+    c.append.ensures.forms c.append.ensures.types c.append.ensures.homes c.append.ensures.supertypes c.append.ensures.elements
+    (ap (λ l. l.can_intern) c.self.view_is ∙ c.requires.can_intern) c.reserve.ensures.depths c.append.ensures.depths)
+
+pub returns-clause-depths : goal.returns-clause-depths
+returns-clause-depths c =
+    depths_kept c.self.inside.known c.self.inside.lists c.reserve.new.self c.append.new.self c.args.self.now (length c.in_ok-types.types.items) c.self.view_is c.self.invariant
+    c.reserve.ensures.depths c.append.ensures.depths
+
+pub invariant_of-self : goal.invariant_of-self
+invariant_of-self c = lists_stay c.self.inside.known c.self.inside.lists c.reserve.new.self c.reserve.ensures.same c.reserve.ensures.depths c.self.invariant
+
+pub returns-in_err-reserve-clause-err : goal.returns-in_err-reserve-clause-err
+returns-in_err-reserve-clause-err c =
+    on_err c.from_residual-in_err-reserve.result (groups_same c.self.inside.lists c.reserve.new.self c.reserve.ensures.same ∙ ap (λ l. l.groups) c.self.view_is)
+
+pub invariant_of-self-in_err-learn : goal.invariant_of-self-in_err-learn
+invariant_of-self-in_err-learn c =
+    lists_unlearned c.self.inside.known c.learn.new.known c.self.inside.lists c.reserve.new.self c.reserve.ensures.same c.reserve.ensures.depths c.self.invariant
+    c.args.group c.args.id c.in_err-learn.ensures.err
+
+pub returns-in_err-learn-clause-err : goal.returns-in_err-learn-clause-err
+returns-in_err-learn-clause-err c =
+    on_err c.from_residual-in_err-learn.result (groups_same c.self.inside.lists c.reserve.new.self c.reserve.ensures.same ∙ ap (λ l. l.groups) c.self.view_is)

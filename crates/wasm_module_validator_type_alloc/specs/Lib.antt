@@ -1,0 +1,8 @@
+-- How much there is to visit in a type, and what is held.
+pub mod Sizes
+pub mod Held
+pub mod Rows
+-- Worked rows.
+pub mod Worked
+-- Laws, with the proofs.
+pub mod Listed

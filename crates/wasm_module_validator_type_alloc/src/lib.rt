@@ -1,0 +1,18 @@
+//! What names a type or a group, the sizes of what is named, a list of types that takes more, and values that are owned until
+//! they are shared.
+#![tactic(auto)]
+
+mod alloc;
+mod data;
+mod identifier;
+mod info;
+pub mod laws;
+mod maybe_owned;
+#[cfg(test)]
+mod tests;
+
+pub use alloc::TypeAlloc;
+pub use data::TypeData;
+pub use identifier::TypeIdentifier;
+pub use info::TypeInfo;
+pub use maybe_owned::MaybeOwned;
