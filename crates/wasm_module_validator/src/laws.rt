@@ -7,12 +7,14 @@ ghost use Rattle.wasm_module_validator_sharing.specs.reading.progress.standing.S
 ghost use Rattle.wasm_module_validator_sharing.specs.reading.progress.standing.steps.Steps.{nothing};
 ghost use Rattle.wasm_module_validator_sharing.specs.reading.progress.standing.type_trees.Groups.{Group, count, tree_of};
 ghost use Rattle.wasm_module_validator_sharing.specs.Sharing.{Reached, renewed_behind, IsReached};
-ghost use Rattle.wasm_module_validator.specs.laws.StateRows.{LeftRows, AcceptedRows};
+ghost use Rattle.wasm_module_validator.specs.laws.StateRows.{LeftRows, AcceptedRows, RenewedRows};
 
-/// How far a validator is behind a module that is accepted, and behind one of whose bodies one is refused.
+/// How far a validator is behind a module that is accepted, and behind one of whose bodies one is refused; and which list of types a module
+/// begins with behind another.
 pub const fn states_are_worked()
     ensures left { LeftRows }
     ensures accepted { (z : Settings) → (bytes : List ℕ) → AcceptedRows z bytes }
+    ensures renewed { (groups : List Group) → RenewedRows groups }
 {}
 
 /// A validator behind a header stands for a module of which nothing was judged, whatever it read before.

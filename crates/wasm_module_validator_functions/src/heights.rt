@@ -32,6 +32,23 @@ impl<R: WasmModuleResources> FuncValidator<R> {
         self.index
     }
 
+    /// How many locals there are, parameters among them, and no more than `u32::MAX`.
+    pub fn len_locals(&self) -> u32
+        ensures { result ≡ min (length self.now.validator.given.locals) u32.MAX }
+    {
+        let mut low = 0;
+        let mut high = u32::MAX;
+        'search: while low < high {
+            let middle = low + (high - low) / 2;
+            if self.validator.local(middle).is_some() {
+                low = middle + 1;
+            } else {
+                high = middle;
+            }
+        }
+        low
+    }
+
     /// The type of the local at an index, if there is one.
     #[inline]
     pub fn get_local_type(&self, index: u32) -> Option<ValType>
