@@ -7,6 +7,7 @@ use crate::RecGroupId;
 use std::alloc::AllocError;
 use std::collections::BTreeMap;
 use wasm_types::RecGroup;
+use wasm_types_groups::laws::{clones_declare_the_same, order_is_of_types};
 
 /// The numbers of groups.
 pub(crate) type Known = BTreeMap<RecGroup, RecGroupId>;
@@ -18,12 +19,16 @@ pub(crate) fn number_of(known: &Known, group: &RecGroup) -> Option<RecGroupId>
     known.get(group).copied()
 }
 
-// Gives a group a number.
-fn insert(known: &mut Known, group: RecGroup, id: RecGroupId) -> Result<(), AllocError>
-    ensures ok { OnOk result (Learns known.old known.new group id) }
+// Gives a group a number. The map has a copy, which takes no more memory than it needs: lists that grew by `push` have room for
+// up to four times their items.
+fn insert(known: &mut Known, group: &RecGroup, id: RecGroupId) -> Result<(), AllocError>
+    ensures ok { OnOk result (Learns known.old known.new group.now id) }
     ensures err { OnErr result (FindsTheSame known.old known.new) }
 {
-    known.insert(group, id)?;
+    order_is_of_types();
+    clones_declare_the_same();
+    let key = group.clone()?;
+    known.insert(key, id)?;
     Ok(())
 }
 
@@ -31,11 +36,11 @@ fn insert(known: &mut Known, group: RecGroup, id: RecGroupId) -> Result<(), Allo
 pub(crate) fn learn(
     known: &mut Option<Known>,
     is_canonical: bool,
-    group: RecGroup,
+    group: &RecGroup,
     id: RecGroupId,
 ) -> Result<(), AllocError>
-    ensures ok { OnOk result (KnowsMore is_canonical group id known.old known.new) }
-    ensures err { OnErr result (KnowsMore false group id known.old known.new) }
+    ensures ok { OnOk result (KnowsMore is_canonical group.now id known.old known.new) }
+    ensures err { OnErr result (KnowsMore false group.now id known.old known.new) }
 {
     if !is_canonical {
         return Ok(());

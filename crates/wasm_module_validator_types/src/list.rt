@@ -142,7 +142,7 @@ impl TypeList {
         let supertypes = stored_supertypes(self.alloc, types.as_slice())?;
         let homes = copies(self.alloc, id, further)?;
         self.lists.reserve(further)?;
-        learn(&mut self.known, is_canonical, group, id)?;
+        learn(&mut self.known, is_canonical, &group, id)?;
         let elements = Range {
             start: CoreTypeId::new(start),
             end: CoreTypeId::new(start + further as u32),
