@@ -1,5 +1,5 @@
 use Rattle.std.proofs.Common.{◌-◌, min, length, ◌<◌, ◌≤◌, ◌^◌}
-use Rattle.wasm_module_validator_functions.proofs.heights.FuncValidator.len_locals.Given as goal
+use Rattle.wasm_module_validator_functions.proofs.validator.FuncValidator.len_locals.Given as goal
 
 abbrev pub invariant-search : goal.invariant-search
 invariant-search g l =
