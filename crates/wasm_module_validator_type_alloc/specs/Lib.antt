@@ -5,4 +5,4 @@ pub mod Rows
 -- Worked rows.
 pub mod Worked
 -- Laws, with the proofs.
-pub mod Listed
+pub mod ListedLaws

@@ -3,7 +3,7 @@
 ghost use Rattle.std.specs.Prelude.{◌≡◌, ℕ, List, length, map};
 ghost use Rattle.wasm_types.specs.groups.Entries.{declared_of};
 ghost use Rattle.wasm_module_validator_type_trees.specs.Groups.{Group, count, declared_by_id, group_ranges};
-ghost use Rattle.wasm_module_validator_type_alloc.specs.Listed.{types_counted, groups_counted};
+ghost use Rattle.wasm_module_validator_type_alloc.specs.ListedLaws.{types_counted, groups_counted};
 
 use crate::TypeData;
 use std::ops::Range;

@@ -1,4 +1,4 @@
--- As many types and groups are listed as there are.
+-- Laws: as many types and groups are listed as there are.
 use Rattle.std.proofs.Common.{◌≡◌, ◌∙◌, List, length, map, ap, sym}
 use Rattle.std.proofs.lemmas.List.{length-map}
 use Rattle.std.specs.declared.ops.Range.{Range}
