@@ -77,8 +77,8 @@ module _ (groups : List Group) (s : Items) (many : ℕ) (g : Written) (n : ℕ) 
   Fits = (many < s.spaces.settings.limits.types) × (length s.spaces.types + n ≤ s.spaces.settings.limits.types)
 
   -- where it does not fit
-  pub group_refused : {X : Type 0} (e : ErrorValue) → Denies e.kind Fits → Told {X = X} (Err e)
-  group_refused e d z m h k = denies_from e.kind _ _ (λ a. let b = (decided z m h k).1 a in (b.0, b.1.0 refl)) d
+  pub group_refused : (X : Type 0) (e : ErrorValue) → Denies e.kind Fits → Told {X = X} (Err e)
+  group_refused X e d z m h k = denies_from e.kind _ _ (λ a. let b = (decided z m h k).1 a in (b.0, b.1.0 refl)) d
 
   -- and where it does, and the list has room for it
   pub group_told : {X : Type 0} (r : Result X ErrorValue) → Fits → HasRoom groups n

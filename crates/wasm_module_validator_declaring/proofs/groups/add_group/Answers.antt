@@ -1,15 +1,23 @@
-use Rattle.std.proofs.Common.{length, sym, arith}
+use Rattle.std.proofs.Common.{◌≡◌, ◌∙◌, ◌+◌, ◌<◌, ◌≤◌, ℕ, length, ap, sym, subst, arith}
 use Rattle.std.proofs.lemmas.List.{length-map}
-use Rattle.wasm_types.specs.groups.Entries.{declared_types}
+use Rattle.wasm_types.specs.groups.Entries.{declared_of, declared_types}
+use Rattle.wasm_module_validator_types.specs.List.{HasRoom}
 use Rattle.wasm_module_validator_standing.specs.canonical.Written.{written_type}
 use Rattle.wasm_module_validator_standing.specs.interning.Interned.{written_group}
 use Rattle.wasm_module_validator_standing.specs.laws.Growing.{most_types, list_grown}
-use Rattle.wasm_module_validator_declaring.proofs.Telling.{group_told, group_refused}
+use Rattle.wasm_module_validator_declaring.proofs.Telling.{group_told}
 use Rattle.wasm_module_validator_declaring.proofs.Leaving.{always, on_ok, on_ok_both, group_left}
 use Rattle.wasm_module_validator_declaring.proofs.groups.add_group.Goals as goal
 
 pub returns-clause-answer : goal.returns-clause-answer
-returns-clause-answer c = ?
+returns-clause-answer c =
+    let ds = declared_types c.args.rec_group in
+    let s = c.args.state.now.spaces in
+    let same : length c.types-further.result.now ≡ length ds = ap length c.types-further.ensures ∙ sym (length-map c.args.rec_group.types.items declared_of) in
+    let fits = subst (λ (n : ℕ). (c.args.groups < s.settings.limits.types) × (length s.types + n ≤ s.settings.limits.types)) same c.in-Ok.ensures.answer in
+    let room = subst (λ (n : ℕ). HasRoom c.args.types.now.groups n) same (c.has_room.ensures.0 c.if-not-has_room.false) in
+    group_told c.args.types.now.groups c.args.state.now c.args.groups (written_group c.args.rec_group) (length ds) (sym (length-map ds written_type)) c.add_types.result fits room
+    c.add_types.ensures.answer
 
 pub returns-clause-added : goal.returns-clause-added
 returns-clause-added c =
