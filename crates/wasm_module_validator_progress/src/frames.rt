@@ -133,6 +133,21 @@ impl InProgress {
         self.begin_section(12, offset)
     }
 
+    // The index of the function that the body behind so many others is of, and that of its type.
+    fn function_behind(&self, bodies: usize) -> Option<(u32, u32)>
+        ensures typed { option_map (λ x. x.1) result ≡ option_map (λ f. f.type_index) (slice_get self.now.kept.items.spaces.functions (self.now.kept.items.spaces.imported_functions + bodies)) }
+        ensures index { IfSome result (λ x. x.0 ≡ self.now.kept.items.spaces.imported_functions + bodies) }
+    {
+        function_behind_in(&self.collected.state, bodies)
+    }
+
+    // Checks where a body comes, behind a section of this place, and how long it is.
+    fn check_body(&self, last: u32, body: &FunctionBody<'_>) -> Result<()>
+        ensures { Tells result ((last ≡ code_place) × (length body.now.rest ≤ self.now.kept.items.spaces.settings.limits.body_bytes)) }
+    {
+        check_body_behind(&self.collected.state, last, body)
+    }
+
     /// Takes a body: it is kept with the index of its function and of its type.
     ///
     /// # Errors
@@ -149,12 +164,12 @@ impl InProgress {
             → IsAt z self.new bodies.new.items q) }
         ensures kept { self.new.kept ≡ self.old.kept }
     {
-        match check_body_behind(&self.collected.state, self.last, &body) {
+        match self.check_body(self.last, &body) {
             Ok(()) => (),
             Err(error) => return Err(error),
         }
         let kept = bodies.as_slice();
-        let Some((index, type_index)) = function_behind_in(&self.collected.state, kept.len()) else {
+        let Some((index, type_index)) = self.function_behind(kept.len()) else {
             let offset = body.get_binary_reader().original_position();
             return Err(too_many_bodies(offset));
         };

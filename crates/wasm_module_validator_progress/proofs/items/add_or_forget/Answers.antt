@@ -1,4 +1,4 @@
-use Rattle.std.proofs.Common.{◌∙◌, sym, ap, subst}
+use Rattle.std.proofs.Common.{◌∙◌, refl, sym, ap, subst}
 use Rattle.wasm_types.specs.limits.Limits.{IsWithinCeilings}
 use Rattle.wasm_types.specs.limits.RowLaws.{default_within}
 use Rattle.wasm_types.specs.limits.Settings.{Settings}
@@ -6,8 +6,8 @@ use Rattle.wasm_module_validator_interning.specs.Modules.{settings_of}
 use Rattle.wasm_module_validator_progress.specs.laws.Empty.{nothing_is_over}
 use Rattle.wasm_module_validator_progress.proofs.items.add_or_forget.Goals as goal
 
-pub add_to-requires-clause-ceilings : goal.add_to-requires-clause-ceilings
-add_to-requires-clause-ceilings g c = subst IsWithinCeilings (sym c.requires.limits) default_within
+pub add_to-requires : goal.add_to-requires
+add_to-requires g c = λ k. ((refl, tt), (c.requires.over, (c.requires.interning, (subst IsWithinCeilings (sym c.requires.limits) default_within, c.requires.read))))
 
 pub returns-in-Ok-clause-kept : goal.returns-in-Ok-clause-kept
 returns-in-Ok-clause-kept g c =
