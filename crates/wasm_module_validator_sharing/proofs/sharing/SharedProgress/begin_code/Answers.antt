@@ -24,11 +24,11 @@ returns-clause-added c =
     let i = c.self.inside in
     let o = option_map (λ p. p.value) i.shared in
     code_begun v i.own (own_progress v i.own i.last i.bodies o c.self.view_is c.requires.own) c.requires.own c.take_code_start.new.self c.in_ok-new.field-0.value
-    (c.in_ok-new.ensures.ok ∙ c.in_ok-close.ensures.closed) c.in-Ok.ensures.added
+    (c.in_ok-new.ensures.ok ∙ c.in_ok-module.ensures.closed) c.in-Ok.ensures.added
 
 pub returns-clause-kept : goal.returns-clause-kept
 returns-clause-kept c =
     let v = c.args.self.now in
     let i = c.self.inside in
     let o = option_map (λ p. p.value) i.shared in
-    (c.in_ok-new.ensures.ok ∙ c.in_ok-close.ensures.closed) ∙ (c.take_code_start.ensures.kept ∙ sym (ap (λ (p : Progress). p.kept) (own_progress v i.own i.last i.bodies o c.self.view_is c.requires.own)))
+    (c.in_ok-new.ensures.ok ∙ c.in_ok-module.ensures.closed) ∙ (c.take_code_start.ensures.kept ∙ sym (ap (λ (p : Progress). p.kept) (own_progress v i.own i.last i.bodies o c.self.view_is c.requires.own)))
