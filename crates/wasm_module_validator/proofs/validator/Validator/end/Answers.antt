@@ -19,6 +19,3 @@ pub returns-in-Ended : goal.returns-in-Ended
 returns-in-Ended c =
     let v = c.args.self.now in
     subst (λ (s : State). EndsFrom s v (Err c.late_end.result) v) (sym c.in-Ended.is) (ap Some c.late_end.ensures, refl)
-
-pub returns-in-Module-Ok : goal.returns-in-Module-Ok
-returns-in-Module-Ok c = ?
