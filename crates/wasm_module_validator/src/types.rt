@@ -58,11 +58,5 @@ pub(crate) fn look_up<'t>(
 ) -> TypesRef<'t>
     ensures { result ≡ shown_of id types.now.groups state.now }
 {
-    TypesRef::new(
-        id,
-        types,
-        state.module(),
-        state.imports(),
-        state.exports(),
-    )
+    TypesRef::new(id, types, state.module(), state.imports(), state.exports())
 }

@@ -1,6 +1,6 @@
 //! Sections of numbers, added to a total with a limit: the trait and the function at a concrete type.
 
-ghost use Rattle.std.specs.Prelude.{◌≡◌, ◌+◌, ◌≤◌, ◌<◌, ◌∙◌, ℕ, length, refl};
+ghost use Rattle.std.specs.Prelude.{◌≡◌, ◌+◌, ◌≤◌, ◌<◌, ℕ, length};
 ghost use Rattle.wasm_types.specs.error.Denials.{UnlessMemory};
 
 use crate::{AddItem, AddLent, add_items, add_lent_items};
@@ -17,6 +17,8 @@ struct Total {
 }
 
 impl<'a> AddItem<'a, u32> for Total {
+    ghost use Rattle.std.proofs.Common.{◌∙◌, refl};
+
     ghost Tree = { ℕ × ℕ };
 
     ghost Item = { ℕ };
@@ -47,6 +49,8 @@ impl<'a> AddItem<'a, u32> for Total {
 }
 
 impl<'a> AddLent<'a, u32> for Total {
+    ghost use Rattle.std.proofs.Common.{◌∙◌, refl};
+
     ghost Tree = { ℕ × ℕ };
 
     ghost Item = { ℕ };

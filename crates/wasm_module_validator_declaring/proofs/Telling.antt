@@ -6,7 +6,6 @@ use Rattle.wasm_types.specs.error.DenialLaws.{denies_from}
 use Rattle.wasm_types.specs.externs.declared.memory.MemoryType.{MemoryType}
 use Rattle.wasm_types.specs.externs.declared.tag.TagType.{TagType}
 use Rattle.wasm_types.specs.features.Features.{BulkMemory}
-use Rattle.wasm_types.specs.limits.Limits.{IsWithinCeilings}
 use Rattle.wasm_types.specs.limits.Settings.{Settings}
 use Rattle.wasm_types.specs.trees.Gates.{Has}
 use Rattle.wasm_types.specs.trees.ValidGroup.{Written, IsValidGroup}

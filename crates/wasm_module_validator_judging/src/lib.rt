@@ -9,5 +9,6 @@ mod judging;
 pub use judging::judge;
 pub use wasm_module_validator_progress::{
     Body, FuncToValidate, FuncValidator, FuncValidatorAllocations, InProgress, ModuleState,
-    OperatorValidatorAllocations, SectionItem, SharedModule, TypeList, check_data_with, check_header, judge_bodies,
+    OperatorValidatorAllocations, SectionItem, SharedModule, TypeList, check_data_with,
+    check_header, judge_bodies,
 };

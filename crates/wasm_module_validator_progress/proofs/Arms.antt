@@ -1,5 +1,5 @@
 -- What each arm of a payload tells, from what the call in it promises of the section or the frame.
-use Rattle.std.proofs.Common.{◌≡◌, ℕ, List, refl, sym, subst, None, Some, Result, Ok, Err}
+use Rattle.std.proofs.Common.{◌≡◌, ℕ, List, subst, None, Some, Result, Ok, Err}
 use Rattle.std.specs.Prelude.{OnOk}
 use Rattle.wasm_types.specs.decoding.Decoder.{State}
 use Rattle.wasm_types.specs.error.Denials.{Tells}

@@ -1,5 +1,5 @@
 -- What each kind of items promises, from what the calls of the state promise.
-use Rattle.std.proofs.Common.{◌≡◌, ◌∙◌, ◌+◌, ℕ, List, [], ◌∷◌, ◌++◌, length, Result, Ok, Err, refl, sym, ap, subst, arith}
+use Rattle.std.proofs.Common.{◌≡◌, ◌∙◌, ◌+◌, ℕ, List, length, Result, Ok, Err, sym, ap, arith}
 use Rattle.std.specs.Prelude.{OnOk, ◌↔◌}
 use Rattle.std.proofs.lemmas.List.{length_push}
 use Rattle.wasm_types.specs.error.Denials.{Tells}
@@ -12,7 +12,7 @@ use Rattle.wasm_module_validator_standing.specs.steps.contexts.rules.Syntax.{Mod
 use Rattle.wasm_module_validator_standing.specs.steps.Sections.{Section}
 use Rattle.wasm_module_validator_standing.specs.steps.Sections as section
 use Rattle.wasm_module_validator_standing.specs.steps.Texts.{ItemRead, AddsRead}
-use Rattle.wasm_module_validator_standing.specs.Standing.{AddsItem, IsReading}
+use Rattle.wasm_module_validator_standing.specs.Standing.{AddsItem}
 use Rattle.wasm_module_validator_progress.specs.Progress.{Reads}
 
 -- what holds exactly where another does, with nothing besides

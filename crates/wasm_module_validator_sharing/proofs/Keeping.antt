@@ -1,7 +1,6 @@
 -- What is kept of a module, and what payloads do to it.
-use Rattle.std.proofs.Common.{◌≡◌, ◌∙◌, ◌+◌, ◌<◌, ℕ, List, [], ◌∷◌, length, map, refl, sym, ap, subst, arith, Option, Some, None, Bool, true, Result, Ok, Err}
+use Rattle.std.proofs.Common.{◌≡◌, ◌∙◌, ◌<◌, ℕ, List, [], ◌∷◌, length, map, refl, sym, ap, subst, arith, Option, Some, None, Result, Ok}
 use Rattle.std.specs.Prelude.{OnOk, is_some, is_none, option_map}
-use Rattle.std.proofs.lemmas.List.{length-map}
 use Rattle.wasm_types.specs.decoding.Decoder.{State}
 use Rattle.wasm_types.specs.error.Denials.{Tells}
 use Rattle.wasm_types.specs.error.ErrorValue.{ErrorValue}

@@ -1,5 +1,5 @@
 -- Which frame a payload is that of, and what is judged of a section as a frame.
-use Rattle.std.proofs.Common.{◌≡◌, ◌∙◌, ℕ, List, refl, sym, ap, subst, Option, Some, None, Bool, true, false, Result, Ok, Err}
+use Rattle.std.proofs.Common.{◌≡◌, ◌∙◌, ℕ, List, sym, ap, subst, Option, Some, None, Result, Ok, Err}
 use Rattle.wasm_types.specs.decoding.Decoder.{State}
 use Rattle.wasm_types.specs.error.Denials.{Tells}
 use Rattle.wasm_types.specs.error.DenialLaws.{denies_from}
@@ -7,7 +7,6 @@ use Rattle.wasm_types.specs.error.ErrorValue.{ErrorValue}
 use Rattle.wasm_types.specs.limits.Settings.{Settings}
 use Rattle.wasm_sections_parser.specs.declared.frame.Frame.{Frame}
 use Rattle.wasm_sections_parser.specs.declared.frame.Frame.TheVariants as frames
-use Rattle.wasm_sections_parser.specs.Parsing.{shape_of}
 use Rattle.wasm_sections_parser.specs.Steps as frame
 use Rattle.wasm_sections_parser.specs.Steps.{place_of}
 use Rattle.wasm_sections_payloads.specs.declared.payload.Payload.{Payload}
@@ -17,7 +16,6 @@ use Rattle.wasm_module_validator_standing.specs.steps.Sections.{Section, number}
 use Rattle.wasm_module_validator_standing.specs.steps.Steps.{SoFar, JudgesSection, JudgesShape}
 use Rattle.wasm_module_validator_standing.specs.steps.laws.Fronts.{one_place}
 use Rattle.wasm_module_validator_standing.specs.steps.laws.Places.{has_place}
-use Rattle.wasm_module_validator_fronts.specs.Walks.{HasSettings}
 
 -- ---- payloads that are no section
 

@@ -1,5 +1,5 @@
 -- A section is taken exactly where it comes next by the rules, and what is kept then stands for what was judged.
-use Rattle.std.proofs.Common.{◌≡◌, ◌∙◌, ◌<◌, ◌≤◌, ◌⊎◌, ℕ, List, [], ◌∷◌, length, map, take, refl, sym, ap, subst, arith, inl, inr, Result, Ok, Err, IfErr}
+use Rattle.std.proofs.Common.{◌≡◌, ◌∙◌, ◌<◌, ◌≤◌, ◌⊎◌, ℕ, List, length, take, refl, sym, ap, subst, arith, inl, inr, Result, Ok, Err, IfErr}
 use Rattle.std.specs.Prelude.{OnOk, ◌↔◌}
 use Rattle.std.proofs.lemmas.Bool.{cases_order}
 use Rattle.std.proofs.lemmas.List.{length-map}
@@ -26,7 +26,7 @@ use Rattle.wasm_module_validator_standing.specs.Standing.{IsBefore, IsReading}
 use Rattle.wasm_module_validator_texts.specs.Sections.{Reading, reading, AddsIn, RefusesIn, MayBegin, behind, AddsNumber}
 use Rattle.wasm_module_validator_texts.specs.laws.Telling.{number_told}
 use Rattle.wasm_module_validator_texts.specs.Kinds.{WalksTell, AreTold}
-use Rattle.wasm_module_validator_progress.specs.Progress.{Kept, Progress, IsRead, IsAt, text_of, type_of}
+use Rattle.wasm_module_validator_progress.specs.Progress.{Kept, Progress, IsRead, IsAt, text_of}
 
 -- what depends on the number of bodies alone, where there are some
 same_taken : (n : ℕ) (xs ys : List ℕ) → (n ≡ 0) ⊎ (xs ≡ ys) → take n xs ≡ take n ys

@@ -6,7 +6,7 @@ use Rattle.wasm_module_validator_items.specs.Items.{Items}
 use Rattle.wasm_module_validator_steps.specs.contexts.rules.Syntax.{ModuleTree}
 use Rattle.wasm_module_validator_steps.specs.contexts.rules.Spaces.{types_behind}
 use Rattle.wasm_module_validator_steps.specs.Sections as section
-use Rattle.wasm_module_validator_steps.specs.Sections.{Section, place, before, up_to, IsUnread}
+use Rattle.wasm_module_validator_steps.specs.Sections.{Section, place, up_to, IsUnread}
 use Rattle.wasm_module_validator_steps.specs.Adding.{Fits}
 use Rattle.wasm_module_validator_steps.specs.laws.Fronts.{front_twice_so}
 use Rattle.wasm_module_validator_standing.specs.Standing.{Stands, IsReading, IsBefore}

@@ -1,5 +1,5 @@
 -- What a call of the state leaves stands for every tree with the item more.
-use Rattle.std.proofs.Common.{◌≡◌, ◌∙◌, ◌+◌, ◌<◌, ◌≤◌, ℕ, List, [], ◌∷◌, ◌++◌, length, map, Some, refl, sym, ap, subst}
+use Rattle.std.proofs.Common.{◌≡◌, ◌∙◌, ◌+◌, ◌<◌, ℕ, List, [], ◌∷◌, ◌++◌, length, map, Some, refl, sym, ap, subst}
 use Rattle.std.proofs.lemmas.List.{map_push, append_assoc}
 use Rattle.std.proofs.lemmas.Option.{slice_get_within}
 use Rattle.wasm_types.specs.limits.Settings.{Settings}
@@ -8,7 +8,7 @@ use Rattle.wasm_types.specs.externs.declared.table.TableType.{TableType}
 use Rattle.wasm_types.specs.externs.declared.memory.MemoryType.{MemoryType}
 use Rattle.wasm_types.specs.externs.declared.global.GlobalType.{GlobalType}
 use Rattle.wasm_types.specs.externs.declared.tag.TagType.{TagType}
-use Rattle.wasm_module_validator_type_trees.specs.Groups.{Group, count}
+use Rattle.wasm_module_validator_type_trees.specs.Groups.{Group}
 use Rattle.wasm_module_validator_module.specs.Spaces.{Spaces, own_function}
 use Rattle.wasm_module_validator_resources.specs.Reading.{context_of}
 use Rattle.wasm_module_validator_so_far.specs.SoFar.{IsReadAs}
@@ -34,7 +34,7 @@ use Rattle.wasm_module_validator_steps.specs.contexts.rules.constant_rules.rules
 use Rattle.wasm_module_validator_steps.specs.contexts.Agreement.{AgreeOnTypes, AgreeForExports}
 use Rattle.wasm_module_validator_steps.specs.contexts.InOrder.{context_so_far}
 use Rattle.wasm_module_validator_steps.specs.Sections as section
-use Rattle.wasm_module_validator_steps.specs.Sections.{Section, Item, adding, up_to, IsUnread}
+use Rattle.wasm_module_validator_steps.specs.Sections.{Section, Item, adding, up_to}
 use Rattle.wasm_module_validator_steps.specs.Adding.{Adds, sum_from, size_so_far}
 use Rattle.wasm_module_validator_standing.specs.Standing.{Stands, constants_of, marking}
 use Rattle.wasm_module_validator_standing.specs.laws.Deciding.{exports_to, counts}

@@ -1,10 +1,9 @@
 -- What an import leaves stands for every tree with the import more, while nothing but types and imports was read.
-use Rattle.std.proofs.Common.{◌≡◌, ◌∙◌, ◌+◌, ◌≤◌, ℕ, true, false, List, [], ◌∷◌, ◌++◌, length, map, refl, sym, ap, subst}
+use Rattle.std.proofs.Common.{◌≡◌, ◌∙◌, ◌+◌, ℕ, true, false, List, [], ◌∷◌, ◌++◌, length, map, refl, sym, ap, subst}
 use Rattle.std.proofs.lemmas.List.{append-nil, append_assoc, map_push}
-use Rattle.wasm_types.specs.indices.declared.index.CoreTypeId.{CoreTypeId}
 use Rattle.wasm_types.specs.limits.Settings.{Settings}
 use Rattle.wasm_types.specs.trees.ValidGroup.{Written}
-use Rattle.wasm_module_validator_type_trees.specs.Groups.{Group, count}
+use Rattle.wasm_module_validator_type_trees.specs.Groups.{Group}
 use Rattle.wasm_module_validator_exports.specs.Imports.{IsNamedImport}
 use Rattle.wasm_module_validator_exports.specs.names.Imports.{ImportedName, with_import as with_name}
 use Rattle.wasm_module_validator_module.specs.Spaces.{Spaces, imported_function}

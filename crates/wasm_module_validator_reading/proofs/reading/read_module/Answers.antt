@@ -20,11 +20,10 @@ loop-payload-init c =
     c.set_features.ensures ∙ (λ i. record { offset = c.new-parser.ensures.offset i; features = c.args.features; progress = c.new-parser.ensures.fresh i }) in
     let here : c.into_iter-payload-iterator.result ≡ record { parser = p; rest = c.args.bytes.now; over = false } =
     c.into_iter-payload-iterator.ensures.into_iter_gives ∙ c.parse_all-payload-items.ensures ∙ (λ i. record { parser = made i; rest = c.args.bytes.now; over = false }) in
-    let at = subst (λ (r : Progress). IsAt (under c.args.features.0) r [] nothing) (sym c.requires) (nothing_is_at c.args.progress.now.kept.groups c.args.features.0) in
-    (
-        subst (λ (bs : List Body). Goes p c.args.bytes.now c.into_iter-payload-iterator.result c.args.progress.now bs) (sym c.new-bodies.ensures.items)
-        (goes_first p c.args.bytes.now refl room c.into_iter-payload-iterator.result c.args.progress.now here at),
-        grows_by_nothing c.args.progress.now.kept,
+    let at = subst (λ (r : Progress). IsAt (under c.args.features.0) r [] nothing) (sym c.requires) (nothing_is_at c.args.progress.now.kept.groups c.args.features.0) in (
+      subst (λ (bs : List Body). Goes p c.args.bytes.now c.into_iter-payload-iterator.result c.args.progress.now bs) (sym c.new-bodies.ensures.items)
+          (goes_first p c.args.bytes.now refl room c.into_iter-payload-iterator.result c.args.progress.now here at),
+      grows_by_nothing c.args.progress.now.kept,
     )
 
 pub returns-in-Err-clause-answer : goal.returns-in-Err-clause-answer
@@ -38,11 +37,10 @@ pub loop-payload-preserved : goal.loop-payload-preserved
 loop-payload-preserved c =
     let p : Parser = record { offset = 0; features = c.args.features; progress = fresh } in
     let room : 0 + length c.args.bytes.now < 2 ^ 64 = omega (arith, c) in
-    let next = subst (λ (r : Result Payload ErrorValue). NextPayload c.loop-payload.payload-iterator (Some r) c.next.new.self) c.in-Ok.is c.in-Some.ensures.steps in
-    (
-        goes_on p c.args.bytes.now refl room c.loop-payload.payload-iterator c.next.new.self c.loop-payload.progress c.loop-payload.bodies.items c.in-Ok.payload c.loop-payload.invariant.0 next
-        c.take_payload.new.self _ c.in-Ok-take_payload.ensures.answer c.in-Ok-take_payload.ensures.added,
-        grows_further c.args.progress.now.kept c.loop-payload.progress.kept c.take_payload.new.self.kept c.loop-payload.invariant.1 c.in-Ok-take_payload.ensures.grown,
+    let next = subst (λ (r : Result Payload ErrorValue). NextPayload c.loop-payload.payload-iterator (Some r) c.next.new.self) c.in-Ok.is c.in-Some.ensures.steps in (
+      goes_on p c.args.bytes.now refl room c.loop-payload.payload-iterator c.next.new.self c.loop-payload.progress c.loop-payload.bodies.items c.in-Ok.payload c.loop-payload.invariant.0 next
+          c.take_payload.new.self _ c.in-Ok-take_payload.ensures.answer c.in-Ok-take_payload.ensures.added,
+      grows_further c.args.progress.now.kept c.loop-payload.progress.kept c.take_payload.new.self.kept c.loop-payload.invariant.1 c.in-Ok-take_payload.ensures.grown,
     )
 
 pub returns-in-Err-take_payload-clause-answer : goal.returns-in-Err-take_payload-clause-answer

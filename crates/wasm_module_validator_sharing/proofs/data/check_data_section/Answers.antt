@@ -1,5 +1,4 @@
-use Rattle.std.proofs.Common.{◌≡◌, ◌∙◌, ◌<◌, ℕ, List, refl, sym, ap, subst, arith}
-use Rattle.wasm_types.specs.limits.Settings.{Settings}
+use Rattle.std.proofs.Common.{◌<◌, ℕ, refl, sym, subst, arith}
 use Rattle.wasm_types.specs.error.Denials.{Denies}
 use Rattle.wasm_types.specs.error.DenialLaws.{denies}
 use Rattle.wasm_sections_payloads.specs.bodies.ConstantDecoder.{constant, ConstantText}

@@ -1,8 +1,7 @@
-use Rattle.std.proofs.Common.{◌∙◌, refl, sym, ap, subst, Some, Ok, Err}
-use Rattle.wasm_module_validator_sharing.specs.Sharing.{Reached}
+use Rattle.std.proofs.Common.{refl, sym, ap, subst, Some, Err}
 use Rattle.wasm_module_validator.specs.declared.validator.State.{State}
 use Rattle.wasm_module_validator.specs.declared.validator.State.TheVariants.{Ended}
-use Rattle.wasm_module_validator.specs.Methods.{EndsFrom, learned}
+use Rattle.wasm_module_validator.specs.Methods.{EndsFrom}
 use Rattle.wasm_module_validator.proofs.validator.Validator.end.Goals as goal
 
 pub returns-in-Failed : goal.returns-in-Failed

@@ -2,7 +2,7 @@ use Rattle.std.proofs.Common.{ap, sym, subst}
 use Rattle.wasm_module_validator_standing.specs.steps.contexts.rules.Syntax.{ModuleTree}
 use Rattle.wasm_module_validator_standing.specs.steps.Sections as section
 use Rattle.wasm_module_validator_texts.specs.Kinds.{import_read}
-use Rattle.wasm_module_validator_progress.specs.Progress.{Kept, Reads, IsRead}
+use Rattle.wasm_module_validator_progress.specs.Progress.{Kept, IsRead}
 use Rattle.wasm_module_validator_progress.proofs.Adding.{added_one, told_one, refused_one}
 use Rattle.wasm_module_validator_progress.proofs.Counting.{always, item_added}
 use Rattle.wasm_module_validator_progress.specs.laws.Growing.{grown_one, list_stays}

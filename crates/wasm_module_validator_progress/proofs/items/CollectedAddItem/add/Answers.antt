@@ -1,6 +1,5 @@
-use Rattle.std.proofs.Common.{refl, sym, subst}
-use Rattle.wasm_types.specs.limits.Settings.{Settings}
-use Rattle.wasm_module_validator_progress.specs.Progress.{Kept, Reads, IsRead}
+use Rattle.std.proofs.Common.{sym, subst}
+use Rattle.wasm_module_validator_progress.specs.Progress.{Kept, IsRead}
 use Rattle.wasm_module_validator_progress.proofs.Adding.{added_one, told_one, refused_one}
 use Rattle.wasm_module_validator_progress.specs.laws.Growing.{grown_one}
 use Rattle.wasm_module_validator_progress.proofs.items.CollectedAddItem.add.Goals as goal

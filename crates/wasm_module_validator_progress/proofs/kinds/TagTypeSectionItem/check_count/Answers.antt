@@ -1,7 +1,6 @@
-use Rattle.std.proofs.Common.{◌≡◌, ◌∙◌, ℕ, sym, ap, true}
+use Rattle.std.proofs.Common.{◌∙◌, sym, ap}
 use Rattle.wasm_types.specs.features.Features.{has, Exceptions}
 use Rattle.wasm_types.specs.limits.Settings.{Settings}
-use Rattle.wasm_module_validator_standing.specs.items.Items.{Items}
 use Rattle.wasm_module_validator_standing.specs.laws.Deciding.{tags_fit}
 use Rattle.wasm_module_validator_progress.proofs.Counting.{both_told}
 use Rattle.wasm_module_validator_progress.proofs.kinds.TagTypeSectionItem.check_count.Goals as goal

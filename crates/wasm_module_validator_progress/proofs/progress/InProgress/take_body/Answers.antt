@@ -1,10 +1,9 @@
-use Rattle.std.proofs.Common.{◌≡◌, ◌∙◌, ◌+◌, ◌≤◌, ℕ, List, ◌∷◌, [], ◌++◌, length, sym, ap, subst, Some, slice_get}
+use Rattle.std.proofs.Common.{◌≡◌, ◌∙◌, ◌+◌, ◌≤◌, ℕ, List, ◌∷◌, [], ◌++◌, length, sym, ap, subst, slice_get}
 use Rattle.std.specs.Prelude.{option_map}
 use Rattle.wasm_types.specs.error.Denials.{Denies}
 use Rattle.wasm_module_validator_module.specs.declared.module.Function.{Function}
 use Rattle.wasm_module_validator_code.specs.declared.bodies.Body.{Body}
 use Rattle.wasm_module_validator_standing.specs.steps.Sections.{code_place}
-use Rattle.wasm_module_validator_standing.specs.steps.Steps.{SoFar}
 use Rattle.wasm_module_validator_progress.specs.Progress.{Progress, IsAt}
 use Rattle.wasm_module_validator_progress.specs.laws.Bodies.{function_is, judges, body_behind, fits, not_fitting}
 use Rattle.wasm_module_validator_progress.proofs.progress.InProgress.take_body.Goals as goal

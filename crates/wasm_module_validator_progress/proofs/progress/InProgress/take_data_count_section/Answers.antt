@@ -1,17 +1,15 @@
-use Rattle.std.proofs.Common.{◌≡◌, ◌∙◌, ℕ, List, refl, sym, ap, subst}
+use Rattle.std.proofs.Common.{◌≡◌, ◌∙◌, ap, subst}
 use Rattle.std.specs.Prelude.{OnOk}
-use Rattle.wasm_types.specs.decoding.Decoder.{State, Done}
+use Rattle.wasm_types.specs.decoding.Decoder.{Done}
 use Rattle.wasm_types.specs.error.Denials.{Tells}
 use Rattle.wasm_types.specs.limits.Settings.{Settings}
 use Rattle.wasm_sections_payloads.specs.Payloads.{only_number}
-use Rattle.wasm_module_validator_code.specs.declared.bodies.Body.{Body}
 use Rattle.wasm_module_validator_standing.specs.steps.contexts.rules.Syntax.{ModuleTree}
 use Rattle.wasm_module_validator_standing.specs.steps.Sections as section
 use Rattle.wasm_module_validator_standing.specs.steps.Adding.{Adds}
-use Rattle.wasm_module_validator_standing.specs.steps.Steps.{SoFar, JudgesSection}
 use Rattle.wasm_module_validator_standing.specs.Standing.{IsBefore, IsReading}
 use Rattle.wasm_module_validator_texts.specs.laws.Numbers.{data_count_judged}
-use Rattle.wasm_module_validator_progress.specs.Progress.{Kept, Progress, IsAt}
+use Rattle.wasm_module_validator_progress.specs.Progress.{Kept, Progress}
 use Rattle.wasm_module_validator_progress.specs.laws.Taking.{number_answered, number_added}
 use Rattle.wasm_module_validator_progress.proofs.Counting.{always, on_ok}
 use Rattle.wasm_module_validator_progress.specs.laws.Growing.{grown_one, list_stays}

@@ -1,11 +1,8 @@
-use Rattle.std.proofs.Common.{◌≡◌, ◌∙◌, ◌<◌, ℕ, List, sym, ap, subst}
+use Rattle.std.proofs.Common.{◌∙◌, ℕ, sym, ap, subst}
 use Rattle.std.specs.Prelude.{OnOk}
-use Rattle.wasm_types.specs.limits.Settings.{Settings}
-use Rattle.wasm_module_validator_code.specs.declared.bodies.Body.{Body}
 use Rattle.wasm_types.specs.error.Denials.{Denies}
 use Rattle.wasm_types.specs.error.DenialLaws.{denies_from}
 use Rattle.wasm_module_validator_standing.specs.steps.Adding.{Fits}
-use Rattle.wasm_module_validator_standing.specs.steps.Steps.{SoFar}
 use Rattle.wasm_module_validator_standing.specs.steps.Sections as section
 use Rattle.wasm_module_validator_standing.specs.steps.contexts.imports.Decode.{import}
 use Rattle.wasm_module_validator_standing.specs.steps.contexts.imports.Spells.{SpelledImport}
@@ -13,10 +10,9 @@ use Rattle.wasm_module_validator_standing.specs.laws.Beginning.{imports_fit}
 use Rattle.wasm_module_validator_texts.specs.Sections.{MayBegin}
 use Rattle.wasm_module_validator_texts.specs.Kinds.{import_read}
 use Rattle.wasm_module_validator_texts.specs.laws.Kinds.{imports_tell}
-use Rattle.wasm_module_validator_progress.proofs.Counting.{alike_told}
 use Rattle.wasm_module_validator_standing.specs.Standing.{Stands}
-use Rattle.wasm_module_validator_progress.specs.Progress.{Kept, Progress, Grows, IsAt}
-use Rattle.wasm_module_validator_progress.specs.laws.Taking.{is_behind, unread, too_many, answered, all_added}
+use Rattle.wasm_module_validator_progress.specs.Progress.{Kept, Progress, Grows}
+use Rattle.wasm_module_validator_progress.specs.laws.Taking.{is_behind, too_many, answered, all_added}
 use Rattle.wasm_module_validator_progress.proofs.progress.InProgress.take_imports.Goals as goal
 
 pub returns-in-Err-check_import_count-clause-answer : goal.returns-in-Err-check_import_count-clause-answer

@@ -1,6 +1,5 @@
 use Rattle.std.proofs.Common.{◌≡◌, refl, subst}
 use Rattle.wasm_types.specs.decoding.Decoder.{State, Done}
-use Rattle.wasm_types.specs.decoding.Leb.{u32}
 use Rattle.wasm_sections_parser.specs.declared.frame.Frame.TheVariants as frames
 use Rattle.wasm_sections_payloads.specs.declared.payload.Payload.TheVariants as payloads
 use Rattle.wasm_sections_parser.specs.Parsing.{shape_of}

@@ -1,13 +1,10 @@
-use Rattle.std.proofs.Common.{◌≡◌, ◌∙◌, ◌<◌, ℕ, List, sym, ap, subst}
+use Rattle.std.proofs.Common.{◌∙◌, ◌<◌, ℕ, sym, ap, subst}
 use Rattle.std.specs.Prelude.{OnOk}
-use Rattle.wasm_types.specs.limits.Settings.{Settings}
-use Rattle.wasm_module_validator_code.specs.declared.bodies.Body.{Body}
 use Rattle.wasm_types.specs.error.Denials.{Denies}
 use Rattle.wasm_module_validator_standing.specs.steps.Adding.{Fits}
-use Rattle.wasm_module_validator_standing.specs.steps.Steps.{SoFar}
 use Rattle.wasm_module_validator_texts.specs.Sections.{MayBegin}
 use Rattle.wasm_module_validator_standing.specs.Standing.{Stands}
-use Rattle.wasm_module_validator_progress.specs.Progress.{Kept, Progress, Grows, IsAt}
+use Rattle.wasm_module_validator_progress.specs.Progress.{Kept, Progress, Grows}
 use Rattle.wasm_module_validator_progress.specs.laws.Taking.{is_behind, unread, too_many, answered, all_added}
 use Rattle.wasm_module_validator_progress.proofs.progress.InProgress.take_section.Goals as goal
 

@@ -1,4 +1,4 @@
-use Rattle.std.proofs.Common.{◌≡◌, ◌∙◌, ℕ, List, refl, sym, ap, subst}
+use Rattle.std.proofs.Common.{◌≡◌, ◌∙◌, List, refl, sym, ap, subst}
 use Rattle.std.specs.Prelude.{OnOk}
 use Rattle.wasm_types.specs.decoding.Decoder.{State, Done}
 use Rattle.wasm_types.specs.error.Denials.{Tells}
@@ -13,7 +13,6 @@ use Rattle.wasm_module_validator_standing.specs.Standing.{IsBefore, IsReading}
 use Rattle.wasm_module_validator_texts.specs.laws.Numbers.{start_judged}
 use Rattle.wasm_module_validator_progress.specs.Progress.{Kept, Progress, IsAt}
 use Rattle.wasm_module_validator_progress.specs.laws.Taking.{number_answered, number_added}
-use Rattle.wasm_module_validator_progress.proofs.Counting.{on_ok}
 use Rattle.wasm_module_validator_progress.specs.laws.Growing.{stays}
 use Rattle.wasm_module_validator_progress.proofs.progress.InProgress.take_start_section.Goals as goal
 

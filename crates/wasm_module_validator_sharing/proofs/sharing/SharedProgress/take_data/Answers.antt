@@ -1,4 +1,4 @@
-use Rattle.std.proofs.Common.{◌≡◌, ◌∙◌, Some, refl, sym, ap, Ok, Err}
+use Rattle.std.proofs.Common.{◌∙◌, refl, sym, ap, Ok, Err}
 use Rattle.std.specs.Prelude.{option_map}
 use Rattle.wasm_types.specs.decoding.Decoder.{State}
 use Rattle.wasm_sections_payloads.specs.declared.payload.Payload.TheVariants as payloads

@@ -1,4 +1,4 @@
-use Rattle.std.proofs.Common.{◌≡◌, List, sym, ap, subst}
+use Rattle.std.proofs.Common.{List, sym, ap, subst}
 use Rattle.std.specs.Prelude.{OnOk, option_map}
 use Rattle.wasm_module_validator_reading.specs.progress.code.declared.bodies.Body.{Body}
 use Rattle.wasm_module_validator_reading.specs.progress.Progress.{Progress, Grows, IsAt}
