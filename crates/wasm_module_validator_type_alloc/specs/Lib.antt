@@ -2,6 +2,8 @@
 pub mod Sizes
 pub mod Held
 pub mod Rows
+-- What an index of a group means in a list.
+pub mod Canonicalized
 -- Worked rows.
 pub mod Worked
 -- Laws, with the proofs.

@@ -3,6 +3,7 @@
 #![tactic(auto)]
 
 mod alloc;
+mod canonicalized;
 mod data;
 mod identifier;
 mod info;
@@ -12,6 +13,7 @@ mod maybe_owned;
 mod tests;
 
 pub use alloc::TypeAlloc;
+pub use canonicalized::{at_canonicalized_packed_index, at_canonicalized_unpacked_index};
 pub use data::TypeData;
 pub use identifier::TypeIdentifier;
 pub use info::TypeInfo;
