@@ -6,6 +6,9 @@
 //!
 //! Or a parser's payloads are taken one by one, each by a method of the [`Validator`]: what each accepts and leaves stands in
 //! `specs/Methods.antt`. [`Validator::code_section_entry`] hands each function out, to be judged whenever it suits.
+//!
+//! A validator has one list of types for all its modules, so that ids of two modules may be compared ([`Types`], [`TypeList`]). What is
+//! looked up in a module, and what lists of types are made of, is passed on from the crates below.
 #![tactic(auto)]
 
 mod laws;
@@ -18,9 +21,18 @@ pub use laws::{ids_stay, states_are_worked, validators_begin};
 pub use payloads::ValidPayload;
 pub use types::Types;
 pub use validator::{State, Validator, validate};
+pub use wasm_module_validator_canonical::{InternRecGroup, TypeCanonicalizer};
 pub use wasm_module_validator_lookups::{
     CoreExports, CoreImports, EntityType, RecGroupElements, RecGroupId, TypesRef, ValidatorId,
 };
+pub use wasm_module_validator_matches::{Matches, WithRecGroup, types_match};
+pub use wasm_module_validator_module::{Function, Module};
 pub use wasm_module_validator_sharing::{
-    FuncToValidate, FuncValidator, FuncValidatorAllocations, ValidatorResources,
+    FuncToValidate, FuncValidator, FuncValidatorAllocations, ModuleState, ValidatorResources,
 };
+pub use wasm_module_validator_snapshots::SnapshotList;
+pub use wasm_module_validator_type_alloc::{
+    MaybeOwned, TypeAlloc, TypeData, TypeIdentifier, TypeInfo, at_canonicalized_packed_index,
+    at_canonicalized_unpacked_index,
+};
+pub use wasm_module_validator_types::{MAX_TYPES, TypeList};
