@@ -2,5 +2,6 @@
 pub mod Locals
 pub mod Functions
 pub mod Trying
+pub mod Rows
 -- How a validation's promise follows from its steps: laws, with the proofs.
 pub mod laws

@@ -23,6 +23,7 @@ pub mod laws;
 mod locals;
 mod operators;
 mod validator;
+mod visiting;
 
 pub use beginning::{FuncToValidate, FuncValidatorAllocations};
 pub use judging::BodyJudge;
