@@ -5,7 +5,7 @@
 -- failed, and each later method is refused for that.
 use Rattle.std.specs.Prelude.{◌≡◌, ◌⊎◌, ◌+◌, ◌<◌, ◌==◌, ℕ, Bool, true, false, Option, Some, None, is_some, Result, Ok, Err, if◌then◌else◌}
 use Rattle.wasm_types.specs.decoding.Decoder.{State as Bytes}
-use Rattle.wasm_types.specs.error.Denials.{Tells}
+use Rattle.wasm_types.specs.error.Denials.{Denies, Tells}
 use Rattle.wasm_types.specs.error.ErrorValue.{ErrorValue}
 use Rattle.wasm_types.specs.error.declared.error.ErrorKind.{ErrorKind}
 use Rattle.wasm_types.specs.error.declared.error.ErrorKind.TheVariants as kinds
@@ -17,7 +17,7 @@ use Rattle.wasm_operator_validator_stacks.specs.state.Refusals.{refused_by}
 use Rattle.wasm_module_validator_sharing.specs.reading.progress.standing.steps.Sections.{code_place}
 use Rattle.wasm_module_validator_sharing.specs.reading.progress.standing.steps.Steps.{SoFar, JudgesBody}
 use Rattle.wasm_module_validator_sharing.specs.reading.progress.Progress.{Grows}
-use Rattle.wasm_module_validator_sharing.specs.Sharing.{renewed_behind, next_behind, has_no_code, body_count, IsReached, TellsNext, Follows, Handed, IsHandedOut, NoneLeft}
+use Rattle.wasm_module_validator_sharing.specs.Sharing.{renewed_behind, next_behind, has_no_code, body_count, IsReached, TellsNext, Follows, Handed, IsHandedOut, FitsNext, NoneLeft}
 use Rattle.wasm_module_validator.specs.declared.validator.State.{State}
 use Rattle.wasm_module_validator.specs.declared.validator.State.TheVariants.{Unparsed, Module, Ended, Failed}
 use Rattle.wasm_module_validator.specs.declared.validator.Validator.{Validator}
@@ -96,12 +96,14 @@ BeginsCode v answer w =
     InTurn (refusal v.state (has_no_code v.reached.code)) v answer w ((z : Settings) (p : SoFar) → IsReached z v.reached p → Tells answer (p.last < code_place))
     (IsCodeBegun v answer w)
 
--- A function is handed out, and one body more came. Or each function has its body, and nothing changes; or it has failed.
+-- A function is handed out, and one body more came. Or each function has its body, and nothing changes; or it has failed, since the body
+-- may not come here, memory aside.
 abbrev pub IsBodyTaken : Bytes → Validator → Result Handed ErrorValue → Validator → Type 0
 IsBodyTaken body v (Ok f) w = IsHandedOut v.reached v.features.0 f × (w ≡ record v { reached = w.reached })
     × (w.reached.code ≡ Some (body_count v.reached.code + 1)) × (w.reached.progress.kept ≡ v.reached.progress.kept)
     × ((z : Settings) (p q : SoFar) → IsReached z v.reached p → body.settings ≡ z → JudgesBody z p body.rest q → IsReached z w.reached q)
-IsBodyTaken body v (Err e) w = (NoneLeft v.reached × (e.kind ≡ kinds.Other) × (w ≡ v)) ⊎ (w ≡ record v { state = Failed })
+IsBodyTaken body v (Err e) w = (NoneLeft v.reached × (e.kind ≡ kinds.Other) × (w ≡ v))
+    ⊎ ((w ≡ record v { state = Failed }) × Denies e.kind (FitsNext v.reached body))
 
 -- a body, with these bytes
 abbrev pub TakesBody : Bytes → Validator → Result Handed ErrorValue → Validator → Type 0

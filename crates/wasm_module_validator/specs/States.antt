@@ -25,8 +25,8 @@ Leaves z bytes (Ok types) s = s ≡ Ended
 Leaves z bytes (Err e) s = ((s ≡ Ended) × IsNotMemory e.kind × ((q : SoFar) × IsReadAs z bytes q))
     ⊎ ((s ≡ Failed) × Denies e.kind ((q : SoFar) × IsReadAs z bytes q))
 
--- The list of types that a validator begins with has, behind a module that was accepted, or of which a function alone was refused, what it
--- had and the module's types; and each was read by the validator's features.
+-- Behind a module that was accepted, or of which a function alone was refused, the list of types has what it had, with further groups or
+-- none; and the module was read by the validator's features.
 abbrev pub KeepsWhere : State → Validator → Validator → Type 0
 KeepsWhere Ended v w = IsGrown (kept_groups v.features.0 v.reached.progress.kept) w.reached.progress.kept.groups
     × (w.reached.progress.kept.items.spaces.settings ≡ under v.features.0)

@@ -5,6 +5,7 @@ ghost use Rattle.wasm_types.specs.error.Denials.{Tells};
 ghost use Rattle.wasm_types.specs.features.Sets.{bits_of, default_features};
 ghost use Rattle.wasm_module_validator_sharing.specs.reading.progress.standing.steps.contexts.rules.Accepts.{AcceptsUnder};
 ghost use Rattle.wasm_module_validator_sharing.specs.reading.Reading.{under};
+ghost use Rattle.wasm_module_validator_sharing.specs.Sharing.{nothing_reached};
 ghost use Rattle.wasm_module_validator.specs.declared.validator.State.TheVariants as states;
 ghost use Rattle.wasm_module_validator.specs.Accepts.{Accepts, IsShown, default_settings};
 ghost use Rattle.wasm_module_validator.specs.States.{IsLeft, Keeps, Leaves};
@@ -45,6 +46,7 @@ impl Validator {
         ensures state { result.state ≡ states.Unparsed }
         ensures id { result.id ≡ id }
         ensures features { result.features.0 ≡ bits_of default_features }
+        ensures reached { result.reached ≡ nothing_reached (under (bits_of default_features)) }
     {
         Validator::new_with_features(alloc, id, WasmFeatures::default())
     }
@@ -54,6 +56,7 @@ impl Validator {
         ensures state { result.state ≡ states.Unparsed }
         ensures id { result.id ≡ id }
         ensures features { result.features ≡ features }
+        ensures reached { result.reached ≡ nothing_reached (under features.0) }
     {
         Validator {
             alloc,

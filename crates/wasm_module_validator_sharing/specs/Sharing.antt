@@ -1,5 +1,5 @@
 -- A module that is being read, and that is shared once its code has begun (WebAssembly 3.0, binary format and validation, modules).
-use Rattle.std.specs.Prelude.{◌≡◌, ◌+◌, ℕ, Bool, true, false, List, length, Option, Some, None, Result, Ok, Err, option_map, slice_get}
+use Rattle.std.specs.Prelude.{◌≡◌, ◌+◌, ◌≤◌, ℕ, Bool, true, false, List, length, Option, Some, None, Result, Ok, Err, option_map, slice_get}
 use Rattle.wasm_types.specs.decoding.Decoder.{State}
 use Rattle.wasm_types.specs.error.Denials.{Denies, Tells}
 use Rattle.wasm_types.specs.error.ErrorValue.{ErrorValue}
@@ -13,6 +13,7 @@ use Rattle.wasm_module_validator_module.specs.declared.module.Function.{Function
 use Rattle.wasm_module_validator_reading.specs.progress.code.functions.declared.beginning.FuncToValidate.{FuncToValidate}
 use Rattle.wasm_module_validator_reading.specs.progress.code.declared.bodies.Body.{Body}
 use Rattle.wasm_module_validator_reading.specs.progress.fronts.Walks.{HasSettings}
+use Rattle.wasm_module_validator_reading.specs.progress.standing.steps.Sections.{code_place}
 use Rattle.wasm_module_validator_reading.specs.progress.standing.steps.Steps.{SoFar, JudgesShape, JudgesBody}
 use Rattle.wasm_module_validator_reading.specs.progress.Progress.{Kept, Progress, IsAt, nothing_kept, renewed, next_over}
 use Rattle.wasm_module_validator_sharing.specs.declared.resources.ValidatorResources.{ValidatorResources}
@@ -113,16 +114,20 @@ pub record IsHandedOut (r : Reached) (bits : ℕ) (f : Handed) : Type 0 where
   pub type : option_map (λ (g : Function). g.type_index) (slice_get r.progress.kept.items.spaces.functions f.index) ≡ Some f.ty
   pub features : f.features.0 ≡ bits
 
+-- a body may come here: behind the start of the code, and no longer than a body may be
+abbrev pub FitsNext : Reached → State → Type 0
+FitsNext r body = (r.progress.last ≡ code_place) × (length body.rest ≤ r.progress.kept.items.spaces.settings.limits.body_bytes)
+
 -- each function has its body
 abbrev pub NoneLeft : Reached → Type 0
 NoneLeft r = slice_get r.progress.kept.items.spaces.functions (r.progress.kept.items.spaces.imported_functions + body_count r.code) ≡ None
 
--- what is kept then: one body more, where a function was handed out
+-- What is kept then: one body more, where a function was handed out. It is refused only where it may not come here, memory aside.
 abbrev pub BodyFollows : Reached → ℕ → State → Result (Option Handed) ErrorValue → Reached → Type 0
 BodyFollows r bits body (Ok (Some f)) s = IsHandedOut r bits f × (s.code ≡ Some (body_count r.code + 1)) × (s.progress.kept ≡ r.progress.kept)
     × ((z : Settings) (p q : SoFar) → IsReached z r p → body.settings ≡ z → JudgesBody z p body.rest q → IsReached z s q)
 BodyFollows r bits body (Ok None) s = (s ≡ r) × NoneLeft r
-BodyFollows r bits body (Err e) s = s ≡ r
+BodyFollows r bits body (Err e) s = (s ≡ r) × Denies e.kind (FitsNext r body)
 
 -- What a body is answered: where what is kept stands for what was judged, a function is handed out exactly where the body may come next,
 -- memory aside.

@@ -37,4 +37,4 @@ pub returns-in-Err-take_body : goal.returns-in-Err-take_body
 returns-in-Err-take_body c =
     let v = c.args.self.now in
     in_turn (refusal v.state (is_some v.reached.code)) v _ _ _ _ (c.in-Ok.ensures ∙ ap (refusal v.state) c.has_code.ensures) c.in-Err-take_body.ensures.told
-    (inr (ap (λ (r : Reached). record v { state = Failed; reached = r }) c.in-Err-take_body.ensures.follows))
+    (inr (ap (λ (r : Reached). record v { state = Failed; reached = r }) c.in-Err-take_body.ensures.follows.0, c.in-Err-take_body.ensures.follows.1))

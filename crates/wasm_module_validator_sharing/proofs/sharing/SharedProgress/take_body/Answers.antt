@@ -1,6 +1,7 @@
-use Rattle.std.proofs.Common.{◌≡◌, ◌∙◌, ◌+◌, ℕ, Some, None, refl, sym, ap, subst}
+use Rattle.std.proofs.Common.{◌≡◌, ◌∙◌, ◌+◌, ◌≤◌, ℕ, Some, None, length, refl, sym, ap, subst}
 use Rattle.std.specs.Prelude.{option_map}
 use Rattle.wasm_types.specs.error.Denials.{Denies}
+use Rattle.wasm_module_validator_reading.specs.progress.standing.steps.Sections.{code_place}
 use Rattle.wasm_module_validator_reading.specs.progress.Progress.{Kept, Progress}
 use Rattle.wasm_module_validator_reading.specs.progress.laws.Bodies.{FitsBehind}
 use Rattle.wasm_module_validator_sharing.specs.Sharing.{Reached, Handed, body_count}
@@ -19,7 +20,13 @@ returns-in-Err c =
     let same = shared_progress v i.own i.last i.bodies o shared is c.self.view_is in
     let code = ap body_count (shared_code v i.own i.last i.bodies o shared is c.self.view_is) in
     let d = subst (λ (s : Kept). Denies c.in-Err.error.kind (FitsBehind (record { kept = s; last = i.last }) c.args.body.now.rest)) c.deref.ensures c.in-Err.ensures in
-    record { told = λ z p reached set. body_denied v here i.bodies same code c.args.body.now c.in-Err.error.kind d z p reached; follows = refl }
+    record {
+      told = λ z p reached set. body_denied v here i.bodies same code c.args.body.now c.in-Err.error.kind d z p reached;
+      follows = (
+        refl,
+        subst (λ (p : Progress). Denies c.in-Err.error.kind ((p.last ≡ code_place) × (length c.args.body.now.rest ≤ p.kept.items.spaces.settings.limits.body_bytes))) (sym same) d,
+      );
+    }
 
 pub returns-in-None : goal.returns-in-None
 returns-in-None c =
