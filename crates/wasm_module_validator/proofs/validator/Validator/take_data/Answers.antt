@@ -11,7 +11,8 @@ returns-in-Err c =
 pub returns-in-Ok-take_data : goal.returns-in-Ok-take_data
 returns-in-Ok-take_data c =
     let v = c.args.self.now in
-    in_turn (refusal v.state true) v _ _ _ _ c.in-Ok.ensures c.in-Ok-take_data.ensures.answer (refl, c.in-Ok-take_data.ensures.added, c.in-Ok-take_data.ensures.code, stays_as c.in-Ok-take_data.ensures.kept)
+    in_turn (refusal v.state true) v _ _ _ _ c.in-Ok.ensures c.in-Ok-take_data.ensures.answer
+    (refl, c.in-Ok-take_data.ensures.added, c.in-Ok-take_data.ensures.code, stays_as c.in-Ok-take_data.ensures.kept)
 
 pub returns-in-Err-take_data : goal.returns-in-Err-take_data
 returns-in-Err-take_data c =
