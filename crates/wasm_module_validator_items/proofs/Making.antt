@@ -61,7 +61,8 @@ module _ {X : Type 0} (groups : List Group) (s old new : Spaces) (e : old ≡ s)
   function_stays (Err v) x read h w = subst (IsReadOver groups) (sym (w ∙ e)) read
 
 module _ {X : Type 0} (groups more : List Group) (s old new : Spaces) (e : old ≡ s) (g : Group) (trees : List TypeTree) where
-  pub types_context : (r : Result X ErrorValue) → IsReadOver groups s → OnOk r (AddsGroup groups more old.types new.types g) → OnOk r (space_of more new.types ≡ space_of groups s.types ++ trees)
+  pub types_context : (r : Result X ErrorValue) → IsReadOver groups s → OnOk r (AddsGroup groups more old.types new.types g) →
+      OnOk r (space_of more new.types ≡ space_of groups s.types ++ trees)
       → new ≡ record old { types = new.types } → OnOk r (AreNamesKnown groups s → context_of more new ≡ with_types trees (context_of groups s))
   types_context (Ok v) read a grown same =
       λ known. ap (context_of more) (same ∙ ap (λ (n : Spaces). record n { types = new.types }) e)

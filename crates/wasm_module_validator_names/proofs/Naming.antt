@@ -74,7 +74,8 @@ none_behind None e = refl
 none_behind (Some i) e = absurd cc
 
 -- where no names are these, the import comes with names of its own
-pub import_behind : (m f : List ℕ) (p : Place) (ns : List ImportedName) → index_of m f ns ≡ None → with_import m f p ns ≡ ns ++ record { module_name = m; field_name = f; places = p ∷ [] } ∷ []
+pub import_behind : (m f : List ℕ) (p : Place) (ns : List ImportedName) → index_of m f ns ≡ None →
+    with_import m f p ns ≡ ns ++ record { module_name = m; field_name = f; places = p ∷ [] } ∷ []
 import_behind m f p [] e = refl
 import_behind m f p (n ∷ ns) e = step (import_behind m f p ns) (has_names m f n) refl
   where

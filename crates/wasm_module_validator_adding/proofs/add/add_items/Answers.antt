@@ -29,7 +29,8 @@ returns-in-Err-clause-answer g c =
     let b = c.args.section.reader in
     let w = place_with_offsets c.loop-item.item-iterator in
     let v = place_with_offsets c.next.new.self in
-    let step = subst (λ (r : Result (ℕ × g.row.T.Denot) ErrorValue). NextIn (with_offset i.view i.decoder w.reader.settings) (λ d e. Fails e (i.decoder w.reader.settings d)) w (Some r) v) c.in-Err.is c.in-Some.ensures.steps.0 in
+    let step = subst (λ (r : Result (ℕ × g.row.T.Denot) ErrorValue). NextIn (with_offset i.view i.decoder w.reader.settings) (λ d e. Fails e (i.decoder w.reader.settings d)) w (Some r) v)
+    c.in-Err.is c.in-Some.ensures.steps.0 in
     refused_bytes i.view a.of (g.met.S.AddItem c.lifetimes (assumption c)).alike i.decoder i.grammar (g.met.T.FromReader c.lifetimes (assumption c)).exact a.adds b.settings a.reads
     c.args.section.count b c.args.state.now (place_with_offsets c.loop-item.item-iterator) (place_with_offsets c.next.new.self) c.loop-item.state c.in-Err.error c.loop-item.invariant.0 step
 
@@ -40,9 +41,11 @@ loop-item-preserved g c =
     let b = c.args.section.reader in
     let w = place_with_offsets c.loop-item.item-iterator in
     let v = place_with_offsets c.next.new.self in
-    let step = subst (λ (r : Result (ℕ × g.row.T.Denot) ErrorValue). NextIn (with_offset i.view i.decoder w.reader.settings) (λ d e. Fails e (i.decoder w.reader.settings d)) w (Some r) v) c.in-Ok.is c.in-Some.ensures.steps.0 in (
+    let step = subst (λ (r : Result (ℕ × g.row.T.Denot) ErrorValue). NextIn (with_offset i.view i.decoder w.reader.settings) (λ d e. Fails e (i.decoder w.reader.settings d)) w (Some r) v)
+    c.in-Ok.is c.in-Some.ensures.steps.0 in (
       stands_behind i.view a.of (g.met.S.AddItem c.lifetimes (assumption c)).alike i.decoder i.grammar (g.met.T.FromReader c.lifetimes (assumption c)).exact a.adds b.settings a.reads
-          c.args.section.count b c.args.state.now (place_with_offsets c.loop-item.item-iterator) (place_with_offsets c.next.new.self) c.loop-item.state c.add.new.self c.in-Ok.item c.loop-item.invariant.0
+          c.args.section.count b c.args.state.now (place_with_offsets c.loop-item.item-iterator) (place_with_offsets c.next.new.self) c.loop-item.state c.add.new.self c.in-Ok.item
+          c.loop-item.invariant.0
           step c.in-Some.ensures.steps.2 c.in-Ok-add.ensures.answer c.in-Ok-add.ensures.added,
       (g.met.S.AddItem c.lifetimes (assumption c)).grows_further c.args.state.now c.loop-item.state c.add.new.self c.loop-item.invariant.1 c.in-Ok-add.ensures.grown,
     )
@@ -54,16 +57,20 @@ returns-in-Err-add-clause-answer g c =
     let b = c.args.section.reader in
     let w = place_with_offsets c.loop-item.item-iterator in
     let v = place_with_offsets c.next.new.self in
-    let step = subst (λ (r : Result (ℕ × g.row.T.Denot) ErrorValue). NextIn (with_offset i.view i.decoder w.reader.settings) (λ d e. Fails e (i.decoder w.reader.settings d)) w (Some r) v) c.in-Ok.is c.in-Some.ensures.steps.0 in
+    let step = subst (λ (r : Result (ℕ × g.row.T.Denot) ErrorValue). NextIn (with_offset i.view i.decoder w.reader.settings) (λ d e. Fails e (i.decoder w.reader.settings d)) w (Some r) v)
+    c.in-Ok.is c.in-Some.ensures.steps.0 in
     refused_item i.view a.of (g.met.S.AddItem c.lifetimes (assumption c)).alike i.decoder i.grammar (g.met.T.FromReader c.lifetimes (assumption c)).exact a.adds b.settings a.reads
-    c.args.section.count b c.args.state.now (place_with_offsets c.loop-item.item-iterator) (place_with_offsets c.next.new.self) c.loop-item.state c.in-Ok.item c.in-Err-add.error.kind c.loop-item.invariant.0
+    c.args.section.count b c.args.state.now (place_with_offsets c.loop-item.item-iterator) (place_with_offsets c.next.new.self) c.loop-item.state c.in-Ok.item c.in-Err-add.error.kind
+    c.loop-item.invariant.0
     step c.in-Err-add.ensures.answer
 
 pub add-requires : goal.add-requires
 add-requires g c =
+    let i = g.T.FromReader in
     let w = place_with_offsets c.loop-item.item-iterator in
     let v = place_with_offsets c.next.new.self in
-    let step = subst (λ (r : Result (ℕ × g.row.T.Denot) ErrorValue). NextIn (with_offset g.T.FromReader.view g.T.FromReader.decoder w.reader.settings) (λ d e. Fails e (g.T.FromReader.decoder w.reader.settings d)) w (Some r) v) c.in-Ok.is c.in-Some.ensures.steps.0 in
+    let step = subst (λ (r : Result (ℕ × g.row.T.Denot) ErrorValue). NextIn (with_offset i.view i.decoder w.reader.settings) (λ d e. Fails e (i.decoder w.reader.settings d)) w (Some r) v)
+    c.in-Ok.is c.in-Some.ensures.steps.0 in
     λ k. ((refl, tt), (w.reader.settings, w.reader, v.reader, step.3.1))
 
 pub returns-clause-answer : goal.returns-clause-answer
@@ -89,7 +96,8 @@ returns-in-Err-clause-refused g c =
     let b = c.args.section.reader in
     let w = place_with_offsets c.loop-item.item-iterator in
     let v = place_with_offsets c.next.new.self in
-    let step = subst (λ (r : Result (ℕ × g.row.T.Denot) ErrorValue). NextIn (with_offset i.view i.decoder w.reader.settings) (λ d e. Fails e (i.decoder w.reader.settings d)) w (Some r) v) c.in-Err.is c.in-Some.ensures.steps.0 in
+    let step = subst (λ (r : Result (ℕ × g.row.T.Denot) ErrorValue). NextIn (with_offset i.view i.decoder w.reader.settings) (λ d e. Fails e (i.decoder w.reader.settings d)) w (Some r) v)
+    c.in-Err.is c.in-Some.ensures.steps.0 in
     stops_at_bytes i.view a.of (g.met.S.AddItem c.lifetimes (assumption c)).alike i.decoder i.grammar (g.met.T.FromReader c.lifetimes (assumption c)).exact a.adds b.settings a.reads
     c.args.section.count b c.args.state.now a.refuses (place_with_offsets c.loop-item.item-iterator) (place_with_offsets c.next.new.self) c.loop-item.state c.in-Err.error c.loop-item.invariant.0 step
 
@@ -100,9 +108,11 @@ returns-in-Err-add-clause-refused g c =
     let b = c.args.section.reader in
     let w = place_with_offsets c.loop-item.item-iterator in
     let v = place_with_offsets c.next.new.self in
-    let step = subst (λ (r : Result (ℕ × g.row.T.Denot) ErrorValue). NextIn (with_offset i.view i.decoder w.reader.settings) (λ d e. Fails e (i.decoder w.reader.settings d)) w (Some r) v) c.in-Ok.is c.in-Some.ensures.steps.0 in
+    let step = subst (λ (r : Result (ℕ × g.row.T.Denot) ErrorValue). NextIn (with_offset i.view i.decoder w.reader.settings) (λ d e. Fails e (i.decoder w.reader.settings d)) w (Some r) v)
+    c.in-Ok.is c.in-Some.ensures.steps.0 in
     stops_at_an_item i.view a.of (g.met.S.AddItem c.lifetimes (assumption c)).alike i.decoder i.grammar (g.met.T.FromReader c.lifetimes (assumption c)).exact a.adds b.settings a.reads
-    c.args.section.count b c.args.state.now a.refuses (place_with_offsets c.loop-item.item-iterator) (place_with_offsets c.next.new.self) c.loop-item.state c.in-Ok.item c.in-Err-add.error c.loop-item.invariant.0
+    c.args.section.count b c.args.state.now a.refuses (place_with_offsets c.loop-item.item-iterator) (place_with_offsets c.next.new.self) c.loop-item.state c.in-Ok.item c.in-Err-add.error
+    c.loop-item.invariant.0
     step c.in-Err-add.ensures.refused
 
 pub returns-clause-grown : goal.returns-clause-grown

@@ -6,4 +6,5 @@ abbrev pub invariant-loop-item : goal.invariant-loop-item
 invariant-loop-item g l =
     let i = g.T.FromReader in
     let a = g.S.AddLent in
-    Stands i.view a.of i.decoder i.grammar a.adds l.fn.section.reader.settings a.reads l.fn.section.count l.fn.section.reader l.fn.state (place_with_offsets l.item-iterator) l.state × a.grows l.fn.state l.state
+    Stands i.view a.of i.decoder i.grammar a.adds l.fn.section.reader.settings a.reads l.fn.section.count l.fn.section.reader l.fn.state (place_with_offsets l.item-iterator) l.state
+    × a.grows l.fn.state l.state
