@@ -151,19 +151,14 @@ fn seal<T: Drop>(
 }
 
 impl<T: Drop> SnapshotList<T> {
-    /// Makes room for further items. They stay, whether there is memory or not. A list grows by an eighth of what it has at least,
-    /// and not to twice that: of many items little room is spare, and each is still moved a few times in all.
+    /// Makes room for further items. They stay, whether there is memory or not.
     pub fn reserve(&mut self, additional: usize) -> Result<(), AllocError>
         ensures items { self.new.items ≡ self.old.items }
         ensures ok { OnOk result (additional ≤ self.new.room) }
         ensures room { self.old.room ≤ self.new.room }
         ensures succeeds { additional ≤ self.old.room → IsOk result }
     {
-        let len = self.current.len();
-        if additional <= self.current.capacity() - len {
-            return Ok(());
-        }
-        self.current.reserve_exact(additional.max(len / 8))
+        self.current.reserve(additional)
     }
 
     /// Appends an item. Where there is no memory for it, or there are 2^64 - 1 items, nothing changes and it comes back.
