@@ -1,6 +1,7 @@
 -- The laws of `==`, `cmp` and `hash` of functions, from those of values.
 use Rattle.std.proofs.Common.{◌≡◌, true, refl}
-use Rattle.std.specs.Cmp.{IsPartialEquivalence, IsEquivalence, IsPartialOrder, IsTotalOrder, partial_equiv_from_equiv, partial_order_from_agreeing_total, and_equiv, on_equiv, then_total, on_total, both_tied}
+use Rattle.std.specs.Cmp.{IsPartialEquivalence, IsEquivalence, IsPartialOrder, IsTotalOrder, partial_equiv_from_equiv, partial_order_from_agreeing_total}
+use Rattle.std.specs.Cmp.{and_equiv, on_equiv, then_total, on_total, both_tied}
 use Rattle.std.specs.Cmp.Lexicographic.{slice_cmp, lists_equiv, lists_total, lists_ties}
 use Rattle.std.specs.Hash.{on_Alike, items_Alike, and-Alike}
 use Rattle.std.specs.Ordering.{as_partial_cmp, eq_by_cmp}
