@@ -28,8 +28,8 @@ fn combine_count(sum: u32, count: usize, limit: u32, offset: u64) -> Result<u32>
 
 // The size of a function type behind a sum: two, and one for each parameter and each result.
 fn combine_function_size(sum: u32, ty: &FuncType, limit: u32, offset: u64) -> Result<u32>
-    ensures answer { Tells result (sum + (2 + (length ty.now.params.items + length ty.now.results.items)) < limit) }
-    ensures sum { IfOk result (λ all. all ≡ sum + (2 + (length ty.now.params.items + length ty.now.results.items))) }
+    ensures answer { Tells result (sum + (2 + (length ty.now.params + length ty.now.results)) < limit) }
+    ensures sum { IfOk result (λ all. all ≡ sum + (2 + (length ty.now.params + length ty.now.results))) }
     ensures refused { IfErr result (λ e. (e.kind ≡ Other) × (e.offset ≡ offset)) }
 {
     let begun = combine_type_sizes(sum, 2, limit, offset)?;

@@ -24,7 +24,7 @@ use Rattle.wasm_operator_validator_arity.proofs.Continuing.{function_counted}
 -- ---- tags
 
 pub tag_found : (m : Meaning) (f : FuncType) (o : Option TypeTree) → Some (function_in m f) ≡ option_map expanded o
-    → Some (in_u32 (length f.params.items), in_u32 (length f.results.items)) ≡ ended (type_counts o)
+    → Some (in_u32 (length f.params), in_u32 (length f.results)) ≡ ended (type_counts o)
 tag_found m f None e = cc
 tag_found m f (Some t) e =
     let is : function_in m f ≡ expanded t = cc in

@@ -74,11 +74,11 @@ counts_at : (o : Option TypeTree) → continuation_counts o ≡ option_and_then 
 counts_at None = refl
 counts_at (Some t) = counts_by_inner (expanded t)
 
-pub function_counted : (m : Meaning) (f : FuncType) → function_counts (function_in m f) ≡ Some (length f.params.items, length f.results.items)
-function_counted m f = rw (values_long m f.params.items, values_long m f.results.items) refl
+pub function_counted : (m : Meaning) (f : FuncType) → function_counts (function_in m f) ≡ Some (length f.params, length f.results)
+function_counted m f = rw (values_long m f.params, values_long m f.results) refl
 
 pub continuation_counted : (m : Meaning) (o : Option TypeTree) (f : FuncType) → Some (function_in m f) ≡ continued_at o
-    → Some (length f.params.items, length f.results.items) ≡ continuation_counts o
+    → Some (length f.params, length f.results) ≡ continuation_counts o
 continuation_counted m o f e = sym (counts_at o ∙ sym (ap (option_and_then function_counts) e) ∙ function_counted m f)
 
 -- ---- what the last of some types refers to
@@ -102,7 +102,7 @@ some_long (t ∷ ts) v e = omega arith
 
 pub last_counted : (m : Meaning) (ts : List ValType) (r : Reference) (x : SubType) (f : FuncType) → slice_get ts (length ts - 1) ≡ Some (Ref r)
     → Some (entry_in m x) ≡ option_map opened (type_of_heap m r.heap) → Some (function_in m f) ≡ continued_by m x.composite_type.inner
-    → Some (length f.params.items) ≡ option_map (λ d. d.0) (continuation_counts (last_referred (map (value_map (named_type m)) (map value_of ts))))
+    → Some (length f.params) ≡ option_map (λ d. d.0) (continuation_counts (last_referred (map (value_map (named_type m)) (map value_of ts))))
 last_counted m ts r x f l e c =
     let (t, is, same) = type_behind (entry_in m x) (type_of_heap m r.heap) e in
     let last : last_referred (map (value_map (named_type m)) (map value_of ts)) ≡ Some t = last_seen m ts (length ts - 1) (Ref r) (some_long ts (Ref r) l) l ∙ referred_by m r.nullable r.heap t is in
@@ -119,8 +119,8 @@ switch_seen None = refl
 switch_seen (Some t) = refl
 
 pub switch_counted : (m : Meaning) (o : Option TypeTree) (f : FuncType) (n : ℕ) → Some (function_in m f) ≡ continued_at o
-    → Some n ≡ option_map (λ d. d.0) (continuation_counts (last_referred (map (value_map (named_type m)) (map value_of f.params.items))))
-    → Some (in_u32 (length f.params.items), in_u32 n) ≡ ended (option_and_then (λ g. switch_counts (expanded g)) (option_and_then (λ u. resumed (expanded u)) o))
+    → Some n ≡ option_map (λ d. d.0) (continuation_counts (last_referred (map (value_map (named_type m)) (map value_of f.params))))
+    → Some (in_u32 (length f.params), in_u32 n) ≡ ended (option_and_then (λ g. switch_counts (expanded g)) (option_and_then (λ u. resumed (expanded u)) o))
 switch_counted m o f n e l =
-    let g = given_counted n (length (map (value_map (named_type m)) (map value_of f.params.items))) _ l in
-    ap (λ (k : ℕ). Some (in_u32 k, in_u32 n)) (sym (values_long m f.params.items)) ∙ g ∙ ap (λ (y : Option (InnerOf TypeTree)). ended (option_and_then switch_counts y)) e ∙ ap ended (switch_seen _)
+    let g = given_counted n (length (map (value_map (named_type m)) (map value_of f.params))) _ l in
+    ap (λ (k : ℕ). Some (in_u32 k, in_u32 n)) (sym (values_long m f.params)) ∙ g ∙ ap (λ (y : Option (InnerOf TypeTree)). ended (option_and_then switch_counts y)) e ∙ ap ended (switch_seen _)

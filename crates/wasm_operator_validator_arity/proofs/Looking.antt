@@ -20,7 +20,7 @@ pub values_long : (m : Meaning) (ts : List ValType) → length (map (value_map (
 values_long m ts = length-map (map value_of ts) (value_map (named_type m)) ∙ length-map ts value_of
 
 pub counts_seen : (m : Meaning) (i : CompositeInnerType) → function_counts (inner_map (named_type m) (inner_of i)) ≡ declared_counts i
-counts_seen m (Func f) = rw (values_long m f.params.items, values_long m f.results.items) refl
+counts_seen m (Func f) = rw (values_long m f.params, values_long m f.results) refl
 counts_seen m (Array a) = refl
 counts_seen m (Struct s) = refl
 counts_seen m (Cont c) = refl

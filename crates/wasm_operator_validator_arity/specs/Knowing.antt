@@ -45,7 +45,7 @@ function_by_id m i = option_and_then (λ t. function_alone (expanded t)) (type_b
 
 -- how many parameters and results a type has that is a function type
 abbrev pub declared_counts : CompositeInnerType → Option Counts
-declared_counts (Func f) = Some (length f.params.items, length f.results.items)
+declared_counts (Func f) = Some (length f.params, length f.results)
 declared_counts (Array a) = None
 declared_counts (Struct s) = None
 declared_counts (Cont c) = None

@@ -48,8 +48,8 @@ by_inner : (m : Meaning) (x : ℕ) (t : TypeTree) (i : CompositeInnerType) → s
 by_inner m x t (Func f) e p = (
   t,
   e,
-  sym p ∙ (let g : function (map (value_map (named_type m)) (map value_of f.params.items)) (map (value_map (named_type m)) (map value_of f.results.items))
-      ≡ function (types_in m f.params.items) (types_in m f.results.items) = rw (types_twice m f.params.items, types_twice m f.results.items) refl in g),
+  sym p ∙ (let g : function (map (value_map (named_type m)) (map value_of f.params)) (map (value_map (named_type m)) (map value_of f.results))
+      ≡ function (types_in m f.params) (types_in m f.results) = rw (types_twice m f.params, types_twice m f.results) refl in g),
 )
 by_inner m x t (Array a) e p = λ u b f q. (let h = same_type _ t u e f in let k = p ∙ ap expanded h ∙ q in cc)
 by_inner m x t (Struct s) e p = λ u b f q. (let h = same_type _ t u e f in let k = p ∙ ap expanded h ∙ q in cc)

@@ -9,7 +9,7 @@ use Rattle.wasm_operator_validator_state.specs.State.{Given, types_in, context}
 
 -- the signature of a function type of the code
 abbrev pub signature_in : Meaning → FuncType → Signature
-signature_in m f = record { params = types_in m f.params.items; results = types_in m f.results.items }
+signature_in m f = record { params = types_in m f.params; results = types_in m f.results }
 
 -- the signature of the type at an index, if it is a function type
 abbrev pub IsFunctionAt : Meaning → ℕ → Option Signature → Type 0

@@ -29,8 +29,8 @@ use Rattle.wasm_operator_validator_control.specs.Callees.{IsUsableFunction, IsFu
 
 function_type : (m : Meaning) (t : TypeTree) (f : FuncType) → inner_map (named_type m) (inner_of (Func f)) ≡ expanded t → IsFunctionType t (signature_in m f)
 function_type m t f p =
-    sym p ∙ (let g : function (map (value_map (named_type m)) (map value_of f.params.items)) (map (value_map (named_type m)) (map value_of f.results.items))
-    ≡ function (types_in m f.params.items) (types_in m f.results.items) = rw (types_twice m f.params.items, types_twice m f.results.items) refl in g)
+    sym p ∙ (let g : function (map (value_map (named_type m)) (map value_of f.params)) (map (value_map (named_type m)) (map value_of f.results))
+    ≡ function (types_in m f.params) (types_in m f.results) = rw (types_twice m f.params, types_twice m f.results) refl in g)
 
 is_function : (m : Meaning) (t : TypeTree) (i : CompositeInnerType) (f : FuncType) → Some f ≡ func_in i → inner_map (named_type m) (inner_of i) ≡ expanded t → IsFunctionType t (signature_in m f)
 is_function m t (Func h) f e p = let k : f ≡ h = cc in subst (λ (x : FuncType). IsFunctionType t (signature_in m x)) (sym k) (function_type m t h p)

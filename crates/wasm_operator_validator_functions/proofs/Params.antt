@@ -44,7 +44,7 @@ module _ (m : Meaning) (x : ℕ) (s : SubType) (f : FuncType) (e : Some (entry_i
   at : IsFunctionAt m x (Some (signature_in m f))
   at = subst (λ (o : Option FuncType). IsFunctionAt m x (option_map (signature_in m) o)) (sym i) (some_at m x s e)
 
-  pub begins : (bits n : ℕ) (σ : State) (ts : List ValType) → ts ≡ f.params.items → n ≡ length ts
+  pub begins : (bits n : ℕ) (σ : State) (ts : List ValType) → ts ≡ f.params → n ≡ length ts
       → σ ≡ fresh (record { bits = bits; locals = ts; params = n; shared = s.composite_type.shared }) (block.FuncType x) none_saved → Begins m bits x σ
   begins bits n σ ts p c g =
       let shared : is_shared at.0 ≡ s.composite_type.shared = type_shared (entry_in m s) (slice_get m.«module».types x) at.0 e at.1 in
@@ -58,17 +58,17 @@ module _ (m : Meaning) (x : ℕ) (s : SubType) (f : FuncType) (e : Some (entry_i
       }
 
   -- the number of its parameters is what the signature says
-  fewer : (t : TypeTree) (b : Signature) → HasFunctionType m x t b → length b.params ≡ length f.params.items
+  fewer : (t : TypeTree) (b : Signature) → HasFunctionType m x t b → length b.params ≡ length f.params
   fewer t b h =
       let g : ◌≡◌ {A = Option TypeTree} (Some at.0) (Some t) = sym at.1 ∙ h.at in
       let same : at.0 ≡ t = cc in
-      let k : function (types_in m f.params.items) (types_in m f.results.items) ≡ function b.params b.results = sym at.2 ∙ ap expanded same ∙ h.function in
-      let p : b.params ≡ types_in m f.params.items = cc in
-      ap length p ∙ length-map f.params.items (type_in m)
+      let k : function (types_in m f.params) (types_in m f.results) ≡ function b.params b.results = sym at.2 ∙ ap expanded same ∙ h.function in
+      let p : b.params ≡ types_in m f.params = cc in
+      ap length p ∙ length-map f.params (type_in m)
 
-  pub too_many : (k : ErrorKind) → Denies k (length f.params.items ≤ default_limits.locals) → Denies k (MayBegin m x)
+  pub too_many : (k : ErrorKind) → Denies k (length f.params ≤ default_limits.locals) → Denies k (MayBegin m x)
   too_many k d =
-      denies_from k (length f.params.items ≤ default_limits.locals) (MayBegin m x)
+      denies_from k (length f.params ≤ default_limits.locals) (MayBegin m x)
       (λ (t, b, h, l). subst (λ (n : ℕ). n ≤ default_limits.locals) (fewer t b h) l) d
 
 -- ---- the frame of the body

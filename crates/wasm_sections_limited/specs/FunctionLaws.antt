@@ -1,8 +1,8 @@
 -- Function types are read lawfully, and exactly where the bytes spell a group of one.
-use Rattle.std.proofs.Common.{◌≡◌, ℕ, ◌<◌, List, [], ◌∷◌, ◌++◌, refl, sym, ap, ◌∙◌, subst, arith, Bool, true, false, Option, Some, None, Result, Ok, Err, inl, inr}
+use Rattle.std.proofs.Common.{◌≡◌, ℕ, List, [], ◌∷◌, ◌++◌, refl, sym, ap, ◌∙◌, subst, arith, Bool, true, false, Option, Some, None, Result, Ok, Err, inl, inr}
 use Rattle.std.proofs.lemmas.List.{append-nil}
 use Rattle.wasm_types.specs.decoding.declared.Refusal.TheVariants as refusals
-use Rattle.wasm_types.specs.decoding.Decoder.{State, Outcome, Done, Short, Fault, Decoder, Grammar, continue_with, ◌>>=◌, IsLawful, Decides, Then}
+use Rattle.wasm_types.specs.decoding.Decoder.{State, Outcome, Done, Fault, Grammar, continue_with, ◌>>=◌, IsLawful, Decides, Then}
 use Rattle.wasm_types.specs.decoding.Laws.{lawful->>=, lawful-pure}
 use Rattle.wasm_types.specs.decoding.Exact.{decides->>=, decides-same, decides-pure}
 use Rattle.wasm_types.specs.decoding.ListLaws.{lawful-from_place, decides-from_place, lawful-refuse_at, decides-refuse_at}
@@ -12,28 +12,13 @@ use Rattle.wasm_types.specs.error.ErrorValue.{ErrorValue}
 use Rattle.wasm_types.specs.limits.Settings.{Settings}
 use Rattle.wasm_types.specs.reader.Reading.{FailsAt, Fails}
 use Rattle.wasm_types.specs.indices.declared.index.UnpackedIndex.{UnpackedIndex}
-use Rattle.wasm_types.specs.fields.Spells.{Signature}
+use Rattle.wasm_types.specs.fields.Signatures.{Signature}
 use Rattle.wasm_types.specs.fields.declared.func.FuncType.{FuncType}
 use Rattle.wasm_types.specs.groups.declared.rec_group.RecGroup.{RecGroup}
 use Rattle.wasm_types.specs.groups.SpellsTypes.{InnerValue, function, array_of, struct_of, continuation, CompositeValue, SubValue, sub_with, GroupValue, group_value, SpelledGroup}
 use Rattle.wasm_types.specs.groups.DecodeTypes.{rec_group}
 use Rattle.wasm_types.specs.groups.TypeLaws.{lawful-rec_group, decides-rec_group}
-use Rattle.wasm_sections_limited.specs.Functions.{
-  alone,
-  group_of,
-  SpelledAlone,
-  inner_function,
-  without_index,
-  only_if,
-  only_unless,
-  composite_function,
-  below_none,
-  sub_function,
-  only_function,
-  or_refuse,
-  function_alone,
-  signature_of,
-}
+use Rattle.wasm_sections_limited.specs.Functions.{alone, group_of, SpelledAlone, inner_function, composite_function, sub_function, only_function, or_refuse, function_alone}
 use Rattle.wasm_sections_limited.specs.Walking.{Walk, NextIn}
 use Rattle.wasm_sections_limited.specs.Runs.{plain, with_offset}
 
@@ -144,14 +129,14 @@ module _ (z : Settings) (w v : Walk) where
   OfGroups r u = NextIn (with_offset group_value rec_group z) (λ b e. Fails e (rec_group z b)) w r u
 
   abbrev OfFunctions : Option (Result FuncType ErrorValue) → Walk → Type 0
-  OfFunctions r u = NextIn (plain signature_of function_alone z) (λ b e. Fails e (function_alone z b)) w r u
+  OfFunctions r u = NextIn (plain (λ f. f) function_alone z) (λ b e. Fails e (function_alone z b)) w r u
 
   pub step_fails : (e : ErrorValue) → OfGroups (Some (Err e)) v → OfFunctions (Some (Err e)) v
   step_fails e (o, p, inl t) = (o, p, inl t)
   step_fails e (o, p, inr t) = (o, p, inr (t.0, group_fails z w.reader e.kind e.offset t.1))
 
-  pub step_reads : (x : ℕ × RecGroup) (f : FuncType) → OfGroups (Some (Ok x)) v → only_function (group_value x.1).types ≡ Some (signature_of f) → OfFunctions (Some (Ok f)) v
-  step_reads x f (o, p, l, r) e = (o, p, l, alone_read z w.reader v.reader (group_value x.1) (signature_of f) r.1 e)
+  pub step_reads : (x : ℕ × RecGroup) (f : FuncType) → OfGroups (Some (Ok x)) v → only_function (group_value x.1).types ≡ Some f → OfFunctions (Some (Ok f)) v
+  step_reads x f (o, p, l, r) e = (o, p, l, alone_read z w.reader v.reader (group_value x.1) f r.1 e)
 
   -- behind a group that is no function type
   abbrev ended : Walk

@@ -1,12 +1,11 @@
 -- The function types of a type section whose groups are one function type each (WebAssembly 3.0, binary format, types).
-use Rattle.std.specs.Prelude.{◌≡◌, ℕ, List, [], ◌∷◌, Bool, true, false, Option, Some, None}
+use Rattle.std.specs.Prelude.{ℕ, List, [], ◌∷◌, Bool, true, false, Option, Some, None}
 use Rattle.wasm_types.specs.decoding.declared.Refusal.TheVariants.{Other}
 use Rattle.wasm_types.specs.decoding.Decoder.{Decoder, Grammar, ◌>>=◌, pure}
 use Rattle.wasm_types.specs.decoding.Lists.{refuse_at}
 use Rattle.wasm_types.specs.limits.Settings.{Settings}
 use Rattle.wasm_types.specs.indices.declared.index.UnpackedIndex.{UnpackedIndex}
-use Rattle.wasm_types.specs.fields.Spells.{Signature}
-use Rattle.wasm_types.specs.fields.declared.func.FuncType.{FuncType}
+use Rattle.wasm_types.specs.fields.Signatures.{Signature}
 use Rattle.wasm_types.specs.groups.SpellsTypes.{InnerValue, function, array_of, struct_of, continuation, CompositeValue, SubValue, sub_with, GroupValue, group_with, SpelledGroup}
 use Rattle.wasm_types.specs.groups.DecodeTypes.{rec_group}
 
@@ -74,7 +73,3 @@ or_refuse place None = refuse_at Other place
 -- a group that is one function type; another is refused where it begins
 unfoldable pub function_alone : Settings → Decoder Signature
 function_alone z s = (rec_group z >>= λ g. or_refuse s.place (only_function g.types)) s
-
--- what a function type of the code is
-abbrev pub signature_of : FuncType → Signature
-signature_of f = record { params = f.params.items; results = f.results.items }

@@ -12,7 +12,7 @@ use Rattle.wasm_types.specs.values.declared.value.ValType.TheVariants.{I32}
 use Rattle.wasm_types.specs.values.declared.value.StorageType.TheVariants.{Val}
 use Rattle.wasm_types.specs.values.DecodeValues.{value_type, value_type_after, storage_type_after, storage_type}
 use Rattle.wasm_types.specs.values.Decode.{reference_after}
-use Rattle.wasm_types.specs.fields.Spells.{Signature}
+use Rattle.wasm_types.specs.fields.Signatures.{Signature}
 use Rattle.wasm_types.specs.fields.Decode.{mutability, field_type, fields, signature, module_index}
 use Rattle.wasm_types.specs.groups.SpellsTypes.{InnerValue, function, array_of, struct_of, continuation, CompositeValue, sub_with}
 use Rattle.wasm_types.specs.groups.DecodeTypes.{

@@ -1,12 +1,12 @@
 //! The function types of a type section that has no others.
 
-ghost use Rattle.std.specs.Prelude.{◌≡◌, IfErr, MatchOption, None, Some};
+ghost use Rattle.std.specs.Prelude.{◌≡◌};
 ghost use Rattle.std.specs.Iterator.{at_most};
 ghost use Rattle.wasm_types.specs.error.declared.error.ErrorKind.TheVariants.{Other};
 ghost use Rattle.wasm_types.specs.groups.SpellsTypes.{group_value, inner_value, composite_value, sub_value};
 ghost use Rattle.wasm_sections_limited.specs.Walking.{fresh, items_left};
 ghost use Rattle.wasm_sections_limited.specs.Runs.{place_of_functions, told, plain, Steps};
-ghost use Rattle.wasm_sections_limited.specs.Functions.{inner_function, composite_function, sub_function, only_function, function_alone, signature_of};
+ghost use Rattle.wasm_sections_limited.specs.Functions.{inner_function, composite_function, sub_function, only_function, function_alone};
 
 use crate::{SectionLimited, SectionLimitedIntoIterWithOffsets};
 use wasm_types::{CompositeInnerType, CompositeType, Error, FuncType, RecGroup, Result, SubType};
@@ -20,7 +20,7 @@ pub struct FuncTypesIntoIter<'a> {
 
 // The function type that a type is by its constructor.
 fn inner_function(ty: CompositeInnerType) -> Option<FuncType>
-    ensures { MatchOption result (inner_function (inner_value ty) ≡ None) (λ f. inner_function (inner_value ty) ≡ Some (signature_of f)) }
+    ensures { result ≡ inner_function (inner_value ty) }
 {
     match ty {
         CompositeInnerType::Func(ty) => Some(ty),
@@ -32,7 +32,7 @@ fn inner_function(ty: CompositeInnerType) -> Option<FuncType>
 
 // The function type that a composite type is, and nothing else.
 fn composite_function(ty: CompositeType) -> Option<FuncType>
-    ensures { MatchOption result (composite_function (composite_value ty) ≡ None) (λ f. composite_function (composite_value ty) ≡ Some (signature_of f)) }
+    ensures { result ≡ composite_function (composite_value ty) }
 {
     if ty.shared {
         return None;
@@ -48,7 +48,7 @@ fn composite_function(ty: CompositeType) -> Option<FuncType>
 
 // The function type that a subtype is, final and below no type.
 fn sub_function(ty: SubType) -> Option<FuncType>
-    ensures { MatchOption result (sub_function (sub_value ty) ≡ None) (λ f. sub_function (sub_value ty) ≡ Some (signature_of f)) }
+    ensures { result ≡ sub_function (sub_value ty) }
 {
     if !ty.is_final {
         return None;
@@ -61,7 +61,7 @@ fn sub_function(ty: SubType) -> Option<FuncType>
 
 // The function type that a group is.
 fn only_function(group: RecGroup) -> Option<FuncType>
-    ensures { MatchOption result (only_function (group_value group).types ≡ None) (λ f. only_function (group_value group).types ≡ Some (signature_of f)) }
+    ensures { result ≡ only_function (group_value group).types }
 {
     let mut types = group.into_types();
     let Some(ty) = types.pop() else {
@@ -87,7 +87,7 @@ impl<'a> Iterator for FuncTypesIntoIter<'a> {
 
     ghost use Rattle.std.specs.Prelude.{true};
 
-    ghost next_gives = { Steps function_alone place_of_functions (told true) (plain signature_of function_alone) };
+    ghost next_gives = { Steps function_alone place_of_functions (told true) (plain (λ f. f) function_alone) };
 
     ghost remaining = { λ s. at_most (items_left s.groups.end s.groups.remaining) };
 

@@ -8,9 +8,9 @@ ghost use Rattle.wasm_types.specs.decoding.Leb.{u32 as u32_decoder, IsListed};
 ghost use Rattle.wasm_types.specs.error.ErrorValue.{ErrorValue};
 ghost use Rattle.wasm_sections_limited.specs.Walking.{Walk, fresh, plainly, NeverLacksMemory, ok};
 ghost use Rattle.wasm_sections_limited.specs.Runs.{place_in, place_with_offsets, place_of_functions, told, plain, with_offset, Steps, seen};
-ghost use Rattle.wasm_sections_limited.specs.Functions.{SpelledAlone, function_alone, signature_of};
+ghost use Rattle.wasm_sections_limited.specs.Functions.{SpelledAlone, function_alone};
 ghost use Rattle.wasm_sections_limited.specs.declared.func_types.FuncTypesIntoIter.{FuncTypesIntoIter};
-ghost use Rattle.wasm_types.specs.fields.Spells.{Signature};
+ghost use Rattle.wasm_types.specs.fields.Signatures.{Signature};
 ghost use Rattle.wasm_types.specs.fields.declared.func.FuncType.{FuncType};
 ghost use Rattle.wasm_sections_limited.specs.declared.walk.SectionLimitedIntoIter.{SectionLimitedIntoIter};
 ghost use Rattle.wasm_sections_limited.specs.declared.walk.SectionLimitedIntoIterWithOffsets.{SectionLimitedIntoIterWithOffsets};
@@ -49,10 +49,10 @@ pub const fn function_types_are_exact()
     ensures lawful { (z : Settings) → IsLawful (function_alone z) }
     ensures exact { (z : Settings) → Decides (function_alone z) (SpelledAlone z) }
     ensures sound { (b t : State) (n : ℕ) (it : FuncTypesIntoIter) (xs : List FuncType) → u32_decoder b ≡ Done n t → place_of_functions it ≡ fresh n t
-        → Drains (Steps function_alone place_of_functions (told true) (plain signature_of function_alone)) it (map ok xs) → IsListed (SpelledAlone t.settings) (map signature_of xs) b.rest }
+        → Drains (Steps function_alone place_of_functions (told true) (plain (λ f. f) function_alone)) it (map ok xs) → IsListed (SpelledAlone t.settings) xs b.rest }
     ensures complete { (b t : State) (n : ℕ) (it : FuncTypesIntoIter) (xs : List Signature) (items : List (Result FuncType ErrorValue)) → u32_decoder b ≡ Done n t
         → place_of_functions it ≡ fresh n t → IsListed (SpelledAlone t.settings) xs b.rest
-        → Drains (Steps function_alone place_of_functions (told true) (plain signature_of function_alone)) it items → NeverLacksMemory items → map (seen signature_of) items ≡ map ok xs }
+        → Drains (Steps function_alone place_of_functions (told true) (plain (λ f. f) function_alone)) it items → NeverLacksMemory items → items ≡ map ok xs }
 {}
 
 /// Walks that were worked by hand, over one-byte items: none, all of two, one too few, and a byte too many. And groups that are

@@ -1,13 +1,18 @@
 -- A list whose items are replaced one after the other.
-use Rattle.std.proofs.Common.{◌≡◌, ℕ, zero, suc, ◌+◌, ◌<◌, ◌≤◌, List, [], ◌∷◌, refl, sym, ap, subst, ◌∙◌, length, get_or, set, map, arith, add-one}
+use Rattle.std.proofs.Common.{◌≡◌, ℕ, zero, suc, ◌+◌, ◌<◌, ◌≤◌, List, [], ◌∷◌, refl, sym, ap, subst, ◌∙◌, length, get_or, set, take, drop, map, arith, add-one}
 use Rattle.std.specs.Prelude.{Result, Ok, Err, Vec}
 use Rattle.std.specs.List.{flat_map}
 use Rattle.std.specs.Vec.{with_items}
-use Rattle.std.proofs.lemmas.List.{with_items_is}
+use Rattle.std.proofs.lemmas.Grind.{flat_map-append}
+use Rattle.std.proofs.lemmas.List.{with_items_is, length-map, take-map, drop-map, take-append-drop}
+use Rattle.wasm_types_values.specs.indices.declared.index.UnpackedIndex.{UnpackedIndex}
+use Rattle.wasm_types_values.specs.declared.value.ValType.{ValType}
+use Rattle.wasm_types_values.specs.Values.{value_of}
 use Rattle.wasm_types_values.specs.trees.Types as tree
 use Rattle.wasm_types_values.specs.trees.Types.{ValueOf, InnerOf}
 use Rattle.wasm_types_values.specs.Remap.{Remapped, value_shape, value_indices}
 use Rattle.wasm_types_values.specs.RemapLaws.{walked_next, cut_before}
+use Rattle.wasm_types_fields.specs.Fields.{signature_tree}
 use Rattle.wasm_types_fields.specs.Remap.{inner_shape, inner_indices}
 
 module _ {A T S R E : Type 0} (view : A → T) (shape : T → S) (indices : T → List R) (answers : R → Result R E → Type 0) where
@@ -67,30 +72,49 @@ module _ {A T S R E : Type 0} (view : A → T) (shape : T → S) (indices : T �
       subst (λ (ws : List A). Items (Err e) (x ∷ xs) (y ∷ ws)) (sym rest) (last e x y xs (subst (λ (w : A). Item (Err e) w y) first t))
   cut e (x ∷ xs) (z ∷ zs) (suc i) y d lt h t = next (Err e) x z xs (set zs i y) h.0 (cut e xs zs i y d (omega arith) h.1 t)
 
--- ---- functions, by their parameters and then their results
+-- ---- functions, whose parameters and results lie in one list
 
-module _ {R E : Type 0} (answers : R → Result R E → Type 0) (ps qs : List (ValueOf R)) where
-  abbrev Values : Result (Unit {0}) E → List (ValueOf R) → List (ValueOf R) → Type 0
-  Values r = Remapped (map value_shape) (flat_map value_indices) answers r
+-- the first n of these values are the parameters, and the others the results
+abbrev split_at : ℕ → List ValType → InnerOf UnpackedIndex
+split_at n vs = signature_tree (take n vs) (drop n vs)
 
-  abbrev Function : Result (Unit {0}) E → InnerOf R → InnerOf R → Type 0
-  Function r = Remapped inner_shape inner_indices answers r
+split_values : (n : ℕ) (vs : List ValType) → split_at n vs ≡ tree.function (take n (map value_of vs)) (drop n (map value_of vs))
+split_values n vs = λ i. tree.function (sym (take-map value_of n vs) i) (sym (drop-map value_of n vs) i)
 
-  pub cut_function : (e : E) (rs : List (ValueOf R)) → Values (Err e) ps qs → Function (Err e) (tree.function ps rs) (tree.function qs rs)
-  cut_function e rs h = record {
-    same = ap (λ (shapes : List (ValueOf (Unit {0}))). tree.function shapes (map value_shape rs)) h.same;
-    walked = cut_before answers e (flat_map value_indices ps) (flat_map value_indices qs) (flat_map value_indices rs) h.walked;
-  }
+module _ {R : Type 0} (n : ℕ) (vs : List (ValueOf R)) where
+  split_indices : inner_indices (tree.function (take n vs) (drop n vs)) ≡ flat_map value_indices vs
+  split_indices = sym (flat_map-append value_indices (take n vs) (drop n vs)) ∙ ap (flat_map value_indices) (take-append-drop n vs)
 
-  pub whole_function : (r : Result (Unit {0}) E) (rs ss : List (ValueOf R)) → Values (Ok (tt {0})) ps qs → Values r rs ss → Function r (tree.function ps rs) (tree.function qs ss)
-  whole_function r rs ss h t = record {
-    same = (let params = h.same in let results = t.same in cc);
-    walked = walked_next answers r (flat_map value_indices ps) (flat_map value_indices qs) (flat_map value_indices rs) (flat_map value_indices ss) h.walked t.walked;
-  }
+  split_shape : inner_shape (tree.function (take n vs) (drop n vs)) ≡ tree.function (take n (map value_shape vs)) (drop n (map value_shape vs))
+  split_shape = λ i. tree.function (sym (take-map value_shape n vs) i) (sym (drop-map value_shape n vs) i)
 
--- ---- the items of a vector, written through its slice
+module _ {E U : Type 0} (answers : UnpackedIndex → Result UnpackedIndex E → Type 0) (r : Result U E) where
+  abbrev Values : List ValType → List ValType → Type 0
+  Values old now = Remapped (map value_shape) (flat_map value_indices) answers r (map value_of old) (map value_of now)
 
-pub through_slice : {X Z : Type 0} (P : List X → List X → Type 0) (v : Vec X Z) (old new : List X) → old ≡ v.items → length new ≡ length old → P old
-    new → P v.items (with_items v new).items
-through_slice P v old new value len h =
-    subst (λ (xs : List _). P v.items xs) (sym (with_items_is v new (len ∙ ap length value ∙ sym v.ok.0))) (subst (λ (xs : List _). P xs new) value h)
+  abbrev Function : ℕ → List ValType → List ValType → Type 0
+  Function n old now = Remapped inner_shape inner_indices answers r (split_at n old) (split_at n now)
+
+  -- the values of the list replaced are those of the function
+  remapped_values : (n : ℕ) (old now : List ValType) → Values old now → Function n old now
+  remapped_values n old now h =
+      rw (split_values n old, split_values n now) (record {
+        same = split_shape n (map value_of now)
+            ∙ ap (λ (shapes : List (ValueOf (Unit {0}))). tree.function (take n shapes) (drop n shapes)) h.same
+            ∙ sym (split_shape n (map value_of old));
+        walked = rw (split_indices n (map value_of old), split_indices n (map value_of now)) h.walked;
+      })
+
+  -- and none is left out
+  as_many : (old now : List ValType) → Values old now → length now ≡ length old
+  as_many old now h =
+      sym (length-map now value_of) ∙ sym (length-map (map value_of now) value_shape) ∙ ap length h.same
+      ∙ length-map (map value_of old) value_shape ∙ length-map old value_of
+
+  -- written through the slice of the list
+  pub remapped_function : {Z : Type 0} (n : ℕ) (v : Vec ValType Z) (old now : List ValType) → old ≡ v.items → Values old now
+      → Function n v.items (with_items v now).items
+  remapped_function n v old now value h =
+      let len : length now ≡ v.len = as_many old now h ∙ ap length value ∙ sym v.ok.0 in
+      subst (λ (xs : List ValType). Function n v.items xs) (sym (with_items_is v now len)) (subst (λ (xs : List ValType). Function n xs now) value
+      (remapped_values n old now h))

@@ -9,7 +9,7 @@ use Rattle.wasm_types_values.specs.indices.declared.index.UnpackedIndex.{Unpacke
 use Rattle.wasm_types_values.specs.indices.declared.index.UnpackedIndex.TheVariants.{Module}
 use Rattle.wasm_types_values.specs.DecodeValues.{value_type, storage_type}
 use Rattle.wasm_types_fields.specs.declared.field.FieldType.{FieldType}
-use Rattle.wasm_types_fields.specs.Spells.{Signature}
+use Rattle.wasm_types_fields.specs.Signatures.{Signature}
 
 -- whether a field is mutable, by its byte
 abbrev pub mutabilities : List (ℕ × Decoder Bool)

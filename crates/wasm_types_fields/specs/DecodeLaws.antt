@@ -20,7 +20,8 @@ use Rattle.wasm_types_values.specs.DecodeValues.{value_type, storage_type}
 use Rattle.wasm_types_values.specs.DecodeLaws.{lawful-value_type, lawful-storage_type}
 use Rattle.wasm_types_values.specs.ValueExact.{SpelledValue, SpelledStorage, decides-value_type, decides-storage_type}
 use Rattle.wasm_types_fields.specs.declared.field.FieldType.{FieldType}
-use Rattle.wasm_types_fields.specs.Spells.{IsMutability, SpelledField, SpelledFields, Signature, SpelledSignature, SpelledIndex}
+use Rattle.wasm_types_fields.specs.Signatures.{Signature}
+use Rattle.wasm_types_fields.specs.Spells.{IsMutability, SpelledField, SpelledFields, SpelledSignature, SpelledIndex}
 use Rattle.wasm_types_fields.specs.Decode.{mutabilities, mutability, field_type, fields, signature, index_from, module_index}
 
 -- ---- mutability

@@ -29,7 +29,7 @@ signature_tree params results = tree.function (map value_of params) (map value_o
 
 -- a function type as a tree
 abbrev pub function_tree : FuncType → InnerOf UnpackedIndex
-function_tree f = signature_tree f.params.items f.results.items
+function_tree f = signature_tree f.params f.results
 
 -- a continuation as a tree
 abbrev pub continuation_tree : ContType → InnerOf UnpackedIndex

@@ -1,4 +1,5 @@
 -- Rules: types as plain trees, which bytes spell them, how they are written and remapped.
+pub mod Signatures
 pub mod Fields
 pub mod Remap
 pub mod Text
@@ -6,6 +7,7 @@ pub mod Spells
 -- Decoders.
 pub mod Decode
 -- Laws.
+pub mod SignatureLaws
 pub mod DecodeLaws
 pub mod WorkedFieldLaws
 -- The rules and laws of the crates below, under their names: crates above cite them here.

@@ -4,10 +4,10 @@ use Rattle.wasm_types_values.specs.decoding.Decoder.{Grammar}
 use Rattle.wasm_types_values.specs.decoding.Lists.{IsListedWithin}
 use Rattle.wasm_types_values.specs.limits.Settings.{Settings}
 use Rattle.wasm_types_values.specs.indices.declared.index.UnpackedIndex.{UnpackedIndex}
-use Rattle.wasm_types_values.specs.declared.value.ValType.{ValType}
 use Rattle.wasm_types_values.specs.Spells.{SpellsExactIndex}
 use Rattle.wasm_types_values.specs.ValueExact.{SpelledValue, SpelledStorage}
 use Rattle.wasm_types_fields.specs.declared.field.FieldType.{FieldType}
+use Rattle.wasm_types_fields.specs.Signatures.{Signature}
 
 -- whether a field may be written
 abbrev pub IsMutability : Grammar Bool
@@ -26,12 +26,7 @@ pub record SpelledField (x : FieldType) (text : List ℕ) : Type 0 where
 abbrev pub SpelledFields : Settings → Grammar (List FieldType)
 SpelledFields z = IsListedWithin z.limits.fields SpelledField
 
--- the parameters and the results of a function
-pub record Signature : Type 0 where
-  pub params : List ValType
-  pub results : List ValType
-
--- each within their limit
+-- the parameters and the results of a function, each within their limit
 pub record SpelledSignature (z : Settings) (f : Signature) (text : List ℕ) : Type 0 where
   pub params : List ℕ
   pub results : List ℕ

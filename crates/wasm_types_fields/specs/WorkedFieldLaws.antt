@@ -19,7 +19,7 @@ use Rattle.wasm_types_values.specs.limits.Limits.{default_limits}
 use Rattle.wasm_types_values.specs.limits.Settings.{Settings, no_features}
 use Rattle.wasm_types_values.specs.WorkedTypeLaws.{start_of, behind}
 use Rattle.wasm_types_fields.specs.declared.field.FieldType.{FieldType}
-use Rattle.wasm_types_fields.specs.Spells.{Signature}
+use Rattle.wasm_types_fields.specs.Signatures.{Signature}
 use Rattle.wasm_types_fields.specs.Decode.{mutability, field_type, fields, signature, module_index}
 use Rattle.wasm_types_fields.specs.Text.{field_text, array_text, struct_text, func_text, cont_text}
 

@@ -122,12 +122,13 @@ impl<'a> FromReader<'a> for StructType {
 impl<'a> FromReader<'a> for FuncType {
     ghost use Rattle.std.specs.Prelude.{true};
     ghost use Rattle.wasm_types_fields.specs.Decode.{signature};
-    ghost use Rattle.wasm_types_fields.specs.Spells.{Signature, SpelledSignature};
+    ghost use Rattle.wasm_types_fields.specs.Signatures.{Signature};
+    ghost use Rattle.wasm_types_fields.specs.Spells.{SpelledSignature};
     ghost use Rattle.wasm_types_fields.specs.DecodeLaws.{lawful-signature, decides-signature};
 
     ghost Value = { Signature };
 
-    ghost view = { λ f. record { params = f.params.items; results = f.results.items } };
+    ghost view = { λ f. f };
 
     ghost decoder = { signature };
 
@@ -144,7 +145,8 @@ impl<'a> FromReader<'a> for FuncType {
         let limits = reader.limits();
         let params = read_list(alloc, limits.params as usize, "function params", reader)?;
         let results = read_list(alloc, limits.results as usize, "function returns", reader)?;
-        Ok(FuncType::of_lists(params, results))
+        let function = FuncType::of_lists(alloc, params.as_slice(), results.as_slice())?;
+        Ok(function)
     }
 }
 

@@ -4,14 +4,14 @@ ghost use Rattle.std.specs.Prelude.{◌≡◌, OnErr, map};
 ghost use Rattle.std.specs.List.{flat_map};
 ghost use Rattle.wasm_types_values.specs.Remap.{Remapped, value_shape, value_indices};
 ghost use Rattle.wasm_types_values.specs.Values.{value_of};
-ghost use Rattle.wasm_types_fields.specs.Fields.{field_of, array_tree, continuation_tree, struct_tree, signature_tree};
+ghost use Rattle.wasm_types_fields.specs.Fields.{field_of, array_tree, continuation_tree, struct_tree};
 ghost use Rattle.wasm_types_fields.specs.Remap.{field_shape, field_indices, inner_shape, inner_indices};
 
 use crate::{ArrayType, ContType, FieldType, StructType};
 use wasm_types_values::{PackedIndex, Result, ValType};
 
 // Each of these types with its index replaced.
-fn remap_values<F: Fn(PackedIndex) -> Result<PackedIndex>>(
+pub(crate) fn remap_values<F: Fn(PackedIndex) -> Result<PackedIndex>>(
     types: &mut [ValType],
     f: &F,
 ) -> Result<()>
@@ -22,19 +22,6 @@ fn remap_values<F: Fn(PackedIndex) -> Result<PackedIndex>>(
         types[place].remap_indices(f)?;
     }
     Ok(())
-}
-
-// Each of these parameters and results with its index replaced.
-pub(crate) fn remap_lists<F: Fn(PackedIndex) -> Result<PackedIndex>>(
-    params: &mut [ValType],
-    results: &mut [ValType],
-    f: &F,
-) -> Result<()>
-    requires { F.IsAlwaysCallable f.now }
-    ensures remapped { Remapped inner_shape inner_indices (F.post f.now) result (signature_tree params.old results.old) (signature_tree params.new results.new) }
-{
-    remap_values(params, f)?;
-    remap_values(results, f)
 }
 
 // Each of these fields with its index replaced.

@@ -2,7 +2,6 @@
 use Rattle.std.proofs.Common.{◌≡◌, List, [], ◌∷◌, refl, ap, map, Option, Some, None}
 use Rattle.std.specs.List.{AllZip, each_same}
 use Rattle.wasm_types_fields.specs.indices.declared.index.UnpackedIndex.{UnpackedIndex}
-use Rattle.wasm_types_fields.specs.values.Values.{value_of}
 use Rattle.wasm_types_fields.specs.trees.Types as tree
 use Rattle.wasm_types_fields.specs.declared.field.FieldType.{FieldType}
 use Rattle.wasm_types_fields.specs.declared.field.ArrayType.{ArrayType}
@@ -16,14 +15,11 @@ use Rattle.wasm_types_groups.specs.contracts.composite.CompositeInnerTypeClone.T
 use Rattle.wasm_types_groups.specs.contracts.composite.CompositeTypeClone.TheImpl as composite
 use Rattle.wasm_types_groups.specs.contracts.sub_type.SubTypeClone.TheImpl as subtype
 use Rattle.wasm_types_groups.specs.contracts.rec_group.RecGroupClone.TheImpl as group
-use Rattle.wasm_types_fields.specs.Fields.{field_of}
+use Rattle.wasm_types_fields.specs.Fields.{field_of, function_tree}
 use Rattle.wasm_types_groups.specs.Entries.{inner_of, first_of, declared_of, declared_types}
 
 inner_copied : (x y : CompositeInnerType) → inner.ghosts.is_clone x y → inner_of y ≡ inner_of x
-inner_copied (Func f) (Func g) h =
-    let a : g.params.items ≡ f.params.items = each_same f.params.items g.params.items h.0.0 in
-    let b : g.results.items ≡ f.results.items = each_same f.results.items g.results.items h.1.0 in
-    λ i. tree.function (map value_of (a i)) (map value_of (b i))
+inner_copied (Func f) (Func g) h = let e : g ≡ f = h in ap function_tree e
 inner_copied (Func f) (Array y) h = absurd h
 inner_copied (Func f) (Struct y) h = absurd h
 inner_copied (Func f) (Cont y) h = absurd h

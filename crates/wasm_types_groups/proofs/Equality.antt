@@ -40,10 +40,10 @@ module _ (same_value : ValueEqualityIsIdentity) (same_storage : StorageEqualityI
 
   inner_sound : (x y : CompositeInnerType) → inner.ghosts.eq x y ≡ true → inner_of x ≡ inner_of y
   inner_sound (Func f) (Func g) h =
-      let p = pointwise value_type.ghosts.eq f.params.items g.params.items in
-      let r = pointwise value_type.ghosts.eq f.results.items g.results.items in
-      let a = (lists (values same_value)).sound f.params.items g.params.items (first p r h) in
-      let b = (lists (values same_value)).sound f.results.items g.results.items (second p r h) in
+      let p = pointwise value_type.ghosts.eq f.params g.params in
+      let r = pointwise value_type.ghosts.eq f.results g.results in
+      let a = (lists (values same_value)).sound f.params g.params (first p r h) in
+      let b = (lists (values same_value)).sound f.results g.results (second p r h) in
       cc
   inner_sound (Func f) (Array y) h = cc
   inner_sound (Func f) (Struct y) h = cc
@@ -63,7 +63,7 @@ module _ (same_value : ValueEqualityIsIdentity) (same_storage : StorageEqualityI
 
   inner_complete : (x y : CompositeInnerType) → inner_of x ≡ inner_of y → inner.ghosts.eq x y ≡ true
   inner_complete (Func f) (Func g) e =
-      both _ _ ((lists (values same_value)).complete f.params.items g.params.items cc) ((lists (values same_value)).complete f.results.items g.results.items cc)
+      both _ _ ((lists (values same_value)).complete f.params g.params cc) ((lists (values same_value)).complete f.results g.results cc)
   inner_complete (Func f) (Array y) e = cc
   inner_complete (Func f) (Struct y) e = cc
   inner_complete (Func f) (Cont y) e = cc

@@ -19,7 +19,8 @@ use Rattle.wasm_types_groups.specs.declared.composite.CompositeInnerType.TheVari
 use Rattle.wasm_types_groups.specs.declared.composite.CompositeType.{CompositeType}
 use Rattle.wasm_types_groups.specs.declared.sub_type.SubType.{SubType}
 use Rattle.wasm_types_groups.specs.declared.rec_group.RecGroup.{RecGroup}
-use Rattle.wasm_types_fields.specs.Spells.{SpelledField, SpelledFields, Signature, SpelledSignature, SpelledIndex}
+use Rattle.wasm_types_fields.specs.Signatures.{Signature}
+use Rattle.wasm_types_fields.specs.Spells.{SpelledField, SpelledFields, SpelledSignature, SpelledIndex}
 
 -- ---- the values
 
@@ -45,7 +46,7 @@ pub record SubValue : Type 0 where
 
 -- the values of what the code holds
 abbrev pub inner_value : CompositeInnerType → InnerValue
-inner_value (Func f) = function (record { params = f.params.items; results = f.results.items })
+inner_value (Func f) = function f
 inner_value (Array a) = array_of a.0
 inner_value (Struct s) = struct_of s.fields.items
 inner_value (Cont c) = continuation c.0

@@ -12,7 +12,7 @@ use Rattle.wasm_types_groups.specs.declared.sub_type.SubType.{SubType}
 
 -- a composite type without what may stand before it
 abbrev pub inner_text : CompositeInnerType → List ℕ
-inner_text (Func f) = func_text f.params.items f.results.items
+inner_text (Func f) = func_text f.params f.results
 inner_text (Array a) = array_text a
 inner_text (Struct s) = struct_text s.fields.items
 inner_text (Cont c) = cont_text c

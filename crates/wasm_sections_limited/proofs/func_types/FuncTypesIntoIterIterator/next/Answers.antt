@@ -1,4 +1,5 @@
 -- A step over the groups.
+use Rattle.std.proofs.Common.{sym, ◌∙◌}
 use Rattle.wasm_sections_limited.specs.FunctionLaws.{step_fails, step_reads, step_refuses}
 use Rattle.wasm_sections_limited.specs.Runs.{place_of_functions, place_with_offsets}
 use Rattle.wasm_sections_limited.proofs.func_types.FuncTypesIntoIterIterator.next.Goals as goal
@@ -12,7 +13,7 @@ pub returns-in-Some-clause-steps : goal.returns-in-Some-clause-steps
 returns-in-Some-clause-steps c =
     let step = rw c.in-Some-Ok.field-0-is at c.in-Some-Ok.ensures.steps in (
       step_reads c.args.self.now.groups.section.reader.settings (place_of_functions c.args.self.now)
-          (place_with_offsets c.next.new.self) c.in-Some-Ok.item c.in-Some.ty step.0 c.in-Some.ensures,
+          (place_with_offsets c.next.new.self) c.in-Some-Ok.item c.in-Some.ty step.0 (sym c.only_function.ensures ∙ c.in-Some.is),
       tt,
       step.2,
     )
@@ -21,7 +22,7 @@ pub returns-in-None-only_function-clause-steps : goal.returns-in-None-only_funct
 returns-in-None-only_function-clause-steps c =
     let step = rw c.in-Some-Ok.field-0-is at c.in-Some-Ok.ensures.steps in (
       step_refuses c.args.self.now.groups.section.reader.settings (place_of_functions c.args.self.now) (place_with_offsets c.next.new.self) c.in-Some-Ok.item
-          c.no_function.result step.0 c.in-None-only_function.ensures c.no_function.ensures.kind c.no_function.ensures.offset,
+          c.no_function.result step.0 (sym c.only_function.ensures ∙ c.in-None-only_function.is) c.no_function.ensures.kind c.no_function.ensures.offset,
       tt,
       step.2,
     )
