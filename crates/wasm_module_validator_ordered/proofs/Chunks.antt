@@ -1,11 +1,13 @@
 -- Chunks joined end to end: where one of them stands, and what a change of it does to all numbers.
-use Rattle.std.specs.Prelude.{◌≡◌, ◌≢◌, ◌⊎◌, ℕ, zero, suc, ◌+◌, ◌-◌, ◌<◌, ◌≤◌, List, [], ◌∷◌, ◌++◌, length, All, take, drop, map, slice_set, Option, None, Some, MatchOption, Result, Ok, Err, OnOk, OnErr}
+use Rattle.std.specs.Prelude.{◌≡◌, ◌≢◌, ◌⊎◌, ℕ, zero, suc, ◌+◌, ◌-◌, ◌<◌, ◌≤◌, List, [], ◌∷◌, ◌++◌, length}
+use Rattle.std.specs.Prelude.{All, take, drop, map, slice_set, Option, None, Some, MatchOption, Result, Ok, Err, OnOk, OnErr}
 use Rattle.std.specs.List.{concat}
 use Rattle.std.specs.declared.cmp.Ordering.{Ordering}
 use Rattle.std.specs.declared.cmp.Ordering.TheVariants.{Less, Equal, Greater}
 use Rattle.std.proofs.Common.{refl, sym, ap, subst, ◌∙◌, inl, inr, ⊎_elim, get_or, set, arith}
 use Rattle.std.proofs.lemmas.Bool.{cases_lt}
-use Rattle.std.proofs.lemmas.List.{append_assoc, append-nil, length-append, get_or_append_left, get_or-append-add, get_or_default, take_more, drop_more, take_all, take-append-drop, drop_all, set_split, take_at, get_or-map, length-map, map-set, set-get_or}
+use Rattle.std.proofs.lemmas.List.{append_assoc, append-nil, length-append, get_or_append_left, get_or-append-add, get_or_default, take_more, drop_more, take_all}
+use Rattle.std.proofs.lemmas.List.{take-append-drop, drop_all, set_split, take_at, get_or-map, length-map, map-set, set-get_or}
 use Rattle.std.proofs.lemmas.List.Elements.{All-append, All-nil, All-same, All-weaker, All-set, All-push, Contains-append_left, Contains-append_right}
 use Rattle.wasm_module_validator_ordered.specs.Order.{Ascends, Misses, Finds, IsPut}
 use Rattle.wasm_module_validator_ordered.specs.OrderLaws.{all_left, all_right, put_length}

@@ -6,7 +6,8 @@ use Rattle.std.specs.declared.cmp.Ordering.{Ordering}
 use Rattle.std.specs.declared.cmp.Ordering.TheVariants.{Less, Equal, Greater}
 use Rattle.std.proofs.Common.{refl, sym, ap, subst, ◌∙◌, ⊎_elim, get_or, set, arith}
 use Rattle.std.proofs.lemmas.Bool.{cases_lt}
-use Rattle.std.proofs.lemmas.List.{append_assoc, length-append, length-take-le, length-drop, map-append, get_or_at, get_or_append_left, get_or-take, take-append-drop, take-append-le, take-take, take_at, drop_at, take-map, drop-map, set_split}
+use Rattle.std.proofs.lemmas.List.{append_assoc, length-append, length-take-le, length-drop, map-append, get_or_at, get_or_append_left, get_or-take}
+use Rattle.std.proofs.lemmas.List.{take-append-drop, take-append-le, take-take, take_at, drop_at, take-map, drop-map, set_split}
 use Rattle.std.proofs.lemmas.List.Elements.{All-append, All-cons, All-same, All-take, All-drop}
 use Rattle.wasm_module_validator_ordered.specs.Order.{Ascends}
 use Rattle.wasm_module_validator_ordered.specs.Chunks.{IsChunk, AreChunks, Belongs, Takes, chunk_at, last_of, halved_at}

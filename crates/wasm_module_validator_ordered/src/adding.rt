@@ -9,6 +9,7 @@ use crate::Compare;
 use crate::finding::{chunk_for, is_passed, place_in};
 use std::alloc::AllocError;
 
+// How many numbers a chunk has at most: to put one more into it moves two kilobytes at most.
 const CHUNK: usize = 512;
 
 const HALF: usize = 256;
