@@ -2,5 +2,7 @@
 pub mod Order
 -- Laws: what was added, and what stays as it was.
 pub mod OrderLaws
+-- How they lie in memory.
+pub mod Chunks
 -- Worked lists.
 pub mod Worked

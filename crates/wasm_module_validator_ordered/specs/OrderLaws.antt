@@ -4,7 +4,8 @@ use Rattle.std.specs.declared.cmp.Ordering.{Ordering}
 use Rattle.std.specs.declared.cmp.Ordering.TheVariants.{Less, Equal, Greater}
 use Rattle.std.proofs.Common.{refl, sym, ap, subst, inl, inr, ⊎_elim, get_or, arith}
 use Rattle.std.proofs.lemmas.List.{length-append, get_or_append_left}
-use Rattle.std.proofs.lemmas.List.Elements.{All-cons, All-head, All-tail, All-append, All-same, All-weaker, All-contains, All-contains_itself, Contains-append_left, Contains-append_right, Contains-append_cases}
+use Rattle.std.proofs.lemmas.List.Elements.{All-cons, All-head, All-tail, All-append, All-same, All-weaker}
+use Rattle.std.proofs.lemmas.List.Elements.{All-contains, All-contains_itself, Contains-append_left, Contains-append_right, Contains-append_cases}
 use Rattle.std.proofs.lemmas.List.Kept.{AllPairs-cons}
 use Rattle.wasm_module_validator_ordered.specs.Order.{Ascends, Misses, IsPut}
 

@@ -4,13 +4,16 @@
 //! Contracts see the numbers as a list, in their order (`specs/Order.antt`), and not how they lie in memory.
 #![tactic(auto)]
 
-ghost use Rattle.std.specs.Prelude.{◌≡◌, ◌≤◌, ◌<◌, ◌≢◌, ℕ, [], length, take, drop, insert, vec_len, MatchOption, All, OnOk, OnErr, slice_get, slice_index};
+ghost use Rattle.std.specs.Prelude.{◌≡◌, ℕ, [], length, MatchOption, OnOk, OnErr};
 ghost use Rattle.std.specs.declared.cmp.Ordering.{Ordering};
-ghost use Rattle.std.specs.declared.cmp.Ordering.TheVariants.{Less};
 ghost use Rattle.wasm_module_validator_ordered.specs.Order.{Ascends, Misses, Finds, IsPut};
 
+mod adding;
+mod finding;
 pub mod laws;
 
+use adding::insert_among;
+use finding::find_among;
 use std::alloc::{AllocError, Global};
 use std::cmp::Ordering;
 use std::marker::Model;
@@ -24,18 +27,23 @@ pub trait Compare {
         ensures { result ≡ order self.now number };
 }
 
-/// Numbers in order.
+/// Numbers in order. They lie in chunks of 1 to 512, so that one is added at the cost of moving a chunk, however many there are.
 #[derive(Drop)]
 pub struct Ordered {
-    numbers: Vec<u32>,
+    chunks: Vec<Vec<u32>>,
+    count: usize,
 }
 
 impl Model for Ordered {
-    ghost use Rattle.std.specs.Prelude.{ℕ, List};
+    ghost use Rattle.std.specs.Prelude.{ℕ, List, map};
+    ghost use Rattle.std.specs.List.{concat};
+    ghost use Rattle.wasm_module_validator_ordered.specs.Chunks.{IsLaidOut};
 
     ghost Value = { List ℕ };
 
-    ghost view = { λ o. o.numbers.items };
+    ghost view = { λ o. concat (map (λ c. c.items) o.chunks.items) };
+
+    ghost invariant = { λ o. IsLaidOut (map (λ c. c.items) o.chunks.items) o.count };
 }
 
 impl Ordered {
@@ -44,7 +52,8 @@ impl Ordered {
         ensures { result ≡ [] }
     {
         Ordered {
-            numbers: Vec::new(alloc),
+            chunks: Vec::new(alloc),
+            count: 0,
         }
     }
 
@@ -52,7 +61,7 @@ impl Ordered {
     pub fn len(&self) -> usize
         ensures { result ≡ length self.now }
     {
-        self.numbers.len()
+        self.count
     }
 
     /// The number that is equal to what is sought, if there is one.
@@ -60,55 +69,22 @@ impl Ordered {
         requires { Ascends (C.order sought.now) self.now }
         ensures { MatchOption result (Misses (C.order sought.now) self.now) (λ n. Finds (C.order sought.now) self.now n) }
     {
-        find_in(self.numbers.as_slice(), sought)
+        find_among(self.chunks.as_slice(), sought)
     }
 
-    /// Adds a number where what is sought belongs. Where there is no memory for it, nothing changes.
+    /// Adds a number where what is sought belongs. Where there is no memory for it, or there are 2^64 - 1 numbers, nothing
+    /// changes.
     pub fn insert<C: Compare>(&mut self, sought: &C, number: u32) -> Result<(), AllocError>
         requires ascends { Ascends (C.order sought.now) self.old }
         requires misses { Misses (C.order sought.now) self.old }
         ensures ok { OnOk result (IsPut (C.order sought.now) number self.old self.new) }
         ensures err { OnErr result (self.new ≡ self.old) }
     {
-        let at = place_in(self.numbers.as_slice(), sought);
-        self.numbers.insert(at, number)?;
+        if self.count == usize::MAX {
+            return Err(AllocError);
+        }
+        insert_among(&mut self.chunks, sought, number)?;
+        self.count += 1;
         Ok(())
     }
-}
-
-// The number that is equal to what is sought, if there is one.
-fn find_in<C: Compare>(numbers: &[u32], sought: &C) -> Option<u32>
-    requires { Ascends (C.order sought.now) numbers.now }
-    ensures { MatchOption result (Misses (C.order sought.now) numbers.now) (λ n. Finds (C.order sought.now) numbers.now n) }
-{
-    let at = place_in(numbers, sought);
-    if at == numbers.len() {
-        return None;
-    }
-    let number = numbers[at];
-    match sought.compare(number) {
-        Ordering::Equal => Some(number),
-        Ordering::Less => None,
-        Ordering::Greater => None,
-    }
-}
-
-// Where the numbers that are not less begin.
-fn place_in<C: Compare>(numbers: &[u32], sought: &C) -> usize
-    requires { Ascends (C.order sought.now) numbers.now }
-    ensures within { result ≤ length numbers.now }
-    ensures less { All (λ n. C.order sought.now n ≡ Less) (take result numbers.now) }
-    ensures rest { All (λ n. C.order sought.now n ≢ Less) (drop result numbers.now) }
-{
-    let mut low = 0;
-    let mut high = numbers.len();
-    'search: while low < high {
-        let middle = low + (high - low) / 2;
-        match sought.compare(numbers[middle]) {
-            Ordering::Less => low = middle + 1,
-            Ordering::Equal => high = middle,
-            Ordering::Greater => high = middle,
-        }
-    }
-    low
 }

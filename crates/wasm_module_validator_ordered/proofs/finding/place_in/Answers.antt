@@ -1,6 +1,6 @@
 use Rattle.std.proofs.Common.{arith}
 use Rattle.wasm_module_validator_ordered.proofs.Splits.{less_to, rest_from}
-use Rattle.wasm_module_validator_ordered.proofs.place_in.Goals as goal
+use Rattle.wasm_module_validator_ordered.proofs.finding.place_in.Goals as goal
 
 pub returns-clause-less : goal.returns-clause-less
 returns-clause-less g c = less_to _ c.args.numbers.now c.search.low (omega (arith, c.search.invariant)) c.requires c.search.invariant.2

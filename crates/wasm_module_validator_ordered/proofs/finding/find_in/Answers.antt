@@ -1,6 +1,6 @@
 use Rattle.std.proofs.Common.{◌∙◌, sym, arith}
 use Rattle.wasm_module_validator_ordered.proofs.Splits.{misses_less, misses_around, not_less, greater_from}
-use Rattle.wasm_module_validator_ordered.proofs.find_in.Goals as goal
+use Rattle.wasm_module_validator_ordered.proofs.finding.find_in.Goals as goal
 
 pub returns-then-at-numbers : goal.returns-then-at-numbers
 returns-then-at-numbers g c = misses_less _ c.args.numbers.now c.place_in-at.result (omega (arith, c.if-at-numbers.true)) c.place_in-at.ensures.less

@@ -1,6 +1,6 @@
 use Rattle.std.proofs.Common.{◌≡◌, ◌≢◌, ◌-◌, ◌<◌, ◌≤◌, length, get_or}
 use Rattle.std.specs.declared.cmp.Ordering.TheVariants.{Less}
-use Rattle.wasm_module_validator_ordered.proofs.place_in.Given as goal
+use Rattle.wasm_module_validator_ordered.proofs.finding.place_in.Given as goal
 
 abbrev pub invariant-search : goal.invariant-search
 invariant-search g l =
