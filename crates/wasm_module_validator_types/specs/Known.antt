@@ -44,7 +44,7 @@ pub record IsAlone (groups : List Group) (types : List SubType) (n : ℕ) : Type
   pub stored : slice_get types n ≡ Some kept
   pub group : group_at groups number ≡ Some (record { is_canonical = true; types = declared_of kept ∷ [] })
 
--- one of these ids is that of a type which alone declares what the group of these types does
+-- the id is one of these, and that of a type which alone declares what the group of these types does
 pub record Declares (types : List SubType) (ids : List ℕ) (ds : List Declared) (n : ℕ) : Type 0 where
   pub kept : SubType
   pub among : Contains ids n
