@@ -14,13 +14,14 @@ use Rattle.wasm_module_validator_type_trees.specs.laws.Ids.{stored_push}
 use Rattle.wasm_module_validator_types.specs.declared.ids.RecGroupId.{RecGroupId}
 use Rattle.wasm_module_validator_types.specs.declared.lists.Lists.{Lists}
 use Rattle.wasm_module_validator_types.specs.Stored.{packed_by_id}
-use Rattle.wasm_module_validator_types.specs.Known.{group_in, Known, KnowsMore}
+use Rattle.wasm_module_validator_types.specs.declared.known.Known.{Known}
+use Rattle.wasm_module_validator_types.specs.Known.{group_in, Knows, KnowsMore}
 use Rattle.wasm_module_validator_types.specs.List.{groups_in, IsTypeList, HasRoom, IsAdded}
 use Rattle.wasm_module_validator_types.proofs.OverIds.{types_fit}
-use Rattle.wasm_module_validator_types.proofs.Knowing.{knows_push}
+use Rattle.wasm_module_validator_types.proofs.Knowing.{knows_push, more_some}
 use Rattle.wasm_module_validator_types.proofs.Depths.{places_push}
 use Rattle.wasm_module_validator_types.specs.Lists.{SameItems, AreShort}
-use Rattle.wasm_module_validator_types.proofs.Parts.{homes_push, ranges_push, supers_push, forms_push, type_total, home_total, super_total, element_total, form_total}
+use Rattle.wasm_module_validator_types.proofs.Parts.{homes_push, ranges_push, supers_push, forms_push, length_homes, type_total, home_total, super_total, element_total, form_total}
 
 map_replicate : {A B : Type 0} (f : A → B) (n : ℕ) (a : A) → map f (replicate n a) ≡ replicate n (f a)
 map_replicate f zero a = refl
@@ -49,7 +50,7 @@ module _ (gs : List Group) (old new : Lists) (known more : Option Known) (is : I
       ∙ types_fit canonical (count gs) (length (declared_types group)) room.types 0 (declared_types group) formed
 
   pub list_push : TiesDeclareTheSame → map declared_of types ≡ map (declared_map (packed_by_id first.0)) (declared_types group)
-      → homes ≡ replicate (length (declared_types group)) id → supertypes ≡ map supertype_id (map declared_of types) → KnowsMore canonical group id known more
+      → homes ≡ replicate (length (declared_types group)) id → supertypes ≡ map supertype_id (map declared_of types) → KnowsMore canonical old.types.items types first.0 group id known more
       → is_some known ≡ true → (n : ℕ) → n ≡ length (declared_types group) → new.depths.items ≡ old.depths.items ++ replicate n None
       → IsTypeList (group_in canonical group ∷ gs) new more
   list_push ties stored copied supers learned still n counted places = record {
@@ -67,8 +68,10 @@ module _ (gs : List Group) (old new : Lists) (known more : Option Known) (is : I
     elements = viewed_push (λ r. (r.start.0, r.end.0)) old.elements.items new.elements.items (record { start = first; end = end } ∷ []) (group_ranges gs)
         ((count gs, count gs + length (declared_types group)) ∷ []) gains.elements_now is.elements (let a = begins in let b = ends in cc)
         ∙ sym (ranges_push (group_in canonical group) gs);
-    knows = knows_push ties gs canonical group id known more at is.knows learned;
-    depths = places_push canonical group id known more (group_in canonical group) gs old.depths.items new.depths.items n learned still is.depths counted places;
+    knows = subst (λ (l : List SubType). Knows (group_in canonical group ∷ gs) l more) (sym gains.types_now)
+        (knows_push ties gs old.types.items types canonical first.0 group id known more (begins ∙ sym (type_total gs old known is)) (begins ∙ sym (length_homes gs)) at is.knows learned);
+    depths = places_push known more (group_in canonical group) gs old.depths.items new.depths.items n
+        (more_some canonical old.types.items types first.0 group id known more learned) still is.depths counted places;
   }
 
 -- as many types are stored as there are
@@ -100,7 +103,7 @@ module _ (before mid after : Lists) (known more : Option Known) (gs : List Group
       → start ≡ count gs → further ≡ length (declared_types group) → first.0 ≡ start → end.0 ≡ start + further
       → map declared_of source ≡ declared_types group
       → map declared_of types ≡ map (declared_map (packed_by_id start)) (map declared_of source)
-      → homes ≡ replicate further id → supertypes ≡ map supertype_id (map declared_of types) → KnowsMore canonical group id known more
+      → homes ≡ replicate further id → supertypes ≡ map supertype_id (map declared_of types) → KnowsMore canonical mid.types.items types start group id known more
       → after.forms.items ≡ mid.forms.items ++ canonical ∷ []
       → after.types.items ≡ mid.types.items ++ types → after.homes.items ≡ mid.homes.items ++ homes → after.supertypes.items ≡ mid.supertypes.items ++ supertypes
       → after.elements.items ≡ mid.elements.items ++ record { start = first; end = end } ∷ []
@@ -117,5 +120,8 @@ module _ (before mid after : Lists) (known more : Option Known) (gs : List Group
       } in
       list_push gs before after known more old canonical group id formed added room at types homes supertypes first end gains (b ∙ s) (e ∙ (let x = s in let y = f in cc)) ties
       (stored ∙ ap (map (declared_map (packed_by_id start))) from ∙ ap (λ (n : ℕ). map (declared_map (packed_by_id n)) (declared_types group)) (sym b))
-      (copied ∙ ap (λ (n : ℕ). replicate n id) f) supers learned still (length types) (stored_length types source (declared_types group) start stored from)
+      (copied ∙ ap (λ (n : ℕ). replicate n id) f) supers
+      (subst (λ (k : ℕ). KnowsMore canonical before.types.items types k group id known more) (sym b)
+      (subst (λ (l : List SubType). KnowsMore canonical l types start group id known more) same.types learned)) still
+      (length types) (stored_length types source (declared_types group) start stored from)
       (d2 ∙ ap (λ l. l ++ replicate (length types) None) d1)

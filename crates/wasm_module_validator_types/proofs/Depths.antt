@@ -2,11 +2,9 @@
 use Rattle.std.proofs.Common.{◌≡◌, ◌∙◌, ℕ, zero, suc, ◌<◌, ◌≤◌, Bool, true, false, cond, List, [], ◌∷◌, ◌++◌, length, replicate, get_or, set, refl, ap, sym, Option, Some, None, arith, eqb, is_some}
 use Rattle.std.proofs.lemmas.Bool.{eqb-true, eq-eqb}
 use Rattle.std.proofs.lemmas.List.{get_or-set_same, get_or-set_other, length-set, length-append, length-replicate}
-use Rattle.wasm_types.specs.groups.declared.rec_group.RecGroup.{RecGroup}
 use Rattle.wasm_module_validator_type_trees.specs.Groups.{Group, count}
 use Rattle.wasm_module_validator_type_trees.specs.laws.Unrolled.{count_push}
-use Rattle.wasm_module_validator_types.specs.declared.ids.RecGroupId.{RecGroupId}
-use Rattle.wasm_module_validator_types.specs.Known.{Known, KnowsMore}
+use Rattle.wasm_module_validator_types.specs.declared.known.Known.{Known}
 use Rattle.wasm_module_validator_types.specs.Depths.{SetsDepth, KeepsDepths, HasPlaces}
 
 -- behind the places there are no depths
@@ -63,23 +61,21 @@ pub places_set : (n : ℕ) (known : Option Known) (old new : List (Option ℕ)) 
 places_set n None old new id depth has e = e ∙ ap (λ (l : List (Option ℕ)). set l id (Some depth)) has
 places_set n (Some m) old new id depth has e = ap length e ∙ length-set old id (Some depth) ∙ has
 
--- ---- the places of a list with another map
+-- ---- the places of a list that knows something else
 
--- there is a map before and after
-pub places_same : (canonical : Bool) (g : RecGroup) (id : RecGroupId) (known more : Option Known) (n : ℕ) (old new : List (Option ℕ))
-    → KnowsMore canonical g id known more → HasPlaces n known old → new ≡ old → HasPlaces n more new
-places_same canonical g id None None n old new w has e = e ∙ has
-places_same canonical g id None (Some m) n old new w has e = absurd w
-places_same canonical g id (Some m) None n old new w has e = absurd w
-places_same true g id (Some m) (Some k) n old new w has e = ap length e ∙ has
-places_same false g id (Some m) (Some k) n old new w has e = ap length e ∙ has
+-- something is known before and after
+pub places_same : (known more : Option Known) (n : ℕ) (old new : List (Option ℕ)) → is_some more ≡ is_some known → HasPlaces n known old → new ≡ old → HasPlaces n more new
+places_same None None n old new w has e = e ∙ has
+places_same None (Some m) n old new w has e = absurd cc
+places_same (Some m) None n old new w has e = absurd cc
+places_same (Some m) (Some k) n old new w has e = ap length e ∙ has
 
 -- and a place more for each type of a further group
-pub places_push : (canonical : Bool) (g : RecGroup) (id : RecGroupId) (known more : Option Known) (G : Group) (gs : List Group) (old new : List (Option ℕ)) (n : ℕ)
-    → KnowsMore canonical g id known more → is_some known ≡ true → HasPlaces (count gs) known old → n ≡ length G.types → new ≡ old ++ replicate n None
+pub places_push : (known more : Option Known) (G : Group) (gs : List Group) (old new : List (Option ℕ)) (n : ℕ)
+    → is_some more ≡ is_some known → is_some known ≡ true → HasPlaces (count gs) known old → n ≡ length G.types → new ≡ old ++ replicate n None
     → HasPlaces (count (G ∷ gs)) more new
-places_push canonical g id None more G gs old new n w still has c e = let z : false ≡ true = still in absurd cc
-places_push canonical g id (Some m) None G gs old new n w still has c e = absurd w
-places_push canonical g id (Some m) (Some k) G gs old new n w still has c e =
+places_push None more G gs old new n w still has c e = let z : false ≡ true = still in absurd cc
+places_push (Some m) None G gs old new n w still has c e = let z : false ≡ true = w in absurd cc
+places_push (Some m) (Some k) G gs old new n w still has c e =
     let no_depth : Option ℕ = None in
     ap length e ∙ length-append old (replicate n None) ∙ omega (arith, has, length-replicate n no_depth, count_push G gs, c)

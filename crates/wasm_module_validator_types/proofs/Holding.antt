@@ -1,17 +1,17 @@
 -- Lists that hold no groups, the same groups, and one more.
-use Rattle.std.proofs.Common.{◌≡◌, ◌∙◌, ℕ, Bool, false, List, [], ◌++◌, map, reverse, replicate, set, ap, sym, subst, Option, Some, None, is_some, Result, Ok, Err, OnErr, arith}
+use Rattle.std.proofs.Common.{◌≡◌, ◌∙◌, ℕ, Bool, List, [], ◌++◌, map, reverse, replicate, set, ap, sym, subst, Option, Some, None, is_some, Result, Ok, Err, OnErr, arith}
 use Rattle.wasm_types.specs.trees.Unfold.{type_count}
-use Rattle.wasm_types.specs.groups.declared.rec_group.RecGroup.{RecGroup}
+use Rattle.wasm_types.specs.groups.declared.sub_type.SubType.{SubType}
 use Rattle.wasm_types.specs.groups.Entries.{declared_of}
 use Rattle.wasm_module_validator_type_trees.specs.Groups.{Group, count, group_numbers, group_ranges, declared_by_id}
-use Rattle.wasm_module_validator_types.specs.declared.ids.RecGroupId.{RecGroupId}
+use Rattle.wasm_module_validator_types.specs.declared.known.Known.{Known}
 use Rattle.wasm_module_validator_types.specs.declared.lists.Lists.{Lists}
 use Rattle.wasm_module_validator_types.specs.Lists.{SameItems}
 use Rattle.wasm_module_validator_types.specs.Rolled.{rolled_groups, forms}
-use Rattle.wasm_module_validator_types.specs.Known.{Known, Knows, KnowsMore}
+use Rattle.wasm_module_validator_types.specs.Known.{Knows, StaysKnown}
 use Rattle.wasm_module_validator_types.specs.Depths.{KeepsDepths, HasPlaces}
 use Rattle.wasm_module_validator_types.specs.List.{Types, groups_in, IsTypeList}
-use Rattle.wasm_module_validator_types.proofs.Knowing.{knows_same}
+use Rattle.wasm_module_validator_types.proofs.Knowing.{knows_same, stays_some}
 use Rattle.wasm_module_validator_types.proofs.Depths.{places_same, places_set, more_places_keep}
 use Rattle.wasm_module_validator_types.proofs.Rolling.{lists_give}
 
@@ -20,7 +20,7 @@ pub holds : (gs : List Group) (lists : Lists) (known : Option Known) → IsTypeL
 holds gs lists known is = subst (λ (l : List Group). IsTypeList l lists known) (sym (lists_give gs lists known is)) is
 
 stores_nothing : (lists : Lists) (known : Option Known) → lists.forms.items ≡ [] → lists.types.items ≡ [] → lists.homes.items ≡ [] → lists.supertypes.items ≡ [] → lists.elements.items ≡ []
-    → Knows [] known → HasPlaces 0 known lists.depths.items → IsTypeList [] lists known
+    → Knows [] lists.types.items known → HasPlaces 0 known lists.depths.items → IsTypeList [] lists known
 unfolding type_count group_numbers group_ranges declared_by_id forms
 stores_nothing lists known a b c d e k has = record {
   formed = tt;
@@ -36,7 +36,7 @@ stores_nothing lists known a b c d e k has = record {
 }
 
 pub no_types : (lists : Lists) (known : Option Known) → lists.forms.items ≡ [] → lists.types.items ≡ [] → lists.homes.items ≡ [] → lists.supertypes.items ≡ [] → lists.elements.items ≡ []
-    → Knows [] known → HasPlaces 0 known lists.depths.items → IsTypeList (groups_in lists) lists known
+    → Knows [] lists.types.items known → HasPlaces 0 known lists.depths.items → IsTypeList (groups_in lists) lists known
 no_types lists known a b c d e k has = holds [] lists known (stores_nothing lists known a b c d e k has)
 
 pub no_groups : (lists : Lists) → lists.forms.items ≡ [] → groups_in lists ≡ []
@@ -53,7 +53,7 @@ groups_same old new same =
     cc
 
 pub lists_same : (known more : Option Known) (old new : Lists) → SameItems old new → IsTypeList (groups_in old) old known
-    → Knows (groups_in old) more → HasPlaces (count (groups_in old)) more new.depths.items → IsTypeList (groups_in new) new more
+    → Knows (groups_in old) old.types.items more → HasPlaces (count (groups_in old)) more new.depths.items → IsTypeList (groups_in new) new more
 lists_same known more old new same is knows has =
     holds (groups_in old) new more
     (record {
@@ -65,7 +65,7 @@ lists_same known more old new same is knows has =
       homes = ap (map (λ n. n.0)) same.homes ∙ is.homes;
       supertypes = same.supertypes ∙ is.supertypes;
       elements = ap (map (λ r. (r.start.0, r.end.0))) same.elements ∙ is.elements;
-      knows = knows;
+      knows = subst (λ (l : List SubType). Knows (groups_in old) l more) (sym same.types) knows;
       depths = has;
     })
 
@@ -74,10 +74,10 @@ pub lists_stay : (known : Option Known) (old new : Lists) → SameItems old new 
 lists_stay known old new same e is = lists_same known known old new same is is.knows (subst (HasPlaces (count (groups_in old)) known) (sym e) is.depths)
 
 pub lists_unlearned : (known more : Option Known) (old new : Lists) → SameItems old new → new.depths.items ≡ old.depths.items → IsTypeList (groups_in old) old known
-    → (g : RecGroup) (id : RecGroupId) → KnowsMore false g id known more → IsTypeList (groups_in new) new more
-lists_unlearned known more old new same e is g id w =
-    lists_same known more old new same is (knows_same (groups_in old) g id known more is.knows w)
-    (places_same false g id known more (count (groups_in old)) old.depths.items new.depths.items w is.depths e)
+    → StaysKnown known more → IsTypeList (groups_in new) new more
+lists_unlearned known more old new same e is w =
+    lists_same known more old new same is (knows_same (groups_in old) old.types.items known more is.knows w)
+    (places_same known more (count (groups_in old)) old.depths.items new.depths.items (stays_some known more w) is.depths e)
 
 -- a list that takes no more
 pub lists_closed : (known : Option Known) (old new : Lists) → SameItems old new → new.depths.items ≡ [] → IsTypeList (groups_in old) old known → IsTypeList (groups_in new) new None

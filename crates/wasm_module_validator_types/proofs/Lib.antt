@@ -1,4 +1,5 @@
 pub mod OverIds
+pub mod Besides
 pub mod Knowing
 pub mod Depths
 pub mod Parts

@@ -1,20 +1,23 @@
 -- What one more group adds to each part of a list.
 use Rattle.std.proofs.Common.{◌≡◌, ◌∙◌, ℕ, ◌+◌, true, List, [], ◌∷◌, ◌++◌, length, map, replicate, refl, ap, sym, subst, Option, Some, arith}
 use Rattle.std.proofs.lemmas.List.{map-append, length-map, length-append, length-replicate}
-use Rattle.std.specs.Prelude.{MatchOption}
+use Rattle.std.specs.Prelude.{MatchOption, All, AllPairs}
 use Rattle.std.specs.Map.{lookup}
 use Rattle.std.specs.BTreeMap.{is_at}
 use Rattle.wasm_types.specs.groups.contracts.rec_group.RecGroupOrd.TheImpl as order
 use Rattle.wasm_module_validator_types.specs.declared.ids.RecGroupId.{RecGroupId}
 use Rattle.wasm_types.specs.trees.Unfold.{type_count}
-use Rattle.wasm_types.specs.groups.Entries.{declared_of}
+use Rattle.wasm_types.specs.groups.declared.sub_type.SubType.{SubType}
+use Rattle.wasm_types.specs.groups.Entries.{declared_of, declared_types}
 use Rattle.wasm_types.specs.groups.Remap.{declared_map}
 use Rattle.wasm_module_validator_type_trees.specs.Groups.{Group, count, group_at, group_numbers, group_ranges, by_id, declared_by_id, supertype_id, supertype_ids}
 use Rattle.wasm_module_validator_type_trees.specs.Formed.{IsMissing}
 use Rattle.wasm_module_validator_type_trees.specs.laws.Unrolled.{count_push}
 use Rattle.wasm_module_validator_type_trees.specs.laws.Ids.{stored_push, length_stored}
 use Rattle.wasm_module_validator_types.specs.declared.lists.Lists.{Lists}
-use Rattle.wasm_module_validator_types.specs.Known.{group_in, Known, Knows}
+use Rattle.wasm_module_validator_types.specs.declared.known.Known.{Known}
+use Rattle.wasm_module_validator_types.specs.Beside.{Precedes}
+use Rattle.wasm_module_validator_types.specs.Known.{group_in, IsAlone, NoneDeclares, Knows}
 use Rattle.wasm_module_validator_types.specs.Rolled.{forms}
 use Rattle.wasm_module_validator_types.specs.List.{IsTypeList}
 
@@ -60,10 +63,14 @@ length_supers groups = length-map (declared_by_id groups) supertype_id ∙ lengt
 nothing_missing : (k : ℕ) (g : Group) → group_at [] k ≡ Some g → ⊥
 nothing_missing k g e = cc
 
-pub nothing_known : (m : Known) → m.entries ≡ [] → Knows [] (Some m)
-nothing_known m e g =
-    subst (λ (o : Option RecGroupId). MatchOption o (IsMissing [] (group_in true g)) (λ k. group_at [] k.0 ≡ Some (group_in true g)))
-    (sym (ap (lookup (is_at (order.ghosts.cmp g))) e)) (λ k f. nothing_missing k (group_in true g) f)
+pub nothing_known : (types : List SubType) (m : Known) → m.alone ≡ [] → m.numbers.entries ≡ [] → Knows [] types (Some m)
+nothing_known types m a e = record {
+  ordered = subst (AllPairs (Precedes types)) (sym a) (λ i j d lt within. absurd (omega (arith, within)));
+  alone = subst (All (IsAlone [] types)) (sym a) (λ k d within. absurd (omega (arith, within)));
+  found = λ g.
+      subst (λ (o : Option RecGroupId). MatchOption o (NoneDeclares types m.alone (declared_types g) → IsMissing [] (group_in true g)) (λ k. group_at [] k.0 ≡ Some (group_in true g)))
+      (sym (ap (lookup (is_at (order.ghosts.cmp g))) e)) (λ none k f. nothing_missing k (group_in true g) f);
+}
 
 -- ---- lengths
 

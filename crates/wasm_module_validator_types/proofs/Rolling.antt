@@ -15,7 +15,7 @@ use Rattle.wasm_module_validator_type_trees.specs.Groups.{Group, count, group_ra
 use Rattle.wasm_module_validator_type_trees.specs.Formed.{IsIndexWithin, IsTypeFormed, AreTypesFormed, IsFormed}
 use Rattle.wasm_module_validator_type_trees.specs.laws.Ids.{stored_push, length_stored}
 use Rattle.wasm_module_validator_types.specs.declared.lists.Lists.{Lists}
-use Rattle.wasm_module_validator_types.specs.Known.{Known}
+use Rattle.wasm_module_validator_types.specs.declared.known.Known.{Known}
 use Rattle.wasm_module_validator_types.specs.Rolled.{rolled, rolled_group, rolled_groups, forms}
 use Rattle.wasm_module_validator_types.specs.List.{groups_in, IsTypeList}
 use Rattle.wasm_module_validator_types.proofs.Parts.{ranges_push, length_ranges, forms_push, length_forms}

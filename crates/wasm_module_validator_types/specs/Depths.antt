@@ -1,7 +1,7 @@
 -- The depths of types below their supertypes: each id has a place for one, which nothing fills until it is set.
 use Rattle.std.specs.Prelude.{◌≡◌, ℕ, ◌≤◌, nat_eq, if◌then◌else◌, List, [], length, slice_index_or, Option, Some, None}
 use Rattle.wasm_module_validator_type_trees.specs.Groups.{Group, count}
-use Rattle.wasm_module_validator_types.specs.Known.{Known}
+use Rattle.wasm_module_validator_types.specs.declared.known.Known.{Known}
 
 -- the depth of an id, where one was set
 abbrev pub depth_at : List (Option ℕ) → ℕ → Option ℕ

@@ -2,6 +2,7 @@
 pub mod Stored
 pub mod Lists
 pub mod Rolled
+pub mod Beside
 pub mod Known
 pub mod Depths
 -- What a contract sees of it.

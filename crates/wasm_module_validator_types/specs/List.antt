@@ -8,7 +8,8 @@ use Rattle.wasm_module_validator_type_trees.specs.Groups.{Group, count, group_at
 use Rattle.wasm_module_validator_type_trees.specs.Formed.{IsMissing, IsFormed}
 use Rattle.wasm_module_validator_types.specs.declared.lists.Lists.{Lists}
 use Rattle.wasm_module_validator_types.specs.Rolled.{rolled_groups, forms}
-use Rattle.wasm_module_validator_types.specs.Known.{Known, Knows}
+use Rattle.wasm_module_validator_types.specs.declared.known.Known.{Known}
+use Rattle.wasm_module_validator_types.specs.Known.{Knows}
 use Rattle.wasm_module_validator_types.specs.Depths.{HasPlaces}
 use Rattle.wasm_module_validator_types.specs.Lookups.{IsAtPlace}
 
@@ -36,7 +37,7 @@ pub record IsTypeList (groups : List Group) (lists : Lists) (known : Option Know
   pub homes : map (λ n. n.0) lists.homes.items ≡ group_numbers groups
   pub supertypes : lists.supertypes.items ≡ supertype_ids groups
   pub elements : map (λ r. (r.start.0, r.end.0)) lists.elements.items ≡ group_ranges groups
-  pub knows : Knows groups known
+  pub knows : Knows groups lists.types.items known
   pub depths : HasPlaces (count groups) known lists.depths.items
 
 -- ---- interning

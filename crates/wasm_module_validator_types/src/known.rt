@@ -1,52 +1,136 @@
-//! The map from groups in canonical form to their numbers.
+//! What a list knows of its groups in canonical form: which it has, and their numbers.
 
-ghost use Rattle.std.specs.Prelude.{◌≡◌, false, OnOk, OnErr};
-ghost use Rattle.wasm_module_validator_types.specs.Known.{find, Learns, FindsTheSame, KnowsMore};
+ghost use Rattle.std.specs.Prelude.{◌≡◌, ◌∷◌, [], length, map, IsTrue, Some, MatchOption, AllPairs, OnOk, OnErr};
+ghost use Rattle.wasm_types.specs.groups.Entries.{declared_of, declared_types};
+ghost use Rattle.wasm_module_validator_types.specs.Beside.{Precedes};
+ghost use Rattle.wasm_module_validator_types.specs.Known.{Numbers, find, Learns, FindsTheSame, Declares, NoneDeclares, CanLearn, Gains, StaysKnown, KnowsMore};
 
 use crate::RecGroupId;
-use std::alloc::AllocError;
+use crate::beside::Beside;
+use std::alloc::{AllocError, Global};
 use std::collections::BTreeMap;
-use wasm_types::RecGroup;
-use wasm_types_groups::laws::{clones_declare_the_same, order_is_of_types};
+use wasm_module_validator_ordered::Ordered;
+use wasm_module_validator_snapshots::SnapshotList;
+use wasm_types::{RecGroup, SubType};
+use wasm_types_groups::laws::{
+    clones_declare_the_same, equality_is_of_declarations, order_is_of_types,
+};
 
-/// The numbers of groups.
-pub(crate) type Known = BTreeMap<RecGroup, RecGroupId>;
+/// The groups in canonical form of a list.
+///
+/// Most groups are a type alone that names no place of its own group. What the list stores of such a type is what the group
+/// says, so its id is kept in the order of the types, and no copy of it. Any other group is kept once more, with its number.
+#[derive(Drop)]
+pub(crate) struct Known {
+    alone: Ordered,
+    numbers: BTreeMap<RecGroup, RecGroupId>,
+}
 
-/// The number of a group, if it has one.
-pub(crate) fn number_of(known: &Known, group: &RecGroup) -> Option<RecGroupId>
-    ensures { result ≡ find known.now group.now }
+impl Known {
+    /// No groups. It takes no memory.
+    pub(crate) fn new(alloc: Global) -> Known
+        ensures alone { result.alone ≡ [] }
+        ensures numbers { result.numbers.entries ≡ [] }
+    {
+        Known {
+            alone: Ordered::new(alloc),
+            numbers: BTreeMap::new(alloc),
+        }
+    }
+
+    /// The number of a group that is kept as a copy.
+    pub(crate) fn number_of(&self, group: &RecGroup) -> Option<RecGroupId>
+        ensures { result ≡ find self.now.numbers group.now }
+    {
+        self.numbers.get(group).copied()
+    }
+
+    /// The id of the only type of a group that is kept by this id.
+    pub(crate) fn id_of(&self, types: &SnapshotList<SubType>, group: &RecGroup) -> Option<u32>
+        requires { AllPairs (Precedes types.now.items) self.now.alone }
+        ensures { MatchOption result (NoneDeclares types.now.items self.now.alone (declared_types group.now))
+            (λ n. Declares types.now.items self.now.alone (declared_types group.now) n) }
+    {
+        equality_is_of_declarations();
+        if group.types().len() != 1 {
+            return None;
+        }
+        let ty = &group.types()[0];
+        self.alone.find(&Beside { types, ty })
+    }
+
+    // Keeps a group that is none of those which are kept: by the id of its only type, or as a copy.
+    fn keep(
+        &mut self,
+        types: &SnapshotList<SubType>,
+        stored: &[SubType],
+        start: u32,
+        group: &RecGroup,
+        id: RecGroupId,
+    ) -> Result<(), AllocError>
+        requires ordered { AllPairs (Precedes types.now.items) self.old.alone }
+        requires new { NoneDeclares types.now.items self.old.alone (declared_types group.now) }
+        ensures ok { OnOk result (Gains types.now.items stored.now start group.now id self.old self.new) }
+        ensures err { OnErr result (StaysKnown (Some self.old) (Some self.new)) }
+    {
+        equality_is_of_declarations();
+        match only_type(group.types(), stored) {
+            Some(ty) => self.alone.insert(&Beside { types, ty }, start),
+            None => keep_copy(&mut self.numbers, group, id),
+        }
+    }
+}
+
+// The only type of a group, where what is stored of it is what the group says.
+fn only_type<'a>(types: &[SubType], stored: &'a [SubType]) -> Option<&'a SubType>
+    ensures { MatchOption result (length stored.now ≡ 1 → map declared_of types.now ≡ map declared_of stored.now → ⊥)
+        (λ ty. (stored.now ≡ ty.now ∷ []) × (map declared_of types.now ≡ declared_of ty.now ∷ [])) }
 {
-    known.get(group).copied()
+    equality_is_of_declarations();
+    if stored.len() != 1 || types.len() != 1 {
+        return None;
+    }
+    let ty = &stored[0];
+    if *ty == types[0] { Some(ty) } else { None }
 }
 
 // Gives a group a number. The map has a copy, which takes no more memory than it needs: lists that grew by `push` have room for
 // up to four times their items.
-fn insert(known: &mut Known, group: &RecGroup, id: RecGroupId) -> Result<(), AllocError>
-    ensures ok { OnOk result (Learns known.old known.new group.now id) }
-    ensures err { OnErr result (FindsTheSame known.old known.new) }
+fn keep_copy(
+    numbers: &mut BTreeMap<RecGroup, RecGroupId>,
+    group: &RecGroup,
+    id: RecGroupId,
+) -> Result<(), AllocError>
+    ensures ok { OnOk result (Learns numbers.old numbers.new group.now id) }
+    ensures err { OnErr result (FindsTheSame numbers.old numbers.new) }
 {
     order_is_of_types();
     clones_declare_the_same();
     let key = group.clone()?;
-    known.insert(key, id)?;
+    numbers.insert(key, id)?;
     Ok(())
 }
 
-/// Gives a group a number, where it is in canonical form and there is a map.
+/// Keeps a group of this number, where it is in canonical form and anything is known. Its types are stored so from the id `start`
+/// on, behind those of the list.
 pub(crate) fn learn(
     known: &mut Option<Known>,
     is_canonical: bool,
+    types: &SnapshotList<SubType>,
+    stored: &[SubType],
+    start: u32,
     group: &RecGroup,
     id: RecGroupId,
 ) -> Result<(), AllocError>
-    ensures ok { OnOk result (KnowsMore is_canonical group.now id known.old known.new) }
-    ensures err { OnErr result (KnowsMore false group.now id known.old known.new) }
+    requires { CanLearn is_canonical types.now.items group.now known.old }
+    ensures ok { OnOk result (KnowsMore is_canonical types.now.items stored.now start group.now id known.old known.new) }
+    ensures err { OnErr result (StaysKnown known.old known.new) }
 {
     if !is_canonical {
         return Ok(());
     }
     match known {
-        Some(known) => insert(known, group, id),
+        Some(known) => known.keep(types, stored, start, group, id),
         None => Ok(()),
     }
 }

@@ -4,6 +4,7 @@
 //! group and its supertype are functions of these.
 #![tactic(auto)]
 
+mod beside;
 mod ids;
 mod index;
 mod interning;

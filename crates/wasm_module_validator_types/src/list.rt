@@ -13,11 +13,10 @@ ghost use Rattle.wasm_module_validator_types.specs.Lookups.{HasIds, HasPlace, Is
 ghost use Rattle.wasm_module_validator_types.specs.List.{max_types, HasRoom, IsAdded, Interns};
 
 use crate::RecGroupId;
-use crate::known::{Known, learn, number_of};
+use crate::known::{Known, learn};
 use crate::lists::{Lists, set_depth};
 use crate::stored::{copies, stored_supertypes, stored_types};
 use std::alloc::{AllocError, Global};
-use std::collections::BTreeMap;
 use std::marker::Model;
 use std::ops::Range;
 use wasm_module_validator_snapshots::SnapshotList;
@@ -68,7 +67,7 @@ impl TypeList {
         TypeList {
             alloc,
             lists: Lists::new(alloc),
-            known: Some(BTreeMap::new(alloc)),
+            known: Some(Known::new(alloc)),
         }
     }
 
@@ -118,7 +117,10 @@ impl TypeList {
         ensures { MatchOption result (IsMissing self.now.groups (group_in true group.now)) (λ k. group_at self.now.groups k.0 ≡ Some (group_in true group.now)) }
     {
         match &self.known {
-            Some(known) => number_of(known, group),
+            Some(known) => match known.id_of(&self.lists.types, group) {
+                Some(id) => Some(self.rec_group_id_of(CoreTypeId::new(id))),
+                None => known.number_of(group),
+            },
             None => unreachable!(),
         }
     }
@@ -142,7 +144,15 @@ impl TypeList {
         let supertypes = stored_supertypes(self.alloc, types.as_slice())?;
         let homes = copies(self.alloc, id, further)?;
         self.lists.reserve(further)?;
-        learn(&mut self.known, is_canonical, &group, id)?;
+        learn(
+            &mut self.known,
+            is_canonical,
+            &self.lists.types,
+            types.as_slice(),
+            start,
+            &group,
+            id,
+        )?;
         let elements = Range {
             start: CoreTypeId::new(start),
             end: CoreTypeId::new(start + further as u32),

@@ -5,7 +5,8 @@ use Rattle.wasm_module_validator_types.proofs.list.TypeList.new.Goals as goal
 
 pub invariant_of-result : goal.invariant_of-result
 invariant_of-result c =
-    no_types c.new.result _ c.new.ensures.forms c.new.ensures.types c.new.ensures.homes c.new.ensures.supertypes c.new.ensures.elements (nothing_known c.new-2.result c.new-2.ensures.empty)
+    no_types c.new.result _ c.new.ensures.forms c.new.ensures.types c.new.ensures.homes c.new.ensures.supertypes c.new.ensures.elements
+    (nothing_known c.new.result.types.items c.new-2.result c.new-2.ensures.alone c.new-2.ensures.numbers)
     (ap length c.new.ensures.depths)
 
 pub returns-clause-groups : goal.returns-clause-groups

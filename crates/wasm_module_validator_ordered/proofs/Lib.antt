@@ -1,0 +1,4 @@
+pub mod Splits
+pub mod Chunks
+pub mod Halves
+pub mod Rows
