@@ -1,6 +1,6 @@
 //! What a list knows of its groups in canonical form: which it has, and their numbers.
 
-ghost use Rattle.std.specs.Prelude.{◌≡◌, ◌∷◌, [], length, map, IsTrue, Some, MatchOption, AllPairs, OnOk, OnErr};
+ghost use Rattle.std.specs.Prelude.{◌≡◌, ◌∷◌, [], length, map, false, IsTrue, Some, MatchOption, AllPairs, IsOk, OnOk, OnErr};
 ghost use Rattle.wasm_types.specs.groups.Entries.{declared_of, declared_types};
 ghost use Rattle.wasm_module_validator_types.specs.Beside.{Precedes};
 ghost use Rattle.wasm_module_validator_types.specs.Known.{Numbers, number_in, Learns, FindsTheSame, Declares, NoneDeclares, CanLearn, Gains, StaysKnown, KnowsMore};
@@ -125,6 +125,7 @@ pub(crate) fn learn(
     requires { CanLearn is_canonical types.now.items group.now known.old }
     ensures ok { OnOk result (KnowsMore is_canonical types.now.items stored.now start group.now id known.old known.new) }
     ensures err { OnErr result (StaysKnown known.old known.new) }
+    ensures sure { (is_canonical ≡ false) → IsOk result }
 {
     if !is_canonical {
         return Ok(());
