@@ -11,7 +11,7 @@ use Rattle.std.proofs.lemmas.List.{take-append-drop, drop_all, set_split, take_a
 use Rattle.std.proofs.lemmas.List.Elements.{All-append, All-nil, All-same, All-weaker, All-set, All-push, Contains-append_left, Contains-append_right}
 use Rattle.wasm_module_validator_ordered.specs.Order.{Ascends, Misses, Finds, IsPut}
 use Rattle.wasm_module_validator_ordered.specs.OrderLaws.{all_left, all_right, put_length}
-use Rattle.wasm_module_validator_ordered.specs.Chunks.{IsChunk, AreChunks, IsLaidOut, Belongs, Takes, chunk_at, last_of}
+use Rattle.wasm_module_validator_ordered.specs.Chunks.{IsChunk, AreChunks, Belongs, Takes, chunk_at, last_of, most}
 use Rattle.wasm_module_validator_ordered.proofs.Splits.{less_to}
 
 pub concat-append : (xs ys : List (List ℕ)) → concat (xs ++ ys) ≡ concat xs ++ concat ys
@@ -179,7 +179,7 @@ module _ (order : ℕ → Ordering) (cs : List (List ℕ)) where
         (subst (IsPut order n (concat (take at cs) ++ (chunk_at cs at ++ concat (drop (at + 1) cs)))) (sym (concat-set cs at now within)) whole)
 
 -- a chunk that has room takes a number more
-pub sized_put : (order : ℕ → Ordering) (cs : List (List ℕ)) (at n : ℕ) (now : List ℕ) → AreChunks cs → length (chunk_at cs at) < 512
+pub sized_put : (order : ℕ → Ordering) (cs : List (List ℕ)) (at n : ℕ) (now : List ℕ) → AreChunks cs → length (chunk_at cs at) < most
     → IsPut order n (chunk_at cs at) now → AreChunks (slice_set cs at now)
 unfolding AreChunks
 sized_put order cs at n now sized room put =
@@ -253,7 +253,7 @@ module _ {X : Type 0} (f : X → List ℕ) (xs : List X) where
       push_ok (Ok u) e = more_ns e
       push_ok (Err e) h = h
 
-      pub push_sized : {E : Type 0} (r : Result (Unit {0}) E) → AreChunks (map f xs) → length (f x) < 512
+      pub push_sized : {E : Type 0} (r : Result (Unit {0}) E) → AreChunks (map f xs) → length (f x) < most
           → OnOk r (f v ≡ f x ++ n ∷ []) → OnErr r (f v ≡ f x) → AreChunks (map f (set xs at v))
       unfolding AreChunks
       push_sized (Ok u) sized room e h =
@@ -277,6 +277,6 @@ pub past_ok : {E : Type 0} (order : ℕ → Ordering) (cs : List (List ℕ)) (at
 past_ok order cs at n now (Ok u) le b e = put_past order cs at n now le b e
 past_ok order cs at n now (Err e) le b h = h
 
-pub none_laid : (cs : List (List ℕ)) → cs ≡ [] → IsLaidOut cs 0
+pub none_laid : (cs : List (List ℕ)) → cs ≡ [] → AreChunks cs
 unfolding AreChunks
-none_laid cs e = record { sized = subst AreChunks (sym e) (All-nil IsChunk); counted = sym (ap (λ l. length (concat l)) e) }
+none_laid cs e = subst AreChunks (sym e) (All-nil IsChunk)

@@ -1,22 +1,29 @@
 -- A list in chunks, each so short that numbers are moved within one at little cost.
-use Rattle.std.specs.Prelude.{◌≡◌, ℕ, ◌+◌, ◌-◌, ◌<◌, ◌≤◌, List, [], ◌∷◌, ◌++◌, length, slice_index, slice_index_or, take, drop, All}
+use Rattle.std.specs.Prelude.{◌≡◌, ℕ, ◌+◌, ◌-◌, ◌<◌, ◌≤◌, List, [], ◌∷◌, ◌++◌, length, slice_index, slice_index_or, take, drop, map, All, Vec}
 use Rattle.std.specs.List.{concat}
+use Rattle.std.specs.declared.alloc.Global.{Global}
 use Rattle.std.specs.declared.cmp.Ordering.{Ordering}
 use Rattle.std.specs.declared.cmp.Ordering.TheVariants.{Less, Greater}
+
+-- the numbers of each chunk
+abbrev pub numbers_of : List (Vec ℕ Global) → List (List ℕ)
+numbers_of chunks = map (λ c. c.items) chunks
+
+-- how many numbers a chunk has at most, and how many of them its lower half has where it is cut: CHUNK and HALF of src/adding.rt
+abbrev pub most : ℕ
+most = 512
+
+abbrev pub half : ℕ
+half = 256
 
 -- the size of a chunk
 pub record IsChunk (ns : List ℕ) : Type 0 where
   pub some : 0 < length ns
-  pub few : length ns ≤ 512
+  pub few : length ns ≤ most
 
 -- all chunks are of that size
 unfoldable pub AreChunks : List (List ℕ) → Type 0
 AreChunks chunks = All IsChunk chunks
-
--- so they are, and this is how many numbers they have together
-pub record IsLaidOut (chunks : List (List ℕ)) (count : ℕ) : Type 0 where
-  pub sized : AreChunks chunks
-  pub counted : count ≡ length (concat chunks)
 
 -- the chunk at an index
 abbrev pub chunk_at : List (List ℕ) → ℕ → List ℕ
@@ -33,11 +40,11 @@ pub record Belongs (order : ℕ → Ordering) (chunks : List (List ℕ)) (at : �
 
 -- the chunks after the one at an index was cut in two halves
 abbrev pub halved_at : ℕ → List (List ℕ) → List (List ℕ)
-halved_at at chunks = take at chunks ++ take 256 (chunk_at chunks at) ∷ drop 256 (chunk_at chunks at) ∷ drop (at + 1) chunks
+halved_at at chunks = take at chunks ++ take half (chunk_at chunks at) ∷ drop half (chunk_at chunks at) ∷ drop (at + 1) chunks
 
 -- a chunk that a number can be put into, where what is sought belongs
 pub record Takes (order : ℕ → Ordering) (chunks : List (List ℕ)) (at : ℕ) : Type 0 where
   pub within : at < length chunks
   pub sized : AreChunks chunks
-  pub room : length (chunk_at chunks at) < 512
+  pub room : length (chunk_at chunks at) < most
   pub belongs : Belongs order chunks at

@@ -1,8 +1,8 @@
 //! Adding a number to chunks.
 
-ghost use Rattle.std.specs.Prelude.{◌≡◌, ◌↔◌, ◌<◌, ◌++◌, ◌∷◌, [], length, map, take, drop, IsTrue, IfOk, OnOk, OnErr};
+ghost use Rattle.std.specs.Prelude.{◌≡◌, ◌↔◌, ◌<◌, ◌++◌, ◌∷◌, [], length, take, IsTrue, IfOk, OnOk, OnErr};
 ghost use Rattle.std.specs.List.{concat};
-ghost use Rattle.wasm_module_validator_ordered.specs.Chunks.{AreChunks, Belongs, Takes, chunk_at, halved_at};
+ghost use Rattle.wasm_module_validator_ordered.specs.Chunks.{AreChunks, Belongs, Takes, chunk_at, halved_at, half, most, numbers_of};
 ghost use Rattle.wasm_module_validator_ordered.specs.Order.{Ascends, Misses, IsPut};
 
 use crate::Compare;
@@ -17,7 +17,7 @@ const HALF: usize = 256;
 // Whether a chunk has room for a number more.
 fn has_room(chunks: &[Vec<u32>], at: usize) -> bool
     requires { at < length chunks.now }
-    ensures { IsTrue result ↔ (length (chunk_at (map (λ c. c.items) chunks.now) at) < 512) }
+    ensures { IsTrue result ↔ (length (chunk_at (numbers_of chunks.now) at) < most) }
 {
     chunks[at].as_slice().len() < CHUNK
 }
@@ -41,12 +41,12 @@ fn put_into<C: Compare>(
     sought: &C,
     number: u32,
 ) -> Result<(), AllocError>
-    requires takes { Takes (C.order sought.now) (map (λ c. c.items) chunks.old.items) at }
-    requires ascends { Ascends (C.order sought.now) (concat (map (λ c. c.items) chunks.old.items)) }
-    requires misses { Misses (C.order sought.now) (concat (map (λ c. c.items) chunks.old.items)) }
-    ensures ok { OnOk result (IsPut (C.order sought.now) number (concat (map (λ c. c.items) chunks.old.items)) (concat (map (λ c. c.items) chunks.new.items))) }
-    ensures err { OnErr result (concat (map (λ c. c.items) chunks.new.items) ≡ concat (map (λ c. c.items) chunks.old.items)) }
-    ensures sized { AreChunks (map (λ c. c.items) chunks.new.items) }
+    requires takes { Takes (C.order sought.now) (numbers_of chunks.old.items) at }
+    requires ascends { Ascends (C.order sought.now) (concat (numbers_of chunks.old.items)) }
+    requires misses { Misses (C.order sought.now) (concat (numbers_of chunks.old.items)) }
+    ensures ok { OnOk result (IsPut (C.order sought.now) number (concat (numbers_of chunks.old.items)) (concat (numbers_of chunks.new.items))) }
+    ensures err { OnErr result (concat (numbers_of chunks.new.items) ≡ concat (numbers_of chunks.old.items)) }
+    ensures sized { AreChunks (numbers_of chunks.new.items) }
 {
     put_in(&mut chunks[at], sought, number)
 }
@@ -62,8 +62,8 @@ fn push_in(chunk: &mut Vec<u32>, number: u32) -> Result<(), AllocError>
 
 // Appends a chunk of one number.
 fn begin_chunk(chunks: &mut Vec<Vec<u32>>, number: u32) -> Result<(), AllocError>
-    ensures ok { OnOk result (map (λ c. c.items) chunks.new.items ≡ map (λ c. c.items) chunks.old.items ++ (number ∷ []) ∷ []) }
-    ensures err { OnErr result (map (λ c. c.items) chunks.new.items ≡ map (λ c. c.items) chunks.old.items) }
+    ensures ok { OnOk result (numbers_of chunks.new.items ≡ numbers_of chunks.old.items ++ (number ∷ []) ∷ []) }
+    ensures err { OnErr result (numbers_of chunks.new.items ≡ numbers_of chunks.old.items) }
 {
     let mut chunk = Vec::new(*chunks.allocator());
     chunk.push(number)?;
@@ -73,10 +73,10 @@ fn begin_chunk(chunks: &mut Vec<Vec<u32>>, number: u32) -> Result<(), AllocError
 
 // Adds a number behind all others.
 fn append(chunks: &mut Vec<Vec<u32>>, number: u32) -> Result<(), AllocError>
-    requires { AreChunks (map (λ c. c.items) chunks.old.items) }
-    ensures ok { OnOk result (concat (map (λ c. c.items) chunks.new.items) ≡ concat (map (λ c. c.items) chunks.old.items) ++ number ∷ []) }
-    ensures err { OnErr result (concat (map (λ c. c.items) chunks.new.items) ≡ concat (map (λ c. c.items) chunks.old.items)) }
-    ensures sized { AreChunks (map (λ c. c.items) chunks.new.items) }
+    requires { AreChunks (numbers_of chunks.old.items) }
+    ensures ok { OnOk result (concat (numbers_of chunks.new.items) ≡ concat (numbers_of chunks.old.items) ++ number ∷ []) }
+    ensures err { OnErr result (concat (numbers_of chunks.new.items) ≡ concat (numbers_of chunks.old.items)) }
+    ensures sized { AreChunks (numbers_of chunks.new.items) }
 {
     let count = chunks.as_slice().len();
     if count > 0 && has_room(chunks.as_slice(), count - 1) {
@@ -87,7 +87,7 @@ fn append(chunks: &mut Vec<Vec<u32>>, number: u32) -> Result<(), AllocError>
 
 // Leaves the lower half of a chunk, and no room: it may never be filled again.
 fn shorten(chunk: &mut Vec<u32>)
-    ensures { chunk.new.items ≡ take 256 chunk.old.items }
+    ensures { chunk.new.items ≡ take half chunk.old.items }
 {
     chunk.truncate(HALF);
     chunk.shrink_to_fit();
@@ -96,11 +96,11 @@ fn shorten(chunk: &mut Vec<u32>)
 // Cuts a chunk in two halves.
 fn halve(chunks: &mut Vec<Vec<u32>>, at: usize) -> Result<(), AllocError>
     requires within { at < length chunks.old.items }
-    requires long { 256 < length (chunk_at (map (λ c. c.items) chunks.old.items) at) }
-    requires sized { AreChunks (map (λ c. c.items) chunks.old.items) }
-    ensures ok { OnOk result (map (λ c. c.items) chunks.new.items ≡ halved_at at (map (λ c. c.items) chunks.old.items)) }
-    ensures same { concat (map (λ c. c.items) chunks.new.items) ≡ concat (map (λ c. c.items) chunks.old.items) }
-    ensures sized { AreChunks (map (λ c. c.items) chunks.new.items) }
+    requires long { half < length (chunk_at (numbers_of chunks.old.items) at) }
+    requires sized { AreChunks (numbers_of chunks.old.items) }
+    ensures ok { OnOk result (numbers_of chunks.new.items ≡ halved_at at (numbers_of chunks.old.items)) }
+    ensures same { concat (numbers_of chunks.new.items) ≡ concat (numbers_of chunks.old.items) }
+    ensures sized { AreChunks (numbers_of chunks.new.items) }
 {
     let alloc = *chunks.allocator();
     let upper = Vec::from_slice(alloc, &chunks[at].as_slice()[HALF..])?;
@@ -116,12 +116,12 @@ fn with_room<C: Compare>(
     sought: &C,
 ) -> Result<usize, AllocError>
     requires within { at < length chunks.old.items }
-    requires sized { AreChunks (map (λ c. c.items) chunks.old.items) }
-    requires ascends { Ascends (C.order sought.now) (concat (map (λ c. c.items) chunks.old.items)) }
-    requires belongs { Belongs (C.order sought.now) (map (λ c. c.items) chunks.old.items) at }
-    ensures takes { IfOk result (λ k. Takes (C.order sought.now) (map (λ c. c.items) chunks.new.items) k) }
-    ensures same { concat (map (λ c. c.items) chunks.new.items) ≡ concat (map (λ c. c.items) chunks.old.items) }
-    ensures sized { AreChunks (map (λ c. c.items) chunks.new.items) }
+    requires sized { AreChunks (numbers_of chunks.old.items) }
+    requires ascends { Ascends (C.order sought.now) (concat (numbers_of chunks.old.items)) }
+    requires belongs { Belongs (C.order sought.now) (numbers_of chunks.old.items) at }
+    ensures takes { IfOk result (λ k. Takes (C.order sought.now) (numbers_of chunks.new.items) k) }
+    ensures same { concat (numbers_of chunks.new.items) ≡ concat (numbers_of chunks.old.items) }
+    ensures sized { AreChunks (numbers_of chunks.new.items) }
 {
     if has_room(chunks.as_slice(), at) {
         return Ok(at);
@@ -140,12 +140,12 @@ pub(crate) fn insert_among<C: Compare>(
     sought: &C,
     number: u32,
 ) -> Result<(), AllocError>
-    requires sized { AreChunks (map (λ c. c.items) chunks.old.items) }
-    requires ascends { Ascends (C.order sought.now) (concat (map (λ c. c.items) chunks.old.items)) }
-    requires misses { Misses (C.order sought.now) (concat (map (λ c. c.items) chunks.old.items)) }
-    ensures ok { OnOk result (IsPut (C.order sought.now) number (concat (map (λ c. c.items) chunks.old.items)) (concat (map (λ c. c.items) chunks.new.items))) }
-    ensures err { OnErr result (concat (map (λ c. c.items) chunks.new.items) ≡ concat (map (λ c. c.items) chunks.old.items)) }
-    ensures sized { AreChunks (map (λ c. c.items) chunks.new.items) }
+    requires sized { AreChunks (numbers_of chunks.old.items) }
+    requires ascends { Ascends (C.order sought.now) (concat (numbers_of chunks.old.items)) }
+    requires misses { Misses (C.order sought.now) (concat (numbers_of chunks.old.items)) }
+    ensures ok { OnOk result (IsPut (C.order sought.now) number (concat (numbers_of chunks.old.items)) (concat (numbers_of chunks.new.items))) }
+    ensures err { OnErr result (concat (numbers_of chunks.new.items) ≡ concat (numbers_of chunks.old.items)) }
+    ensures sized { AreChunks (numbers_of chunks.new.items) }
 {
     let at = chunk_for(chunks.as_slice(), sought);
     if at == chunks.as_slice().len() {

@@ -1,10 +1,10 @@
 //! Looking for a place in a chunk, and for a chunk.
 
-ghost use Rattle.std.specs.Prelude.{◌≡◌, ◌≢◌, ◌<◌, ◌≤◌, length, map, take, drop, All, MatchOption};
+ghost use Rattle.std.specs.Prelude.{◌≡◌, ◌≢◌, ◌<◌, ◌≤◌, length, take, drop, All, MatchOption};
 ghost use Rattle.std.specs.List.{concat};
 ghost use Rattle.std.specs.Ordering.{is_lt};
 ghost use Rattle.std.specs.declared.cmp.Ordering.TheVariants.{Less};
-ghost use Rattle.wasm_module_validator_ordered.specs.Chunks.{AreChunks, Belongs, chunk_at, last_of};
+ghost use Rattle.wasm_module_validator_ordered.specs.Chunks.{AreChunks, Belongs, chunk_at, last_of, numbers_of};
 ghost use Rattle.wasm_module_validator_ordered.specs.Order.{Ascends, Misses, Finds};
 
 use crate::Compare;
@@ -50,19 +50,19 @@ fn find_in<C: Compare>(numbers: &[u32], sought: &C) -> Option<u32>
 // Whether all of a chunk is less than what is sought: its last number tells.
 pub(crate) fn is_passed<C: Compare>(chunks: &[Vec<u32>], at: usize, sought: &C) -> bool
     requires within { at < length chunks.now }
-    requires sized { AreChunks (map (λ c. c.items) chunks.now) }
-    ensures { result ≡ is_lt (C.order sought.now (last_of (chunk_at (map (λ c. c.items) chunks.now) at))) }
+    requires sized { AreChunks (numbers_of chunks.now) }
+    ensures { result ≡ is_lt (C.order sought.now (last_of (chunk_at (numbers_of chunks.now) at))) }
 {
     let chunk = chunks[at].as_slice();
     sought.compare(chunk[chunk.len() - 1]).is_lt()
 }
 
-// The first chunk that is not less as a whole, or the number of chunks where all are.
+// A chunk where what is sought belongs: all before it are less, and all behind it greater. The number of chunks where all are less.
 pub(crate) fn chunk_for<C: Compare>(chunks: &[Vec<u32>], sought: &C) -> usize
-    requires sized { AreChunks (map (λ c. c.items) chunks.now) }
-    requires ascends { Ascends (C.order sought.now) (concat (map (λ c. c.items) chunks.now)) }
+    requires sized { AreChunks (numbers_of chunks.now) }
+    requires ascends { Ascends (C.order sought.now) (concat (numbers_of chunks.now)) }
     ensures within { result ≤ length chunks.now }
-    ensures belongs { Belongs (C.order sought.now) (map (λ c. c.items) chunks.now) result }
+    ensures belongs { Belongs (C.order sought.now) (numbers_of chunks.now) result }
 {
     let mut low = 0;
     let mut high = chunks.len();
@@ -79,9 +79,9 @@ pub(crate) fn chunk_for<C: Compare>(chunks: &[Vec<u32>], sought: &C) -> usize
 
 // The number that is equal to what is sought, if there is one in these chunks.
 pub(crate) fn find_among<C: Compare>(chunks: &[Vec<u32>], sought: &C) -> Option<u32>
-    requires sized { AreChunks (map (λ c. c.items) chunks.now) }
-    requires ascends { Ascends (C.order sought.now) (concat (map (λ c. c.items) chunks.now)) }
-    ensures { MatchOption result (Misses (C.order sought.now) (concat (map (λ c. c.items) chunks.now))) (λ n. Finds (C.order sought.now) (concat (map (λ c. c.items) chunks.now)) n) }
+    requires sized { AreChunks (numbers_of chunks.now) }
+    requires ascends { Ascends (C.order sought.now) (concat (numbers_of chunks.now)) }
+    ensures { MatchOption result (Misses (C.order sought.now) (concat (numbers_of chunks.now))) (λ n. Finds (C.order sought.now) (concat (numbers_of chunks.now)) n) }
 {
     let at = chunk_for(chunks, sought);
     if at == chunks.len() {

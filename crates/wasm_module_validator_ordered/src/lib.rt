@@ -4,7 +4,7 @@
 //! Contracts see the numbers as a list, in their order (`specs/Order.antt`), and not how they lie in memory.
 #![tactic(auto)]
 
-ghost use Rattle.std.specs.Prelude.{◌≡◌, ℕ, [], length, MatchOption, OnOk, OnErr};
+ghost use Rattle.std.specs.Prelude.{◌≡◌, ℕ, [], MatchOption, OnOk, OnErr};
 ghost use Rattle.std.specs.declared.cmp.Ordering.{Ordering};
 ghost use Rattle.wasm_module_validator_ordered.specs.Order.{Ascends, Misses, Finds, IsPut};
 
@@ -31,19 +31,18 @@ pub trait Compare {
 #[derive(Drop)]
 pub struct Ordered {
     chunks: Vec<Vec<u32>>,
-    count: usize,
 }
 
 impl Model for Ordered {
-    ghost use Rattle.std.specs.Prelude.{ℕ, List, map};
+    ghost use Rattle.std.specs.Prelude.{ℕ, List};
     ghost use Rattle.std.specs.List.{concat};
-    ghost use Rattle.wasm_module_validator_ordered.specs.Chunks.{IsLaidOut};
+    ghost use Rattle.wasm_module_validator_ordered.specs.Chunks.{AreChunks, numbers_of};
 
     ghost Value = { List ℕ };
 
-    ghost view = { λ o. concat (map (λ c. c.items) o.chunks.items) };
+    ghost view = { λ o. concat (numbers_of o.chunks.items) };
 
-    ghost invariant = { λ o. IsLaidOut (map (λ c. c.items) o.chunks.items) o.count };
+    ghost invariant = { λ o. AreChunks (numbers_of o.chunks.items) };
 }
 
 impl Ordered {
@@ -53,15 +52,7 @@ impl Ordered {
     {
         Ordered {
             chunks: Vec::new(alloc),
-            count: 0,
         }
-    }
-
-    /// How many numbers there are.
-    pub fn len(&self) -> usize
-        ensures { result ≡ length self.now }
-    {
-        self.count
     }
 
     /// The number that is equal to what is sought, if there is one.
@@ -72,19 +63,13 @@ impl Ordered {
         find_among(self.chunks.as_slice(), sought)
     }
 
-    /// Adds a number where what is sought belongs. Where there is no memory for it, or there are 2^64 - 1 numbers, nothing
-    /// changes.
+    /// Adds a number where what is sought belongs. Where there is no memory for it, nothing changes.
     pub fn insert<C: Compare>(&mut self, sought: &C, number: u32) -> Result<(), AllocError>
         requires ascends { Ascends (C.order sought.now) self.old }
         requires misses { Misses (C.order sought.now) self.old }
         ensures ok { OnOk result (IsPut (C.order sought.now) number self.old self.new) }
         ensures err { OnErr result (self.new ≡ self.old) }
     {
-        if self.count == usize::MAX {
-            return Err(AllocError);
-        }
-        insert_among(&mut self.chunks, sought, number)?;
-        self.count += 1;
-        Ok(())
+        insert_among(&mut self.chunks, sought, number)
     }
 }

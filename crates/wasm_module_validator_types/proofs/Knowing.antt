@@ -19,7 +19,7 @@ use Rattle.wasm_module_validator_type_trees.specs.laws.Apart.{at_old, at_new}
 use Rattle.wasm_module_validator_types.specs.declared.ids.RecGroupId.{RecGroupId}
 use Rattle.wasm_module_validator_types.specs.declared.known.Known.{Known}
 use Rattle.wasm_module_validator_types.specs.Beside.{beside, Precedes}
-use Rattle.wasm_module_validator_types.specs.Known.{group_in, Numbers, find, Learns, FindsTheSame, IsAlone, Declares, NoneDeclares, KnowsGroups, Knows}
+use Rattle.wasm_module_validator_types.specs.Known.{group_in, Numbers, number_in, Learns, FindsTheSame, IsAlone, Declares, NoneDeclares, KnowsGroups, Knows}
 use Rattle.wasm_module_validator_types.specs.Known.{CanLearn, Gains, by_id, by_copy, StaysKnown, KnowsMore}
 use Rattle.wasm_module_validator_types.proofs.Besides.{beside_kept, turned}
 use Rattle.wasm_module_validator_types.proofs.Parts.{homes_push}
@@ -216,8 +216,8 @@ module _ (gs : List Group) (types stored : List SubType) (start : ℕ) (g : RecG
     gained_id = record {
       ordered = put_pairs put (Precedes (types ++ stored)) (ordered_left types stored m.alone knows.ordered) before_it behind_it;
       alone = put_all put (IsAlone (group_in true g ∷ gs) (types ++ stored)) (all_left (group_in true g) gs types stored m.alone knows.alone) it_is_alone;
-      found = λ q. answered (group_in true g ∷ gs) (types ++ stored) n.alone q (find m.numbers q) (find n.numbers q) (finds q)
-          (found_still (group_in true g) gs (group_in true q) (find m.numbers q) (NoneDeclares types m.alone (declared_types q))
+      found = λ q. answered (group_in true g ∷ gs) (types ++ stored) n.alone q (number_in m.numbers q) (number_in n.numbers q) (finds q)
+          (found_still (group_in true g) gs (group_in true q) (number_in m.numbers q) (NoneDeclares types m.alone (declared_types q))
           (NoneDeclares (types ++ stored) n.alone (declared_types q)) (none_left types stored m.alone n.alone (declared_types q) (put_keeps put))
           (λ none e. none start (record { kept = ty; among = put_has put; stored = here; same = sym same ∙ types_of true true g q e }))
           (knows.found q));
@@ -241,8 +241,8 @@ module _ (gs : List Group) (types stored : List SubType) (start : ℕ) (g : RecG
   gained_copy ties learns e = record {
     ordered = same_ordered e (group_in true g);
     alone = same_alone e (group_in true g);
-    found = λ q. answered (group_in true g ∷ gs) (types ++ stored) n.alone q _ (find n.numbers q) (learns q)
-        (found_either gs (group_in true g) (group_in true q) id (find m.numbers q) (is_eq (order.ghosts.cmp g q)) (NoneDeclares types m.alone (declared_types q))
+    found = λ q. answered (group_in true g ∷ gs) (types ++ stored) n.alone q _ (number_in n.numbers q) (learns q)
+        (found_either gs (group_in true g) (group_in true q) id (number_in m.numbers q) (is_eq (order.ghosts.cmp g q)) (NoneDeclares types m.alone (declared_types q))
         (NoneDeclares (types ++ stored) n.alone (declared_types q)) at
         (λ same. ap (λ (ds : List Declared). record { is_canonical = true; types = ds }) (same_group ties g q same))
         (λ apart f. other_group ties g q apart (types_of true true g q f)) (fewer e (group_in true g) q) (knows.found q));
@@ -252,8 +252,8 @@ module _ (gs : List Group) (types stored : List SubType) (start : ℕ) (g : RecG
   gained_none finds e = record {
     ordered = same_ordered e (group_in false g);
     alone = same_alone e (group_in false g);
-    found = λ q. answered (group_in false g ∷ gs) (types ++ stored) n.alone q (find m.numbers q) (find n.numbers q) (finds q)
-        (found_still (group_in false g) gs (group_in true q) (find m.numbers q) (NoneDeclares types m.alone (declared_types q))
+    found = λ q. answered (group_in false g ∷ gs) (types ++ stored) n.alone q (number_in m.numbers q) (number_in n.numbers q) (finds q)
+        (found_still (group_in false g) gs (group_in true q) (number_in m.numbers q) (NoneDeclares types m.alone (declared_types q))
         (NoneDeclares (types ++ stored) n.alone (declared_types q)) (fewer e (group_in false g) q)
         (λ none f. let z : false ≡ true = ap (λ (x : Group). x.is_canonical) f in cc) (knows.found q));
   }
@@ -274,8 +274,8 @@ knows_push ties gs types stored false start g id (Some m) (Some n) first counted
 -- ---- the map alone
 
 pub learned : TiesDeclareTheSame → (m n : Numbers) (key g : RecGroup) (id : RecGroupId) → declared_types key ≡ declared_types g
-    → ((q : RecGroup) → find n q ≡ cond (is_eq (order.ghosts.cmp key q)) (Some id) (find m q)) → Learns m n g id
-learned ties m n key g id same puts q = puts q ∙ ap (λ (b : Bool). cond b (Some id) (find m q)) (same_test ties key g q same)
+    → ((q : RecGroup) → number_in n q ≡ cond (is_eq (order.ghosts.cmp key q)) (Some id) (number_in m q)) → Learns m n g id
+learned ties m n key g id same puts q = puts q ∙ ap (λ (b : Bool). cond b (Some id) (number_in m q)) (same_test ties key g q same)
 
 -- ---- nothing more
 
@@ -288,8 +288,8 @@ knows_same gs types (Some m) (Some n) knows w = record {
   ordered = subst (AllPairs (Precedes types)) (sym w.1) knows.ordered;
   alone = subst (All (IsAlone gs types)) (sym w.1) knows.alone;
   found = λ q.
-      subst (λ (ids : List ℕ). MatchOption (find n.numbers q) (NoneDeclares types ids (declared_types q) → IsMissing gs (group_in true q)) (λ k. group_at gs k.0 ≡ Some (group_in true q)))
-      (sym w.1) (answered gs types m.alone q (find m.numbers q) (find n.numbers q) (w.0 q) (knows.found q));
+      subst (λ (ids : List ℕ). MatchOption (number_in n.numbers q) (NoneDeclares types ids (declared_types q) → IsMissing gs (group_in true q)) (λ k. group_at gs k.0 ≡ Some (group_in true q)))
+      (sym w.1) (answered gs types m.alone q (number_in m.numbers q) (number_in n.numbers q) (w.0 q) (knows.found q));
 }
 
 -- what is known stays, or there is nothing that could be

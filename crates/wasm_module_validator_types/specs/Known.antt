@@ -23,15 +23,15 @@ abbrev pub Numbers : Type 0
 Numbers = BTreeMap RecGroup RecGroupId
 
 -- the number of a group
-abbrev pub find : Numbers → RecGroup → Option RecGroupId
-find m g = get order.ghosts.cmp m g
+abbrev pub number_in : Numbers → RecGroup → Option RecGroupId
+number_in m g = get order.ghosts.cmp m g
 
 -- the group has the number, and all others what they had
 abbrev pub Learns : Numbers → Numbers → RecGroup → RecGroupId → Type 0
-Learns m n g id = (q : RecGroup) → find n q ≡ (if is_eq (order.ghosts.cmp g q) then Some id else find m q)
+Learns m n g id = (q : RecGroup) → number_in n q ≡ (if is_eq (order.ghosts.cmp g q) then Some id else number_in m q)
 
 abbrev pub FindsTheSame : Numbers → Numbers → Type 0
-FindsTheSame m n = (q : RecGroup) → find n q ≡ find m q
+FindsTheSame m n = (q : RecGroup) → number_in n q ≡ number_in m q
 
 -- ---- types that are groups of their own, by their ids
 
@@ -62,7 +62,7 @@ NoneDeclares types ids ds = (n : ℕ) → Declares types ids ds n → ⊥
 pub record KnowsGroups (groups : List Group) (types : List SubType) (known : Known) : Type 0 where
   pub ordered : AllPairs (Precedes types) known.alone
   pub alone : All (IsAlone groups types) known.alone
-  pub found : (g : RecGroup) → MatchOption (find known.numbers g) (NoneDeclares types known.alone (declared_types g) → IsMissing groups (group_in true g))
+  pub found : (g : RecGroup) → MatchOption (number_in known.numbers g) (NoneDeclares types known.alone (declared_types g) → IsMissing groups (group_in true g))
       (λ k. group_at groups k.0 ≡ Some (group_in true g))
 
 -- a list that takes no more knows nothing
@@ -83,7 +83,7 @@ pub data Gains (types stored : List SubType) (start : ℕ) (g : RecGroup) (id : 
   by_copy : (length stored ≡ 1 → declared_types g ≡ map declared_of stored → ⊥) → Learns m.numbers n.numbers g id → n.alone ≡ m.alone
       → Gains types stored start g id m n
 
--- it finds what it found
+-- the same groups are known: the ids are the same, and each group that is kept as a copy has the number that it had
 abbrev pub StaysKnown : Option Known → Option Known → Type 0
 StaysKnown None None = Unit {0}
 StaysKnown None (Some n) = ⊥

@@ -1,13 +1,23 @@
--- Worked rows: room for groups, which groups are added, the places of groups, and depths.
-use Rattle.std.specs.Prelude.{◌≡◌, true, false, [], ◌∷◌, Some, None}
+-- Worked rows: room for groups, which groups are added and how they are kept, the places of groups, and depths.
+use Rattle.std.specs.Prelude.{◌≡◌, ℕ, true, false, List, [], ◌∷◌, Some, None}
 use Rattle.wasm_types.specs.indices.declared.index.UnpackedIndex.TheVariants.{Module, RecGroup}
-use Rattle.wasm_module_validator_type_trees.specs.Worked.{id, id_of, pair, lower, both, routine, routines}
+use Rattle.wasm_types.specs.groups.declared.rec_group.RecGroup.{RecGroup as Group}
+use Rattle.wasm_types.specs.groups.declared.sub_type.SubType.{SubType}
+use Rattle.wasm_types.specs.groups.Entries.{declared_of, declared_types}
+use Rattle.wasm_module_validator_type_trees.specs.Worked.{id, id_of, canonical, as_written as each_time, pair, lower, both, routine, routines}
 use Rattle.wasm_module_validator_type_trees.specs.Groups.{declared_by_id}
 use Rattle.wasm_module_validator_types.specs.Stored.{packed_by_id}
 use Rattle.wasm_module_validator_types.specs.Rolled.{rolled, rolled_groups, forms}
 use Rattle.wasm_module_validator_types.specs.Lookups.{HasIds, HasPlace, IsAtPlace}
+use Rattle.wasm_module_validator_types.specs.declared.ids.RecGroupId.{RecGroupId}
+use Rattle.wasm_module_validator_types.specs.declared.known.Known.{Known}
+use Rattle.wasm_module_validator_types.specs.Known.{Numbers, IsAlone, Gains}
 use Rattle.wasm_module_validator_types.specs.Depths.{depth_at, SetsDepth, KeepsDepths}
 use Rattle.wasm_module_validator_types.specs.List.{HasRoom, IsAdded, Interns}
+
+-- these ids, and these copies
+abbrev pub known_by : List ℕ → Numbers → Known
+known_by ids numbers = record { alone = ids; numbers = numbers }
 
 -- two structs with ids 0 and 1, and one below the second with id 2
 pub record ListsWorked : Type 0 where
@@ -33,6 +43,14 @@ pub record ListsWorked : Type 0 where
   pub added_twice : Interns both (lower ∷ both) lower true 2 → ⊥
   pub added_again : Interns routines (routine ∷ routines) routine true 2
   pub not_the_next : Interns routines (routine ∷ routines) routine true 0 → ⊥
+  -- any type, as the only one of its group and not, and what it means to keep such a group: its id, and no copy of it
+  pub kept_by_id : (t : SubType) → IsAlone (canonical (declared_of t ∷ []) ∷ []) (t ∷ []) 0
+  pub not_canonical : (t : SubType) → IsAlone (each_time (declared_of t ∷ []) ∷ []) (t ∷ []) 0 → ⊥
+  pub not_alone : (t u : SubType) → IsAlone (canonical (declared_of t ∷ declared_of u ∷ []) ∷ []) (t ∷ u ∷ []) 0 → ⊥
+  pub gained : (t : SubType) (g : Group) (k : RecGroupId) (m : Numbers) → declared_types g ≡ declared_of t ∷ []
+      → Gains [] (t ∷ []) 0 g k (known_by [] m) (known_by (0 ∷ []) m)
+  pub gained_by_copy : (t : SubType) (g : Group) (k : RecGroupId) (m n : Numbers) → declared_types g ≡ declared_of t ∷ []
+      → Gains [] (t ∷ []) 0 g k (known_by [] m) (known_by [] n) → ⊥
   pub ids : HasIds both 1 2 3
   pub first_place : HasPlace both 0 1
   pub no_place : HasPlace both 1 1 → ⊥

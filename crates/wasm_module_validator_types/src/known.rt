@@ -1,9 +1,9 @@
 //! What a list knows of its groups in canonical form: which it has, and their numbers.
 
-ghost use Rattle.std.specs.Prelude.{◌≡◌, ◌∷◌, [], length, map, IsTrue, Some, MatchOption, AllPairs, OnOk, OnErr};
+ghost use Rattle.std.specs.Prelude.{◌≡◌, ◌∷◌, [], length, map, false, IsTrue, Some, MatchOption, AllPairs, IsOk, OnOk, OnErr};
 ghost use Rattle.wasm_types.specs.groups.Entries.{declared_of, declared_types};
 ghost use Rattle.wasm_module_validator_types.specs.Beside.{Precedes};
-ghost use Rattle.wasm_module_validator_types.specs.Known.{Numbers, find, Learns, FindsTheSame, Declares, NoneDeclares, CanLearn, Gains, StaysKnown, KnowsMore};
+ghost use Rattle.wasm_module_validator_types.specs.Known.{Numbers, number_in, Learns, FindsTheSame, Declares, NoneDeclares, CanLearn, Gains, StaysKnown, KnowsMore};
 
 use crate::RecGroupId;
 use crate::beside::Beside;
@@ -40,12 +40,12 @@ impl Known {
 
     /// The number of a group that is kept as a copy.
     pub(crate) fn number_of(&self, group: &RecGroup) -> Option<RecGroupId>
-        ensures { result ≡ find self.now.numbers group.now }
+        ensures { result ≡ number_in self.now.numbers group.now }
     {
         self.numbers.get(group).copied()
     }
 
-    /// The id of the only type of a group that is kept by this id.
+    /// The id of the only type of this group, where it is by that id that the group is kept.
     pub(crate) fn id_of(&self, types: &SnapshotList<SubType>, group: &RecGroup) -> Option<u32>
         requires { AllPairs (Precedes types.now.items) self.now.alone }
         ensures { MatchOption result (NoneDeclares types.now.items self.now.alone (declared_types group.now))
@@ -125,6 +125,7 @@ pub(crate) fn learn(
     requires { CanLearn is_canonical types.now.items group.now known.old }
     ensures ok { OnOk result (KnowsMore is_canonical types.now.items stored.now start group.now id known.old known.new) }
     ensures err { OnErr result (StaysKnown known.old known.new) }
+    ensures sure { (is_canonical ≡ false) → IsOk result }
 {
     if !is_canonical {
         return Ok(());

@@ -2,7 +2,7 @@
 
 ghost use Rattle.wasm_module_validator_types.specs.Worked.{ListsWorked};
 
-/// Room for groups, which groups are added and which are known, the places of groups, and depths.
+/// Room for groups, which groups are added and which are known, how they are kept, the places of groups, and depths.
 pub fn lists_worked()
     ensures { ListsWorked }
 {}

@@ -1,7 +1,9 @@
 -- Laws: worked fields, functions and indices. What these bytes are read as, and how these types are written.
-use Rattle.std.proofs.Common.{◌≡◌, ◌++◌, List, [], ◌∷◌, refl, Bool, true, false}
+use Rattle.std.proofs.Common.{◌≡◌, ◌≢◌, ℕ, ◌++◌, List, [], ◌∷◌, refl, ap, Bool, true, false, slice_index, slice_index_or}
 use Rattle.std.specs.Prelude.{codes}
 use Rattle.std.specs.Fmt.{decimal}
+use Rattle.std.specs.Hash.{slice, le_bytes}
+use Rattle.std.specs.declared.cmp.Ordering.TheVariants.{Less, Greater}
 use Rattle.wasm_types_values.specs.decoding.declared.Refusal.TheVariants.{Other}
 use Rattle.wasm_types_values.specs.decoding.Decoder.{Done, Short, Fault, repeated}
 use Rattle.wasm_types_values.specs.decoding.Leb.{unsigned}
@@ -11,6 +13,7 @@ use Rattle.wasm_types_values.specs.declared.heap.AbstractHeapType.TheVariants as
 use Rattle.wasm_types_values.specs.declared.heap.HeapType.TheVariants.{Abstract}
 use Rattle.wasm_types_values.specs.declared.value.ValType.{ValType}
 use Rattle.wasm_types_values.specs.declared.value.ValType.TheVariants.{I32, I64, F32, Ref}
+use Rattle.wasm_types_values.specs.contracts.value.ValTypeHash.TheImpl as hash
 use Rattle.wasm_types_values.specs.declared.value.StorageType.{StorageType}
 use Rattle.wasm_types_values.specs.declared.value.StorageType.TheVariants.{I8, I16, Val}
 use Rattle.wasm_types_values.specs.Decode.{reference, reference_after}
@@ -19,7 +22,7 @@ use Rattle.wasm_types_values.specs.limits.Limits.{default_limits}
 use Rattle.wasm_types_values.specs.limits.Settings.{Settings, no_features}
 use Rattle.wasm_types_values.specs.WorkedTypeLaws.{start_of, behind}
 use Rattle.wasm_types_fields.specs.declared.field.FieldType.{FieldType}
-use Rattle.wasm_types_fields.specs.Signatures.{Signature}
+use Rattle.wasm_types_fields.specs.Signatures.{Signature, signature_eq, signature_cmp, signature_writes}
 use Rattle.wasm_types_fields.specs.Decode.{mutability, field_type, fields, signature, module_index}
 use Rattle.wasm_types_fields.specs.Text.{field_text, array_text, struct_text, func_text, cont_text}
 
@@ -72,6 +75,25 @@ IndicesAreRead = (module_index (start_of (0x05 ∷ [])) ≡ Done (Module 5) (beh
 pub index_bytes : IndicesAreRead
 unfolding module_index unsigned
 index_bytes = (refl, refl, refl, refl, refl)
+
+-- ---- how functions compare, and what is hashed of them
+
+abbrev pub FunctionsCompared : Type 0
+FunctionsCompared = (signature_eq (function (I32 ∷ []) (I64 ∷ [])) (function (I32 ∷ []) (I64 ∷ [])) ≡ true) × (signature_eq (function (I32 ∷ []) []) (function [] (I32 ∷ [])) ≡ false)
+    × (signature_cmp (function [] (I64 ∷ [])) (function (I32 ∷ []) []) ≡ Less) × (signature_cmp (function (I32 ∷ []) (I64 ∷ [])) (function (I32 ∷ I32 ∷ []) []) ≡ Less)
+    × (signature_cmp (function (I32 ∷ []) (I64 ∷ [])) (function (I32 ∷ []) (I32 ∷ [])) ≡ Greater)
+
+pub functions_compared : FunctionsCompared
+functions_compared = (refl, refl, refl, refl, refl)
+
+-- what the slice of the parameters writes, and then that of the results: a value is hashed differently as a parameter and as a result
+abbrev pub FunctionsHashed : Type 0
+FunctionsHashed = (signature_writes (function (I32 ∷ []) (I64 ∷ F32 ∷ [])) ≡ slice hash.ghosts.hash_input (I32 ∷ []) ++ slice hash.ghosts.hash_input (I64 ∷ F32 ∷ [])) ×
+    (signature_writes (function (I32 ∷ []) []) ≢ signature_writes (function [] (I32 ∷ [])))
+
+pub functions_hashed : FunctionsHashed
+unfolding le_bytes
+functions_hashed = (refl, λ e. let first : ◌≡◌ {A = ℕ} 1 0 = ap (λ ws. slice_index (slice_index_or ws 0 []) 0) e in cc)
 
 -- ---- how they are written
 
