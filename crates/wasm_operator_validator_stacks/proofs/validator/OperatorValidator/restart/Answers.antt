@@ -17,3 +17,6 @@ invariant_of-self c =
     let first = are_first c.put_params-done.new.locals c.len_locals-self-inside.result c.put_params-done.new.inits.first c.len_locals-self-inside.ensures.value
     (ap (λ (l : Inits). l.first) c.put_params-done.ensures.first) in
     (search rules, search rules, first)
+
+pub returns : goal.returns
+returns c = search rules
