@@ -6,7 +6,7 @@ PAGE is a table of the standard's opcodes, made from the standard's chapter on t
 the texts of the proposals that are not in it. It has one paragraph for each group, as '**Control.** 00 unreachable; ..',
 in which codes are hexadecimal, 'a to b' is a range, and a family is spelled out once. The list that is checked in was
 made so, by hand over the page's words and not from the code of this repository: it is what the rows of
-`wasm_operators_list_tests` compare the tables with.
+`wasm_operators_tests::list` compare the tables with.
 
 Columns: group, proposal, prefix (or -), code, text name, variant, immediates as NAME:KIND with spaces between.
 """

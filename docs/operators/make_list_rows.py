@@ -1,4 +1,4 @@
-"""Writes the rows of `wasm_operators_list_tests`: each operator of the checked-in list, with its row of the table of opcodes
+"""Writes the rows of `wasm_operators_tests::list`: each operator of the checked-in list, with its row of the table of opcodes
 and the kinds of what it carries.
 
     make_list_rows.py operators.csv CRATES
@@ -132,7 +132,7 @@ def text_of(file, groups):
     text += "use Rattle.wasm_operators_info.specs.declared.proposal.Proposal.TheVariants as proposal\n"
     text += f"use Rattle.wasm_operators_immediates.specs.Kinds.{{{', '.join(kinds)}}}\n" if kinds else ""
     text += aliases + "use Rattle.wasm_operators_operator.specs.Op as op\n"
-    return text + "use Rattle.wasm_operators_list_tests.specs.Listed.{Carried, Listed, listed}\n" + body
+    return text + "use Rattle.wasm_operators_tests.specs.list.Listed.{Carried, Listed, listed}\n" + body
 
 
 def main(list_file, crates):
@@ -143,7 +143,7 @@ def main(list_file, crates):
         key = group_of(row)
         files.setdefault(GROUPS[key][0], {}).setdefault(key, []).append(row)
     for file, groups in files.items():
-        with open(f"{crates}/wasm_operators_list_tests/specs/{file}Rows.antt", "w", encoding="utf-8") as it:
+        with open(f"{crates}/wasm_operators_tests/specs/list/{file}Rows.antt", "w", encoding="utf-8") as it:
             it.write(text_of(file, groups))
 
 

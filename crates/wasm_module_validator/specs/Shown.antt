@@ -1,7 +1,7 @@
 -- What a validator learned of a module that was read, or of which some was read; and what is looked up in it.
 use Rattle.std.specs.Prelude.{List}
-use Rattle.wasm_module_validator_lookups.specs.Shown.{Shown}
-use Rattle.wasm_module_validator_lookups.specs.declared.validator_id.ValidatorId.{ValidatorId}
+use Rattle.wasm_module_validator_module.specs.view.Shown.{Shown}
+use Rattle.wasm_module_validator_module.specs.declared.view.validator_id.ValidatorId.{ValidatorId}
 use Rattle.wasm_module_validator_sharing.specs.reading.progress.Progress.{Kept}
 use Rattle.wasm_module_validator_sharing.specs.reading.progress.standing.items.Items.{Items}
 use Rattle.wasm_module_validator_sharing.specs.reading.progress.standing.type_trees.Groups.{Group}

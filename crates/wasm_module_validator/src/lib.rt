@@ -22,15 +22,15 @@ pub use payloads::ValidPayload;
 pub use types::Types;
 pub use validator::{State, Validator, validate};
 pub use wasm_module_validator_canonical::{InternRecGroup, TypeCanonicalizer};
-pub use wasm_module_validator_lookups::{
+pub use wasm_module_validator_lists::snapshots::SnapshotList;
+pub use wasm_module_validator_matches::{Matches, WithRecGroup, types_match};
+pub use wasm_module_validator_module::view::{
     CoreExports, CoreImports, EntityType, RecGroupElements, RecGroupId, TypesRef, ValidatorId,
 };
-pub use wasm_module_validator_matches::{Matches, WithRecGroup, types_match};
 pub use wasm_module_validator_module::{Function, Module};
 pub use wasm_module_validator_sharing::{
     FuncToValidate, FuncValidator, FuncValidatorAllocations, ModuleState, ValidatorResources,
 };
-pub use wasm_module_validator_snapshots::SnapshotList;
 pub use wasm_module_validator_type_alloc::{
     MaybeOwned, TypeAlloc, TypeData, TypeIdentifier, TypeInfo, at_canonicalized_packed_index,
     at_canonicalized_unpacked_index,

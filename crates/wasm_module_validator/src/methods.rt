@@ -12,7 +12,7 @@ ghost use Rattle.wasm_module_validator.specs.Methods.{failure, refusal, can_rese
 use crate::types::{Types, look_up};
 use crate::validator::{State, Validator};
 use std::ops::Range;
-use wasm_module_validator_lookups::{TypesRef, ValidatorId};
+use wasm_module_validator_module::view::{TypesRef, ValidatorId};
 use wasm_module_validator_sharing::{FuncToValidate, ValidatorResources, check_header};
 use wasm_sections_parser::Encoding;
 use wasm_sections_payloads::{

@@ -6,7 +6,7 @@ ghost use Rattle.wasm_module_validator.specs.Shown.{shown, shown_of};
 use std::marker::Model;
 use std::ops::Index;
 use std::rc::Rc;
-use wasm_module_validator_lookups::{TypesRef, ValidatorId};
+use wasm_module_validator_module::view::{TypesRef, ValidatorId};
 use wasm_module_validator_sharing::{ModuleState, SharedModule, TypeList};
 use wasm_types::{CoreTypeId, SubType};
 
@@ -36,7 +36,7 @@ impl Types {
 
 impl Index<CoreTypeId> for Types {
     ghost use Rattle.wasm_types.specs.groups.Entries.{declared_of};
-    ghost use Rattle.wasm_module_validator_lookups.specs.Shown.{knows, is_type_of};
+    ghost use Rattle.wasm_module_validator_module.specs.view.Shown.{knows, is_type_of};
     ghost use Rattle.wasm_module_validator.specs.Shown.{shown};
 
     type Output = SubType;

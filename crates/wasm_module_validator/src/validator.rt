@@ -12,7 +12,7 @@ ghost use Rattle.wasm_module_validator.specs.States.{IsLeft, Keeps, Leaves};
 
 use crate::types::Types;
 use std::alloc::Global;
-use wasm_module_validator_lookups::ValidatorId;
+use wasm_module_validator_module::view::ValidatorId;
 use wasm_module_validator_sharing::SharedProgress;
 use wasm_types::{Error, ErrorKind, Result, WasmFeatures};
 

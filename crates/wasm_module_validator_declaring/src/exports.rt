@@ -8,7 +8,7 @@ ghost use Rattle.wasm_module_validator_standing.specs.Standing.{AddsItem, TellsI
 
 use wasm_module_validator_standing::ModuleState;
 use wasm_module_validator_types::TypeList;
-use wasm_sections_imports::Export;
+use wasm_sections_items::imports::Export;
 use wasm_types::Result;
 
 /// Adds an export; code may then refer to a function that is exported. How many exports there may be is tested where their section begins.

@@ -9,7 +9,7 @@ ghost use Rattle.wasm_module_validator_standing.specs.Standing.{AddsItem, TellsI
 
 use wasm_module_validator_standing::ModuleState;
 use wasm_module_validator_types::TypeList;
-use wasm_sections_imports::Import;
+use wasm_sections_items::imports::Import;
 use wasm_types::Result;
 
 /// Adds an import. It is lent: the borrow checker takes no parameter of this type by value, since a type with a view stands behind a variant

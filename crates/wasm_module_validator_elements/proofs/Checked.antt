@@ -9,8 +9,8 @@ use Rattle.wasm_types.specs.error.ErrorValue.{ErrorValue}
 use Rattle.wasm_types.specs.error.declared.error.ErrorKind.{ErrorKind}
 use Rattle.wasm_types.specs.values.Reference.{Reference}
 use Rattle.wasm_types.specs.values.declared.value.ValType.TheVariants as value
-use Rattle.wasm_sections_elements.specs.declared.element.ElementOf.{ElementOf}
-use Rattle.wasm_sections_elements.specs.declared.element.ElementItemsOf.{ElementItemsOf}
+use Rattle.wasm_sections_items.specs.declared.elements.element.ElementOf.{ElementOf}
+use Rattle.wasm_sections_items.specs.declared.elements.element.ElementItemsOf.{ElementItemsOf}
 use Rattle.wasm_module_validator_segments.specs.constants.resources.Meaning.{Meaning, type_in, reference_in}
 use Rattle.wasm_module_validator_segments.specs.constants.rules.Operands.{ValueType}
 use Rattle.wasm_module_validator_segments.specs.constants.rules.Context.{Module}

@@ -7,14 +7,14 @@ use Rattle.wasm_types.specs.limits.Settings.{Settings}
 use Rattle.wasm_types.specs.decoding.Decoder.{State, Outcome, Done, Short, Fault, Decoder, repeated}
 use Rattle.wasm_operators_bodies.specs.ConstantDecoder.{constant}
 use Rattle.wasm_sections_limited.specs.Walking.{fresh}
-use Rattle.wasm_sections_elements.specs.declared.element.ElementOf.{ElementOf}
-use Rattle.wasm_sections_elements.specs.declared.element.ElementKindOf.{ElementKindOf}
-use Rattle.wasm_sections_elements.specs.declared.element.ElementKindOf.TheVariants as kinds
-use Rattle.wasm_sections_elements.specs.declared.element.ElementItemsOf.{ElementItemsOf}
-use Rattle.wasm_sections_elements.specs.declared.element.ElementItemsOf.TheVariants as items
-use Rattle.wasm_sections_elements.specs.Spells.{ElementTree, ElementMode, ElementItems, passive, active, declared, functions, expressions}
-use Rattle.wasm_sections_elements.specs.Passing.{values_of, items_at}
-use Rattle.wasm_sections_elements.specs.Elements.{mode_of, items_of, is_whole, has_whole}
+use Rattle.wasm_sections_items.specs.declared.elements.element.ElementOf.{ElementOf}
+use Rattle.wasm_sections_items.specs.declared.elements.element.ElementKindOf.{ElementKindOf}
+use Rattle.wasm_sections_items.specs.declared.elements.element.ElementKindOf.TheVariants as kinds
+use Rattle.wasm_sections_items.specs.declared.elements.element.ElementItemsOf.{ElementItemsOf}
+use Rattle.wasm_sections_items.specs.declared.elements.element.ElementItemsOf.TheVariants as items
+use Rattle.wasm_sections_items.specs.elements.Spells.{ElementTree, ElementMode, ElementItems, passive, active, declared, functions, expressions}
+use Rattle.wasm_sections_items.specs.elements.Passing.{values_of, items_at}
+use Rattle.wasm_sections_items.specs.elements.Elements.{mode_of, items_of, is_whole, has_whole}
 use Rattle.wasm_module_validator_segments.specs.Trees.{bytes_of}
 use Rattle.wasm_module_validator_segments.specs.constants.expression.Code.{Code}
 use Rattle.wasm_module_validator_segments.specs.constants.expression.Spelling.{SpelledExpression}

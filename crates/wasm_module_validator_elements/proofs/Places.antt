@@ -13,8 +13,8 @@ use Rattle.wasm_types.specs.values.declared.value.ValType.{ValType}
 use Rattle.wasm_types.specs.values.declared.value.ValType.TheVariants as value
 use Rattle.wasm_types.specs.externs.Addresses.{address_type as address_written}
 use Rattle.wasm_types.specs.externs.declared.table.TableType.{TableType}
-use Rattle.wasm_sections_elements.specs.declared.element.ElementKindOf.{ElementKindOf}
-use Rattle.wasm_sections_elements.specs.declared.element.ElementKindOf.TheVariants as kinds
+use Rattle.wasm_sections_items.specs.declared.elements.element.ElementKindOf.{ElementKindOf}
+use Rattle.wasm_sections_items.specs.declared.elements.element.ElementKindOf.TheVariants as kinds
 use Rattle.wasm_module_validator_segments.specs.constants.resources.Meaning.{Meaning, type_in, reference_in, table_in}
 use Rattle.wasm_module_validator_segments.specs.constants.rules.Operands.{ValueType}
 use Rattle.wasm_module_validator_segments.specs.constants.rules.Context.{Table, address_type}

@@ -12,7 +12,7 @@ use Rattle.wasm_types.specs.trees.Below.{Below}
 use Rattle.wasm_types.specs.trees.AbstractOrder.{same}
 use Rattle.wasm_types.specs.values.Reference.{Reference}
 use Rattle.wasm_types.specs.values.declared.value.ValType.TheVariants as value
-use Rattle.wasm_sections_elements.specs.Spells.{ElementMode, ElementItems, passive, active, declared, functions, expressions}
+use Rattle.wasm_sections_items.specs.elements.Spells.{ElementMode, ElementItems, passive, active, declared, functions, expressions}
 use Rattle.wasm_module_validator_segments.specs.constants.expression.Code.{Code}
 use Rattle.wasm_module_validator_segments.specs.constants.expression.Spelling.{SpelledExpression}
 use Rattle.wasm_module_validator_segments.specs.constants.constant_rules.Constants.{IsConstant}

@@ -13,10 +13,10 @@ use Rattle.wasm_types.specs.trees.Trees.{TypeTree}
 use Rattle.wasm_types.specs.values.declared.value.ValType.TheVariants as value
 use Rattle.wasm_operators_bodies.specs.ConstantDecoder.{constant}
 use Rattle.wasm_sections_limited.specs.Walking.{Walk, fresh, IsTrailing}
-use Rattle.wasm_sections_elements.specs.declared.element.ElementKindOf.{ElementKindOf}
-use Rattle.wasm_sections_elements.specs.declared.element.ElementKindOf.TheVariants as kinds
-use Rattle.wasm_sections_elements.specs.declared.element.ElementItemsOf.{ElementItemsOf}
-use Rattle.wasm_sections_elements.specs.declared.element.ElementItemsOf.TheVariants as items
+use Rattle.wasm_sections_items.specs.declared.elements.element.ElementKindOf.{ElementKindOf}
+use Rattle.wasm_sections_items.specs.declared.elements.element.ElementKindOf.TheVariants as kinds
+use Rattle.wasm_sections_items.specs.declared.elements.element.ElementItemsOf.{ElementItemsOf}
+use Rattle.wasm_sections_items.specs.declared.elements.element.ElementItemsOf.TheVariants as items
 use Rattle.wasm_module_validator_segments.specs.constants.rules.Operands.{ValueType}
 use Rattle.wasm_module_validator_segments.specs.constants.rules.Context.{Module, Table, address_type}
 use Rattle.wasm_module_validator_segments.specs.rules.Spaces.{value_in}

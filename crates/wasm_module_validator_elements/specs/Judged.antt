@@ -4,7 +4,7 @@
 -- many are imported.
 use Rattle.std.specs.Prelude.{ℕ, List, Option, Some, None}
 use Rattle.wasm_types.specs.limits.Settings.{Settings}
-use Rattle.wasm_sections_elements.specs.Spells.{ElementTree}
+use Rattle.wasm_sections_items.specs.elements.Spells.{ElementTree}
 use Rattle.wasm_module_validator_segments.specs.constants.expression.Code.{Code}
 use Rattle.wasm_module_validator_segments.specs.constants.rules.Context.{Module}
 use Rattle.wasm_module_validator_segments.specs.rules.Valid.{IsValidElement}

@@ -5,11 +5,11 @@ use Rattle.wasm_types.specs.limits.Settings.{Settings}
 use Rattle.wasm_types.specs.decoding.Decoder.{State, Decoder, Done, repeated}
 use Rattle.wasm_operators_bodies.specs.ConstantDecoder.{constant}
 use Rattle.wasm_sections_limited.specs.Walking.{Walk, fresh}
-use Rattle.wasm_sections_elements.specs.declared.element.ElementKindOf.{ElementKindOf}
-use Rattle.wasm_sections_elements.specs.declared.element.ElementKindOf.TheVariants as kinds
-use Rattle.wasm_sections_elements.specs.declared.element.ElementItemsOf.{ElementItemsOf}
-use Rattle.wasm_sections_elements.specs.declared.element.ElementItemsOf.TheVariants as items
-use Rattle.wasm_sections_elements.specs.Spells.{ElementTree}
+use Rattle.wasm_sections_items.specs.declared.elements.element.ElementKindOf.{ElementKindOf}
+use Rattle.wasm_sections_items.specs.declared.elements.element.ElementKindOf.TheVariants as kinds
+use Rattle.wasm_sections_items.specs.declared.elements.element.ElementItemsOf.{ElementItemsOf}
+use Rattle.wasm_sections_items.specs.declared.elements.element.ElementItemsOf.TheVariants as items
+use Rattle.wasm_sections_items.specs.elements.Spells.{ElementTree}
 use Rattle.wasm_module_validator_segments.specs.constants.expression.Code.{Code}
 use Rattle.wasm_module_validator_segments.specs.rules.Spaces.{referred_in_mode, referred_in_items}
 use Rattle.wasm_module_validator_referring.specs.Naming.{NamesMore}

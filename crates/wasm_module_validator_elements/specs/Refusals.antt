@@ -12,11 +12,11 @@ unfoldable pub use Rattle.wasm_types.specs.features.Features.{has}
 use Rattle.wasm_types.specs.trees.Below.{Below}
 use Rattle.wasm_operators_bodies.specs.ConstantDecoder.{constant}
 use Rattle.wasm_sections_limited.specs.Walking.{Walk, fresh}
-use Rattle.wasm_sections_elements.specs.declared.element.ElementOf.{ElementOf}
-use Rattle.wasm_sections_elements.specs.declared.element.ElementKindOf.{ElementKindOf}
-use Rattle.wasm_sections_elements.specs.declared.element.ElementKindOf.TheVariants as element_kind
-use Rattle.wasm_sections_elements.specs.declared.element.ElementItemsOf.{ElementItemsOf}
-use Rattle.wasm_sections_elements.specs.declared.element.ElementItemsOf.TheVariants as items
+use Rattle.wasm_sections_items.specs.declared.elements.element.ElementOf.{ElementOf}
+use Rattle.wasm_sections_items.specs.declared.elements.element.ElementKindOf.{ElementKindOf}
+use Rattle.wasm_sections_items.specs.declared.elements.element.ElementKindOf.TheVariants as element_kind
+use Rattle.wasm_sections_items.specs.declared.elements.element.ElementItemsOf.{ElementItemsOf}
+use Rattle.wasm_sections_items.specs.declared.elements.element.ElementItemsOf.TheVariants as items
 use Rattle.wasm_module_validator_segments.specs.constants.resources.Meaning.{Meaning}
 use Rattle.wasm_module_validator_segments.specs.constants.rules.Operands.{ValueType}
 use Rattle.wasm_module_validator_segments.specs.constants.rules.Context.{Module, Table, address_type}

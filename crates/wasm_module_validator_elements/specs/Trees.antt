@@ -3,9 +3,9 @@
 use Rattle.std.specs.Prelude.{ℕ, List, Option}
 use Rattle.wasm_types.specs.decoding.Decoder.{State}
 use Rattle.wasm_operators_bodies.specs.ConstantDecoder.{constant}
-use Rattle.wasm_sections_elements.specs.declared.element.ElementOf.{ElementOf}
-use Rattle.wasm_sections_elements.specs.Spells.{ElementTree}
-use Rattle.wasm_sections_elements.specs.Elements.{tree_of}
+use Rattle.wasm_sections_items.specs.declared.elements.element.ElementOf.{ElementOf}
+use Rattle.wasm_sections_items.specs.elements.Spells.{ElementTree}
+use Rattle.wasm_sections_items.specs.elements.Elements.{tree_of}
 use Rattle.wasm_module_validator_segments.specs.Trees.{bytes_of}
 
 -- an element segment as it is read, which is none where its readers have other elements than they count

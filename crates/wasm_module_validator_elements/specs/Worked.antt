@@ -7,7 +7,7 @@ use Rattle.wasm_types.specs.limits.Limits.{default_limits}
 use Rattle.wasm_types.specs.limits.Settings.{Settings}
 use Rattle.wasm_types.specs.trees.Types.{ref, abstract, func, extern}
 use Rattle.wasm_types.specs.trees.Trees.{TypeTree}
-use Rattle.wasm_sections_elements.specs.Spells.{ElementTree, ElementMode, ElementItems, passive, active, declared, functions, expressions}
+use Rattle.wasm_sections_items.specs.elements.Spells.{ElementTree, ElementMode, ElementItems, passive, active, declared, functions, expressions}
 use Rattle.wasm_module_validator_segments.specs.constants.rules.Operands.{ValueType}
 use Rattle.wasm_module_validator_segments.specs.constants.rules.Context.{Module}
 use Rattle.wasm_module_validator_segments.specs.rules.worked.Trees.{everything, without, funcref}

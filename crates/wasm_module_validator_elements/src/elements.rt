@@ -20,7 +20,7 @@ use std::alloc::Global;
 use wasm_module_validator_segments::{
     ConstExpr, OperatorValidatorAllocations, Settings, WasmModuleResources, check_value_type,
 };
-use wasm_sections_elements::{ElementItemsOf, ElementOf};
+use wasm_sections_items::elements::{ElementItemsOf, ElementOf};
 use wasm_types::{RefType, Result, ValType};
 
 // A reference type that the module writes, over ids.

@@ -18,7 +18,7 @@ use std::alloc::Global;
 use wasm_module_validator_segments::{
     ConstExpr, OperatorValidatorAllocations, Settings, WasmModuleResources,
 };
-use wasm_sections_elements::ElementItemsOf;
+use wasm_sections_items::elements::ElementItemsOf;
 use wasm_sections_limited::SectionLimited;
 use wasm_types::{Error, Result, ValType};
 

@@ -20,4 +20,4 @@ pub use wasm_module_validator_segments::{
     ConstExpr, DataOf, GlobalOf, OperatorValidatorAllocations, Settings, TableInitOf, TableOf,
     WasmModuleResources, check_data, check_global, check_table, reader_by,
 };
-pub use wasm_sections_elements::{ElementItemsOf, ElementKindOf, ElementOf};
+pub use wasm_sections_items::elements::{ElementItemsOf, ElementKindOf, ElementOf};

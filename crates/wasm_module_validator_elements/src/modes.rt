@@ -6,7 +6,7 @@ ghost use Rattle.wasm_types.specs.error.declared.error.ErrorKind.TheVariants.{Ot
 ghost use Rattle.wasm_types.specs.features.Features.{BulkMemory};
 ghost use Rattle.wasm_types.specs.limits.Limits.{IsWithinCeilings};
 ghost use Rattle.wasm_types.specs.trees.Gates.{Has};
-ghost use Rattle.wasm_sections_elements.specs.declared.element.ElementKindOf.TheVariants as kinds;
+ghost use Rattle.wasm_sections_items.specs.declared.elements.element.ElementKindOf.TheVariants as kinds;
 ghost use Rattle.wasm_module_validator_segments.specs.constants.resources.Meaning.{reference_in};
 ghost use Rattle.wasm_module_validator_segments.specs.rules.Valid.{table_index as table_named};
 ghost use Rattle.wasm_module_validator_segments.specs.Refusals.{IsMissing};
@@ -21,7 +21,7 @@ use wasm_module_validator_segments::{
     ConstExpr, OperatorValidatorAllocations, Settings, WasmModuleResources, require,
 };
 use wasm_operator_validator_state::ty_to_str;
-use wasm_sections_elements::ElementKindOf;
+use wasm_sections_items::elements::ElementKindOf;
 use wasm_types::{Error, RefType, Result, ValType, WasmFeatures};
 
 // The refusal of an index past the end of the tables.

@@ -1,9 +1,9 @@
 -- The type of an import by ids, in place of the one that is written.
 use Rattle.std.specs.Prelude.{◌≡◌}
-use Rattle.wasm_sections_imports.specs.declared.type_ref.TypeRef.{TypeRef}
-use Rattle.wasm_sections_imports.specs.declared.type_ref.TypeRef.TheVariants as import
-use Rattle.wasm_module_validator_externs.specs.state.resources.Meaning.{Meaning, table_in, global_in}
-use Rattle.wasm_module_validator_externs.specs.rules.Spaces.{table_in as table_written, global_in as global_written}
+use Rattle.wasm_sections_items.specs.declared.imports.type_ref.TypeRef.{TypeRef}
+use Rattle.wasm_sections_items.specs.declared.imports.type_ref.TypeRef.TheVariants as import
+use Rattle.wasm_module_validator_checks.specs.externs.state.resources.Meaning.{Meaning, table_in, global_in}
+use Rattle.wasm_module_validator_checks.specs.limits.rules.Spaces.{table_in as table_written, global_in as global_written}
 -- for attributes that unfold it
 unfoldable pub use Rattle.wasm_types.specs.features.Features.{has}
 

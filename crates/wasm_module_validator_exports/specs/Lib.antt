@@ -1,4 +1,4 @@
 -- What imports become by ids.
 pub mod Imports
--- What is kept of both, by their names: crates above cite it here.
-pub use Rattle.wasm_module_validator_names.specs as names
+-- What is kept of both, by their names.
+pub mod names

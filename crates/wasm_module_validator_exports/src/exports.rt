@@ -3,12 +3,12 @@
 ghost use Rattle.std.specs.Prelude.{◌≡◌, IsTrue, IfErr, false};
 ghost use Rattle.wasm_types.specs.error.Denials.{Tells};
 ghost use Rattle.wasm_types.specs.error.declared.error.ErrorKind.TheVariants.{Other};
-ghost use Rattle.wasm_module_validator_externs.specs.rules.Valid.{IsValidExport};
-ghost use Rattle.wasm_sections_imports.specs.declared.kind.ExternalKind.TheVariants.{Global};
-ghost use Rattle.wasm_module_validator_externs.specs.Refusals.{IsNeeded, allowing};
+ghost use Rattle.wasm_module_validator_checks.specs.limits.rules.Valid.{IsValidExport};
+ghost use Rattle.wasm_sections_items.specs.declared.imports.kind.ExternalKind.TheVariants.{Global};
+ghost use Rattle.wasm_module_validator_checks.specs.externs.Refusals.{IsNeeded, allowing};
 
-use wasm_module_validator_externs::{Settings, WasmModuleResources, require};
-use wasm_sections_imports::ExternalKind;
+use wasm_module_validator_checks::externs::{Settings, WasmModuleResources, require};
+use wasm_sections_items::imports::ExternalKind;
 use wasm_types::{Error, Result, WasmFeatures};
 
 // The refusal of an index past the end of its space.

@@ -2,19 +2,19 @@
 
 ghost use Rattle.std.specs.Prelude.{◌≡◌, IfErr, OnOk, OnErr};
 ghost use Rattle.wasm_types.specs.error.Denials.{Tells};
-ghost use Rattle.wasm_module_validator_externs.specs.rules.Valid.{IsValidImport, IsFunctionIndex, IsValidGlobalType, IsValidTagType, MayCross};
-ghost use Rattle.wasm_module_validator_externs.specs.rules.Spaces.{global_in as global_written};
-ghost use Rattle.wasm_module_validator_externs.specs.state.resources.Meaning.{global_in};
+ghost use Rattle.wasm_module_validator_checks.specs.limits.rules.Valid.{IsValidImport, IsFunctionIndex, IsValidGlobalType, IsValidTagType, MayCross};
+ghost use Rattle.wasm_module_validator_checks.specs.limits.rules.Spaces.{global_in as global_written};
+ghost use Rattle.wasm_module_validator_checks.specs.externs.state.resources.Meaning.{global_in};
 ghost use Rattle.wasm_types.specs.features.Features.{CustomDescriptors};
 ghost use Rattle.wasm_types.specs.trees.Gates.{Has};
-ghost use Rattle.wasm_module_validator_externs.specs.Refusals.{IsRefusal, IsNeeded, allowing};
+ghost use Rattle.wasm_module_validator_checks.specs.externs.Refusals.{IsRefusal, IsNeeded, allowing};
 ghost use Rattle.wasm_module_validator_exports.specs.Imports.{IsNamedImport};
 
-use wasm_module_validator_externs::{
+use wasm_module_validator_checks::externs::{
     Settings, WasmModuleResources, check_global_type, check_memory_type, check_table_type,
     check_tag_type, func_type_at, require,
 };
-use wasm_sections_imports::TypeRef;
+use wasm_sections_items::imports::TypeRef;
 use wasm_types::{GlobalType, Result, TagType, WasmFeatures};
 
 // A function that is imported exactly, by a feature.

@@ -1,9 +1,9 @@
 //! Laws that tie what is asked of each export to the rules of all of them, on the contract of a function that does nothing.
 
 ghost use Rattle.std.specs.Prelude.{◌↔◌, ◌∷◌, ◌++◌, ◌+◌, ◌<◌, [], ℕ, List, map, sum};
-ghost use Rattle.wasm_sections_imports.specs.Spells.{ExportTree};
-ghost use Rattle.wasm_module_validator_externs.specs.rules.Valid.{HaveOwnNames, SumsBelow};
-ghost use Rattle.wasm_module_validator_names.specs.Exports.{IsNew};
+ghost use Rattle.wasm_sections_items.specs.imports.Spells.{ExportTree};
+ghost use Rattle.wasm_module_validator_checks.specs.limits.rules.Valid.{HaveOwnNames, SumsBelow};
+ghost use Rattle.wasm_module_validator_exports.specs.names.Exports.{IsNew};
 
 /// An export more: no two have one name exactly where that was so before and its name is new; and each sum of sizes is below the
 /// limit exactly where that was so before and the whole sum is.

@@ -7,9 +7,10 @@
 mod exports;
 mod imports;
 pub mod laws;
+pub mod names;
 mod sizes;
 
+pub use crate::names::{Exports, Imports, NamedExport, NamedImports, Place};
 pub use exports::check_export;
 pub use imports::check_import;
 pub use sizes::{combine_export_size, combine_import_size};
-pub use wasm_module_validator_names::{Exports, Imports, NamedExport, NamedImports, Place};

@@ -3,12 +3,12 @@
 ghost use Rattle.std.specs.Prelude.{◌≡◌, ◌+◌, ◌<◌, IfErr, IfOk, length, slice_get};
 ghost use Rattle.wasm_types.specs.error.Denials.{Tells};
 ghost use Rattle.wasm_types.specs.error.declared.error.ErrorKind.TheVariants.{Other};
-ghost use Rattle.wasm_module_validator_externs.specs.rules.Valid.{size_at, import_size, export_size};
+ghost use Rattle.wasm_module_validator_checks.specs.limits.rules.Valid.{size_at, import_size, export_size};
 
-use wasm_module_validator_externs::{
+use wasm_module_validator_checks::externs::{
     Settings, WasmModuleResources, combine_type_sizes, function_of,
 };
-use wasm_sections_imports::{ExternalKind, TypeRef};
+use wasm_sections_items::imports::{ExternalKind, TypeRef};
 use wasm_types::{Error, FuncType, Result};
 
 // A count behind a sum of sizes, where the sum stays below the limit.

@@ -14,11 +14,11 @@ use Rattle.wasm_sections_parser.specs.declared.progress.Progress.{Progress}
 use Rattle.wasm_sections_parser.specs.Places.{IsPlacedBy, HasContentsAt}
 use Rattle.wasm_sections_parser.specs.Steps.{Shape, the_end, is_over, Next, ordered, next_section, step}
 use Rattle.wasm_sections_parser.specs.Parsing.{shape_of, reads, between, at_end, Ends, Comes, IsOver, one_of, Parses}
-use Rattle.wasm_sections_parser_steps.specs.StepCases.{step_between}
-use Rattle.wasm_sections_parser_laws.specs.Runs.{fresh, Run}
-use Rattle.wasm_sections_parser_laws.specs.Calls.{settings_of, shapes_of, stands, Called, Calls}
-use Rattle.wasm_sections_parser_laws.specs.CallLaws.{call_cases, calls_run}
-use Rattle.wasm_sections_parser_laws.specs.Advance.{is_end, parsed_is_over}
+use Rattle.wasm_sections_parser_laws.specs.steps.StepCases.{step_between}
+use Rattle.wasm_sections_parser_laws.specs.calls.Runs.{fresh, Run}
+use Rattle.wasm_sections_parser_laws.specs.calls.Calls.{settings_of, shapes_of, stands, Called, Calls}
+use Rattle.wasm_sections_parser_laws.specs.calls.CallLaws.{call_cases, calls_run}
+use Rattle.wasm_sections_parser_laws.specs.calls.Advance.{is_end, parsed_is_over}
 use Rattle.wasm_sections_parser_laws.specs.Modules.{IsModule}
 use Rattle.wasm_sections_parser_laws.specs.ModuleLaws.{end_given}
 use Rattle.wasm_sections_parser_laws.specs.RefusalLaws.{IsStuck}

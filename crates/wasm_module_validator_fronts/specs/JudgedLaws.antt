@@ -15,8 +15,8 @@ use Rattle.wasm_sections_parser.specs.declared.frame.Frame.{Frame}
 use Rattle.wasm_sections_parser.specs.declared.parser.Parser.{Parser}
 use Rattle.wasm_sections_parser.specs.Parsing.{shape_of}
 use Rattle.wasm_sections_parser.specs.Steps.{Shape, section, the_end}
-use Rattle.wasm_sections_parser_laws.specs.Runs.{fresh}
-use Rattle.wasm_sections_parser_laws.specs.Calls.{settings_of, shapes_of}
+use Rattle.wasm_sections_parser_laws.specs.calls.Runs.{fresh}
+use Rattle.wasm_sections_parser_laws.specs.calls.Calls.{settings_of, shapes_of}
 use Rattle.wasm_sections_parser_laws.specs.Modules.{IsModule}
 use Rattle.wasm_sections_payloads.specs.Payloads.{cut, only_number, front_of}
 use Rattle.wasm_sections_payloads.specs.Walking.{Standing, NextPayload}

@@ -7,3 +7,5 @@ pub mod WalkLaws
 pub mod JudgedLaws
 -- Worked walks.
 pub mod Worked
+-- A module is accepted exactly where its frames are judged one by one.
+pub mod framed

@@ -7,9 +7,9 @@ use Rattle.wasm_sections_parser.specs.declared.frame.Frame.TheVariants as frames
 use Rattle.wasm_sections_parser.specs.declared.parser.Parser.{Parser}
 use Rattle.wasm_sections_parser.specs.declared.parser.Chunk.TheVariants.{Parsed}
 use Rattle.wasm_sections_parser.specs.Steps.{Shape, the_end, is_over}
-use Rattle.wasm_sections_parser_laws.specs.Runs.{fresh}
-use Rattle.wasm_sections_parser_laws.specs.Calls.{settings_of, shapes_of, Called, Calls}
-use Rattle.wasm_sections_parser_laws.specs.Advance.{is_end, parsed_is_over}
+use Rattle.wasm_sections_parser_laws.specs.calls.Runs.{fresh}
+use Rattle.wasm_sections_parser_laws.specs.calls.Calls.{settings_of, shapes_of, Called, Calls}
+use Rattle.wasm_sections_parser_laws.specs.calls.Advance.{is_end, parsed_is_over}
 use Rattle.wasm_sections_parser_laws.specs.Modules.{IsModule}
 use Rattle.wasm_sections_parser_laws.specs.RefusalLaws.{not_refused}
 use Rattle.wasm_sections_payloads.specs.declared.payload.Payload.{Payload}

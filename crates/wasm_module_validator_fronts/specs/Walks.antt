@@ -8,7 +8,7 @@ use Rattle.wasm_sections_parser.specs.declared.frame.Frame.{Frame}
 use Rattle.wasm_sections_parser.specs.declared.frame.Frame.TheVariants as frames
 use Rattle.wasm_sections_parser.specs.declared.parser.Parser.{Parser}
 use Rattle.wasm_sections_parser.specs.Steps.{Shape, section, is_over}
-use Rattle.wasm_sections_parser_laws.specs.Calls.{settings_of, shapes_of, Calls}
+use Rattle.wasm_sections_parser_laws.specs.calls.Calls.{settings_of, shapes_of, Calls}
 use Rattle.wasm_sections_payloads.specs.Payloads.{front_of}
 use Rattle.wasm_sections_payloads.specs.Walking.{Standing}
 

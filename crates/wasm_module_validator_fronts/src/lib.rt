@@ -8,6 +8,7 @@
 //! defines where a walk stands. There is no code here: each law is the contract of a function that does nothing.
 #![tactic(auto)]
 
+pub mod framed;
 mod laws;
 
 pub use laws::{fronts_are_of_modules, walks_are_judged, walks_are_worked, walks_go_along_modules};

@@ -5,3 +5,5 @@ pub mod Trying
 pub mod Rows
 -- How a validation's promise follows from its steps: laws, with the proofs.
 pub mod laws
+-- The bodies of a module, one after the other.
+pub mod code

@@ -17,6 +17,7 @@
 
 mod arity;
 mod beginning;
+pub mod code;
 mod heights;
 mod judging;
 pub mod laws;

@@ -11,7 +11,7 @@ use Rattle.wasm_types.specs.groups.Entries.{entry_of}
 use Rattle.wasm_module_validator_type_trees.specs.Groups.{Group}
 use Rattle.wasm_module_validator_type_trees.specs.ByIds.{supertype_of}
 use Rattle.wasm_module_validator_type_trees.specs.BelowIds.{entry_by_id}
-use Rattle.wasm_module_validator_composites.specs.Composites.{IsCompositeValid}
+use Rattle.wasm_module_validator_groups.specs.composites.Composites.{IsCompositeValid}
 use Rattle.wasm_module_validator_groups.specs.ValidTypes.{IsSubtypingAllowed, IsAboveValid, IsDepthWithin, AreDescriptorsAllowed, DescriptorsGoAlong, IsDescribedBy, Describes, IsTypeValid}
 
 pub tells_from : {X : Type 0} (r : Result X ErrorValue) (P Q : Type 0) → (P → Q) → (Q → P) → Tells r P → Tells r Q

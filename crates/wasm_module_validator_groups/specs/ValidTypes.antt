@@ -12,7 +12,7 @@ use Rattle.wasm_module_validator_type_trees.specs.Groups.{Group, count}
 use Rattle.wasm_module_validator_type_trees.specs.ByIds.{supertype_of}
 use Rattle.wasm_module_validator_type_trees.specs.BelowIds.{id_named, entry_by_id}
 use Rattle.wasm_module_validator_matches.specs.MatchesById.{EntryMatchesById, HasKnownIds}
-use Rattle.wasm_module_validator_composites.specs.Composites.{IsCompositeValid}
+use Rattle.wasm_module_validator_groups.specs.composites.Composites.{IsCompositeValid}
 
 -- a type that is open or has a supertype needs the features of garbage collection
 abbrev pub IsSubtypingAllowed : ℕ → EntryOf UnpackedIndex → Type 0

@@ -4,13 +4,13 @@ ghost use Rattle.std.specs.Prelude.{◌≡◌, ◌<◌, ◌≤◌, ◌-◌, IsTr
 ghost use Rattle.wasm_types.specs.error.Denials.{Tells, RefusedAt};
 ghost use Rattle.wasm_module_validator_type_trees.specs.Groups.{count};
 ghost use Rattle.wasm_module_validator_type_trees.specs.BelowIds.{entry_by_id};
-ghost use Rattle.wasm_module_validator_composites.specs.Composites.{WhereCanonical};
+ghost use Rattle.wasm_module_validator_groups.specs.composites.Composites.{WhereCanonical};
 ghost use Rattle.wasm_module_validator_groups.specs.ValidTypes.{HaveKnownIds, IsAboveValid, IsDepthWithin, AreDescriptorsAllowed, GoAlong, DescriptorsGoAlong, IsTypeValid, AreTypesValid};
 
+use crate::composites::check_composite_type;
 use crate::descriptors::{Along, check_joined, check_joins};
 use crate::supertypes::{check_subtyping, check_supertype};
 use std::ops::Range;
-use wasm_module_validator_composites::check_composite_type;
 use wasm_module_validator_matches::stored_type;
 use wasm_module_validator_types::TypeList;
 use wasm_types::{CoreTypeId, Error, PackedIndex, Result, WasmFeatures};

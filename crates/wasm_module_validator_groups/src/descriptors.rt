@@ -9,7 +9,7 @@ ghost use Rattle.wasm_module_validator_type_trees.specs.Groups.{count};
 ghost use Rattle.wasm_module_validator_type_trees.specs.BelowIds.{IsIdBelow, entry_by_id, id_named};
 ghost use Rattle.wasm_module_validator_groups.specs.ValidTypes.{AreDescriptorsAllowed, GoAlong, IsDescribedBy, Describes};
 
-use wasm_module_validator_composites::require;
+use crate::composites::require;
 use wasm_module_validator_matches::stored_type;
 use wasm_module_validator_types::TypeList;
 use wasm_types::{

@@ -5,7 +5,9 @@
 //! the types that the ids stand for (`types_are_valid_as_trees`). Nothing here takes memory.
 #![tactic(auto)]
 
+pub mod adding;
 mod check;
+pub mod composites;
 mod descriptors;
 pub mod laws;
 mod supertypes;

@@ -9,7 +9,7 @@ ghost use Rattle.wasm_module_validator_type_trees.specs.BelowIds.{entry_by_id};
 ghost use Rattle.wasm_module_validator_matches.specs.MatchesById.{HasKnownIds};
 ghost use Rattle.wasm_module_validator_groups.specs.ValidTypes.{IsSubtypingAllowed, IsAboveValid, IsDepthWithin};
 
-use wasm_module_validator_composites::require;
+use crate::composites::require;
 use wasm_module_validator_matches::{stored_type, types_match};
 use wasm_module_validator_types::TypeList;
 use wasm_types::{CoreTypeId, Error, Result, SubType, WasmFeatures};

@@ -2,14 +2,14 @@
 use Rattle.std.proofs.Common.{◌≡◌, ◌∙◌, ℕ, ◌+◌, List, [], ◌∷◌, ◌++◌, refl, ap, sym, subst, true, Option, Result, Ok, Err, OnOk, OnErr}
 use Rattle.wasm_types.specs.error.ErrorValue.{ErrorValue}
 use Rattle.wasm_types.specs.trees.Trees.{TypeTree}
-use Rattle.wasm_sections_imports.specs.declared.kind.ExternalKind.{ExternalKind}
-use Rattle.wasm_sections_imports.specs.declared.type_ref.TypeRef.{TypeRef}
-use Rattle.wasm_sections_imports.specs.Spells.{ImportTree, ExportTree}
+use Rattle.wasm_sections_items.specs.declared.imports.kind.ExternalKind.{ExternalKind}
+use Rattle.wasm_sections_items.specs.declared.imports.type_ref.TypeRef.{TypeRef}
+use Rattle.wasm_sections_items.specs.imports.Spells.{ImportTree, ExportTree}
 use Rattle.wasm_module_validator_type_trees.specs.Groups.{Group}
-use Rattle.wasm_module_validator_externs.specs.rules.Valid.{IsFunctionIndex, import_size, export_size}
+use Rattle.wasm_module_validator_checks.specs.limits.rules.Valid.{IsFunctionIndex, import_size, export_size}
 use Rattle.wasm_module_validator_exports.specs.Imports.{IsNamedImport}
 use Rattle.wasm_module_validator_exports.specs.names.Imports.{ImportedName, with_import as with_name}
-use Rattle.wasm_module_validator_interning.specs.Interned.{space_of, AddsGroup, AreIdsKnown, IsChecked}
+use Rattle.wasm_module_validator_groups.specs.adding.Interned.{space_of, AddsGroup, AreIdsKnown, IsChecked}
 use Rattle.wasm_module_validator_module.specs.Spaces.{Spaces, own_function}
 use Rattle.wasm_module_validator_resources.specs.Reading.{context_of, meaning_of}
 use Rattle.wasm_module_validator_resources.specs.Named.{IsReadOver}

@@ -4,10 +4,10 @@ use Rattle.wasm_types.specs.values.Reference.{Reference}
 use Rattle.wasm_types.specs.externs.declared.table.TableType.{TableType}
 use Rattle.wasm_types.specs.externs.declared.memory.MemoryType.{MemoryType}
 use Rattle.wasm_types.specs.externs.declared.global.GlobalType.{GlobalType}
-use Rattle.wasm_sections_imports.specs.declared.kind.ExternalKind.{ExternalKind}
-use Rattle.wasm_sections_imports.specs.declared.kind.ExternalKind.TheVariants as kind
-use Rattle.wasm_sections_imports.specs.declared.type_ref.TypeRef.{TypeRef}
-use Rattle.wasm_sections_imports.specs.declared.type_ref.TypeRef.TheVariants as import
+use Rattle.wasm_sections_items.specs.declared.imports.kind.ExternalKind.{ExternalKind}
+use Rattle.wasm_sections_items.specs.declared.imports.kind.ExternalKind.TheVariants as kind
+use Rattle.wasm_sections_items.specs.declared.imports.type_ref.TypeRef.{TypeRef}
+use Rattle.wasm_sections_items.specs.declared.imports.type_ref.TypeRef.TheVariants as import
 use Rattle.wasm_module_validator_module.specs.Spaces.{Spaces, id_at, own_function, imported_function, referring_to}
 
 -- a function that the module has itself, by the index of its type; and one that is imported, exactly or not

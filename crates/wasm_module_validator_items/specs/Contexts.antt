@@ -12,14 +12,14 @@ use Rattle.wasm_types.specs.values.Values.{value_of}
 use Rattle.wasm_types.specs.externs.declared.table.TableType.{TableType}
 use Rattle.wasm_types.specs.externs.declared.memory.MemoryType.{MemoryType}
 use Rattle.wasm_types.specs.externs.declared.global.GlobalType.{GlobalType}
-use Rattle.wasm_sections_imports.specs.declared.kind.ExternalKind.{ExternalKind}
-use Rattle.wasm_sections_imports.specs.declared.kind.ExternalKind.TheVariants as kind
-use Rattle.wasm_sections_imports.specs.declared.type_ref.TypeRef.{TypeRef}
-use Rattle.wasm_sections_imports.specs.declared.type_ref.TypeRef.TheVariants as import
-use Rattle.wasm_module_validator_externs.specs.state.rules.Context.{Module}
-use Rattle.wasm_module_validator_externs.specs.state.rules.Operands.{ValueType}
-use Rattle.wasm_module_validator_externs.specs.state.rules.Row.{IsOneOf}
-use Rattle.wasm_module_validator_externs.specs.rules.Spaces.{table_in, global_in}
+use Rattle.wasm_sections_items.specs.declared.imports.kind.ExternalKind.{ExternalKind}
+use Rattle.wasm_sections_items.specs.declared.imports.kind.ExternalKind.TheVariants as kind
+use Rattle.wasm_sections_items.specs.declared.imports.type_ref.TypeRef.{TypeRef}
+use Rattle.wasm_sections_items.specs.declared.imports.type_ref.TypeRef.TheVariants as import
+use Rattle.wasm_module_validator_checks.specs.externs.state.rules.Context.{Module}
+use Rattle.wasm_module_validator_checks.specs.externs.state.rules.Operands.{ValueType}
+use Rattle.wasm_module_validator_checks.specs.externs.state.rules.Row.{IsOneOf}
+use Rattle.wasm_module_validator_checks.specs.limits.rules.Spaces.{table_in, global_in}
 use Rattle.wasm_module_validator_type_trees.specs.Groups.{Group, count}
 use Rattle.wasm_module_validator_type_trees.specs.BelowIds.{IsIdBelow}
 use Rattle.wasm_module_validator_module.specs.Spaces.{Spaces, AreTyped}

@@ -5,16 +5,16 @@ use Rattle.std.specs.Prelude.{◌≡◌, ◌⊎◌, ◌+◌, ◌<◌, ◌≤◌,
 use Rattle.wasm_types.specs.limits.Settings.{Settings}
 use Rattle.wasm_types.specs.error.declared.error.ErrorKind.{ErrorKind}
 use Rattle.wasm_types.specs.error.declared.error.ErrorKind.TheVariants.{Other}
-use Rattle.wasm_sections_imports.specs.declared.kind.ExternalKind.{ExternalKind}
-use Rattle.wasm_sections_imports.specs.declared.type_ref.TypeRef.{TypeRef}
-use Rattle.wasm_sections_imports.specs.declared.type_ref.TypeRef.TheVariants as import
-use Rattle.wasm_sections_imports.specs.Spells.{ImportTree, ExportTree, kind_of}
+use Rattle.wasm_sections_items.specs.declared.imports.kind.ExternalKind.{ExternalKind}
+use Rattle.wasm_sections_items.specs.declared.imports.type_ref.TypeRef.{TypeRef}
+use Rattle.wasm_sections_items.specs.declared.imports.type_ref.TypeRef.TheVariants as import
+use Rattle.wasm_sections_items.specs.imports.Spells.{ImportTree, ExportTree, kind_of}
 use Rattle.wasm_module_validator_type_trees.specs.Groups.{Group}
 use Rattle.wasm_module_validator_module.specs.declared.module.Function.{Function}
 use Rattle.wasm_module_validator_module.specs.Spaces.{Spaces, nothing_read}
 use Rattle.wasm_module_validator_resources.specs.Reading.{context_of, meaning_of}
-use Rattle.wasm_module_validator_externs.specs.rules.Valid.{IsValidImport, IsValidExport, import_size, export_size, most_tables, most_memories}
-use Rattle.wasm_module_validator_externs.specs.Refusals.{IsRefusal}
+use Rattle.wasm_module_validator_checks.specs.limits.rules.Valid.{IsValidImport, IsValidExport, import_size, export_size, most_tables, most_memories}
+use Rattle.wasm_module_validator_checks.specs.externs.Refusals.{IsRefusal}
 use Rattle.wasm_module_validator_exports.specs.Imports.{IsNamedImport}
 use Rattle.wasm_module_validator_exports.specs.names.Exports.{IsNew, names_of}
 use Rattle.wasm_module_validator_exports.specs.names.Imports.{ImportedName, with_import as with_name}

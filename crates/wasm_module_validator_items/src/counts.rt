@@ -4,10 +4,10 @@
 ghost use Rattle.std.specs.Prelude.{◌≡◌, ◌+◌, ◌≤◌, IfErr, length};
 ghost use Rattle.wasm_types.specs.error.Denials.{Tells};
 ghost use Rattle.wasm_types.specs.error.declared.error.ErrorKind.TheVariants.{Other};
-ghost use Rattle.wasm_module_validator_externs.specs.rules.Valid.{most_tables, most_memories};
+ghost use Rattle.wasm_module_validator_checks.specs.limits.rules.Valid.{most_tables, most_memories};
 
 use crate::ModuleState;
-use wasm_module_validator_externs::check_max;
+use wasm_module_validator_checks::externs::check_max;
 use wasm_types::{Error, Result};
 
 // The refusal of more things than the limit.

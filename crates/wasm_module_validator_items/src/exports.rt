@@ -3,8 +3,8 @@
 ghost use Rattle.std.specs.Prelude.{◌≡◌, ◌+◌, ◌<◌, ◌≤◌, IsTrue, IfErr, IfOk, OnOk, OnErr, length};
 ghost use Rattle.wasm_types.specs.error.Denials.{Tells, UnlessMemory};
 ghost use Rattle.wasm_types.specs.error.declared.error.ErrorKind.TheVariants.{Other};
-ghost use Rattle.wasm_module_validator_externs.specs.rules.Valid.{IsValidExport, export_size};
-ghost use Rattle.wasm_module_validator_externs.specs.Refusals.{IsRefusal, IsNeeded, allowing};
+ghost use Rattle.wasm_module_validator_checks.specs.limits.rules.Valid.{IsValidExport, export_size};
+ghost use Rattle.wasm_module_validator_checks.specs.externs.Refusals.{IsRefusal, IsNeeded, allowing};
 ghost use Rattle.wasm_module_validator_resources.specs.Named.{IsReadOver};
 ghost use Rattle.wasm_module_validator_resources.specs.Reading.{context_of};
 ghost use Rattle.wasm_module_validator_items.specs.Adding.{exporting};
@@ -13,7 +13,7 @@ ghost use Rattle.wasm_module_validator_items.specs.Items.{IsExportable, IsExport
 use crate::ModuleState;
 use wasm_module_validator_exports::{check_export, combine_export_size};
 use wasm_module_validator_types::TypeList;
-use wasm_sections_imports::ExternalKind;
+use wasm_sections_items::imports::ExternalKind;
 use wasm_types::Result;
 
 impl ModuleState {

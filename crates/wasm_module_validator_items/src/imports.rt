@@ -3,19 +3,19 @@
 ghost use Rattle.std.specs.Prelude.{◌≡◌, ◌+◌, ◌<◌, IfErr, IfOk, OnOk, OnErr, length};
 ghost use Rattle.wasm_types.specs.error.Denials.{Tells, UnlessMemory};
 ghost use Rattle.wasm_types.specs.error.declared.error.ErrorKind.TheVariants.{Other, OutOfMemory};
-ghost use Rattle.wasm_module_validator_externs.specs.rules.Valid.{IsValidImport, import_size};
-ghost use Rattle.wasm_module_validator_externs.specs.Refusals.{IsRefusal, allowing};
+ghost use Rattle.wasm_module_validator_checks.specs.limits.rules.Valid.{IsValidImport, import_size};
+ghost use Rattle.wasm_module_validator_checks.specs.externs.Refusals.{IsRefusal, allowing};
 ghost use Rattle.wasm_module_validator_exports.specs.Imports.{IsNamedImport};
 ghost use Rattle.wasm_module_validator_resources.specs.Named.{IsReadOver};
 ghost use Rattle.wasm_module_validator_resources.specs.Reading.{context_of, meaning_of};
 ghost use Rattle.wasm_module_validator_items.specs.Adding.{importing};
 ghost use Rattle.wasm_module_validator_items.specs.Items.{HasItsType, HasRoomFor, IsImportable, IsImported, IsLeft, IsRefusedBy, next_index, next_place};
-ghost use Rattle.wasm_sections_imports.specs.Spells.{kind_of};
+ghost use Rattle.wasm_sections_items.specs.imports.Spells.{kind_of};
 
 use crate::ModuleState;
 use wasm_module_validator_exports::{Place, check_import, combine_import_size};
 use wasm_module_validator_types::TypeList;
-use wasm_sections_imports::{ExternalKind, TypeRef};
+use wasm_sections_items::imports::{ExternalKind, TypeRef};
 use wasm_types::Result;
 
 // How many items there are, where there are fewer than so many.

@@ -5,14 +5,14 @@ ghost use Rattle.wasm_types.specs.error.Denials.{Tells};
 ghost use Rattle.wasm_types.specs.error.declared.error.ErrorKind.TheVariants.{Other};
 ghost use Rattle.wasm_types.specs.features.Features.{BulkMemory};
 ghost use Rattle.wasm_types.specs.trees.Gates.{Has};
-ghost use Rattle.wasm_module_validator_externs.specs.rules.Valid.{IsValidStart};
+ghost use Rattle.wasm_module_validator_checks.specs.limits.rules.Valid.{IsValidStart};
 ghost use Rattle.wasm_module_validator_resources.specs.Named.{IsReadOver};
 ghost use Rattle.wasm_module_validator_resources.specs.Reading.{context_of};
 ghost use Rattle.wasm_module_validator_items.specs.Adding.{counting_data};
 ghost use Rattle.wasm_module_validator_items.specs.Items.{IsNextCode};
 
 use crate::ModuleState;
-use wasm_module_validator_sections::{check_data_count, check_start};
+use wasm_module_validator_checks::sections::{check_data_count, check_start};
 use wasm_module_validator_types::TypeList;
 use wasm_types::Result;
 

@@ -4,8 +4,8 @@ ghost use Rattle.std.specs.Prelude.{◌≡◌, ◌<◌, IfErr, OnOk, OnErr, leng
 ghost use Rattle.wasm_types.specs.error.Denials.{Tells, UnlessMemory};
 ghost use Rattle.wasm_types.specs.error.declared.error.ErrorKind.TheVariants.{Other};
 ghost use Rattle.wasm_module_validator_type_trees.specs.Groups.{Group};
-ghost use Rattle.wasm_module_validator_externs.specs.rules.Valid.{IsFunctionIndex, IsValidMemoryType, IsValidTagType, most_memories};
-ghost use Rattle.wasm_module_validator_externs.specs.Refusals.{IsNeeded, allowing};
+ghost use Rattle.wasm_module_validator_checks.specs.limits.rules.Valid.{IsFunctionIndex, IsValidMemoryType, IsValidTagType, most_memories};
+ghost use Rattle.wasm_module_validator_checks.specs.externs.Refusals.{IsNeeded, allowing};
 ghost use Rattle.wasm_module_validator_resources.specs.Named.{IsReadOver};
 ghost use Rattle.wasm_module_validator_resources.specs.Reading.{context_of};
 ghost use Rattle.wasm_module_validator_items.specs.Adding.{adding_function, adding_memory, adding_tag};
@@ -13,7 +13,7 @@ ghost use Rattle.wasm_module_validator_items.specs.Contexts.{with_function, with
 ghost use Rattle.wasm_module_validator_items.specs.Items.{IsRefusedBy};
 
 use crate::ModuleState;
-use wasm_module_validator_externs::{check_memory_type, check_tag_type, func_type_at};
+use wasm_module_validator_checks::externs::{check_memory_type, check_tag_type, func_type_at};
 use wasm_module_validator_types::TypeList;
 use wasm_types::{MemoryType, Result, TagType};
 

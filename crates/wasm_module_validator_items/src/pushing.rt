@@ -6,7 +6,7 @@ ghost use Rattle.std.specs.Prelude.{◌≡◌, ◌<◌, IfErr, OnOk, OnErr, leng
 ghost use Rattle.wasm_types.specs.error.Denials.{Tells, UnlessMemory};
 ghost use Rattle.wasm_types.specs.error.declared.error.ErrorKind.TheVariants.{Other};
 ghost use Rattle.wasm_module_validator_type_trees.specs.Groups.{Group};
-ghost use Rattle.wasm_module_validator_externs.specs.rules.Valid.{most_tables};
+ghost use Rattle.wasm_module_validator_checks.specs.limits.rules.Valid.{most_tables};
 ghost use Rattle.wasm_module_validator_resources.specs.Named.{IsReadOver};
 ghost use Rattle.wasm_module_validator_items.specs.Adding.{adding_table, adding_global, adding_element, referring};
 

@@ -3,15 +3,15 @@
 ghost use Rattle.std.specs.Prelude.{◌≡◌, map};
 ghost use Rattle.wasm_module_validator_exports.specs.names.Exports.{export_of};
 ghost use Rattle.wasm_module_validator_exports.specs.names.Imports.{named_of};
-ghost use Rattle.wasm_module_validator_interning.specs.Modules.{settings_of};
+ghost use Rattle.wasm_module_validator_groups.specs.adding.Modules.{settings_of};
 ghost use Rattle.wasm_module_validator_resources.specs.Named.{IsReadOver};
 ghost use Rattle.wasm_module_validator_resources.specs.Reading.{meaning_of};
 ghost use Rattle.wasm_module_validator_items.specs.Items.{no_items};
 
 use std::alloc::Global;
 use std::marker::Model;
+use wasm_module_validator_checks::externs::Settings;
 use wasm_module_validator_exports::{Exports, Imports, NamedExport, NamedImports};
-use wasm_module_validator_externs::Settings;
 use wasm_module_validator_resources::{Module, OperatorValidatorResources};
 use wasm_module_validator_types::TypeList;
 use wasm_operator_validator_stacks::OperatorValidatorAllocations;

@@ -6,7 +6,7 @@ ghost use Rattle.wasm_types.specs.groups.Entries.{declared_types};
 ghost use Rattle.wasm_types.specs.trees.ValidGroup.{IsValidGroup, types_of};
 ghost use Rattle.wasm_module_validator_types.specs.List.{HasRoom};
 ghost use Rattle.wasm_module_validator_canonical.specs.Written.{AreModuleIndices};
-ghost use Rattle.wasm_module_validator_interning.specs.Interned.{space_of, written_group, kept_group, AddsGroup};
+ghost use Rattle.wasm_module_validator_groups.specs.adding.Interned.{space_of, written_group, kept_group, AddsGroup};
 ghost use Rattle.wasm_module_validator_resources.specs.Named.{IsReadOver};
 ghost use Rattle.wasm_module_validator_resources.specs.Reading.{context_of};
 ghost use Rattle.wasm_module_validator_items.specs.Contexts.{with_types, AreNamesKnown};

@@ -1,2 +1,4 @@
 -- What a contract sees of a module that is being read.
 pub mod Spaces
+-- What is looked up in a module that was read.
+pub mod view

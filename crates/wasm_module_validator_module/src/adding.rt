@@ -7,7 +7,7 @@ ghost use Rattle.wasm_types.specs.groups.Entries.{declared_types};
 ghost use Rattle.wasm_types.specs.trees.ValidGroup.{IsValidGroup, types_of};
 ghost use Rattle.wasm_module_validator_types.specs.List.{HasRoom};
 ghost use Rattle.wasm_module_validator_canonical.specs.Written.{AreModuleIndices};
-ghost use Rattle.wasm_module_validator_interning.specs.Interned.{space_of, AreIdsKnown, written_group, kept_group, IsChecked, AddsGroup};
+ghost use Rattle.wasm_module_validator_groups.specs.adding.Interned.{space_of, AreIdsKnown, written_group, kept_group, IsChecked, AddsGroup};
 ghost use Rattle.wasm_module_validator_module.specs.Spaces.{id_at, own_function, imported_function, referring_to};
 
 use crate::{Function, Module};
@@ -48,7 +48,7 @@ fn push_within<X: Copy>(
 }
 
 impl Module {
-    /// Adds a group of types, as `canonicalize_and_intern_rec_group` of `wasm_module_validator_interning` does; where the limit of
+    /// Adds a group of types, as `canonicalize_and_intern_rec_group` of `wasm_module_validator_groups` does; where the limit of
     /// types is to be tested, that comes before all else.
     ///
     /// # Errors
@@ -135,7 +135,7 @@ impl Module {
     }
 
     /// Adds a table, by the type of its elements over ids, where there are fewer than so many (`Settings::max_tables` of
-    /// `wasm_module_validator_limits`).
+    /// `wasm_module_validator_checks`).
     ///
     /// # Errors
     ///
@@ -149,7 +149,7 @@ impl Module {
         push_within(&mut self.tables, ty, most, "tables", offset)
     }
 
-    /// Adds a memory, where there are fewer than so many (`Settings::max_memories` of `wasm_module_validator_limits`).
+    /// Adds a memory, where there are fewer than so many (`Settings::max_memories` of `wasm_module_validator_checks`).
     ///
     /// # Errors
     ///

@@ -8,5 +8,6 @@
 mod adding;
 mod lookups;
 mod module;
+pub mod view;
 
 pub use module::{Function, Module};

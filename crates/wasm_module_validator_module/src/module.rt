@@ -2,7 +2,7 @@
 
 use std::alloc::Global;
 use std::marker::Model;
-use wasm_module_validator_interning::Module as ModuleTypes;
+use wasm_module_validator_groups::adding::Module as ModuleTypes;
 use wasm_types::{CoreTypeId, GlobalType, Limits, MemoryType, RefType, TableType, WasmFeatures};
 
 /// A function of a module: the index of its type, whether it is known to have exactly that type (the proposal on custom
@@ -33,7 +33,7 @@ pub struct Module {
 }
 
 impl Model for Module {
-    ghost use Rattle.wasm_module_validator_interning.specs.Modules.{settings_of};
+    ghost use Rattle.wasm_module_validator_groups.specs.adding.Modules.{settings_of};
     ghost use Rattle.wasm_module_validator_module.specs.Spaces.{Spaces, AreCounted, AreTyped};
 
     ghost Value = { Spaces };
@@ -58,7 +58,7 @@ impl Model for Module {
 
 impl Module {
     ghost use Rattle.std.specs.Prelude.{◌≡◌};
-    ghost use Rattle.wasm_module_validator_interning.specs.Modules.{settings_of};
+    ghost use Rattle.wasm_module_validator_groups.specs.adding.Modules.{settings_of};
     ghost use Rattle.wasm_module_validator_module.specs.Spaces.{nothing_read};
 
     /// A module of which nothing was read, under these features and limits. It takes no memory.

@@ -4,6 +4,6 @@ pub mod Progress
 pub mod laws
 -- The rules of the crates below, under their names: crates above cite them here.
 pub use Rattle.wasm_module_validator_standing.specs as standing
-pub use Rattle.wasm_module_validator_so_far.specs as so_far
+pub use Rattle.wasm_module_validator_standing.specs.so_far as so_far
 pub use Rattle.wasm_module_validator_fronts.specs as fronts
-pub use Rattle.wasm_module_validator_code.specs as code
+pub use Rattle.wasm_module_validator_functions.specs.code as code

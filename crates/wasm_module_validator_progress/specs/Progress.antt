@@ -3,7 +3,7 @@ use Rattle.std.specs.Prelude.{◌≡◌, ◌≤◌, ◌==◌, if◌then◌else�
 use Rattle.wasm_types.specs.limits.Limits.{default_limits}
 use Rattle.wasm_types.specs.limits.Settings.{Settings}
 use Rattle.wasm_module_validator_type_trees.specs.Groups.{Group}
-use Rattle.wasm_module_validator_interning.specs.Modules.{settings_of}
+use Rattle.wasm_module_validator_groups.specs.adding.Modules.{settings_of}
 use Rattle.wasm_module_validator_standing.specs.items.Items.{Items, no_items}
 use Rattle.wasm_module_validator_standing.specs.steps.contexts.rules.Syntax.{ModuleTree}
 use Rattle.wasm_module_validator_standing.specs.steps.contexts.rules.Valid.{Each}
@@ -11,8 +11,8 @@ use Rattle.wasm_module_validator_standing.specs.steps.Sections.{Section}
 use Rattle.wasm_module_validator_standing.specs.steps.Steps.{SoFar, IsJudged}
 use Rattle.wasm_module_validator_standing.specs.Standing.{IsGrown, Stands, IsReading}
 use Rattle.wasm_module_validator_texts.specs.Sections.{Reading}
-use Rattle.wasm_module_validator_code.specs.Code.{IsReadBy}
-use Rattle.wasm_module_validator_code.specs.declared.bodies.Body.{Body}
+use Rattle.wasm_module_validator_functions.specs.code.Code.{IsReadBy}
+use Rattle.wasm_module_validator_functions.specs.declared.code.bodies.Body.{Body}
 
 -- ---- what is kept
 

@@ -2,7 +2,7 @@
 
 ghost use Rattle.std.specs.Prelude.{◌≡◌, IfOk, OnErr, OnOk};
 ghost use Rattle.wasm_types.specs.limits.Limits.{default_limits};
-ghost use Rattle.wasm_module_validator_interning.specs.Modules.{settings_of};
+ghost use Rattle.wasm_module_validator_groups.specs.adding.Modules.{settings_of};
 ghost use Rattle.wasm_module_validator_progress.specs.Progress.{nothing_kept, renewed, next_over};
 
 use crate::SharedModule;

@@ -5,7 +5,7 @@ ghost use Rattle.wasm_types.specs.decoding.Decoder.{State};
 ghost use Rattle.wasm_types.specs.error.Denials.{Tells};
 ghost use Rattle.wasm_types.specs.limits.Settings.{Settings};
 ghost use Rattle.wasm_sections_payloads.specs.Payloads.{Counts};
-ghost use Rattle.wasm_module_validator_code.specs.declared.bodies.Body.{Body as TheBody};
+ghost use Rattle.wasm_module_validator_functions.specs.declared.code.bodies.Body.{Body as TheBody};
 ghost use Rattle.wasm_module_validator_standing.specs.steps.Sections as section;
 ghost use Rattle.wasm_module_validator_standing.specs.steps.Steps.{SoFar, JudgesSection};
 ghost use Rattle.wasm_module_validator_progress.specs.Progress.{Grows, IsAt};
@@ -13,7 +13,7 @@ ghost use Rattle.wasm_module_validator_progress.specs.Progress.{Grows, IsAt};
 use crate::{Collected, InProgress};
 use wasm_module_validator_adding::{AddLent, add_lent_items};
 use wasm_module_validator_declaring::add_import_item;
-use wasm_sections_imports::Import;
+use wasm_sections_items::imports::Import;
 use wasm_sections_payloads::ImportSectionReader;
 use wasm_types::Result;
 

@@ -25,9 +25,9 @@ use wasm_module_validator_initialising::{add_element, add_global, add_table, che
 use wasm_module_validator_standing::ModuleState;
 use wasm_module_validator_types::TypeList;
 use wasm_operators_bodies::ConstExpr;
-use wasm_sections_elements::ElementOf;
-use wasm_sections_imports::Export;
-use wasm_sections_segments::{DataOf, GlobalOf, TableOf};
+use wasm_sections_items::elements::ElementOf;
+use wasm_sections_items::imports::Export;
+use wasm_sections_items::segments::{DataOf, GlobalOf, TableOf};
 use wasm_types::{Error, MemoryType, RecGroup, Result, TagType, WasmFeatures};
 
 impl<'a> SectionItem<'a> for RecGroup {

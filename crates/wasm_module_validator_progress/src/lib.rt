@@ -24,7 +24,7 @@ pub use items::SectionItem;
 pub use payloads::check_header;
 pub use progress::InProgress;
 pub use shared::SharedModule;
-pub use wasm_module_validator_code::{
+pub use wasm_module_validator_functions::code::{
     Body, FuncToValidate, FuncValidator, FuncValidatorAllocations, judge_bodies,
 };
 pub use wasm_module_validator_initialising::{OperatorValidatorAllocations, check_data_with};

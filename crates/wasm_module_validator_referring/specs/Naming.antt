@@ -3,7 +3,7 @@ use Rattle.std.specs.Prelude.{◌≡◌, ℕ, List, [], ◌∷◌, ◌++◌, Opt
 use Rattle.wasm_types.specs.limits.Settings.{Settings}
 use Rattle.wasm_operators_reader.specs.expression.Code.{Code}
 use Rattle.wasm_operators_reader.specs.expression.Spelling.{SpelledExpression}
-use Rattle.wasm_module_validator_contexts.specs.rules.Spaces.{referred_in}
+use Rattle.wasm_module_validator_steps.specs.contexts.rules.Spaces.{referred_in}
 
 -- one at most
 abbrev pub listed : Option ℕ → List ℕ

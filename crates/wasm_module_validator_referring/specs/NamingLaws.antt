@@ -9,7 +9,7 @@ use Rattle.wasm_operators_reader.specs.expression.Spelling.{SpelledExpression}
 use Rattle.wasm_operators_reader.specs.expression.SpellingLaws.{one_expression}
 use Rattle.wasm_operators_reader.specs.Standing.{Standing, at_start, IsFinished, Reads, Runs}
 use Rattle.wasm_operators_reader.specs.RunLaws.{run_more, run_expression}
-use Rattle.wasm_module_validator_contexts.specs.rules.Spaces.{referred_by, referred_in}
+use Rattle.wasm_module_validator_steps.specs.contexts.rules.Spaces.{referred_by, referred_in}
 use Rattle.wasm_module_validator_referring.specs.Naming.{listed, NamesMore}
 
 -- so many operators were read, and what they name stands behind what stood there

@@ -4,7 +4,7 @@ use Rattle.wasm_operator_validator_resources.specs.rules.Context.{Module}
 use Rattle.wasm_operator_validator_resources.specs.Meaning.{Meaning}
 -- for attributes that unfold it
 unfoldable pub use Rattle.wasm_operator_validator_resources.specs.Meaning.{type_in}
-use Rattle.wasm_module_validator_contexts.specs.InOrder.{places_from}
+use Rattle.wasm_module_validator_steps.specs.contexts.InOrder.{places_from}
 
 -- each function may be referred to
 abbrev pub with_all_referenced : Module → Module

@@ -6,9 +6,9 @@ use Rattle.std.proofs.lemmas.Option.{slice_get_within, slice_get_cases}
 use Rattle.wasm_operator_validator_resources.specs.rules.Context.{Module}
 use Rattle.wasm_operator_validator_resources.specs.rules.Row.{IsOneOf}
 use Rattle.wasm_operator_validator_resources.specs.Answers.{IsTypeOf}
-use Rattle.wasm_module_validator_contexts.specs.InOrder.{places_from, context_so_far}
-use Rattle.wasm_module_validator_contexts.specs.rules.Syntax.{ModuleTree}
-use Rattle.wasm_module_validator_contexts.specs.rules.Spaces.{FunctionEntry, function_space, types_behind, module_of}
+use Rattle.wasm_module_validator_steps.specs.contexts.InOrder.{places_from, context_so_far}
+use Rattle.wasm_module_validator_steps.specs.contexts.rules.Syntax.{ModuleTree}
+use Rattle.wasm_module_validator_steps.specs.contexts.rules.Spaces.{FunctionEntry, function_space, types_behind, module_of}
 use Rattle.wasm_types.specs.trees.ValidGroup.{type_at}
 use Rattle.wasm_module_validator_referring.specs.Referring.{with_all_referenced}
 

@@ -3,9 +3,9 @@
 ghost use Rattle.std.specs.Prelude.{◌≡◌, ◌↔◌, ◌<◌, ℕ, List, length};
 ghost use Rattle.wasm_operator_validator_resources.specs.rules.Context.{Module};
 ghost use Rattle.wasm_operator_validator_resources.specs.rules.Row.{IsOneOf};
-ghost use Rattle.wasm_module_validator_contexts.specs.InOrder.{places_from, context_so_far};
-ghost use Rattle.wasm_module_validator_contexts.specs.rules.Syntax.{ModuleTree};
-ghost use Rattle.wasm_module_validator_contexts.specs.rules.Spaces.{module_of};
+ghost use Rattle.wasm_module_validator_steps.specs.contexts.InOrder.{places_from, context_so_far};
+ghost use Rattle.wasm_module_validator_steps.specs.contexts.rules.Syntax.{ModuleTree};
+ghost use Rattle.wasm_module_validator_steps.specs.contexts.rules.Spaces.{module_of};
 ghost use Rattle.wasm_module_validator_referring.specs.Referring.{with_all_referenced};
 
 /// The functions that may be referred to are those that there are, whichever they were before. Of a tree as far as it was read this is

@@ -2,7 +2,7 @@
 //!
 //! The rules let a constant name a function by `ref.func` where the function is among those that the whole module refers to; the
 //! constant itself makes it one of them. So a constant that is judged where it stands, before all of the module is known, is judged in
-//! the context in which each function may be referred to (`wasm_module_validator_contexts` proves that both are the same).
+//! the context in which each function may be referred to (`wasm_module_validator_steps` proves that both are the same).
 //! [`ReferringToAll`] is this context over any module; [`name_references`] tells which functions an expression names, so that code may
 //! refer to them.
 #![tactic(auto)]

@@ -6,7 +6,7 @@ ghost use Rattle.wasm_operators_reader.specs.operator.Op.{Op, op_of};
 ghost use Rattle.wasm_operators_reader.specs.expression.Code.{Code};
 ghost use Rattle.wasm_operators_reader.specs.expression.Spelling.{SpelledExpression};
 ghost use Rattle.wasm_operators_reader.specs.Standing.{Reads, Refuses};
-ghost use Rattle.wasm_module_validator_contexts.specs.rules.Spaces.{referred_by};
+ghost use Rattle.wasm_module_validator_steps.specs.contexts.rules.Spaces.{referred_by};
 ghost use Rattle.wasm_module_validator_referring.specs.Naming.{listed, NamesMore};
 ghost use Rattle.wasm_module_validator_referring.specs.NamingLaws.{HasNamed};
 

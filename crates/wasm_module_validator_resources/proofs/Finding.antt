@@ -22,7 +22,7 @@ use Rattle.wasm_module_validator_type_trees.specs.Groups.{Group, count, tree_of,
 use Rattle.wasm_module_validator_type_trees.specs.Formed.{IsFormed}
 use Rattle.wasm_module_validator_type_trees.specs.BelowIds.{undeclared}
 use Rattle.wasm_module_validator_type_trees.specs.laws.Ids.{length_stored}
-use Rattle.wasm_module_validator_interning.specs.Interned.{space_of, AreIdsKnown}
+use Rattle.wasm_module_validator_groups.specs.adding.Interned.{space_of, AreIdsKnown}
 use Rattle.wasm_module_validator_module.specs.declared.module.Function.{Function}
 use Rattle.wasm_module_validator_module.specs.Spaces.{Spaces}
 use Rattle.wasm_module_validator_resources.specs.Reading.{types_by_id, names_in, places, meaning_of}

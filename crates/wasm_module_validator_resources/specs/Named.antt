@@ -14,7 +14,7 @@ use Rattle.wasm_operator_validator_resources.specs.Meaning.{Meaning, named_type}
 use Rattle.wasm_module_validator_type_trees.specs.Groups.{Group, count, tree_of, declared_by_id, group_numbers}
 use Rattle.wasm_module_validator_type_trees.specs.BelowIds.{undeclared}
 use Rattle.wasm_module_validator_types.specs.Lookups.{HasIds}
-use Rattle.wasm_module_validator_interning.specs.Interned.{AreIdsKnown, IsChecked}
+use Rattle.wasm_module_validator_groups.specs.adding.Interned.{AreIdsKnown, IsChecked}
 use Rattle.wasm_module_validator_module.specs.Spaces.{Spaces}
 use Rattle.wasm_module_validator_resources.specs.Bare.{is_bare}
 use Rattle.wasm_module_validator_resources.specs.Reading.{names_in, context_of}

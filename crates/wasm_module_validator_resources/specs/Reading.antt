@@ -8,7 +8,7 @@ use Rattle.wasm_types.specs.trees.ValidGroup.{type_at, types_from}
 use Rattle.wasm_operator_validator_resources.specs.rules.Context.{Module}
 use Rattle.wasm_operator_validator_resources.specs.Meaning.{Meaning, table_in, global_in, reference_in}
 use Rattle.wasm_module_validator_type_trees.specs.Groups.{Group, tree_behind}
-use Rattle.wasm_module_validator_interning.specs.Interned.{space_of}
+use Rattle.wasm_module_validator_groups.specs.adding.Interned.{space_of}
 use Rattle.wasm_module_validator_module.specs.declared.module.Function.{Function}
 use Rattle.wasm_module_validator_module.specs.Spaces.{Spaces}
 

@@ -11,12 +11,12 @@ use Rattle.wasm_operators_bodies.specs.reader.expression.operator.Op.{Op}
 use Rattle.wasm_operators_bodies.specs.reader.expression.Code.{plain}
 use Rattle.wasm_operators_bodies.specs.reader.expression.operator.Roles.{role_of, effect}
 use Rattle.wasm_operators_bodies.specs.reader.expression.operator.declared.role.Effect.TheVariants.{Stays}
-use Rattle.wasm_operator_validator_constant_rules.specs.rules.Operands.{ValueType, known}
-use Rattle.wasm_operator_validator_constant_rules.specs.rules.Context.{Module, Global, Context, Initialised, inside}
-use Rattle.wasm_operator_validator_constant_rules.specs.rules.InstructionTypes.{◌⟶◌}
-use Rattle.wasm_operator_validator_constant_rules.specs.rules.Row.{Row, IsOneOf, of_type}
-use Rattle.wasm_operator_validator_constant_rules.specs.rules.Typed.{IsBody}
-use Rattle.wasm_operator_validator_constant_rules.specs.Constants.{constant_context, IsConstant}
+use Rattle.wasm_operator_validator_rules.specs.Operands.{ValueType, known}
+use Rattle.wasm_operator_validator_rules.specs.Context.{Module, Global, Context, Initialised, inside}
+use Rattle.wasm_operator_validator_rules.specs.InstructionTypes.{◌⟶◌}
+use Rattle.wasm_operator_validator_rules.specs.Row.{Row, IsOneOf, of_type}
+use Rattle.wasm_operator_validator_rules.specs.Typed.{IsBody}
+use Rattle.wasm_operator_validator_rules.specs.constants.Constants.{constant_context, IsConstant}
 use Rattle.wasm_module_validator_rules.specs.Valid.{body_context, IsValidGlobalType, IsValidTableType}
 use Rattle.wasm_module_validator_rules.specs.worked.Trees.{everything, constant, long, sum, only, global_get, function_at, refers_to, constant_of, table_with, some_function}
 

@@ -21,10 +21,10 @@ use Rattle.wasm_operators_bodies.specs.reader.expression.Spelling.{SpelledExpres
 use Rattle.wasm_operators_bodies.specs.Locals.{SpelledLocals}
 use Rattle.wasm_operators_bodies.specs.Constants.{EndsOnce}
 use Rattle.wasm_sections_frames.specs.Outer.{Part, custom, code, section, Outer, SpelledOuter, IsCoreModule}
-use Rattle.wasm_sections_imports.specs.Spells.{SpelledImport, SpelledExport}
-use Rattle.wasm_sections_segments.specs.Spells.{SpelledGlobalItem, SpelledData}
-use Rattle.wasm_sections_segments.specs.Tables.{SpelledTableItem}
-use Rattle.wasm_sections_elements.specs.Spells.{SpelledElement}
+use Rattle.wasm_sections_items.specs.imports.Spells.{SpelledImport, SpelledExport}
+use Rattle.wasm_sections_items.specs.segments.Spells.{SpelledGlobalItem, SpelledData}
+use Rattle.wasm_sections_items.specs.segments.Tables.{SpelledTableItem}
+use Rattle.wasm_sections_items.specs.elements.Spells.{SpelledElement}
 use Rattle.wasm_module_validator_rules.specs.Syntax.{Function, ModuleTree}
 
 -- ---- items

@@ -7,10 +7,10 @@ use Rattle.wasm_operators_bodies.specs.reader.expression.Code.{Code}
 use Rattle.wasm_operators_bodies.specs.reader.expression.SpellingLaws.{one_expression}
 use Rattle.wasm_operators_bodies.specs.ConstantDecoder.{constant}
 use Rattle.wasm_operators_bodies.specs.ConstantDecoderLaws.{decides-constant}
-use Rattle.wasm_sections_elements.specs.Spells.{ElementTree, ElementMode, ElementItems, passive, active, declared, functions, expressions, use_bits, kind_bits}
-use Rattle.wasm_sections_elements.specs.Spells.{SpelledMode, SpelledItems, SpelledElement}
-use Rattle.wasm_sections_elements.specs.Decode.{element}
-use Rattle.wasm_sections_elements.specs.DecodeLaws.{decides-element}
+use Rattle.wasm_sections_items.specs.elements.Spells.{ElementTree, ElementMode, ElementItems, passive, active, declared, functions, expressions, use_bits, kind_bits}
+use Rattle.wasm_sections_items.specs.elements.Spells.{SpelledMode, SpelledItems, SpelledElement}
+use Rattle.wasm_sections_items.specs.elements.Decode.{element}
+use Rattle.wasm_sections_items.specs.elements.DecodeLaws.{decides-element}
 use Rattle.wasm_module_validator_rules.specs.Binary.{SpelledConstant}
 use Rattle.wasm_module_validator_rules.specs.UniqueLaws.{Bytes, Unique, decided, lifted, Over, Text, up}
 

@@ -27,9 +27,9 @@ use Rattle.wasm_operators_bodies.specs.Locals.{locals, SpelledLocals}
 use Rattle.wasm_operators_bodies.specs.LocalsLaws.{decides-locals}
 use Rattle.wasm_sections_frames.specs.Outer.{Outer}
 use Rattle.wasm_sections_frames.specs.OuterLaws.{one_outer}
-use Rattle.wasm_sections_imports.specs.Spells.{SpelledImport, SpelledExport}
-use Rattle.wasm_sections_imports.specs.Decode.{import, export}
-use Rattle.wasm_sections_imports.specs.DecodeLaws.{decides-import, decides-export}
+use Rattle.wasm_sections_items.specs.imports.Spells.{SpelledImport, SpelledExport}
+use Rattle.wasm_sections_items.specs.imports.Decode.{import, export}
+use Rattle.wasm_sections_items.specs.imports.DecodeLaws.{decides-import, decides-export}
 use Rattle.wasm_module_validator_rules.specs.Syntax.{Function, ModuleTree}
 use Rattle.wasm_module_validator_rules.specs.Binary.{declared_by, SpelledGroup, SpelledFunction, SpelledItems, SpelledNumber, SpelledSections, SpelledModule}
 use Rattle.wasm_module_validator_rules.specs.UniqueLaws.{Bytes, Unique, decided, on_whole, lifted, listed, table_unique, global_unique, data_unique}

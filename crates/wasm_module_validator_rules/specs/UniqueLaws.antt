@@ -12,12 +12,12 @@ use Rattle.wasm_operators_bodies.specs.reader.expression.SpellingLaws.{one_expre
 use Rattle.wasm_operators_bodies.specs.ConstantDecoder.{constant, ConstantText}
 use Rattle.wasm_operators_bodies.specs.ConstantDecoderLaws.{decides-constant}
 use Rattle.wasm_sections_frames.specs.OuterLaws.{one}
-use Rattle.wasm_sections_segments.specs.Spells.{GlobalTree, SpelledGlobalItem, DataTree, DataMode, SpelledData}
-use Rattle.wasm_sections_segments.specs.Spells as mode
-use Rattle.wasm_sections_segments.specs.Decode.{global, data_segment}
-use Rattle.wasm_sections_segments.specs.DecodeLaws.{decides-global, decides-data_segment}
-use Rattle.wasm_sections_segments.specs.Tables.{TableTree, SpelledWith, SpelledTableItem, table}
-use Rattle.wasm_sections_segments.specs.TableLaws.{decides-table}
+use Rattle.wasm_sections_items.specs.segments.Spells.{GlobalTree, SpelledGlobalItem, DataTree, DataMode, SpelledData}
+use Rattle.wasm_sections_items.specs.segments.Spells as mode
+use Rattle.wasm_sections_items.specs.segments.Decode.{global, data_segment}
+use Rattle.wasm_sections_items.specs.segments.DecodeLaws.{decides-global, decides-data_segment}
+use Rattle.wasm_sections_items.specs.segments.Tables.{TableTree, SpelledWith, SpelledTableItem, table}
+use Rattle.wasm_sections_items.specs.segments.TableLaws.{decides-table}
 use Rattle.wasm_module_validator_rules.specs.Binary.{SpelledConstant}
 
 abbrev pub Bytes : Type 0

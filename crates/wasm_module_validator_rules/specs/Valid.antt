@@ -23,22 +23,22 @@ use Rattle.wasm_types.specs.externs.declared.global.GlobalType.{GlobalType}
 use Rattle.wasm_types.specs.externs.declared.tag.TagType.{TagType}
 use Rattle.wasm_operators_bodies.specs.reader.expression.Code.{Code}
 use Rattle.wasm_operators_bodies.specs.Locals.{LocalGroup, total}
-use Rattle.wasm_sections_imports.specs.declared.kind.ExternalKind.{ExternalKind}
-use Rattle.wasm_sections_imports.specs.declared.kind.ExternalKind.TheVariants as kind
-use Rattle.wasm_sections_imports.specs.declared.type_ref.TypeRef.{TypeRef}
-use Rattle.wasm_sections_imports.specs.declared.type_ref.TypeRef.TheVariants as import
-use Rattle.wasm_sections_imports.specs.Spells.{ImportTree, ExportTree}
-use Rattle.wasm_sections_segments.specs.Spells.{GlobalTree, DataTree, DataMode}
-use Rattle.wasm_sections_segments.specs.Spells as data_mode
-use Rattle.wasm_sections_segments.specs.Tables.{TableTree}
-use Rattle.wasm_sections_elements.specs.Spells.{ElementTree, ElementMode, ElementItems, passive, active, declared, functions, expressions, any_function}
-use Rattle.wasm_operator_validator_constant_rules.specs.rules.Operands.{ValueType}
-use Rattle.wasm_operator_validator_constant_rules.specs.rules.Context.{Module, Table, Global, Context, Signature, IsType, IsFunctionType, address_type}
-use Rattle.wasm_operator_validator_constant_rules.specs.rules.Typed.{IsBody}
+use Rattle.wasm_sections_items.specs.declared.imports.kind.ExternalKind.{ExternalKind}
+use Rattle.wasm_sections_items.specs.declared.imports.kind.ExternalKind.TheVariants as kind
+use Rattle.wasm_sections_items.specs.declared.imports.type_ref.TypeRef.{TypeRef}
+use Rattle.wasm_sections_items.specs.declared.imports.type_ref.TypeRef.TheVariants as import
+use Rattle.wasm_sections_items.specs.imports.Spells.{ImportTree, ExportTree}
+use Rattle.wasm_sections_items.specs.segments.Spells.{GlobalTree, DataTree, DataMode}
+use Rattle.wasm_sections_items.specs.segments.Spells as data_mode
+use Rattle.wasm_sections_items.specs.segments.Tables.{TableTree}
+use Rattle.wasm_sections_items.specs.elements.Spells.{ElementTree, ElementMode, ElementItems, passive, active, declared, functions, expressions, any_function}
+use Rattle.wasm_operator_validator_rules.specs.Operands.{ValueType}
+use Rattle.wasm_operator_validator_rules.specs.Context.{Module, Table, Global, Context, Signature, IsType, IsFunctionType, address_type}
+use Rattle.wasm_operator_validator_rules.specs.Typed.{IsBody}
 use Rattle.wasm_module_validator_rules.specs.Syntax.{Function, ModuleTree}
 use Rattle.wasm_module_validator_rules.specs.Spaces.{value_in, imported_globals}
 use Rattle.wasm_module_validator_rules.specs.Spaces.{element_type, module_of}
-use Rattle.wasm_operator_validator_constant_rules.specs.Constants.{seeing, IsConstant}
+use Rattle.wasm_operator_validator_rules.specs.constants.Constants.{seeing, IsConstant}
 
 -- each of these
 abbrev pub Each : {A : Type 0} → (A → Type 0) → List A → Type 0

@@ -20,22 +20,22 @@ use Rattle.wasm_types.specs.externs.declared.global.GlobalType.{GlobalType}
 use Rattle.wasm_types.specs.externs.declared.memory.MemoryType.{MemoryType}
 use Rattle.wasm_types.specs.externs.declared.table.TableType.{TableType}
 use Rattle.wasm_operator_validator_constants.specs.expression.Code.{Code}
-use Rattle.wasm_sections_segments.specs.Spells.{GlobalTree, DataMode}
-use Rattle.wasm_sections_segments.specs.Spells as data_mode
-use Rattle.wasm_sections_segments.specs.Tables.{TableTree, init_of}
-use Rattle.wasm_sections_segments.specs.declared.global.GlobalOf.{GlobalOf}
-use Rattle.wasm_sections_segments.specs.declared.table.TableInitOf.{TableInitOf}
-use Rattle.wasm_sections_segments.specs.declared.table.TableInitOf.TheVariants as init
-use Rattle.wasm_sections_segments.specs.declared.segment.DataKindOf.{DataKindOf}
-use Rattle.wasm_sections_segments.specs.declared.segment.DataKindOf.TheVariants as data_kind
-use Rattle.wasm_sections_segments.specs.Segments.{mode_of as data_mode_of}
+use Rattle.wasm_sections_items.specs.segments.Spells.{GlobalTree, DataMode}
+use Rattle.wasm_sections_items.specs.segments.Spells as data_mode
+use Rattle.wasm_sections_items.specs.segments.Tables.{TableTree, init_of}
+use Rattle.wasm_sections_items.specs.declared.segments.global.GlobalOf.{GlobalOf}
+use Rattle.wasm_sections_items.specs.declared.segments.table.TableInitOf.{TableInitOf}
+use Rattle.wasm_sections_items.specs.declared.segments.table.TableInitOf.TheVariants as init
+use Rattle.wasm_sections_items.specs.declared.segments.segment.DataKindOf.{DataKindOf}
+use Rattle.wasm_sections_items.specs.declared.segments.segment.DataKindOf.TheVariants as data_kind
+use Rattle.wasm_sections_items.specs.segments.Segments.{mode_of as data_mode_of}
 use Rattle.wasm_operator_validator_constants.specs.Checked.{ChecksConstant, StopsConstant}
 use Rattle.wasm_operator_validator_constants.specs.constant_rules.Constants.{IsConstant, seeing}
 use Rattle.wasm_operator_validator_constants.specs.resources.Meaning.{Meaning, type_in, reference_in, global_in, table_in}
 use Rattle.wasm_operator_validator_constants.specs.rules.Operands.{ValueType}
 use Rattle.wasm_operator_validator_constants.specs.rules.Context.{Module, Global, Table, address_type}
-use Rattle.wasm_module_validator_externs.specs.rules.Spaces.{value_in, global_in as global_written, table_in as table_written}
-use Rattle.wasm_module_validator_externs.specs.rules.Valid.{IsValidGlobalType, IsValidTableType, IsInitialised}
+use Rattle.wasm_module_validator_checks.specs.limits.rules.Spaces.{value_in, global_in as global_written, table_in as table_written}
+use Rattle.wasm_module_validator_checks.specs.limits.rules.Valid.{IsValidGlobalType, IsValidTableType, IsInitialised}
 use Rattle.wasm_module_validator_segments.specs.Laws.{unless_from, tells_from, refused_from, address_in}
 use Rattle.wasm_module_validator_segments.specs.Trees.{bytes_of}
 use Rattle.wasm_module_validator_steps.specs.Texts.{SpelledInit}

@@ -9,7 +9,7 @@ use Rattle.wasm_types.specs.trees.Below.{Below}
 use Rattle.wasm_types.specs.values.Reference.{Reference}
 use Rattle.wasm_types.specs.values.declared.value.ValType.TheVariants as value
 use Rattle.wasm_types.specs.externs.declared.memory.MemoryType.{MemoryType}
-use Rattle.wasm_sections_segments.specs.Spells as data_mode
+use Rattle.wasm_sections_items.specs.segments.Spells as data_mode
 use Rattle.wasm_operator_validator_constants.specs.expression.immediates.declared.frames.FrameKind.TheVariants.{Block}
 use Rattle.wasm_operator_validator_constants.specs.expression.operator.Op.{Op}
 use Rattle.wasm_operator_validator_constants.specs.expression.decode_encoding.Opcodes.{Spells}
@@ -24,8 +24,8 @@ use Rattle.wasm_operator_validator_constants.specs.rules.InstructionTypes.{â—ŒâŸ
 use Rattle.wasm_operator_validator_constants.specs.rules.Row.{Row}
 use Rattle.wasm_operator_validator_constants.specs.rules.Typed.{IsBody}
 use Rattle.wasm_operator_validator_constants.specs.constant_rules.Constants.{constant_context, IsConstant, seeing}
-use Rattle.wasm_module_validator_externs.specs.rules.Spaces.{value_in}
-use Rattle.wasm_module_validator_externs.specs.rules.worked.Trees.{everything, only, constant as short_constant, long as long_constant, funcref}
+use Rattle.wasm_module_validator_checks.specs.limits.rules.Spaces.{value_in}
+use Rattle.wasm_module_validator_checks.specs.limits.rules.worked.Trees.{everything, only, constant as short_constant, long as long_constant, funcref}
 use Rattle.wasm_module_validator_segments.specs.Judged.{IsConstantText, IsTable, IsData}
 use Rattle.wasm_module_validator_segments.specs.Worked.{short, long, nothing, with_memory, with_wide_memory, table_of, GlobalsWorked, TablesWorked, DataWorked}
 

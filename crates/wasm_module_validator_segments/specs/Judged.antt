@@ -8,15 +8,15 @@ use Rattle.wasm_types.specs.limits.Settings.{Settings}
 use Rattle.wasm_types.specs.features.Features.{FunctionReferences}
 use Rattle.wasm_types.specs.trees.Gates.{Has}
 use Rattle.wasm_types.specs.values.declared.value.ValType.TheVariants as value
-use Rattle.wasm_sections_segments.specs.Spells.{GlobalTree, DataMode}
-use Rattle.wasm_sections_segments.specs.Tables.{TableTree}
+use Rattle.wasm_sections_items.specs.segments.Spells.{GlobalTree, DataMode}
+use Rattle.wasm_sections_items.specs.segments.Tables.{TableTree}
 use Rattle.wasm_operator_validator_constants.specs.expression.Code.{Code}
 use Rattle.wasm_operator_validator_constants.specs.expression.Spelling.{SpelledExpression}
 use Rattle.wasm_operator_validator_constants.specs.constant_rules.Constants.{IsConstant}
 use Rattle.wasm_operator_validator_constants.specs.rules.Operands.{ValueType}
 use Rattle.wasm_operator_validator_constants.specs.rules.Context.{Module}
-use Rattle.wasm_module_validator_externs.specs.rules.Spaces.{value_in}
-use Rattle.wasm_module_validator_externs.specs.rules.Valid.{IsValidTableType, IsValidTable, IsValidGlobal, IsValidData}
+use Rattle.wasm_module_validator_checks.specs.limits.rules.Spaces.{value_in}
+use Rattle.wasm_module_validator_checks.specs.limits.rules.Valid.{IsValidTableType, IsValidTable, IsValidGlobal, IsValidData}
 use Rattle.wasm_module_validator_steps.specs.Texts.{SpelledInit, SpelledDataMode}
 
 -- bytes that spell a constant expression of this type

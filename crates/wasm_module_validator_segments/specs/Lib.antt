@@ -8,7 +8,7 @@ pub mod Laws
 -- Worked items, a pair for each rule.
 pub mod Worked
 -- The rules of the crates below, under their names: crates above cite them here.
-pub use Rattle.wasm_module_validator_externs.specs as externs
-pub use Rattle.wasm_module_validator_externs.specs.rules as rules
+pub use Rattle.wasm_module_validator_checks.specs.externs as externs
+pub use Rattle.wasm_module_validator_checks.specs.externs.rules as rules
 pub use Rattle.wasm_operator_validator_constants.specs as constants
 pub use Rattle.wasm_module_validator_steps.specs as steps

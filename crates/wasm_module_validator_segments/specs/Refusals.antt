@@ -13,19 +13,19 @@ use Rattle.wasm_types.specs.trees.Gates.{Has}
 use Rattle.wasm_types.specs.values.declared.value.ValType.{ValType}
 use Rattle.wasm_types.specs.values.declared.value.ValType.TheVariants as value
 use Rattle.wasm_types.specs.externs.declared.memory.MemoryType.{MemoryType}
-use Rattle.wasm_sections_segments.specs.declared.global.GlobalOf.{GlobalOf}
-use Rattle.wasm_sections_segments.specs.declared.table.TableOf.{TableOf}
-use Rattle.wasm_sections_segments.specs.declared.table.TableInitOf.{TableInitOf}
-use Rattle.wasm_sections_segments.specs.declared.table.TableInitOf.TheVariants as init
-use Rattle.wasm_sections_segments.specs.declared.segment.DataKindOf.{DataKindOf}
-use Rattle.wasm_sections_segments.specs.declared.segment.DataKindOf.TheVariants as data_kind
+use Rattle.wasm_sections_items.specs.declared.segments.global.GlobalOf.{GlobalOf}
+use Rattle.wasm_sections_items.specs.declared.segments.table.TableOf.{TableOf}
+use Rattle.wasm_sections_items.specs.declared.segments.table.TableInitOf.{TableInitOf}
+use Rattle.wasm_sections_items.specs.declared.segments.table.TableInitOf.TheVariants as init
+use Rattle.wasm_sections_items.specs.declared.segments.segment.DataKindOf.{DataKindOf}
+use Rattle.wasm_sections_items.specs.declared.segments.segment.DataKindOf.TheVariants as data_kind
 use Rattle.wasm_operator_validator_constants.specs.Checked.{Surroundings, StopsConstant}
 use Rattle.wasm_operator_validator_constants.specs.resources.Meaning.{Meaning, type_in}
 use Rattle.wasm_operator_validator_constants.specs.rules.Operands.{ValueType}
 use Rattle.wasm_operator_validator_constants.specs.rules.Context.{address_type}
-use Rattle.wasm_module_validator_externs.specs.Refusals.{IsRefusal, IsNeeded, allowing}
-use Rattle.wasm_module_validator_externs.specs.rules.Spaces.{value_in}
-use Rattle.wasm_module_validator_externs.specs.rules.Valid.{IsValidGlobalType, IsValidTableType}
+use Rattle.wasm_module_validator_checks.specs.externs.Refusals.{IsRefusal, IsNeeded, allowing}
+use Rattle.wasm_module_validator_checks.specs.limits.rules.Spaces.{value_in}
+use Rattle.wasm_module_validator_checks.specs.limits.rules.Valid.{IsValidGlobalType, IsValidTableType}
 
 -- what is wrong is no missing feature, and stands at this offset
 abbrev pub IsFault : ℕ → ErrorValue → Type 0

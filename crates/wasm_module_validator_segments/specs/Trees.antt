@@ -2,12 +2,12 @@
 -- the bytes spell is said by wasm_module_validator_steps.
 use Rattle.std.specs.Prelude.{ℕ, List}
 use Rattle.wasm_types.specs.decoding.Decoder.{State}
-use Rattle.wasm_sections_segments.specs.declared.global.GlobalOf.{GlobalOf}
-use Rattle.wasm_sections_segments.specs.declared.table.TableOf.{TableOf}
-use Rattle.wasm_sections_segments.specs.declared.segment.DataOf.{DataOf}
-use Rattle.wasm_sections_segments.specs.Spells.{GlobalTree, DataMode}
-use Rattle.wasm_sections_segments.specs.Segments.{mode_of as data_mode_of}
-use Rattle.wasm_sections_segments.specs.Tables.{TableTree, init_of}
+use Rattle.wasm_sections_items.specs.declared.segments.global.GlobalOf.{GlobalOf}
+use Rattle.wasm_sections_items.specs.declared.segments.table.TableOf.{TableOf}
+use Rattle.wasm_sections_items.specs.declared.segments.segment.DataOf.{DataOf}
+use Rattle.wasm_sections_items.specs.segments.Spells.{GlobalTree, DataMode}
+use Rattle.wasm_sections_items.specs.segments.Segments.{mode_of as data_mode_of}
+use Rattle.wasm_sections_items.specs.segments.Tables.{TableTree, init_of}
 
 -- ---- items as they are read
 

@@ -6,12 +6,12 @@ use Rattle.wasm_types.specs.features.Features.{BulkMemory, FunctionReferences}
 use Rattle.wasm_types.specs.values.Reference.{Reference}
 use Rattle.wasm_types.specs.values.declared.value.ValType.{ValType}
 use Rattle.wasm_types.specs.values.declared.value.ValType.TheVariants as value
-use Rattle.wasm_sections_segments.specs.Spells.{GlobalTree}
-use Rattle.wasm_sections_segments.specs.Spells as data_mode
-use Rattle.wasm_sections_segments.specs.Tables.{TableTree}
+use Rattle.wasm_sections_items.specs.segments.Spells.{GlobalTree}
+use Rattle.wasm_sections_items.specs.segments.Spells as data_mode
+use Rattle.wasm_sections_items.specs.segments.Tables.{TableTree}
 use Rattle.wasm_operator_validator_constants.specs.rules.Context.{Module}
-use Rattle.wasm_module_validator_externs.specs.rules.Spaces.{with_types}
-use Rattle.wasm_module_validator_externs.specs.rules.worked.Trees.{everything, without, constant_of, table_with, memory_with, funcref, some_function}
+use Rattle.wasm_module_validator_checks.specs.limits.rules.Spaces.{with_types}
+use Rattle.wasm_module_validator_checks.specs.limits.rules.worked.Trees.{everything, without, constant_of, table_with, memory_with, funcref, some_function}
 use Rattle.wasm_module_validator_segments.specs.Judged.{IsGlobal, IsTable, IsTableHere, IsData}
 
 -- ---- bytes and modules

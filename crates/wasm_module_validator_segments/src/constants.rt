@@ -8,7 +8,7 @@ ghost use Rattle.wasm_module_validator_segments.specs.Judged.{IsConstantText};
 ghost use Rattle.wasm_module_validator_segments.specs.Refusals.{StopsText, read_by};
 
 use std::alloc::Global;
-use wasm_module_validator_externs::Settings;
+use wasm_module_validator_checks::externs::Settings;
 use wasm_operator_validator_constants::{
     ConstExpr, OperatorValidatorAllocations, WasmModuleResources, check_const_expr,
 };

@@ -12,11 +12,11 @@ ghost use Rattle.wasm_module_validator_segments.specs.Refusals.{IsMissing, Refus
 
 use crate::constants::check_constant;
 use std::alloc::Global;
-use wasm_module_validator_externs::{Settings, require};
+use wasm_module_validator_checks::externs::{Settings, require};
 use wasm_operator_validator_constants::{
     ConstExpr, OperatorValidatorAllocations, WasmModuleResources,
 };
-use wasm_sections_segments::{DataKindOf, DataOf};
+use wasm_sections_items::segments::{DataKindOf, DataOf};
 use wasm_types::{Error, Result, WasmFeatures};
 
 // The refusal of an index past the end of the memories.

@@ -4,18 +4,18 @@ ghost use Rattle.std.specs.Prelude.{◌≡◌, IfErr, IfOk};
 ghost use Rattle.wasm_types.specs.error.Denials.{Tells, UnlessMemory};
 ghost use Rattle.wasm_types.specs.limits.Limits.{IsWithinCeilings};
 ghost use Rattle.wasm_operator_validator_constants.specs.resources.Meaning.{global_in};
-ghost use Rattle.wasm_module_validator_externs.specs.rules.Spaces.{global_in as global_written};
+ghost use Rattle.wasm_module_validator_checks.specs.limits.rules.Spaces.{global_in as global_written};
 ghost use Rattle.wasm_module_validator_segments.specs.Trees.{global_read};
 ghost use Rattle.wasm_module_validator_segments.specs.Judged.{IsGlobal};
 ghost use Rattle.wasm_module_validator_segments.specs.Refusals.{RefusesGlobal};
 
 use crate::constants::check_constant;
 use std::alloc::Global;
-use wasm_module_validator_externs::{Settings, check_global_type};
+use wasm_module_validator_checks::externs::{Settings, check_global_type};
 use wasm_operator_validator_constants::{
     ConstExpr, OperatorValidatorAllocations, WasmModuleResources,
 };
-use wasm_sections_segments::GlobalOf;
+use wasm_sections_items::segments::GlobalOf;
 use wasm_types::{GlobalType, Result};
 
 /// Checks a global that the module has itself, and gives its type, over ids: Ok exactly where it is valid in the module so far, of

@@ -17,8 +17,8 @@ pub use constants::{check_constant, reader_by};
 pub use data::check_data;
 pub use globals::check_global;
 pub use tables::check_table;
-pub use wasm_module_validator_externs::{Settings, check_value_type, require};
+pub use wasm_module_validator_checks::externs::{Settings, check_value_type, require};
 pub use wasm_operator_validator_constants::{
     ConstExpr, OperatorValidatorAllocations, WasmModuleResources,
 };
-pub use wasm_sections_segments::{DataKindOf, DataOf, GlobalOf, TableInitOf, TableOf};
+pub use wasm_sections_items::segments::{DataKindOf, DataOf, GlobalOf, TableInitOf, TableOf};

@@ -8,19 +8,19 @@ ghost use Rattle.wasm_types.specs.limits.Limits.{IsWithinCeilings};
 ghost use Rattle.wasm_types.specs.trees.Gates.{Has};
 ghost use Rattle.wasm_types.specs.values.declared.value.ValType.TheVariants as value;
 ghost use Rattle.wasm_operator_validator_constants.specs.resources.Meaning.{reference_in, table_in};
-ghost use Rattle.wasm_module_validator_externs.specs.rules.Spaces.{value_in, table_in as table_written};
-ghost use Rattle.wasm_sections_segments.specs.Tables.{init_of};
+ghost use Rattle.wasm_module_validator_checks.specs.limits.rules.Spaces.{value_in, table_in as table_written};
+ghost use Rattle.wasm_sections_items.specs.segments.Tables.{init_of};
 ghost use Rattle.wasm_module_validator_segments.specs.Trees.{bytes_of, table_read};
 ghost use Rattle.wasm_module_validator_segments.specs.Judged.{IsTable, IsTableHere, IsInitText};
 ghost use Rattle.wasm_module_validator_segments.specs.Refusals.{IsMissing, RefusesInit, RefusesTable};
 
 use crate::constants::check_constant;
 use std::alloc::Global;
-use wasm_module_validator_externs::{Settings, check_table_type, require};
+use wasm_module_validator_checks::externs::{Settings, check_table_type, require};
 use wasm_operator_validator_constants::{
     ConstExpr, OperatorValidatorAllocations, WasmModuleResources,
 };
-use wasm_sections_segments::{TableInitOf, TableOf};
+use wasm_sections_items::segments::{TableInitOf, TableOf};
 use wasm_types::{Error, RefType, Result, TableType, ValType, WasmFeatures};
 
 // Asks for the feature of tables with expressions.

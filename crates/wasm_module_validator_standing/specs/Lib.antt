@@ -8,4 +8,6 @@ pub use Rattle.wasm_module_validator_items.specs as items
 pub use Rattle.wasm_module_validator_resources.specs as resources
 pub use Rattle.wasm_module_validator_type_trees.specs as type_trees
 pub use Rattle.wasm_module_validator_canonical.specs as canonical
-pub use Rattle.wasm_module_validator_interning.specs as interning
+pub use Rattle.wasm_module_validator_groups.specs.adding as interning
+-- A module that is being read stands for the tree of what was read.
+pub mod so_far

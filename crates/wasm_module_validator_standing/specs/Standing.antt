@@ -5,13 +5,13 @@ use Rattle.wasm_types.specs.error.Denials.{Tells}
 use Rattle.wasm_types.specs.limits.Settings.{Settings}
 use Rattle.wasm_types.specs.trees.ValidGroup.{Written, IsValidGroup}
 use Rattle.wasm_module_validator_type_trees.specs.Groups.{Group}
-use Rattle.wasm_module_validator_interning.specs.Interned.{space_of}
+use Rattle.wasm_module_validator_groups.specs.adding.Interned.{space_of}
 use Rattle.wasm_module_validator_module.specs.Spaces.{Spaces}
 use Rattle.wasm_operator_validator_resources.specs.Meaning.{Meaning}
 use Rattle.wasm_module_validator_resources.specs.Reading.{meaning_of}
 use Rattle.wasm_module_validator_referring.specs.Referring.{meaning_with_all}
-use Rattle.wasm_module_validator_so_far.specs.SoFar.{IsReadAs}
-use Rattle.wasm_module_validator_so_far.specs.Referring.{IsReferredAs, referring_to_each}
+use Rattle.wasm_module_validator_standing.specs.so_far.SoFar.{IsReadAs}
+use Rattle.wasm_module_validator_standing.specs.so_far.Referring.{IsReferredAs, referring_to_each}
 use Rattle.wasm_module_validator_items.specs.Items.{Items}
 use Rattle.wasm_module_validator_exports.specs.names.declared.imports.Place.{Place}
 use Rattle.wasm_module_validator_exports.specs.names.Imports.{ImportedName, with_import}

@@ -13,9 +13,9 @@ ghost use Rattle.wasm_types.specs.externs.declared.global.GlobalType.{GlobalType
 ghost use Rattle.wasm_types.specs.externs.declared.tag.TagType.{TagType};
 ghost use Rattle.wasm_operator_validator_resources.specs.Meaning.{table_in, global_in, reference_in};
 ghost use Rattle.wasm_module_validator_type_trees.specs.Groups.{Group};
-ghost use Rattle.wasm_module_validator_interning.specs.Interned.{AddsGroup, space_of};
+ghost use Rattle.wasm_module_validator_groups.specs.adding.Interned.{AddsGroup, space_of};
 ghost use Rattle.wasm_module_validator_resources.specs.Reading.{context_of};
-ghost use Rattle.wasm_module_validator_so_far.specs.SoFar.{IsReadAs};
+ghost use Rattle.wasm_module_validator_standing.specs.so_far.SoFar.{IsReadAs};
 ghost use Rattle.wasm_module_validator_items.specs.Adding.{adding_function, adding_table, adding_memory, adding_global, adding_tag, adding_element, counting_data, exporting};
 ghost use Rattle.wasm_module_validator_items.specs.Items.{Items, IsImportable, IsImported, IsExportable, no_items};
 ghost use Rattle.wasm_module_validator_steps.specs.contexts.imports.Spells.{ImportTree, ExportTree};

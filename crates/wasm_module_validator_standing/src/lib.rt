@@ -6,6 +6,7 @@
 #![tactic(auto)]
 
 mod laws;
+pub mod so_far;
 
 pub use laws::{
     constants_see_the_tree, items_are_decided_alike, items_stand,

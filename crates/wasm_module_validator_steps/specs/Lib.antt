@@ -11,4 +11,5 @@ pub mod Worked
 -- Laws, with the proofs.
 pub mod laws
 -- The rules of the crates below, under their names: crates above cite them here.
-pub use Rattle.wasm_module_validator_contexts.specs as contexts
+-- An item is judged where it stands as in the whole module.
+pub mod contexts

@@ -2,13 +2,13 @@
 -- judged frame by frame: its header, whole sections in order, the start of the code section and body by body, the end. Bodies are kept as
 -- bytes, and judged when all is read.
 use Rattle.std.specs.Prelude.{◌≡◌, ◌<◌, ◌≤◌, ℕ, List, [], ◌∷◌, ◌++◌, length, Some, slice_get}
-use Rattle.wasm_module_validator_contexts.specs.rules.constant_rules.expression.types.limits.Settings.{Settings}
+use Rattle.wasm_module_validator_steps.specs.contexts.rules.constant_rules.expression.types.limits.Settings.{Settings}
 use Rattle.wasm_sections_parser.specs.Steps.{Shape, version, custom, code, entry, the_end}
 use Rattle.wasm_sections_parser.specs.Steps as frame
-use Rattle.wasm_module_validator_contexts.specs.rules.Syntax.{ModuleTree}
-use Rattle.wasm_module_validator_contexts.specs.rules.Spaces.{module_of}
-use Rattle.wasm_module_validator_contexts.specs.rules.Valid.{Each, IsWithinLimits}
-use Rattle.wasm_module_validator_contexts.specs.InOrder.{no_items}
+use Rattle.wasm_module_validator_steps.specs.contexts.rules.Syntax.{ModuleTree}
+use Rattle.wasm_module_validator_steps.specs.contexts.rules.Spaces.{module_of}
+use Rattle.wasm_module_validator_steps.specs.contexts.rules.Valid.{Each, IsWithinLimits}
+use Rattle.wasm_module_validator_steps.specs.contexts.InOrder.{no_items}
 use Rattle.wasm_module_validator_steps.specs.Sections.{Section, number, place, code_place, IsUnread, IsWithSection}
 use Rattle.wasm_module_validator_steps.specs.Adding.{IsValidSection}
 use Rattle.wasm_module_validator_steps.specs.Texts.{SpelledSection}

@@ -3,12 +3,12 @@
 ghost use Rattle.std.specs.Prelude.{◌≡◌, ◌↔◌, ◌⊎◌, ◌<◌, ◌≤◌, ◌++◌, ℕ, [], List, length, Option, Some, None};
 ghost use Rattle.std.specs.List.{AllZip};
 ghost use Rattle.wasm_sections_parser.specs.Steps.{Shape, place_of};
-ghost use Rattle.wasm_module_validator_contexts.specs.rules.constant_rules.expression.types.limits.Settings.{Settings};
-ghost use Rattle.wasm_module_validator_contexts.specs.rules.Syntax.{Function, ModuleTree};
-ghost use Rattle.wasm_module_validator_contexts.specs.rules.Spaces.{module_of};
-ghost use Rattle.wasm_module_validator_contexts.specs.rules.Binary.{SpelledFunction, SpelledSections, contents, entries_of};
-ghost use Rattle.wasm_module_validator_contexts.specs.rules.Valid.{HasValidBody, IsWithinLimits};
-ghost use Rattle.wasm_module_validator_contexts.specs.InOrder.{no_items, IsValidInOrder};
+ghost use Rattle.wasm_module_validator_steps.specs.contexts.rules.constant_rules.expression.types.limits.Settings.{Settings};
+ghost use Rattle.wasm_module_validator_steps.specs.contexts.rules.Syntax.{Function, ModuleTree};
+ghost use Rattle.wasm_module_validator_steps.specs.contexts.rules.Spaces.{module_of};
+ghost use Rattle.wasm_module_validator_steps.specs.contexts.rules.Binary.{SpelledFunction, SpelledSections, contents, entries_of};
+ghost use Rattle.wasm_module_validator_steps.specs.contexts.rules.Valid.{HasValidBody, IsWithinLimits};
+ghost use Rattle.wasm_module_validator_steps.specs.contexts.InOrder.{no_items, IsValidInOrder};
 ghost use Rattle.wasm_module_validator_steps.specs.Sections.{Section, Item, number, place, code_place, items, front, before, up_to, IsUnread, IsWithSection};
 ghost use Rattle.wasm_module_validator_steps.specs.Adding.{IsValidSection, Fits, Adds, AddsEach, IsWithItems};
 ghost use Rattle.wasm_module_validator_steps.specs.Texts.{ItemRead, SpelledSection, StandsFor, AddsRead};

@@ -8,6 +8,7 @@
 //! here: each law is the contract of a function that does nothing.
 #![tactic(auto)]
 
+pub mod contexts;
 mod laws;
 mod worked;
 

@@ -7,7 +7,7 @@ ghost use Rattle.wasm_module_validator_type_alloc.specs.ListedLaws.{types_counte
 
 use crate::TypeData;
 use std::ops::Range;
-use wasm_module_validator_snapshots::SnapshotList;
+use wasm_module_validator_lists::snapshots::SnapshotList;
 use wasm_module_validator_types::{RecGroupId, TypeList};
 use wasm_types::{CoreTypeId, SubType};
 

@@ -10,8 +10,8 @@ use Rattle.wasm_types.specs.groups.contracts.sub_type.SubTypeOrd.TheImpl as type
 use Rattle.wasm_types.specs.groups.contracts.sub_type.SubTypeOrd.TheImpl.Laws.{total-law, matches_eq-law}
 use Rattle.wasm_types.specs.groups.Entries.{Declared, declared_of}
 use Rattle.wasm_types.specs.groups.Laws.{SubTypesAreToldApart}
-use Rattle.wasm_module_validator_ordered.specs.Order.{Ascends, Misses, Finds}
-use Rattle.wasm_module_validator_ordered.specs.OrderLaws.{ascends_by, misses_each, misses_all}
+use Rattle.wasm_module_validator_lists.specs.ordered.Order.{Ascends, Misses, Finds}
+use Rattle.wasm_module_validator_lists.specs.ordered.OrderLaws.{ascends_by, misses_each, misses_all}
 use Rattle.wasm_module_validator_types.specs.Beside.{kept_beside, beside, Precedes}
 use Rattle.wasm_module_validator_types.specs.Known.{Declares, NoneDeclares}
 

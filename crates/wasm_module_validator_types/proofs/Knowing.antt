@@ -11,8 +11,8 @@ use Rattle.wasm_types.specs.groups.declared.sub_type.SubType.{SubType}
 use Rattle.wasm_types.specs.groups.contracts.rec_group.RecGroupOrd.TheImpl as order
 use Rattle.wasm_types.specs.groups.Entries.{Declared, declared_of, declared_types}
 use Rattle.wasm_types.specs.groups.Laws.{TiesDeclareTheSame}
-use Rattle.wasm_module_validator_ordered.specs.Order.{IsPut}
-use Rattle.wasm_module_validator_ordered.specs.OrderLaws.{put_all, put_has, put_keeps, put_pairs}
+use Rattle.wasm_module_validator_lists.specs.ordered.Order.{IsPut}
+use Rattle.wasm_module_validator_lists.specs.ordered.OrderLaws.{put_all, put_has, put_keeps, put_pairs}
 use Rattle.wasm_module_validator_type_trees.specs.Groups.{Group, group_at, group_numbers}
 use Rattle.wasm_module_validator_type_trees.specs.Formed.{IsMissing}
 use Rattle.wasm_module_validator_type_trees.specs.laws.Apart.{at_old, at_new}

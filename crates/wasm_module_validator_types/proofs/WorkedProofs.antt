@@ -7,8 +7,8 @@ use Rattle.wasm_types.specs.groups.declared.rec_group.RecGroup.{RecGroup}
 use Rattle.wasm_types.specs.groups.declared.sub_type.SubType.{SubType}
 use Rattle.wasm_types.specs.groups.Entries.{declared_of, declared_types}
 use Rattle.wasm_types.specs.trees.Unfold.{type_count}
-use Rattle.wasm_module_validator_ordered.specs.Order.{IsPut}
-use Rattle.wasm_module_validator_ordered.specs.OrderLaws.{put_length}
+use Rattle.wasm_module_validator_lists.specs.ordered.Order.{IsPut}
+use Rattle.wasm_module_validator_lists.specs.ordered.OrderLaws.{put_length}
 use Rattle.wasm_module_validator_type_trees.specs.Worked.{canonical, as_written}
 use Rattle.wasm_module_validator_type_trees.specs.Groups.{Group, group_numbers, group_ranges, declared_by_id}
 use Rattle.wasm_module_validator_types.specs.Rolled.{forms}

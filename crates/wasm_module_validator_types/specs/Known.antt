@@ -6,7 +6,7 @@ use Rattle.wasm_types.specs.groups.declared.rec_group.RecGroup.{RecGroup}
 use Rattle.wasm_types.specs.groups.declared.sub_type.SubType.{SubType}
 use Rattle.wasm_types.specs.groups.contracts.rec_group.RecGroupOrd.TheImpl as order
 use Rattle.wasm_types.specs.groups.Entries.{Declared, declared_of, declared_types}
-use Rattle.wasm_module_validator_ordered.specs.Order.{IsPut}
+use Rattle.wasm_module_validator_lists.specs.ordered.Order.{IsPut}
 use Rattle.wasm_module_validator_type_trees.specs.Groups.{Group, group_at, group_numbers}
 use Rattle.wasm_module_validator_type_trees.specs.Formed.{IsMissing}
 use Rattle.wasm_module_validator_types.specs.declared.ids.RecGroupId.{RecGroupId}

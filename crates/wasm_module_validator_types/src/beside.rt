@@ -1,8 +1,8 @@
 //! Types under their ids, beside a type that is sought.
 
 use std::cmp::Ordering;
-use wasm_module_validator_ordered::Compare;
-use wasm_module_validator_snapshots::SnapshotList;
+use wasm_module_validator_lists::ordered::Compare;
+use wasm_module_validator_lists::snapshots::SnapshotList;
 use wasm_types::SubType;
 
 /// A type, and those that it is sought among by their ids.

@@ -9,8 +9,8 @@ use crate::RecGroupId;
 use crate::beside::Beside;
 use std::alloc::{AllocError, Global};
 use std::collections::BTreeMap;
-use wasm_module_validator_ordered::Ordered;
-use wasm_module_validator_snapshots::SnapshotList;
+use wasm_module_validator_lists::ordered::Ordered;
+use wasm_module_validator_lists::snapshots::SnapshotList;
 use wasm_types::{RecGroup, SubType};
 use wasm_types_groups::laws::{
     clones_declare_the_same, equality_is_of_declarations, order_is_of_types,

@@ -19,7 +19,7 @@ use crate::stored::{copies, stored_supertypes, stored_types};
 use std::alloc::{AllocError, Global};
 use std::marker::Model;
 use std::ops::Range;
-use wasm_module_validator_snapshots::SnapshotList;
+use wasm_module_validator_lists::snapshots::SnapshotList;
 use wasm_types::{CoreTypeId, Error, RecGroup, Result as Reading, SubType};
 use wasm_types_groups::laws::order_is_of_types;
 

@@ -6,7 +6,7 @@ ghost use Rattle.wasm_module_validator_types.specs.Lists.{SameItems, HasRoomFor,
 use crate::RecGroupId;
 use std::alloc::{AllocError, Global};
 use std::ops::Range;
-use wasm_module_validator_snapshots::SnapshotList;
+use wasm_module_validator_lists::snapshots::SnapshotList;
 use wasm_types::{CoreTypeId, SubType};
 
 // As many ids more, without a depth, in room that is there.

@@ -39,11 +39,11 @@
 //! never stuck within one activation: [`accepted_bodies_are_sound`].
 #![tactic(auto)]
 
-pub use wasm_operator_validator_accepted::accepted_bodies_are_sound;
 pub use wasm_operator_validator_arity::{ModuleArity, OperatorArity};
 pub use wasm_operator_validator_constants::{ConstExpr, check_const_expr, new_const_expr};
 pub use wasm_operator_validator_functions::new_func;
-pub use wasm_operator_validator_log::{
+pub use wasm_operator_validator_soundness::accepted::accepted_bodies_are_sound;
+pub use wasm_operator_validator_state::attempts::{
     RollbackLog, RollbackLogAllocations, Transaction, ty_to_str,
 };
 pub use wasm_operator_validator_visits::{

@@ -16,7 +16,7 @@ use Rattle.wasm_types.specs.groups.declared.composite.CompositeInnerType.{Compos
 use Rattle.wasm_types.specs.groups.declared.composite.CompositeInnerType.TheVariants.{Func, Array, Struct, Cont}
 use Rattle.wasm_types.specs.groups.declared.sub_type.SubType.{SubType}
 use Rattle.wasm_operator_validator_resources.specs.Meaning.{Meaning, IsKnown, type_of_id, named_type, entry_in, function_in}
-use Rattle.wasm_operator_validator_arity_rules.specs.Arity.{in_u32, function_counts, type_counts}
+use Rattle.wasm_operator_validator_rules.specs.arity.Arity.{in_u32, function_counts, type_counts}
 use Rattle.wasm_operator_validator_arity.specs.Knowing.{ended, type_by_id, function_alone, function_by_id}
 use Rattle.wasm_operator_validator_arity.proofs.Looking.{type_behind, nothing_behind}
 use Rattle.wasm_operator_validator_arity.proofs.Continuing.{function_counted}

@@ -18,7 +18,7 @@ use Rattle.wasm_types.specs.groups.declared.composite.CompositeInnerType.{Compos
 use Rattle.wasm_types.specs.groups.declared.composite.CompositeInnerType.TheVariants.{Func, Array, Struct, Cont}
 use Rattle.wasm_types.specs.groups.declared.sub_type.SubType.{SubType}
 use Rattle.wasm_operator_validator_resources.specs.Meaning.{Meaning, named_type, entry_in, function_in}
-use Rattle.wasm_operator_validator_arity_rules.specs.Arity.{Counts, in_u32, function_counts, continuation_counts, resumed, referred, last_referred, switch_counts}
+use Rattle.wasm_operator_validator_rules.specs.arity.Arity.{Counts, in_u32, function_counts, continuation_counts, resumed, referred, last_referred, switch_counts}
 use Rattle.wasm_operator_validator_arity.specs.Knowing.{ended, type_by_id, type_of_heap, function_alone, function_by_id, continued_by, continued_at}
 use Rattle.wasm_operator_validator_arity.proofs.Looking.{type_behind, values_long}
 

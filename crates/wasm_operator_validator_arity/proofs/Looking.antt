@@ -12,8 +12,8 @@ use Rattle.wasm_types.specs.groups.declared.composite.CompositeInnerType.TheVari
 use Rattle.wasm_types.specs.groups.declared.sub_type.SubType.{SubType}
 use Rattle.wasm_operator_validator_resources.specs.Answers.{IsTypeOf}
 use Rattle.wasm_operator_validator_resources.specs.Meaning.{Meaning, named_type, entry_in}
-use Rattle.wasm_operator_validator_arity_rules.specs.rules.Context.{Module}
-use Rattle.wasm_operator_validator_arity_rules.specs.Arity.{function_counts, type_counts, field_count, struct_size}
+use Rattle.wasm_operator_validator_rules.specs.Context.{Module}
+use Rattle.wasm_operator_validator_rules.specs.arity.Arity.{function_counts, type_counts, field_count, struct_size}
 use Rattle.wasm_operator_validator_arity.specs.Knowing.{declared_counts, declared_size}
 
 pub values_long : (m : Meaning) (ts : List ValType) → length (map (value_map (named_type m)) (map value_of ts)) ≡ length ts

@@ -1,6 +1,6 @@
 -- Numbers in 32 bits, and answers that may be missing.
 use Rattle.std.proofs.Common.{◌≡◌, ◌+◌, ◌-◌, ℕ, Option, Some, None, option_map, option_and_then, refl, ap, arith}
-use Rattle.wasm_operator_validator_arity_rules.specs.Arity.{Counts, in_u32, calling, leaving, params_alone}
+use Rattle.wasm_operator_validator_rules.specs.arity.Arity.{Counts, in_u32, calling, leaving, params_alone}
 use Rattle.wasm_operator_validator_arity.specs.Knowing.{ended, Partly}
 
 -- ---- numbers

@@ -9,12 +9,12 @@ use Rattle.wasm_types.specs.values.declared.heap.HeapType.{HeapType}
 use Rattle.wasm_types.specs.values.declared.heap.HeapType.TheVariants as heap
 use Rattle.wasm_types.specs.groups.declared.composite.CompositeInnerType.{CompositeInnerType}
 use Rattle.wasm_types.specs.groups.declared.composite.CompositeInnerType.TheVariants.{Func, Array, Struct, Cont}
-use Rattle.wasm_operator_validator_arity_rules.specs.expression.immediates.declared.block.BlockType.{BlockType}
-use Rattle.wasm_operator_validator_arity_rules.specs.expression.immediates.declared.frames.FrameKind.{FrameKind}
-use Rattle.wasm_operator_validator_arity_rules.specs.expression.operator.Op as op
-use Rattle.wasm_operator_validator_arity_rules.specs.expression.operator.Op.{Op}
-use Rattle.wasm_operator_validator_arity_rules.specs.Arity.{Known, Counts, resumed}
-pub use Rattle.wasm_operator_validator_arity_tables.specs.Ended.{ended}
+use Rattle.wasm_operator_validator_rules.specs.expression.immediates.declared.block.BlockType.{BlockType}
+use Rattle.wasm_operator_validator_rules.specs.expression.immediates.declared.frames.FrameKind.{FrameKind}
+use Rattle.wasm_operator_validator_rules.specs.expression.operator.Op as op
+use Rattle.wasm_operator_validator_rules.specs.expression.operator.Op.{Op}
+use Rattle.wasm_operator_validator_rules.specs.arity.Arity.{Known, Counts, resumed}
+pub use Rattle.wasm_operator_validator_arity.specs.fixed.Ended.{ended}
 use Rattle.wasm_operator_validator_resources.specs.Meaning.{Meaning}
 
 -- ---- types by ids

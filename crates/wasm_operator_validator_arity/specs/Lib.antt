@@ -3,4 +3,6 @@ pub mod Knowing
 -- Answers beside the rules.
 pub mod laws
 -- The rules and laws of the crates below, under their names: crates above cite them here.
-pub use Rattle.wasm_operator_validator_arity_rules.specs as arity_rules
+pub use Rattle.wasm_operator_validator_rules.specs.arity as arity_rules
+-- Numbers of operands where they are fixed.
+pub mod fixed

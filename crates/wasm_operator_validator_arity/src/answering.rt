@@ -4,10 +4,10 @@ ghost use Rattle.std.specs.Prelude.{◌≡◌, option_map, slice_get};
 ghost use Rattle.wasm_types.specs.groups.Kinds.{func_in};
 ghost use Rattle.wasm_types.specs.trees.Trees.{opened};
 ghost use Rattle.wasm_operator_validator_resources.specs.Meaning.{Meaning, entry_in, function_in};
-ghost use Rattle.wasm_operator_validator_arity_rules.specs.Arity.{type_counts};
+ghost use Rattle.wasm_operator_validator_rules.specs.arity.Arity.{type_counts};
 ghost use Rattle.wasm_operator_validator_arity.specs.Knowing.{ended, function_by_id, type_by_id, type_of_heap};
 
-use wasm_operator_validator_arity_tables::in_u32;
+use crate::fixed::in_u32;
 use wasm_operator_validator_resources::WasmModuleResources;
 use wasm_types::{
     CompositeInnerType, ContType, FuncType, HeapType, RefType, SubType, UnpackedIndex,

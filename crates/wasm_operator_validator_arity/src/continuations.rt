@@ -7,12 +7,12 @@ ghost use Rattle.wasm_types.specs.trees.Types.{value_map};
 ghost use Rattle.wasm_types.specs.trees.Below.{expanded};
 ghost use Rattle.wasm_types.specs.values.Values.{value_of};
 ghost use Rattle.wasm_operator_validator_resources.specs.Meaning.{function_in, named_type};
-ghost use Rattle.wasm_operator_validator_arity_rules.specs.expression.operator.Op.{continuation_of};
-ghost use Rattle.wasm_operator_validator_arity_rules.specs.Arity.{in_u32, continuation_counts, continuation_operator_counts, switch_counts, last_referred, resumed};
+ghost use Rattle.wasm_operator_validator_rules.specs.expression.operator.Op.{continuation_of};
+ghost use Rattle.wasm_operator_validator_rules.specs.arity.Arity.{in_u32, continuation_counts, continuation_operator_counts, switch_counts, last_referred, resumed};
 ghost use Rattle.wasm_operator_validator_arity.specs.Knowing.{Partly, ended, known_by, continued_by, continued_at};
 
 use crate::ModuleArity;
-use wasm_operator_validator_arity_tables::{calling, in_u32, sum_in_u32};
+use crate::fixed::{calling, in_u32, sum_in_u32};
 use wasm_operators_visit::ContinuationOperator;
 use wasm_types::{CompositeInnerType, FuncType, SubType, ValType};
 

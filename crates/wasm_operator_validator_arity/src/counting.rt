@@ -1,17 +1,17 @@
 //! Numbers of operands by group, where the module or the open frames determine some.
 
 ghost use Rattle.std.specs.Prelude.{◌≡◌, ◌+◌, ◌-◌, ◌*◌, Option, option_map, option_and_then};
-ghost use Rattle.wasm_operator_validator_arity_rules.specs.expression.operator.Op.{parametric_of, exception_of};
-ghost use Rattle.wasm_operator_validator_arity_rules.specs.Arity.{in_u32, control_counts, parametric_counts, exception_counts, gc_counts, descriptor_counts};
+ghost use Rattle.wasm_operator_validator_rules.specs.expression.operator.Op.{parametric_of, exception_of};
+ghost use Rattle.wasm_operator_validator_rules.specs.arity.Arity.{in_u32, control_counts, parametric_counts, exception_counts, gc_counts, descriptor_counts};
 ghost use Rattle.wasm_operator_validator_arity.specs.Knowing.{ended, known_by};
 
 use crate::ModuleArity;
+use crate::fixed::{
+    calling, closing, in_u32, keeping, leaving, opening, params_of, results_of, sum_in_u32, turning,
+};
 use crate::looking_up::{
     block_counts, callee_counts, frame_counts, label_count, outermost_results, struct_size,
     type_counts,
-};
-use wasm_operator_validator_arity_tables::{
-    calling, closing, in_u32, keeping, leaving, opening, params_of, results_of, sum_in_u32, turning,
 };
 use wasm_operators_visit::{
     ControlOperator, DescriptorOperator, ExceptionOperator, GcOperator, ParametricOperator,

@@ -1,11 +1,11 @@
 //! Numbers of operands that the module or the open frames determine.
 
 ghost use Rattle.std.specs.Prelude.{◌≡◌, slice_get};
-ghost use Rattle.wasm_operator_validator_arity_rules.specs.Arity.{type_counts, struct_size, block_counts, label_count, frame_counts, label_of_frame, outermost, results_alone};
+ghost use Rattle.wasm_operator_validator_rules.specs.arity.Arity.{type_counts, struct_size, block_counts, label_count, frame_counts, label_of_frame, outermost, results_alone};
 ghost use Rattle.wasm_operator_validator_arity.specs.Knowing.{known_by, declared_counts, declared_size};
 
 use crate::ModuleArity;
-use wasm_operator_validator_arity_tables::results_of;
+use crate::fixed::results_of;
 use wasm_operator_validator_resources::{BlockType, FrameKind};
 use wasm_types::{CompositeInnerType, SubType};
 

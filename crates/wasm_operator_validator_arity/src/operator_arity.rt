@@ -1,13 +1,13 @@
 //! How many operands an operator takes and gives.
 
-ghost use Rattle.wasm_operator_validator_arity_rules.specs.expression.operator.Op.{op_of};
-ghost use Rattle.wasm_operator_validator_arity_rules.specs.Arity.{counts_of};
+ghost use Rattle.wasm_operator_validator_rules.specs.expression.operator.Op.{op_of};
+ghost use Rattle.wasm_operator_validator_rules.specs.arity.Arity.{counts_of};
 ghost use Rattle.wasm_operator_validator_arity.specs.Knowing.{ended, known_by, AnswersFor};
 
 use crate::ModuleArity;
 use crate::continuations::continuation;
 use crate::counting::{control, descriptor, exception, gc, parametric};
-use wasm_operator_validator_arity_tables::{atomic, bulk, memory, numeric, shared};
+use crate::fixed::{atomic, bulk, memory, numeric, shared};
 use wasm_operators_visit::Operator;
 
 /// How many operands an operator takes and gives.

@@ -8,7 +8,7 @@ use Rattle.wasm_types.specs.values.declared.value.ValType.{ValType}
 use Rattle.wasm_operators_walking.specs.reader.operator.Op.{Op}
 use Rattle.wasm_operators_walking.specs.reader.expression.Code.{Code}
 use Rattle.wasm_operators_walking.specs.reader.expression.Spelling.{SpelledExpression}
-use Rattle.wasm_operator_validator_constant_rules.specs.Constants.{IsConstantOperator, IsConstant}
+use Rattle.wasm_operator_validator_rules.specs.constants.Constants.{IsConstantOperator, IsConstant}
 use Rattle.wasm_operator_validator_expression.specs.resources.Meaning.{Meaning, type_in}
 use Rattle.wasm_operator_validator_expression.specs.state.State.{State}
 use Rattle.wasm_operator_validator_constants.specs.declared.refusal.ConstantRefusal.{ConstantRefusal}

@@ -1,7 +1,7 @@
 //! Globals that a constant reads.
 
 ghost use Rattle.std.specs.Prelude.{◌≡◌, IfOk, IfErr};
-ghost use Rattle.wasm_operator_validator_constant_rules.specs.Constants.{IsConstantGlobal};
+ghost use Rattle.wasm_operator_validator_rules.specs.constants.Constants.{IsConstantGlobal};
 ghost use Rattle.wasm_operator_validator_constants.specs.Operators.{RefusesGlobal};
 
 use crate::ConstantRefusal;

@@ -2,7 +2,7 @@
 
 ghost use Rattle.std.specs.Prelude.{◌≡◌, ℕ, false, IfOk, IfErr};
 ghost use Rattle.wasm_operators_walking.specs.reader.operator.Op.{Op, op_of};
-ghost use Rattle.wasm_operator_validator_constant_rules.specs.Constants.{IsConstantOperator};
+ghost use Rattle.wasm_operator_validator_rules.specs.constants.Constants.{IsConstantOperator};
 ghost use Rattle.wasm_operator_validator_constants.specs.Operators.{global_read, is_sum, is_object, is_described, is_reference};
 ghost use Rattle.wasm_operator_validator_constants.specs.Operators.{is_shared_number, ends_frame, is_listed, is_allowed};
 ghost use Rattle.wasm_operator_validator_constants.specs.Operators.{allowing, IsOf, RefusesOperator};

@@ -8,3 +8,5 @@ pub use Rattle.wasm_operator_validator_stacks.specs.rules as rules
 pub use Rattle.wasm_operator_validator_stacks.specs.resources as resources
 pub use Rattle.wasm_operator_validator_stacks.specs.state as state
 pub use Rattle.wasm_operator_validator_stacks.specs as stacks
+-- Operators on numbers, and constants.
+pub mod numbers

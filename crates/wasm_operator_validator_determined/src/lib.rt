@@ -5,6 +5,7 @@
 #![tactic(auto)]
 
 mod copying;
+pub mod numbers;
 mod refusals;
 mod shared;
 

@@ -1,3 +1,4 @@
 pub mod WorkedTypes
 pub mod WorkedOperators
 pub mod WorkedCodes
+mod WorkedCounts

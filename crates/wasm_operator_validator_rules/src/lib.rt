@@ -5,6 +5,8 @@
 //! the rows of all other operators, and the typing of code.
 #![tactic(auto)]
 
+pub mod arity;
+pub mod constants;
 mod worked;
 
 pub use wasm_operators_expression::{

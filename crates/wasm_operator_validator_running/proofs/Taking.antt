@@ -33,8 +33,8 @@ use Rattle.wasm_operator_validator_determined.specs.state.declared.frame.Frame.{
 use Rattle.wasm_operator_validator_determined.specs.state.State.{State}
 use Rattle.wasm_operator_validator_memory.specs.Reaching.{reached}
 use Rattle.wasm_operator_validator_memory.proofs.Accessing.{load_in_table, load_type, store_in_table, store_type}
-use Rattle.wasm_operator_validator_numbers.specs.Numbers.{IsConstant}
-use Rattle.wasm_operator_validator_numbers.proofs.NumberTypes.{numeric_in_table, numeric_type, constant_in_table, constant_type_is}
+use Rattle.wasm_operator_validator_determined.specs.numbers.Numbers.{IsConstant}
+use Rattle.wasm_operator_validator_determined.proofs.NumberTypes.{numeric_in_table, numeric_type, constant_in_table, constant_type_is}
 use Rattle.wasm_operator_validator_memory.proofs.Selecting.{drop_op}
 use Rattle.wasm_operator_validator_stacks.specs.Running.{Operands, Swaps, Drops, Surrounds, HasLocal, HasBareLabel, own_of, over}
 use Rattle.wasm_operator_validator_running.specs.declared.number.Number.{Number}

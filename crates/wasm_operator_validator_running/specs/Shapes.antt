@@ -15,7 +15,7 @@ use Rattle.wasm_operator_validator_determined.specs.expression.numbers.Table.{nu
 use Rattle.wasm_operator_validator_determined.specs.rules.Accesses.{Access, load, store}
 use Rattle.wasm_types.specs.trees.Types.{Number as NumberTree}
 use Rattle.wasm_operator_validator_memory.specs.Reaching.{IsAccess}
-use Rattle.wasm_operator_validator_numbers.specs.Numbers.{IsNumeric}
+use Rattle.wasm_operator_validator_determined.specs.numbers.Numbers.{IsNumeric}
 use Rattle.wasm_operator_validator_running.specs.declared.number.Number.{Number}
 use Rattle.wasm_operator_validator_running.specs.declared.number.Number.TheVariants as number
 use Rattle.wasm_operator_validator_running.specs.declared.shape.Shape.{Shape}

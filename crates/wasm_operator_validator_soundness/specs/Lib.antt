@@ -5,3 +5,5 @@ pub mod Soundness
 pub mod Beginning
 -- Worked values, runs and stuck configurations: rows that hold and rows that do not.
 pub mod worked
+-- What is accepted as a body is never stuck.
+pub mod accepted

@@ -4,6 +4,7 @@
 //! its `Lib.antt`: values and their types, how instructions run, and what it means that they are never stuck.
 #![tactic(auto)]
 
+pub mod accepted;
 mod worked;
 
 ghost use Rattle.wasm_operator_validator_soundness.specs.Beginning.{CallsMayBegin, NullsAreGiven, NullsAreOne, AnswersExist};

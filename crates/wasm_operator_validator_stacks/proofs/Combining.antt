@@ -9,7 +9,7 @@ use Rattle.wasm_operator_validator_state.specs.declared.operand.MaybeType.TheVar
 use Rattle.wasm_operator_validator_state.specs.declared.frame.Frame.{Frame}
 use Rattle.wasm_operator_validator_state.specs.State.{State, types_in}
 use Rattle.wasm_operator_validator_state.specs.Steps.{PoppedAny, PushedAny, Popped, Exchanged}
-use Rattle.wasm_operator_validator_tape.specs.Kept.{ReplacesLast}
+use Rattle.wasm_operator_validator_locals.specs.tape.Kept.{ReplacesLast}
 use Rattle.wasm_operator_validator_stacks.specs.Layout.{Layered}
 use Rattle.wasm_operator_validator_stacks.specs.Peeking.{or_any, operand_at}
 use Rattle.wasm_operator_validator_stacks.proofs.Layers.{Fixed, seen, held, Sound, seen_pop, seen_push, reverse_last}

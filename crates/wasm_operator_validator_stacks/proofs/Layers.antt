@@ -46,7 +46,7 @@ use Rattle.wasm_operator_validator_state.specs.declared.operand.MaybeType.TheVar
 use Rattle.wasm_operator_validator_state.specs.State.{Given, Open, Saved, State, Covers}
 use Rattle.wasm_operator_validator_state.specs.Steps.{IsOpen, MayPopAny, PoppedAny, Topped, PushedAny, Jumped}
 use Rattle.wasm_operator_validator_state.specs.declared.frame.Frame.{Frame}
-use Rattle.wasm_operator_validator_tape.specs.Kept.{ReplacesLast}
+use Rattle.wasm_operator_validator_locals.specs.tape.Kept.{ReplacesLast}
 use Rattle.wasm_operator_validator_stacks.specs.Layout.{opens_of, Layered}
 
 -- what most steps leave: what never changes, what was saved, and whether an operator was refused

@@ -11,7 +11,7 @@ use Rattle.wasm_operator_validator_state.specs.declared.operand.MaybeType.{Maybe
 use Rattle.wasm_operator_validator_state.specs.declared.operand.MaybeType.TheVariants.{Known}
 use Rattle.wasm_operator_validator_state.specs.State.{Open, State, signature_of, types_in}
 use Rattle.wasm_operator_validator_state.specs.Steps.{IsOpen}
-use Rattle.wasm_operator_validator_inits.specs.Inits.{Inits, has_value}
+use Rattle.wasm_operator_validator_locals.specs.inits.Inits.{Inits, has_value}
 use Rattle.wasm_operator_validator_stacks.specs.Layout.{opens_of, Layered, first_of, AreFirst}
 use Rattle.wasm_operator_validator_stacks.specs.Running.{Operands, Swaps, Drops, own_of, with_own, over, opens_as, frame_as, Surrounds, HasLocal, HasBareLabel, Runs}
 use Rattle.wasm_operator_validator_stacks.proofs.Layers.{Fixed, held, Sound, top_frame}

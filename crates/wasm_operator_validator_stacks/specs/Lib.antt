@@ -17,5 +17,5 @@ pub use Rattle.wasm_operator_validator_state.specs.expression as expression
 pub use Rattle.wasm_operator_validator_state.specs.rules as rules
 pub use Rattle.wasm_operator_validator_state.specs.resources as resources
 pub use Rattle.wasm_operator_validator_locals.specs as locals
-pub use Rattle.wasm_operator_validator_inits.specs as inits
+pub use Rattle.wasm_operator_validator_locals.specs.inits as inits
 pub use Rattle.wasm_operator_validator_state.specs as state

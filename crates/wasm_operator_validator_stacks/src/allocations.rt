@@ -4,10 +4,10 @@ ghost use Rattle.std.specs.Prelude.{◌≡◌, [], None};
 
 use crate::OperatorValidator;
 use std::alloc::Global;
-use wasm_operator_validator_inits::LocalInits;
 use wasm_operator_validator_locals::Locals;
+use wasm_operator_validator_locals::inits::LocalInits;
+use wasm_operator_validator_locals::tape::Tape;
 use wasm_operator_validator_state::{Frame, Operand};
-use wasm_operator_validator_tape::Tape;
 
 /// The memory of a validator that is done. Whatever is left in it is forgotten by the validator that gets it, which begins as one
 /// with new memory does.

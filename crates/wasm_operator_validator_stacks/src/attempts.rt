@@ -4,10 +4,10 @@ ghost use Rattle.std.specs.Prelude.{◌≡◌, [], true, false, None, length, re
 ghost use Rattle.wasm_operator_validator_stacks.specs.Layout.{none_saved, rolled_back, AreFirst, Begins};
 
 use crate::OperatorValidator;
-use wasm_operator_validator_inits::LocalInits;
 use wasm_operator_validator_locals::Locals;
+use wasm_operator_validator_locals::inits::LocalInits;
+use wasm_operator_validator_locals::tape::Tape;
 use wasm_operator_validator_state::{Frame, Operand};
-use wasm_operator_validator_tape::Tape;
 use wasm_types::{ValType, WasmFeatures};
 
 impl OperatorValidator {

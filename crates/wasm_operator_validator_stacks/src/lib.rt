@@ -21,8 +21,8 @@ pub use fitting::{is_abstract_fit, is_fit};
 pub use heights::heights_are_worked;
 pub use running::{Run, RunBody, RunOperands};
 pub use validator::OperatorValidator;
-pub use wasm_operator_validator_inits::LocalInits;
 pub use wasm_operator_validator_locals::Locals;
+pub use wasm_operator_validator_locals::inits::LocalInits;
 pub use wasm_operator_validator_state::{
     BlockType, BrTable, BrTableTargets, BulkOperator, ConstOperator, Frame, FrameKind, MaybeType,
     MemArg, MemArgTarget, MemoryOperator, Proposal, Reason, Refusal, Space, WasmModuleResources,

@@ -9,10 +9,10 @@ ghost use Rattle.wasm_operator_validator_stacks.specs.Running.{Swaps, Drops, Sur
 use crate::OperatorValidator;
 use crate::fitting::is_same;
 use std::marker::Model;
-use wasm_operator_validator_inits::LocalInits;
 use wasm_operator_validator_locals::Locals;
+use wasm_operator_validator_locals::inits::LocalInits;
+use wasm_operator_validator_locals::tape::Loose;
 use wasm_operator_validator_state::{BlockType, Frame, FrameKind, MaybeType, Operand};
-use wasm_operator_validator_tape::Loose;
 use wasm_types::{ValType, WasmFeatures};
 
 /// All operands, and how many of them lie under the innermost frame. A contract sees that frame's, and those under them.

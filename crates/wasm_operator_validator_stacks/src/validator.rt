@@ -13,10 +13,10 @@ ghost use Rattle.wasm_operator_validator_stacks.specs.Peeking.{operand_at};
 
 use crate::fitting::{is_fit, is_same, not_taken, type_mismatch};
 use std::marker::Model;
-use wasm_operator_validator_inits::LocalInits;
 use wasm_operator_validator_locals::Locals;
+use wasm_operator_validator_locals::inits::LocalInits;
+use wasm_operator_validator_locals::tape::Tape;
 use wasm_operator_validator_state::{Frame, MaybeType, Operand, Refusal, WasmModuleResources};
-use wasm_operator_validator_tape::Tape;
 use wasm_types::{ValType, WasmFeatures};
 
 /// What is known of a body: the locals, and the operands of all open frames in one place. After a refusal it may stand for

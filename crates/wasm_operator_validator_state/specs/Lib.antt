@@ -14,3 +14,5 @@ pub mod laws
 pub use Rattle.wasm_operator_validator_resources.specs.expression as expression
 pub use Rattle.wasm_operator_validator_resources.specs.rules as rules
 pub use Rattle.wasm_operator_validator_resources.specs as resources
+-- What an attempt did to the stacks, so that it can be taken back.
+pub mod attempts

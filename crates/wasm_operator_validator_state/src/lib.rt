@@ -5,6 +5,7 @@
 //! promise follows from what its steps did.
 #![tactic(auto)]
 
+pub mod attempts;
 mod frame;
 pub mod laws;
 mod operand;

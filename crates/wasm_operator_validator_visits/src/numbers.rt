@@ -3,11 +3,11 @@
 ghost use Rattle.std.specs.Prelude.{◌≡◌, ◌∷◌, [], true, false};
 ghost use Rattle.wasm_operator_validator_control.specs.expression.info.declared.proposal.Proposal.TheVariants.{Mvp};
 ghost use Rattle.wasm_operators_visit.specs.operator.Op.{Op};
-ghost use Rattle.wasm_operator_validator_numbers.specs.Numbers.{IsNumeric};
+ghost use Rattle.wasm_operator_validator_determined.specs.numbers.Numbers.{IsNumeric};
 
 use crate::{AnswerAs, ValidatingVisitor};
 use wasm_operator_validator_control::{Proposal, WasmModuleResources, copied};
-use wasm_operator_validator_numbers::{check_numbers, check_two};
+use wasm_operator_validator_determined::numbers::{check_numbers, check_two};
 use wasm_operators_visit::NumericOperator;
 use wasm_types::ValType;
 

@@ -4,12 +4,12 @@
 //!
 //! - `wasm_sections_frames`: a module as a header and sections, their order and counts; definitions alone;
 //! - `wasm_sections_limited`: a section's count and items, one by one;
-//! - `wasm_sections_imports`: imports and exports;
-//! - `wasm_sections_segments`: globals, tables and data segments, over any constant expressions;
-//! - `wasm_sections_elements`: element segments, over any constant expressions;
-//! - `wasm_sections_parser`: a module as its frames, one at a time, from pieces; `wasm_sections_parser_steps` says what single frames
-//!   are, `wasm_sections_parser_calls` what calls take and leave, `wasm_sections_parser_laws` what runs give,
-//!   `wasm_sections_parser_hints` how many bytes are asked for;
+//! - `wasm_sections_items`: imports and exports;
+//! - `wasm_sections_items`: globals, tables and data segments, over any constant expressions;
+//! - `wasm_sections_items`: element segments, over any constant expressions;
+//! - `wasm_sections_parser`: a module as its frames, one at a time, from pieces; `wasm_sections_parser_laws` says what single frames
+//!   are, `wasm_sections_parser_laws` what calls take and leave, `wasm_sections_parser_laws` what runs give,
+//!   `wasm_sections_parser_laws` how many bytes are asked for;
 //! - `wasm_sections_payloads`: the parser of payloads: frames as payloads, each section with a reader of its items, from pieces or
 //!   all of a module.
 //!
@@ -20,8 +20,9 @@
 
 pub mod laws;
 
-pub use wasm_sections_elements::{ElementItemsOf, ElementKindOf, ElementOf};
-pub use wasm_sections_imports::{Export, ExternalKind, Import, TypeRef};
+pub use wasm_sections_items::elements::{ElementItemsOf, ElementKindOf, ElementOf};
+pub use wasm_sections_items::imports::{Export, ExternalKind, Import, TypeRef};
+pub use wasm_sections_items::segments::{DataKindOf, DataOf, GlobalOf, TableInitOf, TableOf};
 pub use wasm_sections_limited::{
     FuncTypesIntoIter, SectionLimited, SectionLimitedIntoIter, SectionLimitedIntoIterWithOffsets,
 };
@@ -32,4 +33,3 @@ pub use wasm_sections_payloads::{
     Global, GlobalSectionReader, ImportSectionReader, MemorySectionReader, ParseAll, Parser,
     Payload, Table, TableInit, TableSectionReader, TagSectionReader, TypeSectionReader,
 };
-pub use wasm_sections_segments::{DataKindOf, DataOf, GlobalOf, TableInitOf, TableOf};

@@ -16,7 +16,7 @@ use wasm_types::{BinaryReader, Error, Result, WasmFeatures};
 #[derive(Drop)]
 pub enum Chunk<'a> {
     /// So many more bytes than were given are needed, and no fewer: with fewer the call is answered so again, and some so many bring a
-    /// frame or a refusal (`wasm_sections_parser_hints` has the laws). The parser is as it was: the next call is given the same bytes
+    /// frame or a refusal (`wasm_sections_parser_laws` has the laws). The parser is as it was: the next call is given the same bytes
     /// again, with more behind them.
     NeedMoreData(usize),
     /// A frame of so many bytes.

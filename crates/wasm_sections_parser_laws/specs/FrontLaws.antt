@@ -11,10 +11,10 @@ use Rattle.wasm_sections_frames.specs.Outer.{Part, Outer, id_of, rank, with_rank
 use Rattle.wasm_sections_parser.specs.declared.progress.Progress.{Progress}
 use Rattle.wasm_sections_parser.specs.Steps.{Shape, version, code, in_code, begun, is_late}
 use Rattle.wasm_sections_parser.specs.Parsing.{between}
-use Rattle.wasm_sections_parser_steps.specs.StepCases.{step_between}
-use Rattle.wasm_sections_parser_steps.specs.StepsComplete.{start_next_is}
-use Rattle.wasm_sections_parser_steps.specs.OrderLaws.{in_order, order_gives}
-use Rattle.wasm_sections_parser_calls.specs.Runs.{fresh, Run, entries, Frames, AreNoted, Opened, IsBetween, IsOpen}
+use Rattle.wasm_sections_parser_laws.specs.steps.StepCases.{step_between}
+use Rattle.wasm_sections_parser_laws.specs.steps.StepsComplete.{start_next_is}
+use Rattle.wasm_sections_parser_laws.specs.steps.OrderLaws.{in_order, order_gives}
+use Rattle.wasm_sections_parser_laws.specs.calls.Runs.{fresh, Run, entries, Frames, AreNoted, Opened, IsBetween, IsOpen}
 use Rattle.wasm_sections_parser_laws.specs.Modules.{Begun, IsFront, IsClosed, IsCut, IsSpelledFront, IsStart}
 use Rattle.wasm_sections_parser_laws.specs.RunsComplete.{entries_run, run_then, noted_last, module_run}
 use Rattle.wasm_sections_parser_laws.specs.ModuleLaws.{noted_counted}

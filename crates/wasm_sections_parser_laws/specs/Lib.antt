@@ -1,8 +1,3 @@
--- Rules: runs of a parser, calls of it and what a call moves, which the crate below has.
-pub use Rattle.wasm_sections_parser_calls.specs.Runs as Runs
-pub use Rattle.wasm_sections_parser_calls.specs.Calls as Calls
-pub use Rattle.wasm_sections_parser_calls.specs.CallLaws as CallLaws
-pub use Rattle.wasm_sections_parser_calls.specs.Advance as Advance
 -- Rules: what the frames of a run say of the bytes.
 pub mod Modules
 -- Laws.
@@ -13,3 +8,9 @@ pub mod FrontLaws
 pub mod RefusalLaws
 -- Worked rows.
 pub mod Worked
+-- What single frames are: each step is spelled, what is spelled is given, what is remembered.
+pub mod steps
+-- Calls of a parser: what each takes and leaves, and that they are a run.
+pub mod calls
+-- How many bytes a parser asks for.
+pub mod hints

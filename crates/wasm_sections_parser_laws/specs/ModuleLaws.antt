@@ -17,13 +17,13 @@ use Rattle.wasm_sections_parser.specs.declared.progress.Stage.TheVariants as sta
 use Rattle.wasm_sections_parser.specs.declared.progress.Progress.{Progress}
 use Rattle.wasm_sections_parser.specs.Steps.{Shape, version, custom, section, code, begun, counts_agree, is_over, Next, next_header, step}
 use Rattle.wasm_sections_parser.specs.Parsing.{between, reads}
-use Rattle.wasm_sections_parser_calls.specs.Runs.{fresh, Run, entries, Framed, AreFramed, Frames, AreCounted, Noted, AreNoted, IsBetween, IsOpen, IsCounted}
-use Rattle.wasm_sections_parser_calls.specs.Calls.{settings_of, shapes_of, stands, Called, Calls}
+use Rattle.wasm_sections_parser_laws.specs.calls.Runs.{fresh, Run, entries, Framed, AreFramed, Frames, AreCounted, Noted, AreNoted, IsBetween, IsOpen, IsCounted}
+use Rattle.wasm_sections_parser_laws.specs.calls.Calls.{settings_of, shapes_of, stands, Called, Calls}
 use Rattle.wasm_sections_parser_laws.specs.Modules.{IsModule, Begun, IsFront}
-use Rattle.wasm_sections_parser_steps.specs.StepCases.{header_given, no_end}
+use Rattle.wasm_sections_parser_laws.specs.steps.StepCases.{header_given, no_end}
 use Rattle.wasm_sections_parser_laws.specs.RunLaws.{run_seen}
-use Rattle.wasm_sections_parser_steps.specs.NoteLaws.{agreed}
-use Rattle.wasm_sections_parser_calls.specs.CallLaws.{AtEnd, Stepped, call_cases, calls_run}
+use Rattle.wasm_sections_parser_laws.specs.steps.NoteLaws.{agreed}
+use Rattle.wasm_sections_parser_laws.specs.calls.CallLaws.{AtEnd, Stepped, call_cases, calls_run}
 
 abbrev given : Next → State → Outcome Next
 given y t = Done y t

@@ -5,7 +5,7 @@ use Rattle.wasm_types.specs.decoding.Decoder.{State, Takes}
 use Rattle.wasm_sections_frames.specs.Outer.{Header, SpelledHeader, Part, code as code_section, Outer, SpelledOuter, IsOrdered, CountsAgree}
 use Rattle.wasm_sections_parser.specs.declared.progress.Progress.{Progress}
 use Rattle.wasm_sections_parser.specs.Steps.{Shape, version, code, begun}
-use Rattle.wasm_sections_parser_calls.specs.Runs.{fresh, entries, Frames, AreCounted, Opened, Seen}
+use Rattle.wasm_sections_parser_laws.specs.calls.Runs.{fresh, entries, Frames, AreCounted, Opened, Seen}
 
 -- these are the frames of the module that the text spells, in order, with readable counts that agree
 pub record IsModule (z : Settings) (text : List ℕ) (xs : List Shape) : Type 0 where

@@ -20,15 +20,15 @@ use Rattle.wasm_sections_parser.specs.declared.progress.Progress.{Progress}
 use Rattle.wasm_sections_parser.specs.Steps.{Shape, begun, counts_agree, is_over, Next, ordered, next_section, step}
 use Rattle.wasm_sections_parser.specs.StepLaws.{lawful-step}
 use Rattle.wasm_sections_parser.specs.Parsing.{between, reads, at_end, comes, Ends, Comes, IsOver, one_of, Parses}
-use Rattle.wasm_sections_parser_calls.specs.Runs.{fresh, Run, Frames, AreCounted}
-use Rattle.wasm_sections_parser_calls.specs.Calls.{settings_of, shapes_of, stands, Called, Calls}
-use Rattle.wasm_sections_parser_steps.specs.StepCases.{step_between}
+use Rattle.wasm_sections_parser_laws.specs.calls.Runs.{fresh, Run, Frames, AreCounted}
+use Rattle.wasm_sections_parser_laws.specs.calls.Calls.{settings_of, shapes_of, stands, Called, Calls}
+use Rattle.wasm_sections_parser_laws.specs.steps.StepCases.{step_between}
 use Rattle.wasm_sections_parser_laws.specs.Modules.{IsStart}
 use Rattle.wasm_sections_parser_laws.specs.RunsComplete.{module_run}
-use Rattle.wasm_sections_parser_steps.specs.NoteLaws.{agree}
+use Rattle.wasm_sections_parser_laws.specs.steps.NoteLaws.{agree}
 use Rattle.wasm_sections_parser_laws.specs.FrontLaws.{front_run}
-use Rattle.wasm_sections_parser_calls.specs.PlainLaws.{restart_done}
-use Rattle.wasm_sections_parser_calls.specs.CallLaws.{calls_run}
+use Rattle.wasm_sections_parser_laws.specs.calls.PlainLaws.{restart_done}
+use Rattle.wasm_sections_parser_laws.specs.calls.CallLaws.{calls_run}
 
 abbrev given : Next → State → Outcome Next
 given y t = Done y t

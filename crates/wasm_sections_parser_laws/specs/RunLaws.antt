@@ -14,10 +14,10 @@ use Rattle.wasm_sections_parser.specs.declared.progress.Stage.TheVariants as sta
 use Rattle.wasm_sections_parser.specs.declared.progress.Progress.{Progress}
 use Rattle.wasm_sections_parser.specs.Steps.{Shape, version, custom, section, code, entry, the_end, in_code, begun, Next, at_stage, step}
 use Rattle.wasm_sections_parser.specs.Parsing.{between}
-use Rattle.wasm_sections_parser_calls.specs.Runs.{Run, entries, Framed, Noted, Seen}
-use Rattle.wasm_sections_parser_steps.specs.SectionCases.{Given, section_given}
-use Rattle.wasm_sections_parser_steps.specs.StepCases.{Behind, step_between, inside_at}
-use Rattle.wasm_sections_parser_steps.specs.OrderLaws.{in_order}
+use Rattle.wasm_sections_parser_laws.specs.calls.Runs.{Run, entries, Framed, Noted, Seen}
+use Rattle.wasm_sections_parser_laws.specs.steps.SectionCases.{Given, section_given}
+use Rattle.wasm_sections_parser_laws.specs.steps.StepCases.{Behind, step_between, inside_at}
+use Rattle.wasm_sections_parser_laws.specs.steps.OrderLaws.{in_order}
 
 abbrev given : Next → State → Outcome Next
 given y t = Done y t

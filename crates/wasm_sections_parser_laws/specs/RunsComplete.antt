@@ -14,10 +14,10 @@ use Rattle.wasm_sections_parser.specs.declared.progress.Stage.TheVariants as sta
 use Rattle.wasm_sections_parser.specs.declared.progress.Progress.{Progress}
 use Rattle.wasm_sections_parser.specs.Steps.{Shape, version, counted, in_code, one_less, begun, is_late, Next, next_header, step}
 use Rattle.wasm_sections_parser.specs.Parsing.{between}
-use Rattle.wasm_sections_parser_calls.specs.Runs.{fresh, Run, entries, Frames, Framed, AreFramed, IsCounted, AreCounted, Noted, AreNoted}
-use Rattle.wasm_sections_parser_steps.specs.StepCases.{step_between}
-use Rattle.wasm_sections_parser_steps.specs.OrderLaws.{last_at, order_gives}
-use Rattle.wasm_sections_parser_steps.specs.StepsComplete.{custom_next_is, section_next_at, start_next_is, entry_step}
+use Rattle.wasm_sections_parser_laws.specs.calls.Runs.{fresh, Run, entries, Frames, Framed, AreFramed, IsCounted, AreCounted, Noted, AreNoted}
+use Rattle.wasm_sections_parser_laws.specs.steps.StepCases.{step_between}
+use Rattle.wasm_sections_parser_laws.specs.steps.OrderLaws.{last_at, order_gives}
+use Rattle.wasm_sections_parser_laws.specs.steps.StepsComplete.{custom_next_is, section_next_at, start_next_is, entry_step}
 
 abbrev given : Next → State → Outcome Next
 given y t = Done y t

@@ -28,8 +28,8 @@ use Rattle.wasm_sections_parser.specs.Steps.{
   next_header,
   step,
 }
-use Rattle.wasm_sections_parser_calls.specs.Advance.{some_bytes}
-use Rattle.wasm_sections_parser_calls.specs.Runs.{fresh, Run, Opened}
+use Rattle.wasm_sections_parser_laws.specs.calls.Advance.{some_bytes}
+use Rattle.wasm_sections_parser_laws.specs.calls.Runs.{fresh, Run, Opened}
 use Rattle.wasm_sections_parser_laws.specs.Modules.{IsCut}
 
 abbrev first_eight : List ℕ

@@ -10,8 +10,8 @@ ghost use Rattle.wasm_sections_parser.specs.declared.parser.Chunk.TheVariants.{N
 ghost use Rattle.wasm_sections_parser.specs.Parsing.{reads, Parses};
 ghost use Rattle.wasm_sections_parser.specs.Steps.{Shape, is_over};
 ghost use Rattle.wasm_sections_frames.specs.Outer.{Outer, SpelledOuter};
-ghost use Rattle.wasm_sections_parser_calls.specs.Runs.{fresh, Frames};
-ghost use Rattle.wasm_sections_parser_calls.specs.Calls.{settings_of, shapes_of, stands, Called, Calls};
+ghost use Rattle.wasm_sections_parser_laws.specs.calls.Runs.{fresh, Frames};
+ghost use Rattle.wasm_sections_parser_laws.specs.calls.Calls.{settings_of, shapes_of, stands, Called, Calls};
 ghost use Rattle.wasm_sections_parser_laws.specs.Modules.{IsModule, IsFront, IsStart};
 ghost use Rattle.wasm_sections_parser_laws.specs.Worked.{RunRows, CutRows};
 

@@ -10,13 +10,13 @@ use Rattle.wasm_sections_parser.specs.declared.parser.Chunk.TheVariants as raw
 use Rattle.wasm_sections_parser.specs.declared.progress.Stage.TheVariants as stages
 use Rattle.wasm_sections_parser.specs.Steps.{Shape, is_over}
 use Rattle.wasm_sections_parser.specs.Parsing.{at_end, staged, Ends, Comes, IsOver, one_of, Parses}
-use Rattle.wasm_sections_parser_laws.specs.Runs.{fresh}
-use Rattle.wasm_sections_parser_laws.specs.Calls.{settings_of, shapes_of, Called, Calls}
+use Rattle.wasm_sections_parser_laws.specs.calls.Runs.{fresh}
+use Rattle.wasm_sections_parser_laws.specs.calls.Calls.{settings_of, shapes_of, Called, Calls}
 use Rattle.wasm_sections_parser_laws.specs.Modules.{IsModule}
 use Rattle.wasm_sections_parser_laws.specs.ModuleLaws.{end_given}
 use Rattle.wasm_sections_parser_laws.specs.RefusalLaws.{not_refused}
-use Rattle.wasm_sections_parser_laws.specs.CallLaws.{call_cases}
-use Rattle.wasm_sections_parser_laws.specs.Advance.{is_end, parsed_is_over}
+use Rattle.wasm_sections_parser_laws.specs.calls.CallLaws.{call_cases}
+use Rattle.wasm_sections_parser_laws.specs.calls.Advance.{is_end, parsed_is_over}
 use Rattle.wasm_sections_payloads.specs.declared.payload.Payload.{Payload}
 use Rattle.wasm_sections_payloads.specs.declared.payload.Payload.TheVariants as payloads
 use Rattle.wasm_sections_payloads.specs.declared.parser.Chunk.{Chunk}

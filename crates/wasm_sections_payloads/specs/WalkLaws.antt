@@ -4,12 +4,12 @@ use Rattle.std.proofs.lemmas.List.{append-nil, length-drop}
 use Rattle.wasm_types.specs.error.ErrorValue.{ErrorValue}
 use Rattle.wasm_sections_parser.specs.declared.frame.Frame.{Frame}
 use Rattle.wasm_sections_parser.specs.declared.parser.Parser.{Parser}
-use Rattle.wasm_sections_parser_laws.specs.Advance.{parsed_within, parsed_is_over}
+use Rattle.wasm_sections_parser_laws.specs.calls.Advance.{parsed_within, parsed_is_over}
 use Rattle.wasm_sections_parser.specs.declared.frame.Frame.TheVariants as frames
 use Rattle.wasm_sections_parser.specs.declared.parser.Chunk.TheVariants.{Parsed}
 use Rattle.wasm_sections_parser.specs.Steps.{Shape, is_over}
-use Rattle.wasm_sections_parser_laws.specs.Runs.{fresh}
-use Rattle.wasm_sections_parser_laws.specs.Calls.{settings_of, shapes_of, Called, Calls}
+use Rattle.wasm_sections_parser_laws.specs.calls.Runs.{fresh}
+use Rattle.wasm_sections_parser_laws.specs.calls.Calls.{settings_of, shapes_of, Called, Calls}
 use Rattle.wasm_sections_parser_laws.specs.Modules.{IsModule}
 use Rattle.wasm_sections_parser_laws.specs.ModuleLaws.{end_given}
 use Rattle.wasm_sections_parser_laws.specs.RefusalLaws.{not_refused}

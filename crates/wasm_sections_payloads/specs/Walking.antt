@@ -6,7 +6,7 @@ use Rattle.wasm_sections_parser.specs.declared.frame.Frame.{Frame}
 use Rattle.wasm_sections_parser.specs.declared.parser.Parser.{Parser}
 use Rattle.wasm_sections_parser.specs.declared.parser.Chunk.TheVariants.{Parsed}
 use Rattle.wasm_sections_parser.specs.Parsing.{Parses}
-pub use Rattle.wasm_sections_parser_laws.specs.Advance.{is_end}
+pub use Rattle.wasm_sections_parser_laws.specs.calls.Advance.{is_end}
 use Rattle.wasm_sections_payloads.specs.declared.payload.Payload.{Payload}
 use Rattle.wasm_sections_payloads.specs.Payloads.{IsPayloadOf, IsRefusedAs}
 

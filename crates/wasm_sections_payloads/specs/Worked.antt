@@ -13,7 +13,7 @@ use Rattle.wasm_types.specs.reader.Reading.{IsNotMemory}
 use Rattle.wasm_types.specs.groups.declared.rec_group.RecGroup.{RecGroup}
 use Rattle.wasm_sections_frames.specs.Decode.{header}
 use Rattle.wasm_sections_limited.specs.declared.section.SectionLimited.{SectionLimited}
-use Rattle.wasm_sections_imports.specs.declared.import.Import.{Import}
+use Rattle.wasm_sections_items.specs.declared.imports.import.Import.{Import}
 use Rattle.wasm_sections_parser.specs.declared.frame.Encoding.TheVariants.{Module}
 use Rattle.wasm_sections_parser.specs.declared.frame.Frame.TheVariants as frames
 use Rattle.wasm_sections_parser.specs.declared.parser.Parser.{Parser}

@@ -1,10 +1,10 @@
 //! What sections hold, over the constant expressions of this format.
 
 use wasm_operators_bodies::{ConstExpr, FunctionBody};
-use wasm_sections_elements::{ElementItemsOf, ElementKindOf, ElementOf};
-use wasm_sections_imports::{Export, Import};
+use wasm_sections_items::elements::{ElementItemsOf, ElementKindOf, ElementOf};
+use wasm_sections_items::imports::{Export, Import};
+use wasm_sections_items::segments::{DataKindOf, DataOf, GlobalOf, TableInitOf, TableOf};
 use wasm_sections_limited::SectionLimited;
-use wasm_sections_segments::{DataKindOf, DataOf, GlobalOf, TableInitOf, TableOf};
 use wasm_types::{MemoryType, RecGroup, TagType};
 
 /// A global with its initial value.

@@ -3,7 +3,7 @@
 ghost use Rattle.std.specs.Prelude.{◌≡◌, ◌+◌, ◌<◌, ◌≤◌, ◌^◌, length, false};
 ghost use Rattle.wasm_types.specs.features.Sets.{bits_of, default_features};
 ghost use Rattle.wasm_types.specs.reader.Reading.{NeedsNoMemory};
-ghost use Rattle.wasm_sections_parser_laws.specs.Runs.{fresh};
+ghost use Rattle.wasm_sections_parser_laws.specs.calls.Runs.{fresh};
 ghost use Rattle.wasm_sections_payloads.specs.Parsing.{taken, ParsesPayload};
 
 use crate::walk::walk_from;

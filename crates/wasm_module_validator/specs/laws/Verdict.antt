@@ -10,8 +10,8 @@ use Rattle.wasm_module_validator_sharing.specs.reading.progress.standing.steps.c
 use Rattle.wasm_module_validator_sharing.specs.reading.progress.standing.steps.contexts.rules.Syntax.{ModuleTree}
 use Rattle.wasm_module_validator_sharing.specs.reading.progress.standing.steps.Steps.{SoFar}
 use Rattle.wasm_module_validator_sharing.specs.reading.progress.standing.Standing.{Stands}
-use Rattle.wasm_module_validator_framed.specs.laws.Complete.{module_comes}
-use Rattle.wasm_module_validator_framed.specs.laws.Accepted.{accepted_comes, accepted_exactly, bodies_of_functions}
+use Rattle.wasm_module_validator_fronts.specs.framed.laws.Complete.{module_comes}
+use Rattle.wasm_module_validator_fronts.specs.framed.laws.Accepted.{accepted_comes, accepted_exactly, bodies_of_functions}
 use Rattle.wasm_module_validator_sharing.specs.reading.progress.Progress.{Progress, IsAt}
 use Rattle.wasm_module_validator_sharing.specs.reading.Reading.{IsReadAs}
 use Rattle.wasm_module_validator_sharing.specs.reading.judging.Bodies.{AreBodies}

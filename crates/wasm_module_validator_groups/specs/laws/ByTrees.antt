@@ -21,8 +21,8 @@ use Rattle.wasm_module_validator_type_trees.specs.laws.Apart.{apart}
 use Rattle.wasm_module_validator_type_trees.specs.laws.Ids.{opens, supertype_tree, supertype_below}
 use Rattle.wasm_module_validator_matches.specs.laws.Known.{entry_known}
 use Rattle.wasm_module_validator_matches.specs.laws.Matching.{ids_match}
-use Rattle.wasm_module_validator_composites.specs.Composites.{IsCompositeValid}
-use Rattle.wasm_module_validator_composites.specs.laws.Validity.{composite_valid}
+use Rattle.wasm_module_validator_groups.specs.composites.Composites.{IsCompositeValid}
+use Rattle.wasm_module_validator_groups.specs.composites.laws.Validity.{composite_valid}
 use Rattle.wasm_module_validator_groups.specs.ValidTypes.{IsSubtypingAllowed, IsPresent, IsStruct, AreDescriptorsAllowed, IsAboveValid, IsDepthWithin, IsTypeValid}
 use Rattle.wasm_module_validator_groups.specs.ValidTypes.{GoAlong, DescriptorsGoAlong, IsDescribedBy, Describes}
 

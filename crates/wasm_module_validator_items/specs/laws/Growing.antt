@@ -4,7 +4,7 @@ use Rattle.std.specs.Prelude.{All, if◌then◌else◌}
 use Rattle.std.proofs.lemmas.List.{append-nil, get_or_append_left}
 use Rattle.wasm_types.specs.trees.Trees.{TypeTree, group_tree}
 use Rattle.wasm_types.specs.trees.ValidGroup.{type_at}
-use Rattle.wasm_module_validator_externs.specs.state.rules.Row.{IsOneOf}
+use Rattle.wasm_module_validator_checks.specs.externs.state.rules.Row.{IsOneOf}
 use Rattle.wasm_module_validator_module.specs.declared.module.Function.{Function}
 use Rattle.wasm_module_validator_module.specs.Spaces.{referring_to}
 use Rattle.wasm_module_validator_resources.specs.Reading.{places}

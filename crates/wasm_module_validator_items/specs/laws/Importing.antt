@@ -14,16 +14,16 @@ use Rattle.wasm_types.specs.externs.declared.table.TableType.{TableType}
 use Rattle.wasm_types.specs.externs.declared.memory.MemoryType.{MemoryType}
 use Rattle.wasm_types.specs.externs.declared.global.GlobalType.{GlobalType}
 use Rattle.wasm_types.specs.externs.declared.tag.TagType.{TagType}
-use Rattle.wasm_sections_imports.specs.declared.kind.ExternalKind.{ExternalKind}
-use Rattle.wasm_sections_imports.specs.declared.kind.ExternalKind.TheVariants as kind
-use Rattle.wasm_sections_imports.specs.declared.type_ref.TypeRef.{TypeRef}
-use Rattle.wasm_sections_imports.specs.declared.type_ref.TypeRef.TheVariants.{Func, FuncExact, Table, Memory, Global, Tag}
-use Rattle.wasm_module_validator_externs.specs.state.resources.Meaning.{Meaning, table_in, global_in}
+use Rattle.wasm_sections_items.specs.declared.imports.kind.ExternalKind.{ExternalKind}
+use Rattle.wasm_sections_items.specs.declared.imports.kind.ExternalKind.TheVariants as kind
+use Rattle.wasm_sections_items.specs.declared.imports.type_ref.TypeRef.{TypeRef}
+use Rattle.wasm_sections_items.specs.declared.imports.type_ref.TypeRef.TheVariants.{Func, FuncExact, Table, Memory, Global, Tag}
+use Rattle.wasm_module_validator_checks.specs.externs.state.resources.Meaning.{Meaning, table_in, global_in}
 use Rattle.wasm_module_validator_type_trees.specs.Groups.{Group, tree_of}
-use Rattle.wasm_module_validator_externs.specs.rules.Spaces.{table_in as table_written, global_in as global_written}
-use Rattle.wasm_module_validator_externs.specs.rules.Valid.{IsFunctionIndex, IsValidImport}
+use Rattle.wasm_module_validator_checks.specs.limits.rules.Spaces.{table_in as table_written, global_in as global_written}
+use Rattle.wasm_module_validator_checks.specs.limits.rules.Valid.{IsFunctionIndex, IsValidImport}
 use Rattle.wasm_module_validator_exports.specs.Imports.{IsNamedImport}
-use Rattle.wasm_module_validator_interning.specs.Interned.{space_of, AreIdsKnown, IsChecked}
+use Rattle.wasm_module_validator_groups.specs.adding.Interned.{space_of, AreIdsKnown, IsChecked}
 use Rattle.wasm_module_validator_module.specs.Spaces.{Spaces, id_at, imported_function}
 use Rattle.wasm_module_validator_resources.specs.Reading.{context_of, meaning_of}
 use Rattle.wasm_module_validator_resources.specs.Named.{IsReadOver, IsFunctionId}

@@ -17,13 +17,13 @@ use Rattle.wasm_types.specs.values.declared.value.ValType.TheVariants.{Ref}
 use Rattle.wasm_types.specs.values.Values.{value_of}
 use Rattle.wasm_types.specs.externs.declared.table.TableType.{TableType}
 use Rattle.wasm_types.specs.externs.declared.global.GlobalType.{GlobalType}
-use Rattle.wasm_module_validator_externs.specs.state.rules.Context.{Table, Global}
-use Rattle.wasm_module_validator_externs.specs.state.rules.Operands.{ValueType}
-use Rattle.wasm_module_validator_externs.specs.state.resources.Meaning.{named_type, type_in, table_in, global_in, reference_in}
+use Rattle.wasm_module_validator_checks.specs.externs.state.rules.Context.{Table, Global}
+use Rattle.wasm_module_validator_checks.specs.externs.state.rules.Operands.{ValueType}
+use Rattle.wasm_module_validator_checks.specs.externs.state.resources.Meaning.{named_type, type_in, table_in, global_in, reference_in}
 use Rattle.wasm_module_validator_type_trees.specs.Groups.{Group, count, tree_of}
 use Rattle.wasm_module_validator_type_trees.specs.BelowIds.{IsIdBelow}
 use Rattle.wasm_module_validator_type_trees.specs.laws.Unrolled.{tree_old, count_push}
-use Rattle.wasm_module_validator_interning.specs.Interned.{space_of, AddsGroup}
+use Rattle.wasm_module_validator_groups.specs.adding.Interned.{space_of, AddsGroup}
 use Rattle.wasm_module_validator_module.specs.declared.module.Function.{Function}
 use Rattle.wasm_module_validator_module.specs.Spaces.{Spaces, id_at}
 use Rattle.wasm_module_validator_resources.specs.Reading.{places, names_in, context_of, meaning_of}

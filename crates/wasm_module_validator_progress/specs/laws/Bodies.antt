@@ -9,9 +9,9 @@ use Rattle.wasm_types.specs.error.DenialLaws.{denies_from}
 use Rattle.wasm_types.specs.error.declared.error.ErrorKind.{ErrorKind}
 use Rattle.wasm_sections_parser.specs.Steps as frame
 use Rattle.wasm_module_validator_module.specs.declared.module.Function.{Function}
-use Rattle.wasm_module_validator_so_far.specs.SoFar.{entry_of}
-use Rattle.wasm_module_validator_code.specs.Code.{IsReadBy}
-use Rattle.wasm_module_validator_code.specs.declared.bodies.Body.{Body}
+use Rattle.wasm_module_validator_standing.specs.so_far.SoFar.{entry_of}
+use Rattle.wasm_module_validator_functions.specs.code.Code.{IsReadBy}
+use Rattle.wasm_module_validator_functions.specs.declared.code.bodies.Body.{Body}
 use Rattle.wasm_module_validator_standing.specs.steps.contexts.rules.Spaces.{FunctionEntry, imported, function_of, function_with, function_space}
 use Rattle.wasm_module_validator_standing.specs.steps.contexts.laws.Lists.{each_joined}
 use Rattle.wasm_module_validator_standing.specs.steps.Sections.{code_place}

@@ -4,7 +4,7 @@ use Rattle.wasm_types.specs.limits.Limits.{default_limits}
 use Rattle.wasm_types.specs.limits.Settings.{Settings}
 use Rattle.wasm_types.specs.trees.Unfold.{type_count}
 use Rattle.wasm_module_validator_type_trees.specs.Groups.{Group, count}
-use Rattle.wasm_module_validator_interning.specs.Interned.{IsChecked}
+use Rattle.wasm_module_validator_groups.specs.adding.Interned.{IsChecked}
 use Rattle.wasm_module_validator_module.specs.Spaces.{Spaces, nothing_read}
 use Rattle.wasm_module_validator_resources.specs.Named.{IsReadOver}
 use Rattle.wasm_module_validator_standing.specs.items.Items.{Items, no_items}

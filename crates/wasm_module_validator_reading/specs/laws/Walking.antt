@@ -10,8 +10,8 @@ use Rattle.wasm_sections_parser.specs.declared.frame.Frame.{Frame}
 use Rattle.wasm_sections_parser.specs.declared.parser.Parser.{Parser}
 use Rattle.wasm_sections_parser.specs.Parsing.{shape_of}
 use Rattle.wasm_sections_parser.specs.Steps.{Shape, the_end}
-use Rattle.wasm_sections_parser_laws.specs.Runs.{fresh}
-use Rattle.wasm_sections_parser_laws.specs.Calls.{settings_of, shapes_of}
+use Rattle.wasm_sections_parser_laws.specs.calls.Runs.{fresh}
+use Rattle.wasm_sections_parser_laws.specs.calls.Calls.{settings_of, shapes_of}
 use Rattle.wasm_sections_payloads.specs.declared.payload.Payload.{Payload}
 use Rattle.wasm_sections_payloads.specs.Payloads.{IsPayloadOf}
 use Rattle.wasm_sections_payloads.specs.Walking.{Standing, NextPayload}

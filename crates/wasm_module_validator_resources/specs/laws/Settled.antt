@@ -13,7 +13,7 @@ use Rattle.wasm_module_validator_type_trees.specs.Groups.{Group, count, tree_of}
 use Rattle.wasm_module_validator_type_trees.specs.Formed.{IsFormed, AreCanonical}
 use Rattle.wasm_module_validator_type_trees.specs.ByIds.{supertype_of}
 use Rattle.wasm_module_validator_type_trees.specs.laws.Ids.{supertype_tree, supertype_below}
-use Rattle.wasm_module_validator_interning.specs.Interned.{space_of, AreIdsKnown}
+use Rattle.wasm_module_validator_groups.specs.adding.Interned.{space_of, AreIdsKnown}
 use Rattle.wasm_module_validator_resources.specs.Bare.{is_bare}
 use Rattle.wasm_module_validator_resources.specs.Reading.{types_by_id}
 use Rattle.wasm_module_validator_resources.specs.Named.{nowhere, tree_meant, IsInList, kind_number, are_canonical, IsSettled}

@@ -13,8 +13,8 @@ use Rattle.wasm_types.specs.trees.ValidGroup.{IsFunction, IsValidSupertype}
 use Rattle.wasm_types.specs.trees.laws.Matches.{links_are_sound}
 use Rattle.wasm_module_validator_type_trees.specs.Groups.{Group, count, tree_of}
 use Rattle.wasm_module_validator_type_trees.specs.Formed.{IsFormed, AreCanonical}
-use Rattle.wasm_module_validator_interning.specs.Interned.{IsChecked}
-use Rattle.wasm_module_validator_interning.proofs.Plain.{tree_plain}
+use Rattle.wasm_module_validator_groups.specs.adding.Interned.{IsChecked}
+use Rattle.wasm_module_validator_groups.proofs.Plain.{tree_plain}
 use Rattle.wasm_module_validator_module.specs.Spaces.{Spaces}
 use Rattle.wasm_module_validator_resources.specs.Bare.{is_bare}
 use Rattle.wasm_module_validator_resources.specs.Named.{kind_number, are_canonical, IsSettled, IsFunctionId, IsFunctionKind, IsReadOver, IsSettledIn}

@@ -16,7 +16,7 @@ use Rattle.wasm_operator_validator_resources.specs.Meaning.{named_type}
 use Rattle.wasm_module_validator_type_trees.specs.Groups.{Group, count, tree_of, tree_behind}
 use Rattle.wasm_module_validator_type_trees.specs.Groups as groups_of
 use Rattle.wasm_module_validator_type_trees.specs.laws.Unrolled.{length_entries, count_push, tree_old, tree_new}
-use Rattle.wasm_module_validator_interning.specs.Interned.{space_of}
+use Rattle.wasm_module_validator_groups.specs.adding.Interned.{space_of}
 use Rattle.wasm_module_validator_resources.specs.Reading.{types_by_id, names_in}
 use Rattle.wasm_module_validator_resources.specs.Named.{nowhere}
 

@@ -8,15 +8,15 @@ use Rattle.wasm_types.specs.limits.Settings.{Settings}
 use Rattle.wasm_types.specs.trees.worked.Groups.{together}
 use Rattle.wasm_types.specs.values.declared.value.ValType.TheVariants as value
 use Rattle.wasm_operators_bodies.specs.reader.expression.Code.{Code, plain}
-use Rattle.wasm_sections_imports.specs.declared.kind.ExternalKind.TheVariants as kind
-use Rattle.wasm_sections_imports.specs.declared.type_ref.TypeRef.TheVariants as import
-use Rattle.wasm_sections_imports.specs.Spells.{ExportTree}
-use Rattle.wasm_sections_segments.specs.Spells.{GlobalTree}
+use Rattle.wasm_sections_items.specs.declared.imports.kind.ExternalKind.TheVariants as kind
+use Rattle.wasm_sections_items.specs.declared.imports.type_ref.TypeRef.TheVariants as import
+use Rattle.wasm_sections_items.specs.imports.Spells.{ExportTree}
+use Rattle.wasm_sections_items.specs.segments.Spells.{GlobalTree}
 use Rattle.wasm_types.specs.trees.Types.{i32, i64, number, ref, abstract, func, extern}
 use Rattle.wasm_types.specs.trees.Trees.{TypeTree, opened}
 use Rattle.wasm_types.specs.trees.ValidGroup.{type_at}
-use Rattle.wasm_sections_elements.specs.Spells.{passive, expressions}
-use Rattle.wasm_operator_validator_constant_rules.specs.rules.Context.{Table, Global}
+use Rattle.wasm_sections_items.specs.elements.Spells.{passive, expressions}
+use Rattle.wasm_operator_validator_rules.specs.Context.{Table, Global}
 use Rattle.wasm_module_validator_rules.specs.Spaces.{module_of}
 use Rattle.wasm_module_validator_rules.specs.Syntax.{ModuleTree}
 use Rattle.wasm_module_validator_rules.specs.Valid.{IsValid}

@@ -24,13 +24,13 @@ use Rattle.wasm_operators_bodies.specs.reader.expression.operator.Op as op
 use Rattle.wasm_operators_bodies.specs.reader.expression.operator.Op.{Op}
 use Rattle.wasm_operators_bodies.specs.reader.expression.Code.{Code, close, plain}
 use Rattle.wasm_operators_bodies.specs.Locals.{LocalGroup}
-use Rattle.wasm_sections_imports.specs.declared.kind.ExternalKind.{ExternalKind}
-use Rattle.wasm_sections_imports.specs.declared.type_ref.TypeRef.{TypeRef}
-use Rattle.wasm_sections_imports.specs.Spells.{ImportTree, ExportTree}
-use Rattle.wasm_sections_segments.specs.Spells.{GlobalTree, DataTree}
-use Rattle.wasm_sections_segments.specs.Spells as data_mode
-use Rattle.wasm_sections_segments.specs.Tables.{TableTree}
-use Rattle.wasm_sections_elements.specs.Spells.{ElementTree, active, declared, functions}
+use Rattle.wasm_sections_items.specs.declared.imports.kind.ExternalKind.{ExternalKind}
+use Rattle.wasm_sections_items.specs.declared.imports.type_ref.TypeRef.{TypeRef}
+use Rattle.wasm_sections_items.specs.imports.Spells.{ImportTree, ExportTree}
+use Rattle.wasm_sections_items.specs.segments.Spells.{GlobalTree, DataTree}
+use Rattle.wasm_sections_items.specs.segments.Spells as data_mode
+use Rattle.wasm_sections_items.specs.segments.Tables.{TableTree}
+use Rattle.wasm_sections_items.specs.elements.Spells.{ElementTree, active, declared, functions}
 use Rattle.wasm_module_validator_rules.specs.Syntax.{Function, ModuleTree}
 use Rattle.wasm_module_validator_rules.specs.Valid.{IsValid}
 

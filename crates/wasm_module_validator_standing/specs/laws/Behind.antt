@@ -11,11 +11,11 @@ use Rattle.wasm_types.specs.externs.declared.tag.TagType.{TagType}
 use Rattle.wasm_module_validator_type_trees.specs.Groups.{Group}
 use Rattle.wasm_module_validator_module.specs.Spaces.{Spaces, own_function}
 use Rattle.wasm_module_validator_resources.specs.Reading.{context_of}
-use Rattle.wasm_module_validator_so_far.specs.SoFar.{IsReadAs}
-use Rattle.wasm_module_validator_so_far.specs.Referring.{referring_to_each}
-use Rattle.wasm_module_validator_so_far.specs.laws.Adding.{function_is_added, table_is_added, memory_is_added, tag_is_added, global_is_added, element_is_added, data_count_is_set, others_are_read, function_is_referred_to}
-use Rattle.wasm_module_validator_so_far.specs.laws.Referring.{function_is_not_referred_to, export_refers, table_refers, global_refers, element_refers}
-use Rattle.wasm_module_validator_so_far.specs.laws.Limits.{import_size_is, export_size_is}
+use Rattle.wasm_module_validator_standing.specs.so_far.SoFar.{IsReadAs}
+use Rattle.wasm_module_validator_standing.specs.so_far.Referring.{referring_to_each}
+use Rattle.wasm_module_validator_standing.specs.so_far.laws.Adding.{function_is_added, table_is_added, memory_is_added, tag_is_added, global_is_added, element_is_added, data_count_is_set, others_are_read, function_is_referred_to}
+use Rattle.wasm_module_validator_standing.specs.so_far.laws.Referring.{function_is_not_referred_to, export_refers, table_refers, global_refers, element_refers}
+use Rattle.wasm_module_validator_standing.specs.so_far.laws.Limits.{import_size_is, export_size_is}
 use Rattle.wasm_module_validator_items.specs.Adding.{adding_function, adding_table, adding_memory, adding_global, adding_tag, adding_element, referring, counting_data, exporting}
 use Rattle.wasm_module_validator_items.specs.Items.{Items}
 use Rattle.wasm_module_validator_steps.specs.contexts.imports.declared.kind.ExternalKind.{ExternalKind}

@@ -8,11 +8,11 @@ use Rattle.wasm_types.specs.externs.declared.memory.MemoryType.{MemoryType}
 use Rattle.wasm_types.specs.externs.declared.tag.TagType.{TagType}
 use Rattle.wasm_module_validator_type_trees.specs.Groups.{Group}
 use Rattle.wasm_module_validator_resources.specs.Reading.{context_of, meaning_of}
-use Rattle.wasm_module_validator_so_far.specs.SoFar.{IsReadAs}
-use Rattle.wasm_module_validator_so_far.specs.Counts.{AreCounted}
-use Rattle.wasm_module_validator_so_far.specs.laws.Judging.{context_so_far_is}
-use Rattle.wasm_module_validator_so_far.specs.laws.Context.{context_is}
-use Rattle.wasm_module_validator_so_far.specs.laws.Limits.{counts_are, import_size_is, export_size_is}
+use Rattle.wasm_module_validator_standing.specs.so_far.SoFar.{IsReadAs}
+use Rattle.wasm_module_validator_standing.specs.so_far.Counts.{AreCounted}
+use Rattle.wasm_module_validator_standing.specs.so_far.laws.Judging.{context_so_far_is}
+use Rattle.wasm_module_validator_standing.specs.so_far.laws.Context.{context_is}
+use Rattle.wasm_module_validator_standing.specs.so_far.laws.Limits.{counts_are, import_size_is, export_size_is}
 use Rattle.wasm_module_validator_exports.specs.names.Exports.{IsNew, names_of}
 use Rattle.wasm_module_validator_referring.specs.Referring.{meaning_with_all, with_all_referenced}
 use Rattle.wasm_module_validator_items.specs.Items.{Items, HasRoomFor, IsImportable, IsExportable}

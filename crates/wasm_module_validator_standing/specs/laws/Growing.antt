@@ -5,8 +5,8 @@ use Rattle.wasm_types.specs.limits.Limits.{ceilings, IsWithinCeilings}
 use Rattle.wasm_types.specs.limits.Settings.{Settings}
 use Rattle.wasm_types.specs.trees.ValidGroup.{Written, IsValidGroup, types_of}
 use Rattle.wasm_module_validator_type_trees.specs.Groups.{Group}
-use Rattle.wasm_module_validator_interning.specs.Interned.{space_of, AddsGroup}
-use Rattle.wasm_module_validator_so_far.specs.laws.Adding.{types_alone, group_is_added}
+use Rattle.wasm_module_validator_groups.specs.adding.Interned.{space_of, AddsGroup}
+use Rattle.wasm_module_validator_standing.specs.so_far.laws.Adding.{types_alone, group_is_added}
 use Rattle.wasm_module_validator_items.specs.Items.{Items}
 use Rattle.wasm_module_validator_steps.specs.contexts.rules.Syntax.{ModuleTree}
 use Rattle.wasm_module_validator_steps.specs.contexts.rules.Spaces.{types_behind}

@@ -8,12 +8,12 @@ use Rattle.wasm_module_validator_exports.specs.Imports.{IsNamedImport}
 use Rattle.wasm_module_validator_exports.specs.names.Imports.{ImportedName, with_import as with_name}
 use Rattle.wasm_module_validator_module.specs.Spaces.{Spaces, imported_function}
 use Rattle.wasm_module_validator_resources.specs.Reading.{context_of, meaning_of}
-use Rattle.wasm_module_validator_so_far.specs.SoFar.{IsReadAs}
-use Rattle.wasm_module_validator_so_far.specs.Referring.{IsReferredAs}
-use Rattle.wasm_module_validator_so_far.specs.laws.Importing.{imports_alone, function_is_imported, exact_function_is_imported, table_is_imported, memory_is_imported, global_is_imported, tag_is_imported}
-use Rattle.wasm_module_validator_so_far.specs.laws.Limits.{import_size_is}
-use Rattle.wasm_module_validator_so_far.specs.laws.Named.{table_is_named, global_is_named}
-use Rattle.wasm_module_validator_so_far.specs.laws.Referring.{function_is_not_referred_to}
+use Rattle.wasm_module_validator_standing.specs.so_far.SoFar.{IsReadAs}
+use Rattle.wasm_module_validator_standing.specs.so_far.Referring.{IsReferredAs}
+use Rattle.wasm_module_validator_standing.specs.so_far.laws.Importing.{imports_alone, function_is_imported, exact_function_is_imported, table_is_imported, memory_is_imported, global_is_imported, tag_is_imported}
+use Rattle.wasm_module_validator_standing.specs.so_far.laws.Limits.{import_size_is}
+use Rattle.wasm_module_validator_standing.specs.so_far.laws.Named.{table_is_named, global_is_named}
+use Rattle.wasm_module_validator_standing.specs.so_far.laws.Referring.{function_is_not_referred_to}
 use Rattle.wasm_module_validator_items.specs.Adding.{importing}
 use Rattle.wasm_module_validator_items.specs.Items.{Items, HasItsType, IsImported, next_index, next_place}
 use Rattle.wasm_module_validator_items.specs.laws.Importing.{valid_typed}

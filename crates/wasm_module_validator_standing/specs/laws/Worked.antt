@@ -2,8 +2,8 @@
 use Rattle.std.proofs.Common.{◌≡◌, ℕ, List, [], ◌∷◌, refl, ap}
 use Rattle.wasm_types.specs.limits.Settings.{Settings}
 use Rattle.wasm_module_validator_type_trees.specs.Groups.{Group}
-use Rattle.wasm_module_validator_so_far.specs.laws.Adding.{nothing_is}
-use Rattle.wasm_module_validator_so_far.specs.laws.Referring.{none_are_referred_to}
+use Rattle.wasm_module_validator_standing.specs.so_far.laws.Adding.{nothing_is}
+use Rattle.wasm_module_validator_standing.specs.so_far.laws.Referring.{none_are_referred_to}
 use Rattle.wasm_module_validator_items.specs.Items as state
 use Rattle.wasm_module_validator_items.specs.Items.{Items}
 use Rattle.wasm_module_validator_exports.specs.names.declared.imports.Place.{Place}

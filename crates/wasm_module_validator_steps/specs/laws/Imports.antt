@@ -1,16 +1,16 @@
 -- Imports within the limits: of each kind, and of the sizes of their types.
 use Rattle.std.proofs.Common.{◌≡◌, ◌⊎◌, ◌+◌, ◌<◌, ◌≤◌, ℕ, List, [], ◌∷◌, ◌++◌, map, length, Option, inl, inr, refl, ap, ◌∙◌, sym, arith}
 use Rattle.std.proofs.lemmas.List.{map_push, append-nil}
-use Rattle.wasm_module_validator_contexts.specs.rules.constant_rules.expression.types.limits.Settings.{Settings}
-use Rattle.wasm_module_validator_contexts.specs.imports.declared.type_ref.TypeRef.{TypeRef}
-use Rattle.wasm_module_validator_contexts.specs.imports.declared.type_ref.TypeRef.TheVariants as import
-use Rattle.wasm_module_validator_contexts.specs.imports.Spells.{ImportTree}
-use Rattle.wasm_module_validator_contexts.specs.rules.Syntax.{ModuleTree}
-use Rattle.wasm_module_validator_contexts.specs.rules.Spaces.{function_of, table_of, memory_of, global_of, tag_of, function_space, table_space, memory_space, global_space, tag_space}
-use Rattle.wasm_module_validator_contexts.specs.rules.Spaces.{module_of}
-use Rattle.wasm_module_validator_contexts.specs.rules.Valid.{import_size, type_sizes, most_tables, most_memories}
-use Rattle.wasm_module_validator_contexts.specs.InOrder.{imports_read, InTurn}
-use Rattle.wasm_module_validator_contexts.specs.laws.Lists.{turn_both}
+use Rattle.wasm_module_validator_steps.specs.contexts.rules.constant_rules.expression.types.limits.Settings.{Settings}
+use Rattle.wasm_module_validator_steps.specs.contexts.imports.declared.type_ref.TypeRef.{TypeRef}
+use Rattle.wasm_module_validator_steps.specs.contexts.imports.declared.type_ref.TypeRef.TheVariants as import
+use Rattle.wasm_module_validator_steps.specs.contexts.imports.Spells.{ImportTree}
+use Rattle.wasm_module_validator_steps.specs.contexts.rules.Syntax.{ModuleTree}
+use Rattle.wasm_module_validator_steps.specs.contexts.rules.Spaces.{function_of, table_of, memory_of, global_of, tag_of, function_space, table_space, memory_space, global_space, tag_space}
+use Rattle.wasm_module_validator_steps.specs.contexts.rules.Spaces.{module_of}
+use Rattle.wasm_module_validator_steps.specs.contexts.rules.Valid.{import_size, type_sizes, most_tables, most_memories}
+use Rattle.wasm_module_validator_steps.specs.contexts.InOrder.{imports_read, InTurn}
+use Rattle.wasm_module_validator_steps.specs.contexts.laws.Lists.{turn_both}
 use Rattle.wasm_module_validator_steps.specs.Sections as section
 use Rattle.wasm_module_validator_steps.specs.Sections.{as_list}
 use Rattle.wasm_module_validator_steps.specs.Adding.{HasRoomIn, IsWithinNext, Fits, sum_from}

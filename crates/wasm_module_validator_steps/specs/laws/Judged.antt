@@ -5,15 +5,15 @@ use Rattle.std.specs.List.{AllZip}
 use Rattle.std.proofs.lemmas.Bool.{cases_order}
 use Rattle.std.proofs.lemmas.List.{length_push}
 use Rattle.std.proofs.lemmas.Option.{slice_get_within}
-use Rattle.wasm_module_validator_contexts.specs.rules.constant_rules.expression.types.limits.Settings.{Settings}
+use Rattle.wasm_module_validator_steps.specs.contexts.rules.constant_rules.expression.types.limits.Settings.{Settings}
 use Rattle.wasm_sections_parser.specs.Steps.{Shape, version, custom, code, entry, the_end}
 use Rattle.wasm_sections_parser.specs.Steps as frame
-use Rattle.wasm_module_validator_contexts.specs.rules.Syntax.{Function, ModuleTree}
-use Rattle.wasm_module_validator_contexts.specs.rules.Spaces.{module_of}
-use Rattle.wasm_module_validator_contexts.specs.rules.Binary.{SpelledFunction, SpelledSections, contents, entries_of}
-use Rattle.wasm_module_validator_contexts.specs.rules.Valid.{Each, HasValidBody, IsWithinLimits}
-use Rattle.wasm_module_validator_contexts.specs.InOrder.{no_items, IsValidInOrder}
-use Rattle.wasm_module_validator_contexts.specs.laws.Lists.{each_joined}
+use Rattle.wasm_module_validator_steps.specs.contexts.rules.Syntax.{Function, ModuleTree}
+use Rattle.wasm_module_validator_steps.specs.contexts.rules.Spaces.{module_of}
+use Rattle.wasm_module_validator_steps.specs.contexts.rules.Binary.{SpelledFunction, SpelledSections, contents, entries_of}
+use Rattle.wasm_module_validator_steps.specs.contexts.rules.Valid.{Each, HasValidBody, IsWithinLimits}
+use Rattle.wasm_module_validator_steps.specs.contexts.InOrder.{no_items, IsValidInOrder}
+use Rattle.wasm_module_validator_steps.specs.contexts.laws.Lists.{each_joined}
 use Rattle.wasm_module_validator_steps.specs.Sections.{Section, number, place, code_place, items, before, up_to, IsUnread}
 use Rattle.wasm_module_validator_steps.specs.Sections as section
 use Rattle.wasm_module_validator_steps.specs.Adding.{IsValidSection}

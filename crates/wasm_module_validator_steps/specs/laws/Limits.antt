@@ -1,22 +1,22 @@
 -- A module with one section more is within the limits exactly where the section may begin, and each of its items is within them in turn.
 use Rattle.std.proofs.Common.{◌≡◌, ◌⊎◌, ◌+◌, ◌≤◌, ℕ, true, List, [], ◌∷◌, ◌++◌, map, length, inr, ap, ◌∙◌, sym, arith}
 use Rattle.std.proofs.lemmas.List.{map_push, append_assoc}
-use Rattle.wasm_module_validator_contexts.specs.rules.constant_rules.expression.types.limits.Settings.{Settings}
-use Rattle.wasm_module_validator_contexts.specs.rules.constant_rules.expression.types.trees.ValidGroup.{Written}
-use Rattle.wasm_module_validator_contexts.specs.rules.constant_rules.expression.types.externs.declared.memory.MemoryType.{MemoryType}
-use Rattle.wasm_module_validator_contexts.specs.rules.constant_rules.expression.types.externs.declared.tag.TagType.{TagType}
-use Rattle.wasm_module_validator_contexts.specs.imports.Spells.{ImportTree, ExportTree}
-use Rattle.wasm_module_validator_contexts.specs.segments.Spells.{GlobalTree, DataTree}
-use Rattle.wasm_module_validator_contexts.specs.segments.Tables.{TableTree}
-use Rattle.wasm_module_validator_contexts.specs.elements.Spells.{ElementTree}
-use Rattle.wasm_module_validator_contexts.specs.rules.constant_rules.expression.Code.{Code}
-use Rattle.wasm_module_validator_contexts.specs.rules.Syntax.{ModuleTree}
-use Rattle.wasm_module_validator_contexts.specs.rules.Spaces.{types_behind, imported, function_of, table_of, memory_of, global_of, tag_of, function_with, function_space, table_space}
-use Rattle.wasm_module_validator_contexts.specs.rules.Spaces.{memory_space, global_space, tag_space, module_of}
-use Rattle.wasm_module_validator_contexts.specs.rules.Valid.{IsWithinLimits, import_size, export_size, type_sizes, most_tables, most_memories}
-use Rattle.wasm_module_validator_contexts.specs.InOrder.{no_items, functions_read, tables_read, memories_read, tags_read, globals_read, exports_read, elements_read, data_count_read}
-use Rattle.wasm_module_validator_contexts.specs.InOrder.{InTurn}
-use Rattle.wasm_module_validator_contexts.specs.laws.Lists.{turn_both}
+use Rattle.wasm_module_validator_steps.specs.contexts.rules.constant_rules.expression.types.limits.Settings.{Settings}
+use Rattle.wasm_module_validator_steps.specs.contexts.rules.constant_rules.expression.types.trees.ValidGroup.{Written}
+use Rattle.wasm_module_validator_steps.specs.contexts.rules.constant_rules.expression.types.externs.declared.memory.MemoryType.{MemoryType}
+use Rattle.wasm_module_validator_steps.specs.contexts.rules.constant_rules.expression.types.externs.declared.tag.TagType.{TagType}
+use Rattle.wasm_module_validator_steps.specs.contexts.imports.Spells.{ImportTree, ExportTree}
+use Rattle.wasm_module_validator_steps.specs.contexts.segments.Spells.{GlobalTree, DataTree}
+use Rattle.wasm_module_validator_steps.specs.contexts.segments.Tables.{TableTree}
+use Rattle.wasm_module_validator_steps.specs.contexts.elements.Spells.{ElementTree}
+use Rattle.wasm_module_validator_steps.specs.contexts.rules.constant_rules.expression.Code.{Code}
+use Rattle.wasm_module_validator_steps.specs.contexts.rules.Syntax.{ModuleTree}
+use Rattle.wasm_module_validator_steps.specs.contexts.rules.Spaces.{types_behind, imported, function_of, table_of, memory_of, global_of, tag_of, function_with, function_space, table_space}
+use Rattle.wasm_module_validator_steps.specs.contexts.rules.Spaces.{memory_space, global_space, tag_space, module_of}
+use Rattle.wasm_module_validator_steps.specs.contexts.rules.Valid.{IsWithinLimits, import_size, export_size, type_sizes, most_tables, most_memories}
+use Rattle.wasm_module_validator_steps.specs.contexts.InOrder.{no_items, functions_read, tables_read, memories_read, tags_read, globals_read, exports_read, elements_read, data_count_read}
+use Rattle.wasm_module_validator_steps.specs.contexts.InOrder.{InTurn}
+use Rattle.wasm_module_validator_steps.specs.contexts.laws.Lists.{turn_both}
 use Rattle.wasm_module_validator_steps.specs.Sections as section
 use Rattle.wasm_module_validator_steps.specs.Sections.{as_list}
 use Rattle.wasm_module_validator_steps.specs.Adding.{IsWithinNext, Fits}

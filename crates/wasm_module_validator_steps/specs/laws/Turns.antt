@@ -1,8 +1,8 @@
 -- Items that are added one after the other, and what each of them asks for in turn.
 use Rattle.std.proofs.Common.{◌≡◌, ◌⊎◌, ◌+◌, ◌<◌, ◌≤◌, ℕ, List, [], ◌∷◌, ◌++◌, inl, inr, sym, ap, ◌∙◌, subst, arith}
 use Rattle.std.proofs.lemmas.List.{append_assoc, append-nil}
-use Rattle.wasm_module_validator_contexts.specs.rules.Valid.{SumsBelow}
-use Rattle.wasm_module_validator_contexts.specs.InOrder.{InTurn}
+use Rattle.wasm_module_validator_steps.specs.contexts.rules.Valid.{SumsBelow}
+use Rattle.wasm_module_validator_steps.specs.contexts.InOrder.{InTurn}
 use Rattle.wasm_module_validator_steps.specs.Adding.{AddsEach, sum_from}
 
 -- ---- items in turn

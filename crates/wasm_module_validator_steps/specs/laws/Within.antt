@@ -1,12 +1,12 @@
 -- The limits hold of each front of a module that is within them.
 use Rattle.std.proofs.Common.{◌≤◌, ℕ, [], map, length, sym, subst, arith}
 use Rattle.std.proofs.lemmas.List.{append-nil}
-use Rattle.wasm_module_validator_contexts.specs.rules.constant_rules.expression.types.limits.Settings.{Settings}
-use Rattle.wasm_module_validator_contexts.specs.imports.Spells.{ImportTree, ExportTree}
-use Rattle.wasm_module_validator_contexts.specs.rules.Syntax.{ModuleTree}
-use Rattle.wasm_module_validator_contexts.specs.rules.Spaces.{module_of}
-use Rattle.wasm_module_validator_contexts.specs.rules.Valid.{SumsBelow, import_size, export_size, most_tables, most_memories}
-use Rattle.wasm_module_validator_contexts.specs.InOrder.{no_items, functions_read, tables_read, memories_read, tags_read, globals_read, exports_read}
+use Rattle.wasm_module_validator_steps.specs.contexts.rules.constant_rules.expression.types.limits.Settings.{Settings}
+use Rattle.wasm_module_validator_steps.specs.contexts.imports.Spells.{ImportTree, ExportTree}
+use Rattle.wasm_module_validator_steps.specs.contexts.rules.Syntax.{ModuleTree}
+use Rattle.wasm_module_validator_steps.specs.contexts.rules.Spaces.{module_of}
+use Rattle.wasm_module_validator_steps.specs.contexts.rules.Valid.{SumsBelow, import_size, export_size, most_tables, most_memories}
+use Rattle.wasm_module_validator_steps.specs.contexts.InOrder.{no_items, functions_read, tables_read, memories_read, tags_read, globals_read, exports_read}
 use Rattle.wasm_module_validator_steps.specs.Sections.{Section, before, up_to}
 use Rattle.wasm_module_validator_steps.specs.Sections as section
 use Rattle.wasm_module_validator_steps.specs.laws.Turns.{sums_first}

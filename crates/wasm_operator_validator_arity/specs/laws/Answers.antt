@@ -1,11 +1,11 @@
 -- The answers beside the rules.
 use Rattle.std.proofs.Common.{◌≡◌, ◌∙◌, ℕ, List, ◌∷◌, Option, Some, ap}
-use Rattle.wasm_operator_validator_arity_rules.specs.expression.operator.Op as op
-use Rattle.wasm_operator_validator_arity_rules.specs.expression.operator.Op.{Op, ContinuationTree}
-use Rattle.wasm_operator_validator_arity_rules.specs.rules.Context.{Context, Initialised}
-use Rattle.wasm_operator_validator_arity_rules.specs.Arity.{Known, Counts, in_u32, counts_of}
-use Rattle.wasm_operator_validator_arity_rules.specs.Exchanges.{Standing, IsAround, Exchanges, CountsAreExact, by_row, opened, turned, closed}
-use Rattle.wasm_operator_validator_arity_rules.specs.laws.Groups.{counts_are_exact}
+use Rattle.wasm_operator_validator_rules.specs.expression.operator.Op as op
+use Rattle.wasm_operator_validator_rules.specs.expression.operator.Op.{Op, ContinuationTree}
+use Rattle.wasm_operator_validator_rules.specs.Context.{Context, Initialised}
+use Rattle.wasm_operator_validator_rules.specs.arity.Arity.{Known, Counts, in_u32, counts_of}
+use Rattle.wasm_operator_validator_rules.specs.arity.Exchanges.{Standing, IsAround, Exchanges, CountsAreExact, by_row, opened, turned, closed}
+use Rattle.wasm_operator_validator_rules.specs.arity.laws.Groups.{counts_are_exact}
 use Rattle.wasm_operator_validator_arity.specs.Knowing.{ended, AnswersFor}
 
 -- where the rules let an operator take and give so many, an answer for it is these numbers

@@ -11,8 +11,8 @@ use Rattle.wasm_operators_walking.specs.reader.immediates.declared.block.BlockTy
 use Rattle.wasm_operators_walking.specs.reader.operator.Op.{Op}
 use Rattle.wasm_operators_walking.specs.reader.expression.Code.{Code, walk}
 use Rattle.wasm_operators_walking.specs.reader.expression.Spelling.{SpelledOperators, SpelledExpression}
-use Rattle.wasm_operator_validator_constant_rules.specs.Constants.{IsConstantOperator, AreConstantOperators, IsConstant}
-use Rattle.wasm_operator_validator_constant_rules.specs.rules.Context.{Module}
+use Rattle.wasm_operator_validator_rules.specs.constants.Constants.{IsConstantOperator, AreConstantOperators, IsConstant}
+use Rattle.wasm_operator_validator_rules.specs.Context.{Module}
 use Rattle.wasm_operator_validator_expression.specs.state.laws.Bodies.{bodies_are_accepted}
 use Rattle.wasm_operator_validator_expression.specs.state.State.{Given}
 use Rattle.wasm_operator_validator_stacks.specs.Layout.{none_saved}

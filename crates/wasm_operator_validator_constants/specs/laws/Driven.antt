@@ -10,7 +10,7 @@ use Rattle.wasm_operators_walking.specs.reader.expression.Code.{Code, walk}
 use Rattle.wasm_operators_walking.specs.reader.expression.Spelling.{SpelledExpression}
 use Rattle.wasm_operators_walking.specs.reader.Standing.{Standing, at_start}
 use Rattle.wasm_operators_walking.specs.Walking.{HasNoVectors, VisitsAll, WalksTo, WalksUntilAt, StopsPlain}
-use Rattle.wasm_operator_validator_constant_rules.specs.Constants.{IsConstantOperator}
+use Rattle.wasm_operator_validator_rules.specs.constants.Constants.{IsConstantOperator}
 use Rattle.wasm_operator_validator_expression.specs.resources.Meaning.{Meaning}
 use Rattle.wasm_operator_validator_expression.specs.state.Refusals.{OfContent}
 use Rattle.wasm_operator_validator_expression.specs.state.State.{State, Visits}

@@ -1,5 +1,5 @@
 use Rattle.std.proofs.Common.{refl}
-use Rattle.wasm_module_validator_externs.specs.rules.Spaces.{table_in as table_written, global_in as global_written}
+use Rattle.wasm_module_validator_checks.specs.limits.rules.Spaces.{table_in as table_written, global_in as global_written}
 use Rattle.wasm_module_validator_module.specs.Spaces.{own_function, imported_function}
 use Rattle.wasm_module_validator_resources.specs.Reading.{context_of}
 use Rattle.wasm_module_validator_items.specs.laws.Reading.{function_more, table_more, global_more, tag_more, element_more, reference_more}

@@ -2,7 +2,7 @@ use Rattle.std.proofs.Common.{◌∙◌, refl, sym, ap, subst}
 use Rattle.wasm_types.specs.limits.Limits.{IsWithinCeilings}
 use Rattle.wasm_types.specs.limits.RowLaws.{default_within}
 use Rattle.wasm_types.specs.limits.Settings.{Settings}
-use Rattle.wasm_module_validator_interning.specs.Modules.{settings_of}
+use Rattle.wasm_module_validator_groups.specs.adding.Modules.{settings_of}
 use Rattle.wasm_module_validator_progress.specs.laws.Empty.{nothing_is_over}
 use Rattle.wasm_module_validator_progress.proofs.items.add_or_forget.Goals as goal
 

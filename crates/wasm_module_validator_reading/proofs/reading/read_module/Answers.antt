@@ -1,6 +1,6 @@
 use Rattle.std.proofs.Common.{false, ◌≡◌, ◌∙◌, ◌+◌, ◌<◌, ◌^◌, List, [], length, refl, sym, subst, arith, Some, Result}
 use Rattle.wasm_types.specs.error.ErrorValue.{ErrorValue}
-use Rattle.wasm_sections_parser_laws.specs.Runs.{fresh}
+use Rattle.wasm_sections_parser_laws.specs.calls.Runs.{fresh}
 use Rattle.wasm_sections_parser.specs.declared.parser.Parser.{Parser}
 use Rattle.wasm_sections_payloads.specs.declared.payload.Payload.{Payload}
 use Rattle.wasm_sections_payloads.specs.Walking.{NextPayload}

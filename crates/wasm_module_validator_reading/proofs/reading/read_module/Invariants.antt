@@ -1,4 +1,4 @@
-use Rattle.wasm_sections_parser_laws.specs.Runs.{fresh}
+use Rattle.wasm_sections_parser_laws.specs.calls.Runs.{fresh}
 use Rattle.wasm_module_validator_reading.specs.laws.Walking.{Goes}
 use Rattle.wasm_module_validator_judging.specs.progress.Progress.{Grows}
 use Rattle.wasm_module_validator_reading.proofs.reading.read_module.Given as goal

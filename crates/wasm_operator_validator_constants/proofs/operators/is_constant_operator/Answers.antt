@@ -1,7 +1,7 @@
 use Rattle.std.proofs.Common.{◌≡◌, ◌∙◌, ℕ, Option, Some, None, Bool, true, false, refl, sym, subst, slice_get}
-use Rattle.wasm_operator_validator_constant_rules.specs.expression.operator.Op.{Op, op_of}
-use Rattle.wasm_operator_validator_constant_rules.specs.rules.Context.{Module}
-use Rattle.wasm_operator_validator_constant_rules.specs.Constants.{IsConstantOperator, IsConstantGlobal}
+use Rattle.wasm_operator_validator_rules.specs.expression.operator.Op.{Op, op_of}
+use Rattle.wasm_operator_validator_rules.specs.Context.{Module}
+use Rattle.wasm_operator_validator_rules.specs.constants.Constants.{IsConstantOperator, IsConstantGlobal}
 use Rattle.wasm_operator_validator_constants.specs.declared.refusal.ConstantRefusal.{ConstantRefusal}
 use Rattle.wasm_operator_validator_constants.specs.Operators.{global_read, is_listed, is_allowed, RefusesListed, RefusesBy, RefusesOperator}
 use Rattle.wasm_operator_validator_constants.specs.declared.refusal.ConstantRefusal.TheVariants as refusals

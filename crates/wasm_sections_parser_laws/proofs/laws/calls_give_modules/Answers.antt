@@ -1,7 +1,7 @@
 -- By the laws of modules and of refusals.
 use Rattle.wasm_sections_parser_laws.specs.ModuleLaws.{calls_front, end_given}
 use Rattle.wasm_sections_parser_laws.specs.FrontLaws.{front_spelled}
-use Rattle.wasm_sections_parser_calls.specs.Calls.{settings_of, shapes_of, stands}
+use Rattle.wasm_sections_parser_laws.specs.calls.Calls.{settings_of, shapes_of, stands}
 use Rattle.wasm_sections_parser.specs.Parsing.{reads}
 use Rattle.wasm_sections_parser_laws.specs.RefusalLaws.{refused_stuck, asked_stuck, front_first, not_refused}
 use Rattle.wasm_sections_parser_laws.proofs.laws.calls_give_modules.Goals as goal

@@ -2,7 +2,7 @@
 use Rattle.std.proofs.Common.{arith, true, ◌-◌, length, drop}
 use Rattle.std.proofs.lemmas.List.{length-take, length-drop}
 use Rattle.wasm_sections_parser.specs.declared.frame.Frame.TheVariants.{CodeEntry}
-use Rattle.wasm_sections_parser_laws.specs.Advance.{parsed_within}
+use Rattle.wasm_sections_parser_laws.specs.calls.Advance.{parsed_within}
 use Rattle.wasm_sections_payloads.proofs.walk.next_body.Goals as goal
 
 pub slice_bounds-result-count : goal.slice_bounds-result-count

@@ -3,7 +3,7 @@ use Rattle.std.proofs.Common.{arith, true, ◌-◌, length, drop, subst, Ok}
 use Rattle.std.proofs.lemmas.List.{length-take, length-drop}
 use Rattle.wasm_sections_parser.specs.declared.parser.Chunk.{Chunk}
 use Rattle.wasm_sections_parser.specs.Parsing.{Parses}
-use Rattle.wasm_sections_parser_laws.specs.Advance.{parsed_within}
+use Rattle.wasm_sections_parser_laws.specs.calls.Advance.{parsed_within}
 use Rattle.wasm_sections_payloads.proofs.walk.next_frame.Goals as goal
 
 pub slice_bounds-result-count : goal.slice_bounds-result-count

@@ -1,5 +1,5 @@
 use Rattle.std.proofs.Common.{◌∙◌, ap, subst, sym}
-use Rattle.wasm_sections_imports.specs.Spells.{ImportTree}
+use Rattle.wasm_sections_items.specs.imports.Spells.{ImportTree}
 use Rattle.wasm_module_validator_exports.specs.names.Imports.{with_import as with_name}
 use Rattle.wasm_module_validator_items.specs.Adding.{importing}
 use Rattle.wasm_module_validator_items.specs.Items.{Items}

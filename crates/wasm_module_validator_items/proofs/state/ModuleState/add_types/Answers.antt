@@ -1,6 +1,6 @@
 use Rattle.std.proofs.Common.{ap}
 use Rattle.wasm_types.specs.trees.ValidGroup.{types_of}
-use Rattle.wasm_module_validator_interning.specs.Interned.{space_of, written_group}
+use Rattle.wasm_module_validator_groups.specs.adding.Interned.{space_of, written_group}
 use Rattle.wasm_module_validator_items.specs.Items.{Items}
 use Rattle.wasm_module_validator_items.proofs.Making.{types_context, types_stay}
 use Rattle.wasm_module_validator_items.proofs.state.ModuleState.add_types.Goals as goal

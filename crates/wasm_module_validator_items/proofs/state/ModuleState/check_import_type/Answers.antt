@@ -1,8 +1,8 @@
 use Rattle.std.proofs.Common.{subst, IfErr}
 use Rattle.wasm_types.specs.limits.Settings.{Settings}
-use Rattle.wasm_module_validator_externs.specs.rules.Valid.{IsValidImport}
-use Rattle.wasm_module_validator_externs.specs.Refusals.{IsRefusal, allowing}
-use Rattle.wasm_module_validator_externs.specs.state.resources.Meaning.{Meaning}
+use Rattle.wasm_module_validator_checks.specs.limits.rules.Valid.{IsValidImport}
+use Rattle.wasm_module_validator_checks.specs.externs.Refusals.{IsRefusal, allowing}
+use Rattle.wasm_module_validator_checks.specs.externs.state.resources.Meaning.{Meaning}
 use Rattle.wasm_module_validator_resources.specs.Reading.{meaning_of}
 use Rattle.wasm_module_validator_items.proofs.state.ModuleState.check_import_type.Goals as goal
 

@@ -1,4 +1,4 @@
-use Rattle.wasm_module_validator_interning.specs.Modules.{settings_of}
+use Rattle.wasm_module_validator_groups.specs.adding.Modules.{settings_of}
 use Rattle.wasm_module_validator_progress.specs.laws.Empty.{nothing_is_over}
 use Rattle.wasm_module_validator_progress.proofs.collected.Collected.new.Goals as goal
 

@@ -1,6 +1,6 @@
 use Rattle.std.proofs.Common.{◌≡◌, ◌≤◌, ℕ, List, [], ◌∷◌, Bool, true, length, replicate, refl, ap, arith, rules}
 use Rattle.wasm_types.specs.values.declared.value.ValType.{ValType}
-use Rattle.wasm_operator_validator_inits.specs.Inits.{Inits}
+use Rattle.wasm_operator_validator_locals.specs.inits.Inits.{Inits}
 use Rattle.wasm_operator_validator_stacks.specs.Layout.{first_of, AreFirst}
 use Rattle.wasm_operator_validator_stacks.proofs.validator.OperatorValidator.restart.Goals as goal
 

@@ -1,5 +1,5 @@
 use Rattle.std.proofs.Common.{◌<◌, length, reverse}
-use Rattle.wasm_operator_validator_inits.specs.Inits.{has_value}
+use Rattle.wasm_operator_validator_locals.specs.inits.Inits.{has_value}
 use Rattle.wasm_operator_validator_stacks.proofs.Layers.{fixed}
 use Rattle.wasm_operator_validator_stacks.proofs.Setting.{inside_first, value_by, layered_if, held_set}
 use Rattle.wasm_operator_validator_stacks.proofs.validator.OperatorValidator.set_init.Goals as goal

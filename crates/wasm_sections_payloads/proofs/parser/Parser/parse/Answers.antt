@@ -2,7 +2,7 @@
 use Rattle.std.proofs.Common.{rules, subst, Ok}
 use Rattle.wasm_sections_parser.specs.declared.parser.Chunk.{Chunk}
 use Rattle.wasm_sections_parser.specs.Parsing.{Parses}
-use Rattle.wasm_sections_parser_laws.specs.Advance.{parsed_within}
+use Rattle.wasm_sections_parser_laws.specs.calls.Advance.{parsed_within}
 use Rattle.wasm_sections_payloads.proofs.parser.Parser.parse.Goals as goal
 
 pub returns-in-Ok-clause-within : goal.returns-in-Ok-clause-within

@@ -1,0 +1,12 @@
+use Rattle.std.proofs.Common.{ℕ}
+use Rattle.wasm_module_validator_checks.specs.limits.rules.Valid.{IsValidValueType, IsValidGlobalType}
+use Rattle.wasm_module_validator_checks.specs.externs.Refusals.{allowing}
+use Rattle.wasm_module_validator_checks.proofs.Refusing.{refusal_from}
+use Rattle.wasm_module_validator_checks.proofs.externs.values.check_global_type.Goals as goal
+
+pub returns-in-Err-clause-refused : goal.returns-in-Err-clause-refused
+returns-in-Err-clause-refused g c =
+    let m = g.R.WasmModuleResources.meaning c.args.resources.now in
+    let z = c.args.settings.now in
+    refusal_from z.features (λ b. IsValidValueType (allowing b z) m.«module» c.args.ty.now.content_type) (λ b. IsValidGlobalType (allowing b z) m.«module» c.args.ty.now)
+    c.in-Err.error.kind (λ b h. h.content) c.in-Err.ensures.refused

@@ -1,0 +1,49 @@
+//! Function types by their index.
+
+ghost use Rattle.std.specs.Prelude.{◌≡◌, IfErr, IfOk, Some};
+ghost use Rattle.wasm_types.specs.error.Denials.{Tells};
+ghost use Rattle.wasm_types.specs.error.declared.error.ErrorKind.TheVariants.{Other};
+ghost use Rattle.wasm_operator_validator_blocks.specs.Signatures.{signature_in, IsFunctionAt};
+ghost use Rattle.wasm_module_validator_checks.specs.limits.rules.Valid.{IsFunctionIndex};
+
+use wasm_operator_validator_blocks::function_at;
+use wasm_operator_validator_state::WasmModuleResources;
+use wasm_types::{Error, FuncType, Result};
+
+// The refusal of an index that is no function type's.
+#[cold]
+fn no_function_type<R: WasmModuleResources>(resources: &R, type_index: u32, offset: u64) -> Error
+    ensures kind { result.kind ≡ Other }
+    ensures at { result.offset ≡ offset }
+{
+    if resources.sub_type_at(type_index).is_none() {
+        return Error::fmt(
+            format_args!("unknown type {type_index}: type index out of bounds"),
+            offset,
+        );
+    }
+    Error::fmt(
+        format_args!("type index {type_index} is not a function type"),
+        offset,
+    )
+}
+
+/// The function type at an index of the module's types.
+///
+/// # Errors
+///
+/// The module has no type there, or one that is no function type: an error of kind `Other`, at `offset`.
+pub fn func_type_at<R: WasmModuleResources>(
+    resources: &R,
+    type_index: u32,
+    offset: u64,
+) -> Result<&FuncType>
+    ensures answer { Tells result (IsFunctionIndex (R.meaning resources.now).«module» type_index) }
+    ensures function { IfOk result (λ f. IsFunctionAt (R.meaning resources.now) type_index (Some (signature_in (R.meaning resources.now) f.now))) }
+    ensures refused { IfErr result (λ e. (e.kind ≡ Other) × (e.offset ≡ offset)) }
+{
+    let Some(function) = function_at(resources, type_index) else {
+        return Err(no_function_type(resources, type_index, offset));
+    };
+    Ok(function)
+}

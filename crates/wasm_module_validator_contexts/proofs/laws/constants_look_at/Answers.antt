@@ -1,9 +1,0 @@
-use Rattle.wasm_module_validator_contexts.specs.laws.Constants.{constant_agrees}
-use Rattle.wasm_module_validator_contexts.specs.laws.Numbers.{number_names_none}
-use Rattle.wasm_module_validator_contexts.proofs.laws.constants_look_at.Goals as goal
-
-pub returns-clause-constants : goal.returns-clause-constants
-returns-clause-constants c = constant_agrees
-
-pub returns-clause-numbers : goal.returns-clause-numbers
-returns-clause-numbers c = number_names_none

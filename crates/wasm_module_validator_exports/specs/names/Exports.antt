@@ -1,0 +1,25 @@
+-- What is kept of a module's exports (WebAssembly 3.0, structure, modules, exports), and which names are taken (validation, modules: no
+-- two exports have one name).
+use Rattle.std.specs.Prelude.{◌≡◌, ℕ, List, [], ◌∷◌, map, String, string_bytes}
+use Rattle.std.specs.List.{list_any}
+use Rattle.std.specs.Str.{bytes_eq}
+use Rattle.std.specs.BTreeSet.{BTreeSet, contains_text}
+use Rattle.wasm_sections_items.specs.imports.Spells.{ExportTree}
+use Rattle.wasm_module_validator_exports.specs.declared.names.exports.NamedExport.{NamedExport}
+
+-- an export as the module writes it, by the bytes of its name
+abbrev pub export_of : NamedExport → ExportTree
+export_of e = record { name = string_bytes e.name; kind = e.kind; index = e.index }
+
+-- the names, in the order of the exports
+abbrev pub names_of : List ExportTree → List (List ℕ)
+names_of es = map (λ (e : ExportTree). e.name) es
+
+-- none of these names is this one
+abbrev pub IsNew : List ℕ → List (List ℕ) → Type 0
+IsNew n [] = Unit {0}
+IsNew n (x ∷ xs) = (n ≡ x → ⊥) × IsNew n xs
+
+-- the set has these names, and no others
+abbrev pub Holds : {Y : Type 0} → BTreeSet (String Y) → List (List ℕ) → Type 0
+Holds taken names = (n : List ℕ) → contains_text taken n ≡ list_any (bytes_eq n) names

@@ -1,0 +1,112 @@
+//! Exports, by their names.
+
+ghost use Rattle.std.specs.Prelude.{◌≡◌, ◌++◌, ◌∷◌, ◌<◌, [], map, vec_len, vec_capacity, IfErr, OnOk, OnErr};
+ghost use Rattle.wasm_types.specs.error.Denials.{Tells, UnlessMemory};
+ghost use Rattle.wasm_types.specs.error.declared.error.ErrorKind.TheVariants.{Other};
+ghost use Rattle.wasm_module_validator_exports.specs.names.Exports.{IsNew, export_of, names_of};
+
+use std::alloc::Global;
+use std::collections::BTreeSet;
+use std::marker::Model;
+use wasm_sections_items::imports::ExternalKind;
+use wasm_types::{Error, Result};
+
+/// What a module exports by a name: what stands at this index of the space of this kind.
+#[derive(Drop)]
+pub struct NamedExport {
+    /// The name.
+    pub name: String,
+    /// The kind of what is exported.
+    pub kind: ExternalKind,
+    /// Its index.
+    pub index: u32,
+}
+
+/// The exports of a module in their order, no two by one name. A contract sees them as the module writes them.
+///
+/// Strangers choose the names, so they are found by their order and not by a hash.
+#[derive(Drop)]
+pub struct Exports {
+    alloc: Global,
+    exports: Vec<NamedExport>,
+    taken: BTreeSet<String>,
+}
+
+impl Model for Exports {
+    ghost use Rattle.std.specs.Prelude.{List, map};
+    ghost use Rattle.wasm_sections_items.specs.imports.Spells.{ExportTree};
+    ghost use Rattle.wasm_module_validator_exports.specs.names.Exports.{Holds, export_of, names_of};
+
+    ghost Value = { List ExportTree };
+
+    ghost view = { λ e. map export_of e.exports.items };
+
+    ghost invariant = { λ e. Holds e.taken (names_of (map export_of e.exports.items)) };
+}
+
+// The refusal of a name that is taken.
+#[cold]
+fn duplicate(name: &str, offset: u64) -> Error
+    ensures kind { result.kind ≡ Other }
+    ensures at { result.offset ≡ offset }
+{
+    Error::fmt(
+        format_args!("duplicate export name `{name}` already defined"),
+        offset,
+    )
+}
+
+// An export behind the others, in room that is there.
+fn push_in_room(exports: &mut Vec<NamedExport>, export: NamedExport)
+    requires { vec_len exports.old < vec_capacity exports.old }
+    ensures { exports.new.items ≡ exports.old.items ++ export ∷ [] }
+{
+    let _ = exports.push(export);
+}
+
+impl Exports {
+    /// No exports, which takes no memory.
+    pub fn new(alloc: Global) -> Exports
+        ensures { result ≡ [] }
+    {
+        Exports {
+            alloc,
+            exports: Vec::new(alloc),
+            taken: BTreeSet::new(alloc),
+        }
+    }
+
+    /// The exports, in their order.
+    pub fn as_slice(&self) -> &[NamedExport]
+        ensures { map export_of result.now ≡ self.now }
+    {
+        self.exports.as_slice()
+    }
+
+    /// One export more, behind those that are there. Where it is refused they stay.
+    ///
+    /// # Errors
+    ///
+    /// The name is taken: an error of kind `Other`, at `offset`; or memory is refused.
+    pub fn insert(&mut self, name: &str, kind: ExternalKind, index: u32, offset: u64) -> Result<()>
+        ensures answer { Tells result (IsNew name.now (names_of self.old)) }
+        ensures added { OnOk result (self.new ≡ self.old ++ record { name = name.now; kind = kind; index = index } ∷ []) }
+        ensures kept { OnErr result (self.new ≡ self.old) }
+        ensures refused { IfErr result (λ e. UnlessMemory e.kind ((e.kind ≡ Other) × (e.offset ≡ offset))) }
+    {
+        if self.taken.contains(name) {
+            return Err(duplicate(name, offset));
+        }
+        let kept = String::from_str(self.alloc, name)?;
+        let key = String::from_str(self.alloc, name)?;
+        self.exports.reserve(1)?;
+        self.taken.insert(key)?;
+        let export = NamedExport {
+            name: kept,
+            kind,
+            index,
+        };
+        push_in_room(&mut self.exports, export);
+        Ok(())
+    }
+}

@@ -1,0 +1,11 @@
+//! A module is accepted exactly where its frames are judged one after the other, and its bodies are valid (WebAssembly 3.0, binary format
+//! and validation, modules).
+//!
+//! What a parser gives of a module are its frames (`IsModule`); what a validator does with each is `JudgesShape`. Here both are held
+//! against the rules of whole modules: [`judged_frames_are_modules`] goes from frames that were judged to a module that the bytes spell,
+//! [`valid_modules_are_judged`] goes back, and [`accepted_modules_are_judged`] joins the two. There is no code here: each law is the
+//! contract of a function that does nothing.
+
+mod laws;
+
+pub use laws::{accepted_modules_are_judged, judged_frames_are_modules, valid_modules_are_judged};

@@ -1,0 +1,5 @@
+pub mod Places
+pub mod Splits
+pub mod Chunks
+pub mod Halves
+pub mod Rows

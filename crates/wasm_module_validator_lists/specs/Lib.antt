@@ -1,0 +1,4 @@
+-- A list that is shared as it stands.
+pub mod snapshots
+-- Numbers in an order that the caller tells.
+pub mod ordered

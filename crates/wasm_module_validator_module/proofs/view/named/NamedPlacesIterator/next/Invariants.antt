@@ -1,0 +1,13 @@
+use Rattle.std.proofs.Common.{◌≡◌, map, length}
+use Rattle.wasm_module_validator_exports.specs.names.Imports.{named_of}
+use Rattle.wasm_module_validator_module.specs.view.Entities.{places_behind}
+use Rattle.wasm_module_validator_module.proofs.view.named.NamedPlacesIterator.next.Given as goal
+
+-- what is left stays, and grows shorter
+abbrev pub invariant-loop-named : goal.invariant-loop-named
+invariant-loop-named l =
+    places_behind l.initial.self-inside.given (map named_of l.initial.self-inside.names.now)
+    ≡ places_behind l.self-inside.given (map named_of l.self-inside.names.now)
+
+abbrev pub decreases-loop-named : goal.decreases-loop-named
+decreases-loop-named l = length l.self-inside.names.now

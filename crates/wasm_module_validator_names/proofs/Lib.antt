@@ -1,2 +1,0 @@
-mod Taking
-mod Naming

@@ -1,4 +1,0 @@
-pub mod Splits
-pub mod Chunks
-pub mod Halves
-pub mod Rows

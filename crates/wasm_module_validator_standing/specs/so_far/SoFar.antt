@@ -1,0 +1,34 @@
+-- A module as far as it was read, beside the tree of what was read (WebAssembly 3.0, structure, modules, indices): its spaces are those
+-- of the tree, each type by what its name means.
+use Rattle.std.specs.Prelude.{◌≡◌, List, [], length, map}
+use Rattle.wasm_types.specs.externs.declared.tag.TagType.{TagType}
+use Rattle.wasm_module_validator_steps.specs.contexts.elements.Spells.{ElementTree}
+use Rattle.wasm_types.specs.trees.ValidGroup.{type_at}
+use Rattle.wasm_operator_validator_resources.specs.Meaning.{table_in, global_in, reference_in}
+use Rattle.wasm_module_validator_steps.specs.contexts.rules.constant_rules.expression.Code.{Code}
+use Rattle.wasm_module_validator_steps.specs.contexts.rules.Syntax.{ModuleTree}
+use Rattle.wasm_module_validator_steps.specs.contexts.rules.Spaces as tree
+use Rattle.wasm_module_validator_steps.specs.contexts.rules.Spaces.{FunctionEntry, function_of, imported, function_space, table_space, memory_space, tag_space, global_space, imported_globals, element_type, types_behind}
+use Rattle.wasm_module_validator_type_trees.specs.Groups.{Group}
+use Rattle.wasm_module_validator_groups.specs.adding.Interned.{space_of}
+use Rattle.wasm_module_validator_module.specs.declared.module.Function.{Function}
+use Rattle.wasm_module_validator_module.specs.Spaces.{Spaces}
+use Rattle.wasm_module_validator_resources.specs.Reading.{names_in}
+
+-- a function of the space, as the rules have it
+abbrev pub entry_of : Function → FunctionEntry
+entry_of f = record { type = f.type_index; is_exact = f.is_exact }
+
+-- The spaces hold what the tree has: types by ids whose trees are those of the groups; functions by the indices of their types; tables,
+-- globals and element segments by types that mean what is written; tags by the ids of their types.
+pub record IsReadAs (groups : List Group) (s : Spaces) (m : ModuleTree) : Type 0 where
+  pub types : space_of groups s.types ≡ types_behind [] m.types
+  pub functions : map entry_of s.functions ≡ function_space m
+  pub tables : map (table_in (names_in groups s.types)) s.tables ≡ map (tree.table_in (types_behind [] m.types)) (table_space m)
+  pub memories : s.memories ≡ memory_space m
+  pub globals : map (global_in (names_in groups s.types)) s.globals ≡ map (tree.global_in (types_behind [] m.types)) (global_space m)
+  pub tags : space_of groups s.tags ≡ map (λ (t : TagType). type_at (types_behind [] m.types) t.func_type_idx) (tag_space m)
+  pub elements : map (reference_in (names_in groups s.types)) s.elements ≡ map (λ (e : ElementTree Code). element_type (types_behind [] m.types) e.items) m.element_segments
+  pub data_count : s.data_count ≡ m.data_count
+  pub imported_functions : s.imported_functions ≡ length (imported function_of m)
+  pub imported_globals : s.imported_globals ≡ imported_globals m

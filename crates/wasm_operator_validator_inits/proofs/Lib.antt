@@ -1,3 +1,0 @@
-pub mod Unset
-pub mod Marking
-pub mod Fewer

@@ -1,0 +1,77 @@
+-- Worked constant operators: for each rule one that is constant and one that is not, and a feature that is asked.
+use Rattle.std.specs.Prelude.{ℕ, ℤ, ◌-◌, Bool, true, false, [], ◌∷◌, None}
+-- for attributes that unfold it
+unfoldable pub use Rattle.wasm_operator_validator_rules.specs.expression.types.features.Features.{has}
+use Rattle.wasm_operator_validator_rules.specs.expression.types.features.Features.{Feature, mask, ExtendedConst, Gc, SharedEverythingThreads}
+use Rattle.wasm_operator_validator_rules.specs.expression.types.trees.Types.{i32, number}
+use Rattle.wasm_operator_validator_rules.specs.expression.control.declared.control.ControlOperator.TheVariants as control
+use Rattle.wasm_operator_validator_rules.specs.expression.immediates.declared.memory.Ordering.TheVariants as ordering
+use Rattle.wasm_operator_validator_rules.specs.expression.memory.declared.memory.MemoryOperator.TheVariants as memory
+use Rattle.wasm_operator_validator_rules.specs.expression.memory.declared.constant.ConstOperator.TheVariants as const
+use Rattle.wasm_operator_validator_rules.specs.expression.memory.declared.bulk.BulkOperator.TheVariants as bulk
+use Rattle.wasm_operator_validator_rules.specs.expression.numbers.declared.numeric.NumericOperator.TheVariants as numeric
+use Rattle.wasm_operator_validator_rules.specs.expression.threads.declared.atomic.SharedOperator.TheVariants as shared
+use Rattle.wasm_operator_validator_rules.specs.expression.operator.gc.declared.gc.GcOperator.TheVariants as gc
+use Rattle.wasm_operator_validator_rules.specs.expression.operator.gc.declared.gc.DescriptorOperator.TheVariants as descriptor
+use Rattle.wasm_operator_validator_rules.specs.expression.operator.Op as op
+use Rattle.wasm_operator_validator_rules.specs.expression.operator.Op.{Op}
+use Rattle.wasm_operator_validator_rules.specs.Context.{Module, Global}
+use Rattle.wasm_operator_validator_rules.specs.constants.Constants.{IsConstantOperator}
+
+abbrev pub number_that : Bool → Global
+number_that mutable = record { content = number i32; mutable = mutable; shared = false }
+
+-- an imported global that stays, one that may be written, and one of the module's own that stays
+abbrev pub some_module : Module
+some_module = record {
+  types = [];
+  functions = [];
+  tables = [];
+  memories = [];
+  globals = number_that false ∷ number_that true ∷ number_that false ∷ [];
+  tags = [];
+  elements = [];
+  data_count = None;
+  referenced = [];
+  exact_functions = [];
+}
+
+abbrev pub every_feature : ℕ
+every_feature = 0xfff_ffff
+
+-- in that module, of whose globals two are imported
+abbrev pub IsOne : ℕ → Op → Type 0
+IsOne bits o = IsConstantOperator bits some_module 2 o
+
+abbrev pub IsNone : Op → Type 0
+IsNone o = IsOne every_feature o → ⊥
+
+-- it is one by this feature, and without it is not
+abbrev pub Needs : Feature → Op → Type 0
+Needs f o = IsOne (mask f) o × (IsOne (every_feature - mask f) o → ⊥)
+
+abbrev pub get : ℕ → Op
+get x = op.Memory (memory.GlobalGet x)
+
+pub record OperatorsWorked (x : ℤ) : Type 0 where
+  pub number : IsOne 0 (op.Const (const.I32Const x))
+  pub end : IsOne 0 (op.Control control.End)
+  pub nop : IsNone (op.Control control.Nop)
+  pub function : IsOne 0 (op.Bulk (bulk.RefFunc 0))
+  pub is_null : IsNone (op.Bulk bulk.RefIsNull)
+  pub sum : Needs ExtendedConst (op.Numeric numeric.I32Add)
+  pub product : Needs ExtendedConst (op.Numeric numeric.I64Mul)
+  pub quotient : IsNone (op.Numeric numeric.I32DivU)
+  pub array : Needs Gc (op.Gc (gc.ArrayNewFixed 0 2))
+  pub array_of_data : IsNone (op.Gc (gc.ArrayNewData 0 0))
+  pub described : Needs Gc (op.Descriptor (descriptor.StructNewDesc 0))
+  pub descriptor_got : IsNone (op.Descriptor (descriptor.RefGetDesc 0))
+  pub shared_number : Needs SharedEverythingThreads (op.Shared shared.RefI31Shared)
+  pub shared_got : IsNone (op.Shared (shared.TableAtomicGet ordering.SeqCst 0))
+
+pub record GlobalsWorked : Type 0 where
+  pub imported : IsOne 0 (get 0)
+  pub variable : IsNone (get 1)
+  pub own : Needs Gc (get 2)
+  pub unknown : IsNone (get 3)
+  pub local : IsNone (op.Memory (memory.LocalGet 0))

@@ -1,3 +1,0 @@
-pub mod FrameRows
-pub mod EqualityRows
-pub mod FeatureRows

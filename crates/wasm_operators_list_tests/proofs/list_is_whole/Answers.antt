@@ -1,5 +1,0 @@
-use Rattle.std.proofs.Common.{refl}
-use Rattle.wasm_operators_list_tests.proofs.list_is_whole.Goals as goal
-
-pub returns : goal.returns
-returns g c = refl

@@ -1,0 +1,10 @@
+pub mod FrameRows
+pub mod EqualityRows
+pub mod FeatureRows
+pub mod ArgumentRows
+pub mod NumberRows
+pub mod ByteRows
+pub mod TypeRows
+pub mod TableRows
+pub mod PlainRows
+pub mod PrefixedRows

@@ -1,0 +1,54 @@
+//! Exports.
+
+ghost use Rattle.std.specs.Prelude.{◌≡◌};
+ghost use Rattle.wasm_types.specs.decoding.Decoder.{Reaches};
+ghost use Rattle.wasm_types.specs.reader.Reading.{Gives, NeedsNoMemory};
+ghost use Rattle.wasm_sections_items.specs.imports.Decode.{export};
+
+use crate::imports::ExternalKind;
+use std::alloc::Global;
+use wasm_types::{BinaryReader, FromReader, Result};
+
+/// An export (WebAssembly 3.0, binary format, export section).
+#[derive(Clone, Copy, Debug, PartialEq, Eq, Hash)]
+pub struct Export<'a> {
+    /// Its name.
+    pub name: &'a str,
+    /// What it is.
+    pub kind: ExternalKind,
+    /// Its index among those of its kind.
+    pub index: u32,
+}
+
+/// A name of at most as many bytes as the limits allow, a kind and an index.
+impl<'a> FromReader<'a> for Export<'a> {
+    ghost use Rattle.std.specs.Prelude.{false};
+    ghost use Rattle.wasm_sections_items.specs.imports.Spells.{ExportTree, SpelledExport};
+    ghost use Rattle.wasm_sections_items.specs.imports.DecodeLaws.{lawful-export, decides-export};
+
+    ghost Value = { ExportTree };
+
+    ghost view = { λ e. record { name = e.name.now; kind = e.kind; index = e.index } };
+
+    ghost decoder = { export };
+
+    ghost grammar = { SpelledExport };
+
+    ghost takes_memory = { false };
+
+    ghost lawful = { lawful-export };
+
+    ghost exact = { decides-export };
+
+    #[tactic(auto, using(wasm_types::specs::Laws::reaches_self, wasm_types::specs::Laws::reaches_then), unfolding(crate::specs::imports::Decode::export))]
+    fn from_reader(alloc: Global, reader: &mut BinaryReader<'a>) -> Result<Export<'a>>
+        ensures answer { Gives (λ e. record { name = e.name.now; kind = e.kind; index = e.index }) result reader.new (export reader.old.settings reader.old) }
+        ensures forward { Reaches reader.old reader.new }
+        ensures no_memory { NeedsNoMemory result }
+    {
+        let name = reader.read_string()?;
+        let kind = ExternalKind::from_reader(alloc, reader)?;
+        let index = reader.read_var_u32()?;
+        Ok(Export { name, kind, index })
+    }
+}

@@ -1,4 +1,0 @@
-//! How many bytes a parser asks for (WebAssembly 3.0, binary format, modules): the least that can bring something else. No code.
-#![tactic(auto)]
-
-pub mod laws;
