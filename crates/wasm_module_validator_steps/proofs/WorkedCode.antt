@@ -8,11 +8,11 @@ use Rattle.wasm_module_validator_steps.specs.contexts.rules.operator_rules.expre
 use Rattle.wasm_module_validator_steps.specs.contexts.rules.operator_rules.expression.operator.Op.{Op}
 use Rattle.wasm_module_validator_steps.specs.contexts.rules.operator_rules.expression.operator.Roles.{role_of, effect}
 use Rattle.wasm_module_validator_steps.specs.contexts.rules.operator_rules.expression.operator.declared.role.Effect.TheVariants.{Stays}
-use Rattle.wasm_module_validator_steps.specs.contexts.rules.operator_rules.constants.rules.Operands.{known}
-use Rattle.wasm_module_validator_steps.specs.contexts.rules.operator_rules.constants.rules.Context.{Module, Global, Context, Initialised, inside}
-use Rattle.wasm_module_validator_steps.specs.contexts.rules.operator_rules.constants.rules.InstructionTypes.{◌⟶◌}
-use Rattle.wasm_module_validator_steps.specs.contexts.rules.operator_rules.constants.rules.Row.{Row}
-use Rattle.wasm_module_validator_steps.specs.contexts.rules.operator_rules.constants.rules.Typed.{IsBody}
+use Rattle.wasm_module_validator_steps.specs.contexts.rules.operator_rules.Operands.{known}
+use Rattle.wasm_module_validator_steps.specs.contexts.rules.operator_rules.Context.{Module, Global, Context, Initialised, inside}
+use Rattle.wasm_module_validator_steps.specs.contexts.rules.operator_rules.InstructionTypes.{◌⟶◌}
+use Rattle.wasm_module_validator_steps.specs.contexts.rules.operator_rules.Row.{Row}
+use Rattle.wasm_module_validator_steps.specs.contexts.rules.operator_rules.Typed.{IsBody}
 use Rattle.wasm_module_validator_steps.specs.contexts.rules.operator_rules.constants.Constants.{constant_context, IsConstant}
 use Rattle.wasm_module_validator_steps.specs.contexts.rules.Valid.{IsValidGlobalType}
 use Rattle.wasm_module_validator_steps.specs.contexts.rules.worked.Trees.{everything, constant, only, global_get, constant_of}

@@ -30,7 +30,7 @@ use Rattle.wasm_module_validator_steps.specs.contexts.segments.Tables.{TableTree
 use Rattle.wasm_module_validator_steps.specs.contexts.elements.Spells.{ElementTree}
 use Rattle.wasm_operator_validator_resources.specs.Meaning.{table_in, global_in, reference_in}
 use Rattle.wasm_module_validator_steps.specs.contexts.rules.Valid.{import_size, export_size}
-use Rattle.wasm_module_validator_steps.specs.contexts.rules.operator_rules.constants.rules.Context.{Module}
+use Rattle.wasm_module_validator_steps.specs.contexts.rules.operator_rules.Context.{Module}
 use Rattle.wasm_module_validator_steps.specs.contexts.Agreement.{AgreeOnTypes, AgreeForExports}
 use Rattle.wasm_module_validator_steps.specs.contexts.InOrder.{context_so_far}
 use Rattle.wasm_module_validator_steps.specs.Sections as section

@@ -26,7 +26,7 @@ use Rattle.wasm_module_validator_steps.specs.contexts.items.declared.imports.typ
 use Rattle.wasm_module_validator_steps.specs.contexts.rules.Syntax.{ModuleTree}
 use Rattle.wasm_module_validator_steps.specs.contexts.rules.Spaces.{imported_globals, module_of, function_space, table_space, memory_space, global_space, tag_space}
 use Rattle.wasm_module_validator_steps.specs.contexts.rules.Valid.{Each, IsFunctionIndex, IsValidMemoryType, IsValidTagType, IsValidStart, IsValidImport, IsValidExport, IsValidTable, IsValidGlobal, IsValidElement, IsValidData, import_size, export_size, most_tables, most_memories}
-use Rattle.wasm_module_validator_steps.specs.contexts.rules.operator_rules.constants.rules.Context.{Module}
+use Rattle.wasm_module_validator_steps.specs.contexts.rules.operator_rules.Context.{Module}
 use Rattle.wasm_module_validator_steps.specs.contexts.Agreement.{AgreeOnTypes, AgreeForExports, AgreeOnFunctions}
 use Rattle.wasm_module_validator_steps.specs.contexts.laws.Types.{function_agrees, tag_agrees, import_agrees}
 use Rattle.wasm_module_validator_steps.specs.contexts.laws.Items.{export_agrees, start_agrees}

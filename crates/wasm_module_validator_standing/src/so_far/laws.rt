@@ -21,7 +21,7 @@ ghost use Rattle.wasm_module_validator_steps.specs.contexts.segments.Spells.{Glo
 ghost use Rattle.wasm_module_validator_steps.specs.contexts.segments.Tables.{TableTree};
 ghost use Rattle.wasm_module_validator_steps.specs.contexts.elements.Spells.{ElementTree};
 ghost use Rattle.wasm_module_validator_steps.specs.contexts.rules.operator_rules.expression.Code.{Code};
-ghost use Rattle.wasm_module_validator_steps.specs.contexts.rules.operator_rules.constants.rules.Context.{Module, IsType, IsTypeIndex};
+ghost use Rattle.wasm_module_validator_steps.specs.contexts.rules.operator_rules.Context.{Module, IsType, IsTypeIndex};
 ghost use Rattle.wasm_module_validator_steps.specs.contexts.rules.Syntax.{ModuleTree, Function as Body};
 ghost use Rattle.wasm_module_validator_steps.specs.contexts.rules.Spaces as tree;
 ghost use Rattle.wasm_module_validator_steps.specs.contexts.rules.Spaces.{types_behind, with_types, value_in, element_type, module_of, referred_in, referred_in_option, exported_function, referred_in_mode, referred_in_items, referenced_in};

@@ -7,7 +7,7 @@ use Rattle.wasm_module_validator_steps.specs.contexts.items.declared.imports.kin
 use Rattle.wasm_module_validator_steps.specs.contexts.items.declared.imports.kind.ExternalKind.TheVariants as kind
 use Rattle.wasm_module_validator_steps.specs.contexts.items.declared.imports.type_ref.TypeRef.{TypeRef}
 use Rattle.wasm_module_validator_steps.specs.contexts.items.declared.imports.type_ref.TypeRef.TheVariants as import
-use Rattle.wasm_module_validator_steps.specs.contexts.rules.operator_rules.constants.rules.Context.{Module}
+use Rattle.wasm_module_validator_steps.specs.contexts.rules.operator_rules.Context.{Module}
 use Rattle.wasm_module_validator_steps.specs.contexts.rules.Syntax.{ModuleTree}
 use Rattle.wasm_module_validator_steps.specs.contexts.rules.Spaces.{module_of}
 use Rattle.wasm_module_validator_steps.specs.contexts.rules.Valid.{SumsBelow, size_at, import_size, export_size}

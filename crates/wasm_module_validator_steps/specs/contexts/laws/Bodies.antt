@@ -16,10 +16,10 @@ use Rattle.wasm_module_validator_rules.specs.operator_rules.expression.memory.de
 use Rattle.wasm_module_validator_rules.specs.operator_rules.expression.operator.Op as op
 use Rattle.wasm_module_validator_rules.specs.operator_rules.expression.operator.Op.{Op, ParametricTree}
 use Rattle.wasm_module_validator_rules.specs.operator_rules.expression.Code.{Code, close, plain, nested, turn}
-use Rattle.wasm_module_validator_rules.specs.operator_rules.constants.rules.Operands.{ValueType, Operand, stack}
-use Rattle.wasm_module_validator_rules.specs.operator_rules.constants.rules.Context.{Module, Table, Context, Initialised, Signature, Frame, IsType, IsBlockType, label_of}
-use Rattle.wasm_module_validator_rules.specs.operator_rules.constants.rules.Row.{Row, ControlRow, ParametricRow, MemoryRow, BulkRow, IsIndirect, IsLocal, IsReferenceTo, of_type, of_exactly, after, IsOneOf}
-use Rattle.wasm_module_validator_rules.specs.operator_rules.constants.rules.Typed.{Steps, Typed, HasType, block_type_of, other_part, IsBody}
+use Rattle.wasm_module_validator_rules.specs.operator_rules.Operands.{ValueType, Operand, stack}
+use Rattle.wasm_module_validator_rules.specs.operator_rules.Context.{Module, Table, Context, Initialised, Signature, Frame, IsType, IsBlockType, label_of}
+use Rattle.wasm_module_validator_rules.specs.operator_rules.Row.{Row, ControlRow, ParametricRow, MemoryRow, BulkRow, IsIndirect, IsLocal, IsReferenceTo, of_type, of_exactly, after, IsOneOf}
+use Rattle.wasm_module_validator_rules.specs.operator_rules.Typed.{Steps, Typed, HasType, block_type_of, other_part, IsBody}
 use Rattle.wasm_module_validator_rules.specs.Syntax.{Function}
 use Rattle.wasm_module_validator_rules.specs.Valid.{IsValidValueType, IsValidFunction, HasValidBody}
 use Rattle.wasm_module_validator_steps.specs.contexts.Agreement.{AgreeForCode}

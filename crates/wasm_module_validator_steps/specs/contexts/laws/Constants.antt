@@ -11,10 +11,10 @@ use Rattle.wasm_module_validator_rules.specs.operator_rules.expression.memory.de
 use Rattle.wasm_module_validator_rules.specs.operator_rules.expression.operator.Op as op
 use Rattle.wasm_module_validator_rules.specs.operator_rules.expression.operator.Op.{Op}
 use Rattle.wasm_module_validator_rules.specs.operator_rules.expression.Code.{Code, close, plain, nested, turn, walk}
-use Rattle.wasm_module_validator_rules.specs.operator_rules.constants.rules.Operands.{ValueType, Operand, stack}
-use Rattle.wasm_module_validator_rules.specs.operator_rules.constants.rules.Context.{Module, Context, Initialised, Signature, Frame, inside}
-use Rattle.wasm_module_validator_rules.specs.operator_rules.constants.rules.Row.{Row, MemoryRow, BulkRow, IsReferenceTo, of_type, of_exactly, after}
-use Rattle.wasm_module_validator_rules.specs.operator_rules.constants.rules.Typed.{Steps, Typed, HasType, block_type_of, other_part}
+use Rattle.wasm_module_validator_rules.specs.operator_rules.Operands.{ValueType, Operand, stack}
+use Rattle.wasm_module_validator_rules.specs.operator_rules.Context.{Module, Context, Initialised, Signature, Frame, inside}
+use Rattle.wasm_module_validator_rules.specs.operator_rules.Row.{Row, MemoryRow, BulkRow, IsReferenceTo, of_type, of_exactly, after}
+use Rattle.wasm_module_validator_rules.specs.operator_rules.Typed.{Steps, Typed, HasType, block_type_of, other_part}
 use Rattle.wasm_module_validator_rules.specs.operator_rules.constants.Constants.{IsConstantOperator, IsConstantMemory, IsConstantReference, AreConstantOperators, constant_context, IsConstant}
 use Rattle.wasm_module_validator_rules.specs.Spaces.{referred_by, referred_in}
 use Rattle.wasm_module_validator_steps.specs.contexts.Agreement.{AgreeForConstants, MayReferToEach}

@@ -16,12 +16,12 @@ use Rattle.wasm_module_validator_rules.specs.operator_rules.expression.operator.
 use Rattle.wasm_module_validator_rules.specs.operator_rules.expression.operator.declared.role.Effect.{Effect}
 use Rattle.wasm_module_validator_rules.specs.operator_rules.expression.operator.declared.role.Effect.TheVariants as effects
 use Rattle.wasm_module_validator_rules.specs.operator_rules.expression.Code.{Code, close, plain, nested, turn, walk, IsIn}
-use Rattle.wasm_module_validator_rules.specs.operator_rules.constants.rules.Operands.{ValueType, Operand, bottom, some_reference, known, IsReference, OperandBelow, AllBelow, all_known, stack}
-use Rattle.wasm_module_validator_rules.specs.operator_rules.constants.rules.Context.{Module, Global, Context, Initialised, Frame}
-use Rattle.wasm_module_validator_rules.specs.operator_rules.constants.rules.Numbers.{numbers, class_of, taken_by}
-use Rattle.wasm_module_validator_rules.specs.operator_rules.constants.rules.InstructionTypes.{InstructionType, ◌⟶◌, named, may_use}
-use Rattle.wasm_module_validator_rules.specs.operator_rules.constants.rules.Row.{GroupRow, MemoryRow, BulkRow, after}
-use Rattle.wasm_module_validator_rules.specs.operator_rules.constants.rules.Typed.{Typed, other_part}
+use Rattle.wasm_module_validator_rules.specs.operator_rules.Operands.{ValueType, Operand, bottom, some_reference, known, IsReference, OperandBelow, AllBelow, all_known, stack}
+use Rattle.wasm_module_validator_rules.specs.operator_rules.Context.{Module, Global, Context, Initialised, Frame}
+use Rattle.wasm_module_validator_rules.specs.operator_rules.Numbers.{numbers, class_of, taken_by}
+use Rattle.wasm_module_validator_rules.specs.operator_rules.InstructionTypes.{InstructionType, ◌⟶◌, named, may_use}
+use Rattle.wasm_module_validator_rules.specs.operator_rules.Row.{GroupRow, MemoryRow, BulkRow, after}
+use Rattle.wasm_module_validator_rules.specs.operator_rules.Typed.{Typed, other_part}
 use Rattle.wasm_module_validator_rules.specs.operator_rules.constants.Constants.{IsConstantOperator, IsConstantNumber, IsConstantMemory, IsConstantReference, AreConstantOperators, IsConstant}
 use Rattle.wasm_module_validator_rules.specs.Spaces.{referred_by, referred_in}
 use Rattle.wasm_module_validator_steps.specs.contexts.laws.Constants.{opens_none}
