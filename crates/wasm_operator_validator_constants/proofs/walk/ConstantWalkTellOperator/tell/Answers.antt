@@ -1,3 +1,4 @@
+use Rattle.std.proofs.Common.{rules}
 use Rattle.std.proofs.Common.{refl}
 use Rattle.wasm_operators_walking.specs.reader.operator.Op.{op_of}
 use Rattle.wasm_operator_validator_constants.specs.Checked.{Surroundings}
@@ -12,3 +13,6 @@ returns-in-Err g c =
       imported = c.args.self.now.imported_globals;
     } in
     (refused_visit w c.args.self.now.walk.visitor.inner.now c.fail.new.self (op_of c.args.op) c.in-Err.refusal c.in-Err.ensures.why c.fail.ensures, refl, refl, refl, refl)
+
+pub returns-in-Err-tell : goal.returns-in-Err-tell
+returns-in-Err-tell c = search rules
