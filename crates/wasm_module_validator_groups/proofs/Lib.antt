@@ -6,7 +6,7 @@ pub mod PlainById
 pub mod AsWritten
 pub mod Stands
 pub mod Outcome
-pub mod Adding
+pub mod Added
 pub mod Ranges
 pub mod Verdict
 pub mod AddingSteps

@@ -20,9 +20,9 @@ use Rattle.wasm_module_validator_elements.specs.Naming.{NamesElement}
 use Rattle.wasm_module_validator_standing.specs.type_trees.Groups.{Group}
 use Rattle.wasm_module_validator_standing.specs.items.Adding.{adding_element}
 use Rattle.wasm_module_validator_standing.specs.items.Items.{Items}
-use Rattle.wasm_module_validator_standing.specs.steps.contexts.elements.declared.element.ElementOf.{ElementOf}
-use Rattle.wasm_module_validator_standing.specs.steps.contexts.elements.declared.element.ElementItemsOf.{ElementItemsOf}
-use Rattle.wasm_module_validator_standing.specs.steps.contexts.elements.declared.element.ElementItemsOf.TheVariants as items
+use Rattle.wasm_module_validator_standing.specs.steps.contexts.items.declared.elements.element.ElementOf.{ElementOf}
+use Rattle.wasm_module_validator_standing.specs.steps.contexts.items.declared.elements.element.ElementItemsOf.{ElementItemsOf}
+use Rattle.wasm_module_validator_standing.specs.steps.contexts.items.declared.elements.element.ElementItemsOf.TheVariants as items
 use Rattle.wasm_module_validator_standing.specs.steps.contexts.elements.Spells.{ElementTree, ElementItems, functions, expressions}
 use Rattle.wasm_module_validator_standing.specs.steps.contexts.elements.Elements.{mode_of, items_of, has_whole}
 use Rattle.wasm_module_validator_standing.specs.steps.contexts.rules.Syntax.{ModuleTree}

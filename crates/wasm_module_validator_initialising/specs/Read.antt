@@ -2,7 +2,7 @@
 use Rattle.std.specs.Prelude.{◌≡◌, ℕ, List, Option, Some, None}
 use Rattle.wasm_types.specs.limits.Settings.{Settings}
 use Rattle.wasm_types.specs.decoding.Decoder.{State}
-use Rattle.wasm_module_validator_standing.specs.steps.contexts.segments.declared.segment.DataOf.{DataOf}
+use Rattle.wasm_module_validator_standing.specs.steps.contexts.items.declared.segments.segment.DataOf.{DataOf}
 use Rattle.wasm_module_validator_standing.specs.steps.contexts.segments.Spells.{DataTree}
 use Rattle.wasm_module_validator_elements.specs.referring.Naming.{NamesMore}
 use Rattle.wasm_module_validator_elements.specs.segments.Trees.{data_read}

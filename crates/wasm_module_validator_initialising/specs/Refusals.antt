@@ -2,9 +2,9 @@
 use Rattle.std.specs.Prelude.{◌⊎◌, ◌≤◌, ℕ, List, length}
 use Rattle.wasm_types.specs.decoding.Decoder.{State}
 use Rattle.wasm_types.specs.error.ErrorValue.{ErrorValue}
-use Rattle.wasm_module_validator_standing.specs.steps.contexts.segments.declared.global.GlobalOf.{GlobalOf}
-use Rattle.wasm_module_validator_standing.specs.steps.contexts.segments.declared.table.TableOf.{TableOf}
-use Rattle.wasm_module_validator_standing.specs.steps.contexts.elements.declared.element.ElementOf.{ElementOf}
+use Rattle.wasm_module_validator_standing.specs.steps.contexts.items.declared.segments.global.GlobalOf.{GlobalOf}
+use Rattle.wasm_module_validator_standing.specs.steps.contexts.items.declared.segments.table.TableOf.{TableOf}
+use Rattle.wasm_module_validator_standing.specs.steps.contexts.items.declared.elements.element.ElementOf.{ElementOf}
 use Rattle.wasm_module_validator_standing.specs.type_trees.Groups.{Group}
 use Rattle.wasm_module_validator_standing.specs.items.Items.{Items}
 use Rattle.wasm_module_validator_elements.specs.segments.rules.Valid.{most_tables}

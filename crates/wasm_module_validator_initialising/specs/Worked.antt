@@ -9,9 +9,9 @@ use Rattle.wasm_types.specs.error.ErrorValue.{ErrorValue}
 use Rattle.wasm_types.specs.error.declared.error.ErrorKind.TheVariants.{Other, Failed}
 use Rattle.wasm_module_validator_standing.specs.items.Items.{Items, no_items}
 use Rattle.wasm_module_validator_standing.specs.items.Adding.{adding_function}
-use Rattle.wasm_module_validator_standing.specs.steps.contexts.segments.declared.global.GlobalOf.{GlobalOf}
-use Rattle.wasm_module_validator_standing.specs.steps.contexts.segments.declared.table.TableOf.{TableOf}
-use Rattle.wasm_module_validator_standing.specs.steps.contexts.elements.declared.element.ElementOf.{ElementOf}
+use Rattle.wasm_module_validator_standing.specs.steps.contexts.items.declared.segments.global.GlobalOf.{GlobalOf}
+use Rattle.wasm_module_validator_standing.specs.steps.contexts.items.declared.segments.table.TableOf.{TableOf}
+use Rattle.wasm_module_validator_standing.specs.steps.contexts.items.declared.elements.element.ElementOf.{ElementOf}
 use Rattle.wasm_module_validator_initialising.specs.Read.{NamesInit}
 use Rattle.wasm_module_validator_initialising.specs.Refusals.{IsOneTooMany, RefusesNewGlobal, RefusesNewTable, RefusesNewElement}
 use Rattle.wasm_module_validator_standing.specs.Standing.{constants_of}

@@ -18,7 +18,7 @@ use Rattle.wasm_module_validator_checks.specs.externs.Refusals.{IsRefusal}
 use Rattle.wasm_module_validator_exports.specs.Imports.{IsNamedImport}
 use Rattle.wasm_module_validator_exports.specs.names.Exports.{IsNew, names_of}
 use Rattle.wasm_module_validator_exports.specs.names.Imports.{ImportedName, with_import as with_name}
-use Rattle.wasm_module_validator_exports.specs.names.declared.imports.Place.{Place}
+use Rattle.wasm_module_validator_exports.specs.declared.names.imports.Place.{Place}
 use Rattle.wasm_module_validator_items.specs.Adding.{importing, exporting}
 use Rattle.wasm_module_validator_items.specs.Contexts.{with_import, IsWithExport}
 

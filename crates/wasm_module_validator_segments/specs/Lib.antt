@@ -9,6 +9,6 @@ pub mod Laws
 pub mod Worked
 -- The rules of the crates below, under their names: crates above cite them here.
 pub use Rattle.wasm_module_validator_checks.specs.externs as externs
-pub use Rattle.wasm_module_validator_checks.specs.externs.rules as rules
+pub use Rattle.wasm_module_validator_checks.specs.limits.rules as rules
 pub use Rattle.wasm_operator_validator_constants.specs as constants
 pub use Rattle.wasm_module_validator_steps.specs as steps

@@ -7,7 +7,7 @@ use Rattle.wasm_types.specs.error.Denials.{Denies}
 use Rattle.wasm_types.specs.error.declared.error.ErrorKind.{ErrorKind}
 use Rattle.wasm_types.specs.limits.Settings.{Settings}
 use Rattle.wasm_module_validator_module.specs.declared.module.Function.{Function}
-use Rattle.wasm_module_validator_reading.specs.progress.code.declared.bodies.Body.{Body}
+use Rattle.wasm_module_validator_reading.specs.progress.functions.declared.code.bodies.Body.{Body}
 use Rattle.wasm_module_validator_reading.specs.progress.standing.steps.Steps.{SoFar, JudgesBody}
 use Rattle.wasm_module_validator_reading.specs.progress.Progress.{Kept, Progress, IsAt}
 use Rattle.wasm_module_validator_reading.specs.progress.laws.Bodies.{FitsBehind, fits, not_fitting, function_is, judges, body_behind, no_function}

@@ -10,8 +10,8 @@ use Rattle.wasm_sections_payloads.specs.declared.payload.Payload.{Payload}
 use Rattle.wasm_sections_payloads.specs.declared.payload.Payload.TheVariants as payloads
 use Rattle.wasm_sections_payloads.specs.Payloads.{IsPayloadOf}
 use Rattle.wasm_module_validator_module.specs.declared.module.Function.{Function}
-use Rattle.wasm_module_validator_reading.specs.progress.code.functions.declared.beginning.FuncToValidate.{FuncToValidate}
-use Rattle.wasm_module_validator_reading.specs.progress.code.declared.bodies.Body.{Body}
+use Rattle.wasm_module_validator_reading.specs.progress.functions.declared.beginning.FuncToValidate.{FuncToValidate}
+use Rattle.wasm_module_validator_reading.specs.progress.functions.declared.code.bodies.Body.{Body}
 use Rattle.wasm_module_validator_reading.specs.progress.fronts.Walks.{HasSettings}
 use Rattle.wasm_module_validator_reading.specs.progress.standing.steps.Sections.{code_place}
 use Rattle.wasm_module_validator_reading.specs.progress.standing.steps.Steps.{SoFar, JudgesShape, JudgesBody}

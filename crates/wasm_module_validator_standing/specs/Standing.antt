@@ -13,11 +13,11 @@ use Rattle.wasm_module_validator_referring.specs.Referring.{meaning_with_all}
 use Rattle.wasm_module_validator_standing.specs.so_far.SoFar.{IsReadAs}
 use Rattle.wasm_module_validator_standing.specs.so_far.Referring.{IsReferredAs, referring_to_each}
 use Rattle.wasm_module_validator_items.specs.Items.{Items}
-use Rattle.wasm_module_validator_exports.specs.names.declared.imports.Place.{Place}
+use Rattle.wasm_module_validator_exports.specs.declared.names.imports.Place.{Place}
 use Rattle.wasm_module_validator_exports.specs.names.Imports.{ImportedName, with_import}
 use Rattle.wasm_module_validator_steps.specs.contexts.imports.Spells.{ImportTree, kind_of}
-use Rattle.wasm_module_validator_steps.specs.contexts.imports.declared.type_ref.TypeRef.{TypeRef}
-use Rattle.wasm_module_validator_steps.specs.contexts.imports.declared.type_ref.TypeRef.TheVariants as import
+use Rattle.wasm_module_validator_steps.specs.contexts.items.declared.imports.type_ref.TypeRef.{TypeRef}
+use Rattle.wasm_module_validator_steps.specs.contexts.items.declared.imports.type_ref.TypeRef.TheVariants as import
 use Rattle.wasm_module_validator_steps.specs.contexts.rules.Spaces.{function_of, table_of, memory_of, global_of, tag_of}
 use Rattle.wasm_module_validator_steps.specs.contexts.rules.Syntax.{ModuleTree}
 use Rattle.wasm_module_validator_steps.specs.Sections.{Section, up_to, IsUnread}

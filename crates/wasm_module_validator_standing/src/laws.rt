@@ -22,7 +22,7 @@ ghost use Rattle.wasm_module_validator_steps.specs.contexts.imports.Spells.{Impo
 ghost use Rattle.wasm_module_validator_steps.specs.contexts.segments.Spells.{GlobalTree, DataTree};
 ghost use Rattle.wasm_module_validator_steps.specs.contexts.segments.Tables.{TableTree};
 ghost use Rattle.wasm_module_validator_steps.specs.contexts.elements.Spells.{ElementTree};
-ghost use Rattle.wasm_module_validator_steps.specs.contexts.rules.constant_rules.expression.Code.{Code};
+ghost use Rattle.wasm_module_validator_steps.specs.contexts.rules.operator_rules.expression.Code.{Code};
 ghost use Rattle.wasm_module_validator_steps.specs.contexts.rules.Syntax.{ModuleTree};
 ghost use Rattle.wasm_module_validator_steps.specs.contexts.rules.Spaces as tree;
 ghost use Rattle.wasm_module_validator_steps.specs.contexts.rules.Spaces.{element_type, referred_in, referred_in_option, referred_in_mode, referred_in_items};

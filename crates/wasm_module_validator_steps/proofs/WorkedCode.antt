@@ -1,19 +1,19 @@
 -- Constants of worked globals.
 use Rattle.std.specs.Prelude.{ℤ}
 use Rattle.std.proofs.Common.{◌≡◌, ℕ, List, [], ◌∷◌, Some, false, refl, rules}
-use Rattle.wasm_module_validator_steps.specs.contexts.rules.constant_rules.expression.types.features.Features.{has}
-use Rattle.wasm_module_validator_steps.specs.contexts.rules.constant_rules.expression.types.trees.Types.{i32, number}
-use Rattle.wasm_module_validator_steps.specs.contexts.rules.constant_rules.expression.types.values.declared.value.ValType.TheVariants as value
-use Rattle.wasm_module_validator_steps.specs.contexts.rules.constant_rules.expression.immediates.declared.frames.FrameKind.TheVariants.{Block}
-use Rattle.wasm_module_validator_steps.specs.contexts.rules.constant_rules.expression.operator.Op.{Op}
-use Rattle.wasm_module_validator_steps.specs.contexts.rules.constant_rules.expression.operator.Roles.{role_of, effect}
-use Rattle.wasm_module_validator_steps.specs.contexts.rules.constant_rules.expression.operator.declared.role.Effect.TheVariants.{Stays}
-use Rattle.wasm_module_validator_steps.specs.contexts.rules.constant_rules.rules.Operands.{known}
-use Rattle.wasm_module_validator_steps.specs.contexts.rules.constant_rules.rules.Context.{Module, Global, Context, Initialised, inside}
-use Rattle.wasm_module_validator_steps.specs.contexts.rules.constant_rules.rules.InstructionTypes.{◌⟶◌}
-use Rattle.wasm_module_validator_steps.specs.contexts.rules.constant_rules.rules.Row.{Row}
-use Rattle.wasm_module_validator_steps.specs.contexts.rules.constant_rules.rules.Typed.{IsBody}
-use Rattle.wasm_module_validator_steps.specs.contexts.rules.constant_rules.Constants.{constant_context, IsConstant}
+use Rattle.wasm_module_validator_steps.specs.contexts.rules.operator_rules.expression.types.features.Features.{has}
+use Rattle.wasm_module_validator_steps.specs.contexts.rules.operator_rules.expression.types.trees.Types.{i32, number}
+use Rattle.wasm_module_validator_steps.specs.contexts.rules.operator_rules.expression.types.values.declared.value.ValType.TheVariants as value
+use Rattle.wasm_module_validator_steps.specs.contexts.rules.operator_rules.expression.immediates.declared.frames.FrameKind.TheVariants.{Block}
+use Rattle.wasm_module_validator_steps.specs.contexts.rules.operator_rules.expression.operator.Op.{Op}
+use Rattle.wasm_module_validator_steps.specs.contexts.rules.operator_rules.expression.operator.Roles.{role_of, effect}
+use Rattle.wasm_module_validator_steps.specs.contexts.rules.operator_rules.expression.operator.declared.role.Effect.TheVariants.{Stays}
+use Rattle.wasm_module_validator_steps.specs.contexts.rules.operator_rules.Operands.{known}
+use Rattle.wasm_module_validator_steps.specs.contexts.rules.operator_rules.Context.{Module, Global, Context, Initialised, inside}
+use Rattle.wasm_module_validator_steps.specs.contexts.rules.operator_rules.InstructionTypes.{◌⟶◌}
+use Rattle.wasm_module_validator_steps.specs.contexts.rules.operator_rules.Row.{Row}
+use Rattle.wasm_module_validator_steps.specs.contexts.rules.operator_rules.Typed.{IsBody}
+use Rattle.wasm_module_validator_steps.specs.contexts.rules.operator_rules.constants.Constants.{constant_context, IsConstant}
 use Rattle.wasm_module_validator_steps.specs.contexts.rules.Valid.{IsValidGlobalType}
 use Rattle.wasm_module_validator_steps.specs.contexts.rules.worked.Trees.{everything, constant, only, global_get, constant_of}
 

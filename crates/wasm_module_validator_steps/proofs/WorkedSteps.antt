@@ -1,11 +1,11 @@
 -- The worked rows.
 use Rattle.std.specs.Prelude.{ℤ}
 use Rattle.std.proofs.Common.{◌≡◌, ℕ, List, [], ◌∷◌, ◌++◌, refl, rules, inl, arith}
-use Rattle.wasm_module_validator_steps.specs.contexts.rules.constant_rules.expression.types.features.Features.{has}
-use Rattle.wasm_module_validator_steps.specs.contexts.rules.constant_rules.expression.types.limits.Limits.{default_limits}
-use Rattle.wasm_module_validator_steps.specs.contexts.rules.constant_rules.expression.types.trees.Trees.{opened}
-use Rattle.wasm_module_validator_steps.specs.contexts.rules.constant_rules.expression.types.trees.ValidGroup.{types_from}
-use Rattle.wasm_module_validator_steps.specs.contexts.rules.constant_rules.expression.types.decoding.Leb.{IsUnsigned, last, more, IsListed}
+use Rattle.wasm_module_validator_steps.specs.contexts.rules.operator_rules.expression.types.features.Features.{has}
+use Rattle.wasm_module_validator_steps.specs.contexts.rules.operator_rules.expression.types.limits.Limits.{default_limits}
+use Rattle.wasm_module_validator_steps.specs.contexts.rules.operator_rules.expression.types.trees.Trees.{opened}
+use Rattle.wasm_module_validator_steps.specs.contexts.rules.operator_rules.expression.types.trees.ValidGroup.{types_from}
+use Rattle.wasm_module_validator_steps.specs.contexts.rules.operator_rules.expression.types.decoding.Leb.{IsUnsigned, last, more, IsListed}
 use Rattle.wasm_module_validator_steps.specs.contexts.rules.Valid.{IsFunctionIndex}
 use Rattle.wasm_module_validator_steps.specs.contexts.rules.worked.Trees.{everything}
 use Rattle.wasm_module_validator_steps.specs.contexts.InOrder.{context_so_far}

@@ -2,13 +2,13 @@
 -- limitations). An item is judged where it stands: in the context of what was read before it, in which a constant may refer to each
 -- function.
 use Rattle.std.specs.Prelude.{◌≡◌, ◌+◌, ◌<◌, ◌≤◌, ℕ, List, [], ◌∷◌, length, None}
-use Rattle.wasm_module_validator_steps.specs.contexts.rules.constant_rules.expression.types.limits.Settings.{Settings}
-use Rattle.wasm_module_validator_steps.specs.contexts.rules.constant_rules.expression.types.features.Features.{BulkMemory}
-use Rattle.wasm_module_validator_steps.specs.contexts.rules.constant_rules.expression.types.trees.Gates.{Has}
-use Rattle.wasm_module_validator_steps.specs.contexts.rules.constant_rules.expression.types.trees.ValidGroup.{AreValidGroups, IsValidGroup}
+use Rattle.wasm_module_validator_steps.specs.contexts.rules.operator_rules.expression.types.limits.Settings.{Settings}
+use Rattle.wasm_module_validator_steps.specs.contexts.rules.operator_rules.expression.types.features.Features.{BulkMemory}
+use Rattle.wasm_module_validator_steps.specs.contexts.rules.operator_rules.expression.types.trees.Gates.{Has}
+use Rattle.wasm_module_validator_steps.specs.contexts.rules.operator_rules.expression.types.trees.ValidGroup.{AreValidGroups, IsValidGroup}
 use Rattle.wasm_module_validator_steps.specs.contexts.imports.Spells.{ExportTree}
-use Rattle.wasm_module_validator_steps.specs.contexts.imports.declared.type_ref.TypeRef.{TypeRef}
-use Rattle.wasm_module_validator_steps.specs.contexts.imports.declared.type_ref.TypeRef.TheVariants as import
+use Rattle.wasm_module_validator_steps.specs.contexts.items.declared.imports.type_ref.TypeRef.{TypeRef}
+use Rattle.wasm_module_validator_steps.specs.contexts.items.declared.imports.type_ref.TypeRef.TheVariants as import
 use Rattle.wasm_module_validator_steps.specs.contexts.rules.Syntax.{ModuleTree}
 use Rattle.wasm_module_validator_steps.specs.contexts.rules.Spaces.{types_behind, function_space, table_space, memory_space, tag_space, global_space, imported_globals, module_of}
 use Rattle.wasm_module_validator_steps.specs.contexts.rules.Valid.{Each, IfThere, IsFunctionIndex, IsValidMemoryType, IsValidTagType, IsValidImport, IsValidExport, IsValidTable}

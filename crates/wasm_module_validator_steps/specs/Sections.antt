@@ -1,14 +1,14 @@
 -- The sections that a module has beside its code, each with its id, its place and its items (WebAssembly 3.0, structure, modules; binary
 -- format, modules).
 use Rattle.std.specs.Prelude.{◌≡◌, ℕ, suc, nat_lt, if◌then◌else◌, List, [], ◌∷◌, ◌++◌, Option, Some, None}
-use Rattle.wasm_module_validator_steps.specs.contexts.rules.constant_rules.expression.types.trees.ValidGroup.{Written}
-use Rattle.wasm_module_validator_steps.specs.contexts.rules.constant_rules.expression.types.externs.declared.memory.MemoryType.{MemoryType}
-use Rattle.wasm_module_validator_steps.specs.contexts.rules.constant_rules.expression.types.externs.declared.tag.TagType.{TagType}
+use Rattle.wasm_module_validator_steps.specs.contexts.rules.operator_rules.expression.types.trees.ValidGroup.{Written}
+use Rattle.wasm_module_validator_steps.specs.contexts.rules.operator_rules.expression.types.externs.declared.memory.MemoryType.{MemoryType}
+use Rattle.wasm_module_validator_steps.specs.contexts.rules.operator_rules.expression.types.externs.declared.tag.TagType.{TagType}
 use Rattle.wasm_module_validator_steps.specs.contexts.imports.Spells.{ImportTree, ExportTree}
 use Rattle.wasm_module_validator_steps.specs.contexts.segments.Spells.{GlobalTree, DataTree}
 use Rattle.wasm_module_validator_steps.specs.contexts.segments.Tables.{TableTree}
 use Rattle.wasm_module_validator_steps.specs.contexts.elements.Spells.{ElementTree}
-use Rattle.wasm_module_validator_steps.specs.contexts.rules.constant_rules.expression.Code.{Code}
+use Rattle.wasm_module_validator_steps.specs.contexts.rules.operator_rules.expression.Code.{Code}
 use Rattle.wasm_module_validator_steps.specs.contexts.rules.Syntax.{ModuleTree}
 
 -- ---- sections

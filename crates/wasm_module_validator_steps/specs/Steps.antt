@@ -2,7 +2,7 @@
 -- judged frame by frame: its header, whole sections in order, the start of the code section and body by body, the end. Bodies are kept as
 -- bytes, and judged when all is read.
 use Rattle.std.specs.Prelude.{◌≡◌, ◌<◌, ◌≤◌, ℕ, List, [], ◌∷◌, ◌++◌, length, Some, slice_get}
-use Rattle.wasm_module_validator_steps.specs.contexts.rules.constant_rules.expression.types.limits.Settings.{Settings}
+use Rattle.wasm_module_validator_steps.specs.contexts.rules.operator_rules.expression.types.limits.Settings.{Settings}
 use Rattle.wasm_sections_parser.specs.Steps.{Shape, version, custom, code, entry, the_end}
 use Rattle.wasm_sections_parser.specs.Steps as frame
 use Rattle.wasm_module_validator_steps.specs.contexts.rules.Syntax.{ModuleTree}

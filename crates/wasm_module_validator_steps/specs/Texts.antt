@@ -2,16 +2,16 @@
 -- with the bytes of constant expressions in the place of their code.
 use Rattle.std.specs.Prelude.{◌≡◌, ℕ, List, Option, Some, None}
 use Rattle.std.specs.List.{AllZip}
-use Rattle.wasm_module_validator_steps.specs.contexts.rules.constant_rules.expression.types.decoding.Leb.{IsUnsigned}
-use Rattle.wasm_module_validator_steps.specs.contexts.rules.constant_rules.expression.types.limits.Settings.{Settings}
-use Rattle.wasm_module_validator_steps.specs.contexts.rules.constant_rules.expression.types.externs.Spells.{SpelledMemory, SpelledTag}
+use Rattle.wasm_module_validator_steps.specs.contexts.rules.operator_rules.expression.types.decoding.Leb.{IsUnsigned}
+use Rattle.wasm_module_validator_steps.specs.contexts.rules.operator_rules.expression.types.limits.Settings.{Settings}
+use Rattle.wasm_module_validator_steps.specs.contexts.rules.operator_rules.expression.types.externs.Spells.{SpelledMemory, SpelledTag}
 use Rattle.wasm_module_validator_steps.specs.contexts.imports.Spells.{SpelledImport, SpelledExport}
 use Rattle.wasm_module_validator_steps.specs.contexts.segments.Spells.{GlobalTree, DataTree, DataMode, SpelledGlobalItem, SpelledData}
 use Rattle.wasm_module_validator_steps.specs.contexts.segments.Spells as data_mode
 use Rattle.wasm_module_validator_steps.specs.contexts.segments.Tables.{TableTree, SpelledTableItem}
 use Rattle.wasm_module_validator_steps.specs.contexts.elements.Spells.{ElementTree, ElementMode, ElementItems, passive, active, declared, functions, expressions, SpelledElement}
-use Rattle.wasm_module_validator_steps.specs.contexts.rules.constant_rules.expression.Code.{Code}
-use Rattle.wasm_module_validator_steps.specs.contexts.rules.constant_rules.expression.Spelling.{SpelledExpression}
+use Rattle.wasm_module_validator_steps.specs.contexts.rules.operator_rules.expression.Code.{Code}
+use Rattle.wasm_module_validator_steps.specs.contexts.rules.operator_rules.expression.Spelling.{SpelledExpression}
 use Rattle.wasm_module_validator_steps.specs.contexts.rules.Syntax.{ModuleTree}
 use Rattle.wasm_module_validator_steps.specs.contexts.rules.Binary.{SpelledGroup, SpelledConstant, SpelledItems, SpelledNumber, MayHaveTags}
 use Rattle.wasm_module_validator_steps.specs.Sections.{Section, Item}

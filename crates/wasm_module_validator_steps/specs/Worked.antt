@@ -1,15 +1,15 @@
 -- Worked items, sections and frames: for each kind of section one that is added and one that is not, and each frame.
 use Rattle.std.specs.Prelude.{ℤ, [], ◌∷◌, Some, None, true}
-use Rattle.wasm_module_validator_steps.specs.contexts.rules.constant_rules.expression.types.features.Features.{ReferenceTypes, BulkMemory, MultiMemory}
-use Rattle.wasm_module_validator_steps.specs.contexts.rules.constant_rules.expression.types.limits.declared.Limits.{Limits}
-use Rattle.wasm_module_validator_steps.specs.contexts.rules.constant_rules.expression.types.limits.Limits.{default_limits}
-use Rattle.wasm_module_validator_steps.specs.contexts.rules.constant_rules.expression.types.limits.Settings.{Settings}
-use Rattle.wasm_module_validator_steps.specs.contexts.rules.constant_rules.expression.types.trees.Types.{function, ref, concrete}
-use Rattle.wasm_module_validator_steps.specs.contexts.rules.constant_rules.expression.types.trees.worked.Groups.{together, final_type}
-use Rattle.wasm_module_validator_steps.specs.contexts.rules.constant_rules.expression.types.values.declared.value.ValType.TheVariants as value
-use Rattle.wasm_module_validator_steps.specs.contexts.imports.declared.kind.ExternalKind.TheVariants as kind
-use Rattle.wasm_module_validator_steps.specs.contexts.imports.declared.type_ref.TypeRef.{TypeRef}
-use Rattle.wasm_module_validator_steps.specs.contexts.imports.declared.type_ref.TypeRef.TheVariants as import
+use Rattle.wasm_module_validator_steps.specs.contexts.rules.operator_rules.expression.types.features.Features.{ReferenceTypes, BulkMemory, MultiMemory}
+use Rattle.wasm_module_validator_steps.specs.contexts.rules.operator_rules.expression.types.limits.declared.Limits.{Limits}
+use Rattle.wasm_module_validator_steps.specs.contexts.rules.operator_rules.expression.types.limits.Limits.{default_limits}
+use Rattle.wasm_module_validator_steps.specs.contexts.rules.operator_rules.expression.types.limits.Settings.{Settings}
+use Rattle.wasm_module_validator_steps.specs.contexts.rules.operator_rules.expression.types.trees.Types.{function, ref, concrete}
+use Rattle.wasm_module_validator_steps.specs.contexts.rules.operator_rules.expression.types.trees.worked.Groups.{together, final_type}
+use Rattle.wasm_module_validator_steps.specs.contexts.rules.operator_rules.expression.types.values.declared.value.ValType.TheVariants as value
+use Rattle.wasm_module_validator_steps.specs.contexts.items.declared.imports.kind.ExternalKind.TheVariants as kind
+use Rattle.wasm_module_validator_steps.specs.contexts.items.declared.imports.type_ref.TypeRef.{TypeRef}
+use Rattle.wasm_module_validator_steps.specs.contexts.items.declared.imports.type_ref.TypeRef.TheVariants as import
 use Rattle.wasm_module_validator_steps.specs.contexts.segments.Spells as data_mode
 use Rattle.wasm_module_validator_steps.specs.contexts.elements.Spells.{passive, declared, functions}
 use Rattle.wasm_module_validator_steps.specs.contexts.rules.Syntax.{ModuleTree}

@@ -9,3 +9,4 @@ pub use Rattle.wasm_module_validator_rules.specs as rules
 pub use Rattle.wasm_sections_items.specs.imports as imports
 pub use Rattle.wasm_sections_items.specs.segments as segments
 pub use Rattle.wasm_sections_items.specs.elements as elements
+pub use Rattle.wasm_sections_items.specs as items

@@ -3,7 +3,7 @@
 ghost use Rattle.std.specs.Prelude.{◌≡◌, ◌↔◌, ◌⊎◌, ◌<◌, ◌≤◌, ◌++◌, ℕ, [], List, length, Option, Some, None};
 ghost use Rattle.std.specs.List.{AllZip};
 ghost use Rattle.wasm_sections_parser.specs.Steps.{Shape, place_of};
-ghost use Rattle.wasm_module_validator_steps.specs.contexts.rules.constant_rules.expression.types.limits.Settings.{Settings};
+ghost use Rattle.wasm_module_validator_steps.specs.contexts.rules.operator_rules.expression.types.limits.Settings.{Settings};
 ghost use Rattle.wasm_module_validator_steps.specs.contexts.rules.Syntax.{Function, ModuleTree};
 ghost use Rattle.wasm_module_validator_steps.specs.contexts.rules.Spaces.{module_of};
 ghost use Rattle.wasm_module_validator_steps.specs.contexts.rules.Binary.{SpelledFunction, SpelledSections, contents, entries_of};

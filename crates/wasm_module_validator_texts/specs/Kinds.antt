@@ -13,16 +13,16 @@ use Rattle.wasm_types.specs.groups.SpellsTypes.{GroupValue, declared_by}
 use Rattle.wasm_types.specs.trees.ValidGroup.{Written}
 use Rattle.wasm_sections_payloads.specs.bodies.ConstantDecoder.{constant}
 use Rattle.wasm_module_validator_canonical.specs.laws.Statements.{written}
-use Rattle.wasm_module_validator_steps.specs.contexts.imports.declared.import.Import.{Import}
-use Rattle.wasm_module_validator_steps.specs.contexts.imports.declared.export.Export.{Export}
+use Rattle.wasm_module_validator_steps.specs.contexts.items.declared.imports.import.Import.{Import}
+use Rattle.wasm_module_validator_steps.specs.contexts.items.declared.imports.export.Export.{Export}
 use Rattle.wasm_module_validator_steps.specs.contexts.imports.Spells.{ImportTree, ExportTree}
-use Rattle.wasm_module_validator_steps.specs.contexts.segments.declared.global.GlobalOf.{GlobalOf}
-use Rattle.wasm_module_validator_steps.specs.contexts.segments.declared.table.TableOf.{TableOf}
-use Rattle.wasm_module_validator_steps.specs.contexts.segments.declared.segment.DataOf.{DataOf}
+use Rattle.wasm_module_validator_steps.specs.contexts.items.declared.segments.global.GlobalOf.{GlobalOf}
+use Rattle.wasm_module_validator_steps.specs.contexts.items.declared.segments.table.TableOf.{TableOf}
+use Rattle.wasm_module_validator_steps.specs.contexts.items.declared.segments.segment.DataOf.{DataOf}
 use Rattle.wasm_module_validator_steps.specs.contexts.segments.Segments.{mode_of}
 use Rattle.wasm_module_validator_steps.specs.contexts.segments.Spells.{GlobalTree, DataTree}
 use Rattle.wasm_module_validator_steps.specs.contexts.segments.Tables.{TableTree, init_of}
-use Rattle.wasm_module_validator_steps.specs.contexts.elements.declared.element.ElementOf.{ElementOf}
+use Rattle.wasm_module_validator_steps.specs.contexts.items.declared.elements.element.ElementOf.{ElementOf}
 use Rattle.wasm_module_validator_steps.specs.contexts.elements.Elements.{tree_of}
 use Rattle.wasm_module_validator_steps.specs.contexts.elements.Spells.{ElementTree}
 use Rattle.wasm_module_validator_steps.specs.Sections.{Section, place}

@@ -4,7 +4,7 @@ ghost use Rattle.std.specs.Prelude.{◌≡◌, ◌↔◌, ℕ, [], List, length}
 ghost use Rattle.std.specs.List.{AllZip};
 ghost use Rattle.wasm_sections_parser.specs.Steps.{Shape};
 ghost use Rattle.wasm_sections_parser_laws.specs.Modules.{IsModule};
-ghost use Rattle.wasm_module_validator_steps.specs.contexts.rules.constant_rules.expression.types.limits.Settings.{Settings};
+ghost use Rattle.wasm_module_validator_steps.specs.contexts.rules.operator_rules.expression.types.limits.Settings.{Settings};
 ghost use Rattle.wasm_module_validator_steps.specs.contexts.rules.Syntax.{Function, ModuleTree};
 ghost use Rattle.wasm_module_validator_steps.specs.contexts.rules.Spaces.{module_of};
 ghost use Rattle.wasm_module_validator_steps.specs.contexts.rules.Binary.{SpelledFunction, SpelledModule};

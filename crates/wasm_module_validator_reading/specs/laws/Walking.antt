@@ -15,7 +15,7 @@ use Rattle.wasm_sections_parser_laws.specs.calls.Calls.{settings_of, shapes_of}
 use Rattle.wasm_sections_payloads.specs.declared.payload.Payload.{Payload}
 use Rattle.wasm_sections_payloads.specs.Payloads.{IsPayloadOf}
 use Rattle.wasm_sections_payloads.specs.Walking.{Standing, NextPayload}
-use Rattle.wasm_module_validator_judging.specs.progress.code.declared.bodies.Body.{Body}
+use Rattle.wasm_module_validator_judging.specs.progress.functions.declared.code.bodies.Body.{Body}
 use Rattle.wasm_module_validator_judging.specs.progress.standing.steps.Steps.{SoFar, nothing, JudgesShape, JudgesShapes}
 use Rattle.wasm_module_validator_judging.specs.progress.standing.steps.laws.Judged.{nothing_is_judged, judged_joined}
 use Rattle.wasm_module_validator_judging.specs.progress.standing.laws.Worked.{worked_nothing}

@@ -18,19 +18,19 @@ use Rattle.wasm_module_validator_standing.specs.so_far.laws.Referring.{function_
 use Rattle.wasm_module_validator_standing.specs.so_far.laws.Limits.{import_size_is, export_size_is}
 use Rattle.wasm_module_validator_items.specs.Adding.{adding_function, adding_table, adding_memory, adding_global, adding_tag, adding_element, referring, counting_data, exporting}
 use Rattle.wasm_module_validator_items.specs.Items.{Items}
-use Rattle.wasm_module_validator_steps.specs.contexts.imports.declared.kind.ExternalKind.{ExternalKind}
-use Rattle.wasm_module_validator_steps.specs.contexts.imports.declared.kind.ExternalKind.TheVariants as kind
+use Rattle.wasm_module_validator_steps.specs.contexts.items.declared.imports.kind.ExternalKind.{ExternalKind}
+use Rattle.wasm_module_validator_steps.specs.contexts.items.declared.imports.kind.ExternalKind.TheVariants as kind
 use Rattle.wasm_module_validator_steps.specs.contexts.imports.Spells.{ImportTree, ExportTree}
 use Rattle.wasm_module_validator_steps.specs.contexts.rules.Syntax.{ModuleTree}
 use Rattle.wasm_module_validator_steps.specs.contexts.rules.Spaces.{element_type, module_of, referenced_in, exported_function, referred_in, referred_in_option, referred_in_mode, referred_in_items}
 use Rattle.wasm_module_validator_steps.specs.contexts.rules.Spaces as tree
-use Rattle.wasm_module_validator_steps.specs.contexts.rules.constant_rules.expression.Code.{Code}
+use Rattle.wasm_module_validator_steps.specs.contexts.rules.operator_rules.expression.Code.{Code}
 use Rattle.wasm_module_validator_steps.specs.contexts.segments.Spells.{GlobalTree}
 use Rattle.wasm_module_validator_steps.specs.contexts.segments.Tables.{TableTree}
 use Rattle.wasm_module_validator_steps.specs.contexts.elements.Spells.{ElementTree}
 use Rattle.wasm_operator_validator_resources.specs.Meaning.{table_in, global_in, reference_in}
 use Rattle.wasm_module_validator_steps.specs.contexts.rules.Valid.{import_size, export_size}
-use Rattle.wasm_module_validator_steps.specs.contexts.rules.constant_rules.rules.Context.{Module}
+use Rattle.wasm_module_validator_steps.specs.contexts.rules.operator_rules.Context.{Module}
 use Rattle.wasm_module_validator_steps.specs.contexts.Agreement.{AgreeOnTypes, AgreeForExports}
 use Rattle.wasm_module_validator_steps.specs.contexts.InOrder.{context_so_far}
 use Rattle.wasm_module_validator_steps.specs.Sections as section

@@ -17,16 +17,16 @@ use Rattle.wasm_module_validator_exports.specs.names.Exports.{IsNew, names_of}
 use Rattle.wasm_module_validator_referring.specs.Referring.{meaning_with_all, with_all_referenced}
 use Rattle.wasm_module_validator_items.specs.Items.{Items, HasRoomFor, IsImportable, IsExportable}
 use Rattle.wasm_module_validator_steps.specs.contexts.imports.Spells.{ImportTree, ExportTree}
-use Rattle.wasm_module_validator_steps.specs.contexts.rules.constant_rules.expression.Code.{Code}
+use Rattle.wasm_module_validator_steps.specs.contexts.rules.operator_rules.expression.Code.{Code}
 use Rattle.wasm_module_validator_steps.specs.contexts.segments.Spells.{GlobalTree, DataTree}
 use Rattle.wasm_module_validator_steps.specs.contexts.segments.Tables.{TableTree}
 use Rattle.wasm_module_validator_steps.specs.contexts.elements.Spells.{ElementTree}
-use Rattle.wasm_module_validator_steps.specs.contexts.imports.declared.type_ref.TypeRef.{TypeRef}
-use Rattle.wasm_module_validator_steps.specs.contexts.imports.declared.type_ref.TypeRef.TheVariants as import
+use Rattle.wasm_module_validator_steps.specs.contexts.items.declared.imports.type_ref.TypeRef.{TypeRef}
+use Rattle.wasm_module_validator_steps.specs.contexts.items.declared.imports.type_ref.TypeRef.TheVariants as import
 use Rattle.wasm_module_validator_steps.specs.contexts.rules.Syntax.{ModuleTree}
 use Rattle.wasm_module_validator_steps.specs.contexts.rules.Spaces.{imported_globals, module_of, function_space, table_space, memory_space, global_space, tag_space}
 use Rattle.wasm_module_validator_steps.specs.contexts.rules.Valid.{Each, IsFunctionIndex, IsValidMemoryType, IsValidTagType, IsValidStart, IsValidImport, IsValidExport, IsValidTable, IsValidGlobal, IsValidElement, IsValidData, import_size, export_size, most_tables, most_memories}
-use Rattle.wasm_module_validator_steps.specs.contexts.rules.constant_rules.rules.Context.{Module}
+use Rattle.wasm_module_validator_steps.specs.contexts.rules.operator_rules.Context.{Module}
 use Rattle.wasm_module_validator_steps.specs.contexts.Agreement.{AgreeOnTypes, AgreeForExports, AgreeOnFunctions}
 use Rattle.wasm_module_validator_steps.specs.contexts.laws.Types.{function_agrees, tag_agrees, import_agrees}
 use Rattle.wasm_module_validator_steps.specs.contexts.laws.Items.{export_agrees, start_agrees}

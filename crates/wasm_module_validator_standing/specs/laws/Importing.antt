@@ -18,8 +18,8 @@ use Rattle.wasm_module_validator_items.specs.Adding.{importing}
 use Rattle.wasm_module_validator_items.specs.Items.{Items, HasItsType, IsImported, next_index, next_place}
 use Rattle.wasm_module_validator_items.specs.laws.Importing.{valid_typed}
 use Rattle.wasm_module_validator_steps.specs.contexts.imports.Spells.{ImportTree, kind_of}
-use Rattle.wasm_module_validator_steps.specs.contexts.imports.declared.type_ref.TypeRef.{TypeRef}
-use Rattle.wasm_module_validator_steps.specs.contexts.imports.declared.type_ref.TypeRef.TheVariants as import
+use Rattle.wasm_module_validator_steps.specs.contexts.items.declared.imports.type_ref.TypeRef.{TypeRef}
+use Rattle.wasm_module_validator_steps.specs.contexts.items.declared.imports.type_ref.TypeRef.TheVariants as import
 use Rattle.wasm_module_validator_steps.specs.contexts.laws.Types.{import_agrees}
 use Rattle.wasm_module_validator_steps.specs.contexts.rules.Syntax.{ModuleTree}
 use Rattle.wasm_module_validator_steps.specs.contexts.rules.Spaces.{module_of, imported, function_of, table_of, memory_of, global_of, tag_of}

@@ -14,8 +14,8 @@ use Rattle.wasm_module_validator_type_trees.specs.Groups.{Group}
 use Rattle.wasm_module_validator_module.specs.Spaces.{Spaces}
 use Rattle.wasm_module_validator_resources.specs.Reading.{names_in, context_of}
 use Rattle.wasm_module_validator_standing.specs.so_far.SoFar.{IsReadAs}
-use Rattle.wasm_module_validator_steps.specs.contexts.rules.constant_rules.rules.Operands.{ValueType}
-use Rattle.wasm_module_validator_steps.specs.contexts.rules.constant_rules.expression.Code.{Code}
+use Rattle.wasm_module_validator_steps.specs.contexts.rules.operator_rules.Operands.{ValueType}
+use Rattle.wasm_module_validator_steps.specs.contexts.rules.operator_rules.expression.Code.{Code}
 use Rattle.wasm_module_validator_steps.specs.contexts.elements.Spells.{ElementItems}
 use Rattle.wasm_module_validator_steps.specs.contexts.rules.Syntax.{ModuleTree}
 use Rattle.wasm_module_validator_steps.specs.contexts.rules.Spaces as tree

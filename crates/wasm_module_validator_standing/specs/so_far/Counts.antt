@@ -1,6 +1,6 @@
 -- How much there is in the spaces of a module as far as it was read (WebAssembly 3.0, appendix, implementation limitations).
 use Rattle.std.specs.Prelude.{◌≡◌, ◌+◌, ℕ, List, [], ◌∷◌, length}
-use Rattle.wasm_module_validator_steps.specs.contexts.rules.constant_rules.rules.Context.{Module}
+use Rattle.wasm_module_validator_steps.specs.contexts.rules.operator_rules.Context.{Module}
 use Rattle.wasm_module_validator_module.specs.Spaces.{Spaces}
 
 -- there is as much in the context as in the spaces

@@ -1,7 +1,7 @@
 -- The functions that code may refer to, as a module marks them while it is read (WebAssembly 3.0, validation, modules, where the
 -- context has them as C.refs). A table, a global, an export and an element segment each mark the functions that they name.
 use Rattle.std.specs.Prelude.{◌≡◌, ◌↔◌, ℕ, true, List, [], ◌∷◌, Some, slice_get}
-use Rattle.wasm_module_validator_steps.specs.contexts.rules.constant_rules.rules.Row.{IsOneOf}
+use Rattle.wasm_module_validator_steps.specs.contexts.rules.operator_rules.Row.{IsOneOf}
 use Rattle.wasm_module_validator_steps.specs.contexts.rules.Syntax.{ModuleTree}
 use Rattle.wasm_module_validator_steps.specs.contexts.rules.Spaces.{referenced_in}
 use Rattle.wasm_module_validator_module.specs.declared.module.Function.{Function}

@@ -5,7 +5,7 @@ use Rattle.wasm_types.specs.externs.declared.tag.TagType.{TagType}
 use Rattle.wasm_module_validator_steps.specs.contexts.elements.Spells.{ElementTree}
 use Rattle.wasm_types.specs.trees.ValidGroup.{type_at}
 use Rattle.wasm_operator_validator_resources.specs.Meaning.{table_in, global_in, reference_in}
-use Rattle.wasm_module_validator_steps.specs.contexts.rules.constant_rules.expression.Code.{Code}
+use Rattle.wasm_module_validator_steps.specs.contexts.rules.operator_rules.expression.Code.{Code}
 use Rattle.wasm_module_validator_steps.specs.contexts.rules.Syntax.{ModuleTree}
 use Rattle.wasm_module_validator_steps.specs.contexts.rules.Spaces as tree
 use Rattle.wasm_module_validator_steps.specs.contexts.rules.Spaces.{FunctionEntry, function_of, imported, function_space, table_space, memory_space, tag_space, global_space, imported_globals, element_type, types_behind}

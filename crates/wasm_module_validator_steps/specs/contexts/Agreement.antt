@@ -1,8 +1,8 @@
 -- What a judgement of the rules looks at of a context (WebAssembly 3.0, validation, conventions, contexts): two contexts that agree
 -- on it judge alike.
 use Rattle.std.specs.Prelude.{◌≡◌, ◌<◌, ℕ, List, length}
-use Rattle.wasm_module_validator_rules.specs.constant_rules.rules.Context.{Module}
-use Rattle.wasm_module_validator_rules.specs.constant_rules.rules.Row.{IsOneOf}
+use Rattle.wasm_module_validator_rules.specs.operator_rules.Context.{Module}
+use Rattle.wasm_module_validator_rules.specs.operator_rules.Row.{IsOneOf}
 use Rattle.wasm_module_validator_rules.specs.Valid.{Each}
 
 -- types that are written mean the same in both

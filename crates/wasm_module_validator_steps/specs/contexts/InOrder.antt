@@ -16,8 +16,8 @@ use Rattle.wasm_sections_items.specs.imports.Spells.{ImportTree, ExportTree}
 use Rattle.wasm_sections_items.specs.segments.Spells.{GlobalTree, DataTree}
 use Rattle.wasm_sections_items.specs.segments.Tables.{TableTree}
 use Rattle.wasm_sections_items.specs.elements.Spells.{ElementTree}
-use Rattle.wasm_module_validator_rules.specs.constant_rules.expression.Code.{Code}
-use Rattle.wasm_module_validator_rules.specs.constant_rules.rules.Context.{Module}
+use Rattle.wasm_module_validator_rules.specs.operator_rules.expression.Code.{Code}
+use Rattle.wasm_module_validator_rules.specs.operator_rules.Context.{Module}
 use Rattle.wasm_module_validator_rules.specs.Syntax.{ModuleTree}
 use Rattle.wasm_module_validator_rules.specs.Spaces.{types_behind, function_space, imported_globals, module_of}
 use Rattle.wasm_module_validator_rules.specs.Valid.{Each, IfThere, IsFunctionIndex, IsValidMemoryType, IsValidTagType, IsValidImport, IsValidExport, IsValidTable}

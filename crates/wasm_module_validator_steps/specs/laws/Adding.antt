@@ -1,7 +1,7 @@
 -- A section is added item by item exactly where it is valid and within the limits as a whole.
 use Rattle.std.proofs.Common.{◌≡◌, ℕ, List, [], ◌∷◌, ◌++◌, length, Option, Some, None, refl, sym, ap, ◌∙◌, subst}
 use Rattle.std.specs.Prelude.{◌↔◌}
-use Rattle.wasm_module_validator_steps.specs.contexts.rules.constant_rules.expression.types.limits.Settings.{Settings}
+use Rattle.wasm_module_validator_steps.specs.contexts.rules.operator_rules.expression.types.limits.Settings.{Settings}
 use Rattle.wasm_module_validator_steps.specs.contexts.rules.Syntax.{ModuleTree}
 use Rattle.wasm_module_validator_steps.specs.contexts.rules.Valid.{IsValidMemoryType}
 use Rattle.wasm_module_validator_steps.specs.contexts.InOrder.{imports_read, functions_read, tables_read, memories_read, tags_read, globals_read, exports_read, elements_read, InTurn}

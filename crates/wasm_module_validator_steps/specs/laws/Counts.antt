@@ -3,8 +3,8 @@ use Rattle.std.proofs.Common.{◌≡◌, ◌+◌, ◌<◌, ◌≤◌, ℕ, List,
 use Rattle.std.proofs.lemmas.List.{length-map, length-append, length_push}
 use Rattle.std.proofs.lemmas.List.Elements.{filter_map-append}
 use Rattle.std.specs.List.{filter_map, cons_option}
-use Rattle.wasm_module_validator_steps.specs.contexts.rules.constant_rules.expression.types.trees.ValidGroup.{type_at}
-use Rattle.wasm_module_validator_steps.specs.contexts.rules.constant_rules.expression.types.externs.declared.tag.TagType.{TagType}
+use Rattle.wasm_module_validator_steps.specs.contexts.rules.operator_rules.expression.types.trees.ValidGroup.{type_at}
+use Rattle.wasm_module_validator_steps.specs.contexts.rules.operator_rules.expression.types.externs.declared.tag.TagType.{TagType}
 use Rattle.wasm_module_validator_steps.specs.contexts.imports.Spells.{ImportTree}
 use Rattle.wasm_module_validator_steps.specs.contexts.rules.Syntax.{ModuleTree}
 use Rattle.wasm_module_validator_steps.specs.contexts.rules.Spaces.{FunctionEntry, types_behind, function_space, table_space, global_space, tag_space, table_in, global_in, module_of}

@@ -1,9 +1,9 @@
 -- Groups of types that are valid one after the other, as items in turn.
 use Rattle.std.proofs.Common.{◌≡◌, ◌+◌, ℕ, zero, suc, List, [], ◌∷◌, ◌++◌, length, refl, sym, ap, ◌∙◌, subst}
 use Rattle.std.proofs.lemmas.List.{append_assoc, append-nil, length-append}
-use Rattle.wasm_module_validator_steps.specs.contexts.rules.constant_rules.expression.types.limits.Settings.{Settings}
-use Rattle.wasm_module_validator_steps.specs.contexts.rules.constant_rules.expression.types.trees.Trees.{TypeTree, GroupTree}
-use Rattle.wasm_module_validator_steps.specs.contexts.rules.constant_rules.expression.types.trees.ValidGroup.{Written, written_tree, types_from, types_of, IsValidGroup, AreValidGroups, done, next}
+use Rattle.wasm_module_validator_steps.specs.contexts.rules.operator_rules.expression.types.limits.Settings.{Settings}
+use Rattle.wasm_module_validator_steps.specs.contexts.rules.operator_rules.expression.types.trees.Trees.{TypeTree, GroupTree}
+use Rattle.wasm_module_validator_steps.specs.contexts.rules.operator_rules.expression.types.trees.ValidGroup.{Written, written_tree, types_from, types_of, IsValidGroup, AreValidGroups, done, next}
 use Rattle.wasm_module_validator_steps.specs.contexts.rules.Spaces.{types_behind}
 use Rattle.wasm_module_validator_steps.specs.contexts.InOrder.{InTurn}
 

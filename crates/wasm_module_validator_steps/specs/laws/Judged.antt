@@ -5,7 +5,7 @@ use Rattle.std.specs.List.{AllZip}
 use Rattle.std.proofs.lemmas.Bool.{cases_order}
 use Rattle.std.proofs.lemmas.List.{length_push}
 use Rattle.std.proofs.lemmas.Option.{slice_get_within}
-use Rattle.wasm_module_validator_steps.specs.contexts.rules.constant_rules.expression.types.limits.Settings.{Settings}
+use Rattle.wasm_module_validator_steps.specs.contexts.rules.operator_rules.expression.types.limits.Settings.{Settings}
 use Rattle.wasm_sections_parser.specs.Steps.{Shape, version, custom, code, entry, the_end}
 use Rattle.wasm_sections_parser.specs.Steps as frame
 use Rattle.wasm_module_validator_steps.specs.contexts.rules.Syntax.{Function, ModuleTree}

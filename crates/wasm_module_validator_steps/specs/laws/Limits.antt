@@ -1,15 +1,15 @@
 -- A module with one section more is within the limits exactly where the section may begin, and each of its items is within them in turn.
 use Rattle.std.proofs.Common.{◌≡◌, ◌⊎◌, ◌+◌, ◌≤◌, ℕ, true, List, [], ◌∷◌, ◌++◌, map, length, inr, ap, ◌∙◌, sym, arith}
 use Rattle.std.proofs.lemmas.List.{map_push, append_assoc}
-use Rattle.wasm_module_validator_steps.specs.contexts.rules.constant_rules.expression.types.limits.Settings.{Settings}
-use Rattle.wasm_module_validator_steps.specs.contexts.rules.constant_rules.expression.types.trees.ValidGroup.{Written}
-use Rattle.wasm_module_validator_steps.specs.contexts.rules.constant_rules.expression.types.externs.declared.memory.MemoryType.{MemoryType}
-use Rattle.wasm_module_validator_steps.specs.contexts.rules.constant_rules.expression.types.externs.declared.tag.TagType.{TagType}
+use Rattle.wasm_module_validator_steps.specs.contexts.rules.operator_rules.expression.types.limits.Settings.{Settings}
+use Rattle.wasm_module_validator_steps.specs.contexts.rules.operator_rules.expression.types.trees.ValidGroup.{Written}
+use Rattle.wasm_module_validator_steps.specs.contexts.rules.operator_rules.expression.types.externs.declared.memory.MemoryType.{MemoryType}
+use Rattle.wasm_module_validator_steps.specs.contexts.rules.operator_rules.expression.types.externs.declared.tag.TagType.{TagType}
 use Rattle.wasm_module_validator_steps.specs.contexts.imports.Spells.{ImportTree, ExportTree}
 use Rattle.wasm_module_validator_steps.specs.contexts.segments.Spells.{GlobalTree, DataTree}
 use Rattle.wasm_module_validator_steps.specs.contexts.segments.Tables.{TableTree}
 use Rattle.wasm_module_validator_steps.specs.contexts.elements.Spells.{ElementTree}
-use Rattle.wasm_module_validator_steps.specs.contexts.rules.constant_rules.expression.Code.{Code}
+use Rattle.wasm_module_validator_steps.specs.contexts.rules.operator_rules.expression.Code.{Code}
 use Rattle.wasm_module_validator_steps.specs.contexts.rules.Syntax.{ModuleTree}
 use Rattle.wasm_module_validator_steps.specs.contexts.rules.Spaces.{types_behind, imported, function_of, table_of, memory_of, global_of, tag_of, function_with, function_space, table_space}
 use Rattle.wasm_module_validator_steps.specs.contexts.rules.Spaces.{memory_space, global_space, tag_space, module_of}

@@ -1,6 +1,6 @@
 -- Ids and places of sections are those of the binary format.
 use Rattle.std.proofs.Common.{◌≡◌, ◌⊎◌, ◌==◌, ℕ, Bool, true, false, if◌then◌else◌, List, [], ◌∷◌, Some, refl, inl, inr, eqb-true}
-use Rattle.wasm_module_validator_steps.specs.contexts.rules.constant_rules.expression.types.values.Decode.{find}
+use Rattle.wasm_module_validator_steps.specs.contexts.rules.operator_rules.expression.types.values.Decode.{find}
 use Rattle.wasm_sections_parser.specs.Steps.{or_zero, place_of}
 use Rattle.wasm_module_validator_steps.specs.Sections.{Section, number, place}
 use Rattle.wasm_module_validator_steps.specs.Sections as section

@@ -12,11 +12,11 @@ ghost use Rattle.wasm_sections_items.specs.declared.imports.type_ref.TypeRef.{Ty
 ghost use Rattle.wasm_sections_items.specs.segments.Spells.{GlobalTree, DataMode};
 ghost use Rattle.wasm_sections_items.specs.segments.Tables.{TableTree};
 ghost use Rattle.wasm_sections_items.specs.elements.Spells.{ElementTree};
-ghost use Rattle.wasm_module_validator_rules.specs.constant_rules.expression.Code.{Code};
-ghost use Rattle.wasm_module_validator_rules.specs.constant_rules.rules.Operands.{ValueType};
-ghost use Rattle.wasm_module_validator_rules.specs.constant_rules.rules.Context.{Module};
-ghost use Rattle.wasm_module_validator_rules.specs.constant_rules.rules.Row.{IsOneOf};
-ghost use Rattle.wasm_module_validator_rules.specs.constant_rules.Constants.{seeing, IsConstant};
+ghost use Rattle.wasm_module_validator_rules.specs.operator_rules.expression.Code.{Code};
+ghost use Rattle.wasm_module_validator_rules.specs.operator_rules.Operands.{ValueType};
+ghost use Rattle.wasm_module_validator_rules.specs.operator_rules.Context.{Module};
+ghost use Rattle.wasm_module_validator_rules.specs.operator_rules.Row.{IsOneOf};
+ghost use Rattle.wasm_module_validator_rules.specs.operator_rules.constants.Constants.{seeing, IsConstant};
 ghost use Rattle.wasm_module_validator_rules.specs.Syntax.{Function, ModuleTree};
 ghost use Rattle.wasm_module_validator_rules.specs.Spaces.{referred_in, referred_in_option, referred_in_mode, referred_in_items};
 ghost use Rattle.wasm_module_validator_rules.specs.Valid.{IsValidValueType, IsFunctionIndex, IsValidTableType, IsValidGlobalType, IsValidTagType, IsValidImport, IsValidTable, IsValidGlobal, IsValidElement, IsValidData, IsValidExport, IsValidStart, HasValidBody, IsValid};

@@ -6,9 +6,9 @@ use Rattle.wasm_sections_frames.specs.Outer.{Counts, Declares, IsAbsent}
 use Rattle.wasm_sections_frames.specs.OuterLaws.{one}
 use Rattle.wasm_sections_parser.specs.Steps.{Shape}
 use Rattle.wasm_sections_parser_laws.specs.Modules.{IsModule}
-use Rattle.wasm_module_validator_steps.specs.contexts.rules.constant_rules.expression.types.decoding.Leb.{u32, IsUnsigned}
-use Rattle.wasm_module_validator_steps.specs.contexts.rules.constant_rules.expression.types.decoding.LebLaws.{decides-u32}
-use Rattle.wasm_module_validator_steps.specs.contexts.rules.constant_rules.expression.types.limits.Settings.{Settings}
+use Rattle.wasm_module_validator_steps.specs.contexts.rules.operator_rules.expression.types.decoding.Leb.{u32, IsUnsigned}
+use Rattle.wasm_module_validator_steps.specs.contexts.rules.operator_rules.expression.types.decoding.LebLaws.{decides-u32}
+use Rattle.wasm_module_validator_steps.specs.contexts.rules.operator_rules.expression.types.limits.Settings.{Settings}
 use Rattle.wasm_module_validator_steps.specs.contexts.rules.Syntax.{Function, ModuleTree}
 use Rattle.wasm_module_validator_steps.specs.contexts.rules.Spaces.{module_of}
 use Rattle.wasm_module_validator_steps.specs.contexts.rules.Binary.{SpelledFunction, SpelledItems, contents}

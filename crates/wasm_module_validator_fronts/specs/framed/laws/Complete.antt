@@ -13,7 +13,7 @@ use Rattle.wasm_sections_parser.specs.Steps as frame
 use Rattle.wasm_sections_parser_laws.specs.calls.Runs.{entries, Framed, AreFramed, IsCounted, AreCounted}
 use Rattle.wasm_sections_parser_laws.specs.Modules.{IsModule}
 use Rattle.wasm_sections_parser_laws.specs.ModuleLaws.{spelled_frames}
-use Rattle.wasm_module_validator_steps.specs.contexts.rules.constant_rules.expression.types.limits.Settings.{Settings}
+use Rattle.wasm_module_validator_steps.specs.contexts.rules.operator_rules.expression.types.limits.Settings.{Settings}
 use Rattle.wasm_module_validator_steps.specs.contexts.rules.Syntax.{Function, ModuleTree}
 use Rattle.wasm_module_validator_steps.specs.contexts.rules.Spaces.{module_of}
 use Rattle.wasm_module_validator_steps.specs.contexts.rules.Binary.{SpelledFunction, SpelledNumber, SpelledModule, contents, entries_of}

@@ -11,9 +11,9 @@ use Rattle.wasm_sections_parser.specs.Steps.{Shape}
 use Rattle.wasm_sections_parser.specs.Steps as frame
 use Rattle.wasm_sections_parser_laws.specs.calls.Runs.{entries, Framed, AreFramed, Frames}
 use Rattle.wasm_sections_parser_laws.specs.Modules.{IsModule}
-use Rattle.wasm_module_validator_steps.specs.contexts.rules.constant_rules.expression.types.decoding.Leb.{u32, IsUnsigned}
-use Rattle.wasm_module_validator_steps.specs.contexts.rules.constant_rules.expression.types.decoding.LebLaws.{decides-u32}
-use Rattle.wasm_module_validator_steps.specs.contexts.rules.constant_rules.expression.types.limits.Settings.{Settings}
+use Rattle.wasm_module_validator_steps.specs.contexts.rules.operator_rules.expression.types.decoding.Leb.{u32, IsUnsigned}
+use Rattle.wasm_module_validator_steps.specs.contexts.rules.operator_rules.expression.types.decoding.LebLaws.{decides-u32}
+use Rattle.wasm_module_validator_steps.specs.contexts.rules.operator_rules.expression.types.limits.Settings.{Settings}
 
 framed_spelled : (z : Settings) (x : Part) (text : List ℕ) (xs : List Shape) → Framed z x text xs → SpelledPart z x text
 framed_spelled z (outer.custom name c) text xs f = f.0

@@ -5,7 +5,7 @@ use Rattle.wasm_operator_validator_stacks.specs.rules.Context.{Module}
 use Rattle.wasm_module_validator_resources.specs.Reading.{context_of}
 use Rattle.wasm_module_validator_progress.specs.standing.steps.contexts.rules.Valid.{Each}
 use Rattle.wasm_module_validator_progress.specs.code.Code.{IsReadBy, IsFunctionOf}
-use Rattle.wasm_module_validator_progress.specs.code.declared.bodies.Body.{Body}
+use Rattle.wasm_module_validator_progress.specs.functions.declared.code.bodies.Body.{Body}
 use Rattle.wasm_module_validator_judging.specs.Bodies.{under, AreBodies}
 use Rattle.wasm_module_validator_judging.specs.laws.Judged.{tells_same, bodies_are}
 use Rattle.wasm_module_validator_judging.proofs.judging.judge.Goals as goal

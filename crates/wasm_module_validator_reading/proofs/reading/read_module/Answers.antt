@@ -4,7 +4,7 @@ use Rattle.wasm_sections_parser_laws.specs.calls.Runs.{fresh}
 use Rattle.wasm_sections_parser.specs.declared.parser.Parser.{Parser}
 use Rattle.wasm_sections_payloads.specs.declared.payload.Payload.{Payload}
 use Rattle.wasm_sections_payloads.specs.Walking.{NextPayload}
-use Rattle.wasm_module_validator_judging.specs.progress.code.declared.bodies.Body.{Body}
+use Rattle.wasm_module_validator_judging.specs.progress.functions.declared.code.bodies.Body.{Body}
 use Rattle.wasm_module_validator_judging.specs.progress.Progress.{Progress, IsAt}
 use Rattle.wasm_module_validator_judging.specs.progress.standing.steps.Steps.{nothing}
 use Rattle.wasm_module_validator_judging.specs.progress.laws.Growing.{grows_by_nothing, grows_further}

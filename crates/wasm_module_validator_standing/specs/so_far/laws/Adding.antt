@@ -13,7 +13,7 @@ use Rattle.wasm_types.specs.externs.declared.tag.TagType.{TagType}
 use Rattle.wasm_module_validator_steps.specs.contexts.segments.Spells.{GlobalTree}
 use Rattle.wasm_module_validator_steps.specs.contexts.segments.Tables.{TableTree}
 use Rattle.wasm_module_validator_steps.specs.contexts.elements.Spells.{ElementTree}
-use Rattle.wasm_module_validator_steps.specs.contexts.rules.constant_rules.expression.Code.{Code}
+use Rattle.wasm_module_validator_steps.specs.contexts.rules.operator_rules.expression.Code.{Code}
 use Rattle.wasm_module_validator_steps.specs.contexts.rules.Syntax.{ModuleTree}
 use Rattle.wasm_module_validator_steps.specs.contexts.rules.Spaces as tree
 use Rattle.wasm_module_validator_steps.specs.contexts.rules.Spaces.{types_behind, function_with, function_of, table_of, memory_of, global_of, tag_of, imported, function_space, table_space, memory_space, global_space, tag_space, element_type}

@@ -9,8 +9,8 @@ use Rattle.wasm_types.specs.externs.declared.table.TableType.{TableType}
 use Rattle.wasm_types.specs.externs.declared.memory.MemoryType.{MemoryType}
 use Rattle.wasm_types.specs.externs.declared.global.GlobalType.{GlobalType}
 use Rattle.wasm_types.specs.externs.declared.tag.TagType.{TagType}
-use Rattle.wasm_module_validator_steps.specs.contexts.imports.declared.type_ref.TypeRef.{TypeRef}
-use Rattle.wasm_module_validator_steps.specs.contexts.imports.declared.type_ref.TypeRef.TheVariants as import
+use Rattle.wasm_module_validator_steps.specs.contexts.items.declared.imports.type_ref.TypeRef.{TypeRef}
+use Rattle.wasm_module_validator_steps.specs.contexts.items.declared.imports.type_ref.TypeRef.TheVariants as import
 use Rattle.wasm_module_validator_steps.specs.contexts.imports.Spells.{ImportTree}
 use Rattle.wasm_module_validator_steps.specs.contexts.rules.Syntax.{ModuleTree}
 use Rattle.wasm_module_validator_steps.specs.contexts.rules.Spaces as tree

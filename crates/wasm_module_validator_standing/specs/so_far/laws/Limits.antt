@@ -3,11 +3,11 @@ use Rattle.std.proofs.Common.{◌≡◌, ◌∙◌, ◌↔◌, ◌+◌, ℕ, Lis
 use Rattle.std.proofs.lemmas.List.{length-map}
 use Rattle.std.specs.Prelude.{slice_get}
 use Rattle.wasm_types.specs.indices.declared.index.CoreTypeId.{CoreTypeId}
-use Rattle.wasm_module_validator_steps.specs.contexts.imports.declared.kind.ExternalKind.{ExternalKind}
-use Rattle.wasm_module_validator_steps.specs.contexts.imports.declared.kind.ExternalKind.TheVariants as kind
-use Rattle.wasm_module_validator_steps.specs.contexts.imports.declared.type_ref.TypeRef.{TypeRef}
-use Rattle.wasm_module_validator_steps.specs.contexts.imports.declared.type_ref.TypeRef.TheVariants as import
-use Rattle.wasm_module_validator_steps.specs.contexts.rules.constant_rules.rules.Context.{Module}
+use Rattle.wasm_module_validator_steps.specs.contexts.items.declared.imports.kind.ExternalKind.{ExternalKind}
+use Rattle.wasm_module_validator_steps.specs.contexts.items.declared.imports.kind.ExternalKind.TheVariants as kind
+use Rattle.wasm_module_validator_steps.specs.contexts.items.declared.imports.type_ref.TypeRef.{TypeRef}
+use Rattle.wasm_module_validator_steps.specs.contexts.items.declared.imports.type_ref.TypeRef.TheVariants as import
+use Rattle.wasm_module_validator_steps.specs.contexts.rules.operator_rules.Context.{Module}
 use Rattle.wasm_module_validator_steps.specs.contexts.rules.Syntax.{ModuleTree}
 use Rattle.wasm_module_validator_steps.specs.contexts.rules.Spaces.{module_of}
 use Rattle.wasm_module_validator_steps.specs.contexts.rules.Valid.{SumsBelow, size_at, import_size, export_size}

@@ -9,8 +9,8 @@ use Rattle.wasm_types.specs.values.Values.{value_of}
 use Rattle.wasm_types.specs.values.declared.value.ValType.{ValType}
 use Rattle.wasm_types.specs.externs.declared.table.TableType.{TableType}
 use Rattle.wasm_types.specs.externs.declared.global.GlobalType.{GlobalType}
-use Rattle.wasm_module_validator_steps.specs.contexts.rules.constant_rules.rules.Operands.{ValueType}
-use Rattle.wasm_module_validator_steps.specs.contexts.rules.constant_rules.rules.Context.{Module, IsType, written_type}
+use Rattle.wasm_module_validator_steps.specs.contexts.rules.operator_rules.Operands.{ValueType}
+use Rattle.wasm_module_validator_steps.specs.contexts.rules.operator_rules.Context.{Module, IsType, written_type}
 use Rattle.wasm_module_validator_steps.specs.contexts.rules.Syntax.{ModuleTree}
 use Rattle.wasm_module_validator_steps.specs.contexts.rules.Spaces as tree
 use Rattle.wasm_module_validator_steps.specs.contexts.rules.Spaces.{types_behind, with_types, value_in}

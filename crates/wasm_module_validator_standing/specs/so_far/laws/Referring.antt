@@ -5,8 +5,8 @@ use Rattle.wasm_module_validator_steps.specs.contexts.imports.Spells.{ExportTree
 use Rattle.wasm_module_validator_steps.specs.contexts.segments.Spells.{GlobalTree}
 use Rattle.wasm_module_validator_steps.specs.contexts.segments.Tables.{TableTree}
 use Rattle.wasm_module_validator_steps.specs.contexts.elements.Spells.{ElementTree}
-use Rattle.wasm_module_validator_steps.specs.contexts.rules.constant_rules.expression.Code.{Code}
-use Rattle.wasm_module_validator_steps.specs.contexts.rules.constant_rules.rules.Row.{IsOneOf}
+use Rattle.wasm_module_validator_steps.specs.contexts.rules.operator_rules.expression.Code.{Code}
+use Rattle.wasm_module_validator_steps.specs.contexts.rules.operator_rules.Row.{IsOneOf}
 use Rattle.wasm_module_validator_steps.specs.contexts.rules.Syntax.{ModuleTree}
 use Rattle.wasm_module_validator_steps.specs.contexts.rules.Spaces.{referred_in, referred_in_option, exported_function, referred_in_mode, referred_in_items, referenced_in}
 use Rattle.wasm_module_validator_steps.specs.contexts.InOrder.{no_items}

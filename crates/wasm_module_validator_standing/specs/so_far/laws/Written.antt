@@ -12,7 +12,7 @@ use Rattle.wasm_types.specs.values.declared.value.ValType.{ValType}
 use Rattle.wasm_types.specs.values.declared.value.ValType.TheVariants as value
 use Rattle.wasm_types.specs.externs.declared.table.TableType.{TableType}
 use Rattle.wasm_types.specs.externs.declared.global.GlobalType.{GlobalType}
-use Rattle.wasm_module_validator_steps.specs.contexts.rules.constant_rules.rules.Context.{Module, IsTypeIndex, written_type}
+use Rattle.wasm_module_validator_steps.specs.contexts.rules.operator_rules.Context.{Module, IsTypeIndex, written_type}
 use Rattle.wasm_module_validator_steps.specs.contexts.rules.Spaces as tree
 use Rattle.wasm_module_validator_steps.specs.contexts.rules.Spaces.{with_types, value_in}
 use Rattle.wasm_operator_validator_resources.specs.Meaning.{named_type, type_in, reference_in, table_in, global_in}

@@ -5,21 +5,21 @@ use Rattle.wasm_types.specs.limits.Settings.{Settings}
 use Rattle.wasm_types.specs.trees.Types.{HeapOf}
 use Rattle.wasm_types.specs.trees.Trees.{TypeTree}
 use Rattle.wasm_types.specs.values.declared.value.ValType.{ValType}
-use Rattle.wasm_module_validator_rules.specs.constant_rules.expression.immediates.declared.block.BlockType.{BlockType}
-use Rattle.wasm_module_validator_rules.specs.constant_rules.expression.immediates.declared.block.BlockType.TheVariants as block
-use Rattle.wasm_module_validator_rules.specs.constant_rules.expression.control.declared.control.ControlOperator.{ControlOperator}
-use Rattle.wasm_module_validator_rules.specs.constant_rules.expression.control.declared.control.ControlOperator.TheVariants as control
-use Rattle.wasm_module_validator_rules.specs.constant_rules.expression.memory.declared.memory.MemoryOperator.{MemoryOperator}
-use Rattle.wasm_module_validator_rules.specs.constant_rules.expression.memory.declared.memory.MemoryOperator.TheVariants as memory
-use Rattle.wasm_module_validator_rules.specs.constant_rules.expression.memory.declared.bulk.BulkOperator.{BulkOperator}
-use Rattle.wasm_module_validator_rules.specs.constant_rules.expression.memory.declared.bulk.BulkOperator.TheVariants as bulk
-use Rattle.wasm_module_validator_rules.specs.constant_rules.expression.operator.Op as op
-use Rattle.wasm_module_validator_rules.specs.constant_rules.expression.operator.Op.{Op, ParametricTree}
-use Rattle.wasm_module_validator_rules.specs.constant_rules.expression.Code.{Code, close, plain, nested, turn}
-use Rattle.wasm_module_validator_rules.specs.constant_rules.rules.Operands.{ValueType, Operand, stack}
-use Rattle.wasm_module_validator_rules.specs.constant_rules.rules.Context.{Module, Table, Context, Initialised, Signature, Frame, IsType, IsBlockType, label_of}
-use Rattle.wasm_module_validator_rules.specs.constant_rules.rules.Row.{Row, ControlRow, ParametricRow, MemoryRow, BulkRow, IsIndirect, IsLocal, IsReferenceTo, of_type, of_exactly, after, IsOneOf}
-use Rattle.wasm_module_validator_rules.specs.constant_rules.rules.Typed.{Steps, Typed, HasType, block_type_of, other_part, IsBody}
+use Rattle.wasm_module_validator_rules.specs.operator_rules.expression.immediates.declared.block.BlockType.{BlockType}
+use Rattle.wasm_module_validator_rules.specs.operator_rules.expression.immediates.declared.block.BlockType.TheVariants as block
+use Rattle.wasm_module_validator_rules.specs.operator_rules.expression.control.declared.control.ControlOperator.{ControlOperator}
+use Rattle.wasm_module_validator_rules.specs.operator_rules.expression.control.declared.control.ControlOperator.TheVariants as control
+use Rattle.wasm_module_validator_rules.specs.operator_rules.expression.memory.declared.memory.MemoryOperator.{MemoryOperator}
+use Rattle.wasm_module_validator_rules.specs.operator_rules.expression.memory.declared.memory.MemoryOperator.TheVariants as memory
+use Rattle.wasm_module_validator_rules.specs.operator_rules.expression.memory.declared.bulk.BulkOperator.{BulkOperator}
+use Rattle.wasm_module_validator_rules.specs.operator_rules.expression.memory.declared.bulk.BulkOperator.TheVariants as bulk
+use Rattle.wasm_module_validator_rules.specs.operator_rules.expression.operator.Op as op
+use Rattle.wasm_module_validator_rules.specs.operator_rules.expression.operator.Op.{Op, ParametricTree}
+use Rattle.wasm_module_validator_rules.specs.operator_rules.expression.Code.{Code, close, plain, nested, turn}
+use Rattle.wasm_module_validator_rules.specs.operator_rules.Operands.{ValueType, Operand, stack}
+use Rattle.wasm_module_validator_rules.specs.operator_rules.Context.{Module, Table, Context, Initialised, Signature, Frame, IsType, IsBlockType, label_of}
+use Rattle.wasm_module_validator_rules.specs.operator_rules.Row.{Row, ControlRow, ParametricRow, MemoryRow, BulkRow, IsIndirect, IsLocal, IsReferenceTo, of_type, of_exactly, after, IsOneOf}
+use Rattle.wasm_module_validator_rules.specs.operator_rules.Typed.{Steps, Typed, HasType, block_type_of, other_part, IsBody}
 use Rattle.wasm_module_validator_rules.specs.Syntax.{Function}
 use Rattle.wasm_module_validator_rules.specs.Valid.{IsValidValueType, IsValidFunction, HasValidBody}
 use Rattle.wasm_module_validator_steps.specs.contexts.Agreement.{AgreeForCode}

@@ -3,19 +3,19 @@ use Rattle.std.proofs.Common.{◌≡◌, ℕ, List, [], ◌∷◌, subst, sym}
 use Rattle.std.proofs.lemmas.Option.{slice_get_within}
 use Rattle.wasm_types.specs.trees.Types.{HeapOf}
 use Rattle.wasm_types.specs.trees.Trees.{TypeTree}
-use Rattle.wasm_module_validator_rules.specs.constant_rules.expression.control.declared.control.ControlOperator.TheVariants as control
-use Rattle.wasm_module_validator_rules.specs.constant_rules.expression.memory.declared.memory.MemoryOperator.{MemoryOperator}
-use Rattle.wasm_module_validator_rules.specs.constant_rules.expression.memory.declared.memory.MemoryOperator.TheVariants as memory
-use Rattle.wasm_module_validator_rules.specs.constant_rules.expression.memory.declared.bulk.BulkOperator.{BulkOperator}
-use Rattle.wasm_module_validator_rules.specs.constant_rules.expression.memory.declared.bulk.BulkOperator.TheVariants as bulk
-use Rattle.wasm_module_validator_rules.specs.constant_rules.expression.operator.Op as op
-use Rattle.wasm_module_validator_rules.specs.constant_rules.expression.operator.Op.{Op}
-use Rattle.wasm_module_validator_rules.specs.constant_rules.expression.Code.{Code, close, plain, nested, turn, walk}
-use Rattle.wasm_module_validator_rules.specs.constant_rules.rules.Operands.{ValueType, Operand, stack}
-use Rattle.wasm_module_validator_rules.specs.constant_rules.rules.Context.{Module, Context, Initialised, Signature, Frame, inside}
-use Rattle.wasm_module_validator_rules.specs.constant_rules.rules.Row.{Row, MemoryRow, BulkRow, IsReferenceTo, of_type, of_exactly, after}
-use Rattle.wasm_module_validator_rules.specs.constant_rules.rules.Typed.{Steps, Typed, HasType, block_type_of, other_part}
-use Rattle.wasm_module_validator_rules.specs.constant_rules.Constants.{IsConstantOperator, IsConstantMemory, IsConstantReference, AreConstantOperators, constant_context, IsConstant}
+use Rattle.wasm_module_validator_rules.specs.operator_rules.expression.control.declared.control.ControlOperator.TheVariants as control
+use Rattle.wasm_module_validator_rules.specs.operator_rules.expression.memory.declared.memory.MemoryOperator.{MemoryOperator}
+use Rattle.wasm_module_validator_rules.specs.operator_rules.expression.memory.declared.memory.MemoryOperator.TheVariants as memory
+use Rattle.wasm_module_validator_rules.specs.operator_rules.expression.memory.declared.bulk.BulkOperator.{BulkOperator}
+use Rattle.wasm_module_validator_rules.specs.operator_rules.expression.memory.declared.bulk.BulkOperator.TheVariants as bulk
+use Rattle.wasm_module_validator_rules.specs.operator_rules.expression.operator.Op as op
+use Rattle.wasm_module_validator_rules.specs.operator_rules.expression.operator.Op.{Op}
+use Rattle.wasm_module_validator_rules.specs.operator_rules.expression.Code.{Code, close, plain, nested, turn, walk}
+use Rattle.wasm_module_validator_rules.specs.operator_rules.Operands.{ValueType, Operand, stack}
+use Rattle.wasm_module_validator_rules.specs.operator_rules.Context.{Module, Context, Initialised, Signature, Frame, inside}
+use Rattle.wasm_module_validator_rules.specs.operator_rules.Row.{Row, MemoryRow, BulkRow, IsReferenceTo, of_type, of_exactly, after}
+use Rattle.wasm_module_validator_rules.specs.operator_rules.Typed.{Steps, Typed, HasType, block_type_of, other_part}
+use Rattle.wasm_module_validator_rules.specs.operator_rules.constants.Constants.{IsConstantOperator, IsConstantMemory, IsConstantReference, AreConstantOperators, constant_context, IsConstant}
 use Rattle.wasm_module_validator_rules.specs.Spaces.{referred_by, referred_in}
 use Rattle.wasm_module_validator_steps.specs.contexts.Agreement.{AgreeForConstants, MayReferToEach}
 use Rattle.wasm_module_validator_steps.specs.contexts.laws.Lists.{each_left, each_right}

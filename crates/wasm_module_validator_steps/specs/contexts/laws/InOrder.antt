@@ -9,10 +9,10 @@ use Rattle.wasm_sections_items.specs.imports.Spells.{ExportTree}
 use Rattle.wasm_sections_items.specs.segments.Spells.{GlobalTree, DataTree}
 use Rattle.wasm_sections_items.specs.segments.Tables.{TableTree}
 use Rattle.wasm_sections_items.specs.elements.Spells.{ElementTree}
-use Rattle.wasm_module_validator_rules.specs.constant_rules.expression.Code.{Code}
-use Rattle.wasm_module_validator_rules.specs.constant_rules.rules.Context.{Module, Global}
-use Rattle.wasm_module_validator_rules.specs.constant_rules.rules.Row.{IsOneOf}
-use Rattle.wasm_module_validator_rules.specs.constant_rules.Constants.{seeing}
+use Rattle.wasm_module_validator_rules.specs.operator_rules.expression.Code.{Code}
+use Rattle.wasm_module_validator_rules.specs.operator_rules.Context.{Module, Global}
+use Rattle.wasm_module_validator_rules.specs.operator_rules.Row.{IsOneOf}
+use Rattle.wasm_module_validator_rules.specs.operator_rules.constants.Constants.{seeing}
 use Rattle.wasm_module_validator_rules.specs.Syntax.{ModuleTree}
 use Rattle.wasm_module_validator_rules.specs.Spaces.{FunctionEntry, types_behind, imported, global_of, global_in, function_space, imported_globals, referred_in, referred_in_option, exported_function}
 use Rattle.wasm_module_validator_rules.specs.Spaces.{referred_in_mode, referred_in_items, module_of}

@@ -9,10 +9,10 @@ use Rattle.wasm_sections_items.specs.segments.Spells.{GlobalTree, DataMode}
 use Rattle.wasm_sections_items.specs.segments.Spells as data_mode
 use Rattle.wasm_sections_items.specs.segments.Tables.{TableTree}
 use Rattle.wasm_sections_items.specs.elements.Spells.{ElementTree, ElementMode, ElementItems, passive, active, declared, functions, expressions}
-use Rattle.wasm_module_validator_rules.specs.constant_rules.expression.Code.{Code}
-use Rattle.wasm_module_validator_rules.specs.constant_rules.rules.Operands.{ValueType}
-use Rattle.wasm_module_validator_rules.specs.constant_rules.rules.Context.{Module, address_type}
-use Rattle.wasm_module_validator_rules.specs.constant_rules.Constants.{seeing, IsConstant}
+use Rattle.wasm_module_validator_rules.specs.operator_rules.expression.Code.{Code}
+use Rattle.wasm_module_validator_rules.specs.operator_rules.Operands.{ValueType}
+use Rattle.wasm_module_validator_rules.specs.operator_rules.Context.{Module, address_type}
+use Rattle.wasm_module_validator_rules.specs.operator_rules.constants.Constants.{seeing, IsConstant}
 use Rattle.wasm_module_validator_rules.specs.Spaces.{value_in, referred_in, referred_in_option, referred_in_mode, referred_in_items}
 use Rattle.wasm_module_validator_rules.specs.Valid.{Each, IsInitialised, IsValidTable, IsValidGlobal, IsValidMode, AreValidItems, IsValidElement, IsValidData}
 use Rattle.wasm_module_validator_rules.specs.Valid.{IsValidExport, IsValidStart}

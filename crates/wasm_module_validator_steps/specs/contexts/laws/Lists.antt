@@ -1,7 +1,7 @@
 -- Facts of each item of a list, and of items in turn.
 use Rattle.std.proofs.Common.{◌≡◌, ◌<◌, ℕ, zero, suc, ◌+◌, List, [], ◌∷◌, ◌++◌, map, length, take, flat_map, inl, inr, sym, ap, ◌∙◌, subst, arith}
 use Rattle.std.proofs.lemmas.List.{append_assoc, map-append, length-map, length-append, take_at}
-use Rattle.wasm_module_validator_rules.specs.constant_rules.rules.Row.{IsOneOf}
+use Rattle.wasm_module_validator_rules.specs.operator_rules.Row.{IsOneOf}
 use Rattle.wasm_module_validator_rules.specs.Valid.{Each}
 use Rattle.wasm_module_validator_steps.specs.contexts.InOrder.{InTurn, places_from}
 

@@ -1,28 +1,28 @@
 -- A constant that gives a number names no function: a reference that it made would stay on the stack.
 use Rattle.std.proofs.Common.{◌≡◌, ℕ, Bool, true, false, List, [], ◌∷◌, ◌++◌, reverse, Option, Some, None, slice_get, ◌⊎◌, inl, inr, refl, sym, ap, ◌∙◌, subst, if◌then◌else◌}
 use Rattle.wasm_types.specs.trees.Types.{Number, i32, i64, number, ref}
-use Rattle.wasm_module_validator_rules.specs.constant_rules.expression.immediates.declared.frames.FrameKind.{FrameKind}
-use Rattle.wasm_module_validator_rules.specs.constant_rules.expression.immediates.declared.frames.FrameKind.TheVariants.{Block}
-use Rattle.wasm_module_validator_rules.specs.constant_rules.expression.control.declared.control.ControlOperator.TheVariants as control
-use Rattle.wasm_module_validator_rules.specs.constant_rules.expression.memory.declared.memory.MemoryOperator.{MemoryOperator}
-use Rattle.wasm_module_validator_rules.specs.constant_rules.expression.memory.declared.memory.MemoryOperator.TheVariants as memory
-use Rattle.wasm_module_validator_rules.specs.constant_rules.expression.memory.declared.bulk.BulkOperator.{BulkOperator}
-use Rattle.wasm_module_validator_rules.specs.constant_rules.expression.memory.declared.bulk.BulkOperator.TheVariants as bulk
-use Rattle.wasm_module_validator_rules.specs.constant_rules.expression.numbers.declared.numeric.NumericOperator.{NumericOperator}
-use Rattle.wasm_module_validator_rules.specs.constant_rules.expression.numbers.declared.numeric.NumericOperator.TheVariants as numeric
-use Rattle.wasm_module_validator_rules.specs.constant_rules.expression.operator.Op as op
-use Rattle.wasm_module_validator_rules.specs.constant_rules.expression.operator.Op.{Op}
-use Rattle.wasm_module_validator_rules.specs.constant_rules.expression.operator.Roles.{role_of, effect}
-use Rattle.wasm_module_validator_rules.specs.constant_rules.expression.operator.declared.role.Effect.{Effect}
-use Rattle.wasm_module_validator_rules.specs.constant_rules.expression.operator.declared.role.Effect.TheVariants as effects
-use Rattle.wasm_module_validator_rules.specs.constant_rules.expression.Code.{Code, close, plain, nested, turn, walk, IsIn}
-use Rattle.wasm_module_validator_rules.specs.constant_rules.rules.Operands.{ValueType, Operand, bottom, some_reference, known, IsReference, OperandBelow, AllBelow, all_known, stack}
-use Rattle.wasm_module_validator_rules.specs.constant_rules.rules.Context.{Module, Global, Context, Initialised, Frame}
-use Rattle.wasm_module_validator_rules.specs.constant_rules.rules.Numbers.{numbers, class_of, taken_by}
-use Rattle.wasm_module_validator_rules.specs.constant_rules.rules.InstructionTypes.{InstructionType, ◌⟶◌, named, may_use}
-use Rattle.wasm_module_validator_rules.specs.constant_rules.rules.Row.{GroupRow, MemoryRow, BulkRow, after}
-use Rattle.wasm_module_validator_rules.specs.constant_rules.rules.Typed.{Typed, other_part}
-use Rattle.wasm_module_validator_rules.specs.constant_rules.Constants.{IsConstantOperator, IsConstantNumber, IsConstantMemory, IsConstantReference, AreConstantOperators, IsConstant}
+use Rattle.wasm_module_validator_rules.specs.operator_rules.expression.immediates.declared.frames.FrameKind.{FrameKind}
+use Rattle.wasm_module_validator_rules.specs.operator_rules.expression.immediates.declared.frames.FrameKind.TheVariants.{Block}
+use Rattle.wasm_module_validator_rules.specs.operator_rules.expression.control.declared.control.ControlOperator.TheVariants as control
+use Rattle.wasm_module_validator_rules.specs.operator_rules.expression.memory.declared.memory.MemoryOperator.{MemoryOperator}
+use Rattle.wasm_module_validator_rules.specs.operator_rules.expression.memory.declared.memory.MemoryOperator.TheVariants as memory
+use Rattle.wasm_module_validator_rules.specs.operator_rules.expression.memory.declared.bulk.BulkOperator.{BulkOperator}
+use Rattle.wasm_module_validator_rules.specs.operator_rules.expression.memory.declared.bulk.BulkOperator.TheVariants as bulk
+use Rattle.wasm_module_validator_rules.specs.operator_rules.expression.numbers.declared.numeric.NumericOperator.{NumericOperator}
+use Rattle.wasm_module_validator_rules.specs.operator_rules.expression.numbers.declared.numeric.NumericOperator.TheVariants as numeric
+use Rattle.wasm_module_validator_rules.specs.operator_rules.expression.operator.Op as op
+use Rattle.wasm_module_validator_rules.specs.operator_rules.expression.operator.Op.{Op}
+use Rattle.wasm_module_validator_rules.specs.operator_rules.expression.operator.Roles.{role_of, effect}
+use Rattle.wasm_module_validator_rules.specs.operator_rules.expression.operator.declared.role.Effect.{Effect}
+use Rattle.wasm_module_validator_rules.specs.operator_rules.expression.operator.declared.role.Effect.TheVariants as effects
+use Rattle.wasm_module_validator_rules.specs.operator_rules.expression.Code.{Code, close, plain, nested, turn, walk, IsIn}
+use Rattle.wasm_module_validator_rules.specs.operator_rules.Operands.{ValueType, Operand, bottom, some_reference, known, IsReference, OperandBelow, AllBelow, all_known, stack}
+use Rattle.wasm_module_validator_rules.specs.operator_rules.Context.{Module, Global, Context, Initialised, Frame}
+use Rattle.wasm_module_validator_rules.specs.operator_rules.Numbers.{numbers, class_of, taken_by}
+use Rattle.wasm_module_validator_rules.specs.operator_rules.InstructionTypes.{InstructionType, ◌⟶◌, named, may_use}
+use Rattle.wasm_module_validator_rules.specs.operator_rules.Row.{GroupRow, MemoryRow, BulkRow, after}
+use Rattle.wasm_module_validator_rules.specs.operator_rules.Typed.{Typed, other_part}
+use Rattle.wasm_module_validator_rules.specs.operator_rules.constants.Constants.{IsConstantOperator, IsConstantNumber, IsConstantMemory, IsConstantReference, AreConstantOperators, IsConstant}
 use Rattle.wasm_module_validator_rules.specs.Spaces.{referred_by, referred_in}
 use Rattle.wasm_module_validator_steps.specs.contexts.laws.Constants.{opens_none}
 

@@ -8,8 +8,8 @@ use Rattle.wasm_types.specs.externs.declared.global.GlobalType.{GlobalType}
 use Rattle.wasm_types.specs.externs.declared.tag.TagType.{TagType}
 use Rattle.wasm_sections_items.specs.declared.imports.type_ref.TypeRef.{TypeRef}
 use Rattle.wasm_sections_items.specs.declared.imports.type_ref.TypeRef.TheVariants as import
-use Rattle.wasm_module_validator_rules.specs.constant_rules.rules.Operands.{ValueType}
-use Rattle.wasm_module_validator_rules.specs.constant_rules.rules.Context.{Module, IsType}
+use Rattle.wasm_module_validator_rules.specs.operator_rules.Operands.{ValueType}
+use Rattle.wasm_module_validator_rules.specs.operator_rules.Context.{Module, IsType}
 use Rattle.wasm_module_validator_rules.specs.Valid.{IsValidValueType, IsFunctionIndex, IsValidElementType, IsValidTableType, IsValidGlobalType, IsValidTagType, IsValidImport}
 use Rattle.wasm_module_validator_steps.specs.contexts.Agreement.{AgreeOnTypes}
 

@@ -2,7 +2,7 @@ use Rattle.std.proofs.Common.{◌≡◌, List, length, sym, subst}
 use Rattle.wasm_types.specs.error.Denials.{Tells}
 use Rattle.wasm_types.specs.error.DenialLaws.{denies_from}
 use Rattle.wasm_types.specs.limits.Settings.{Settings}
-use Rattle.wasm_module_validator_sharing.specs.reading.progress.code.declared.bodies.Body.{Body}
+use Rattle.wasm_module_validator_sharing.specs.reading.progress.functions.declared.code.bodies.Body.{Body}
 use Rattle.wasm_module_validator_sharing.specs.reading.progress.standing.steps.contexts.rules.Accepts.{AcceptsUnder}
 use Rattle.wasm_module_validator_sharing.specs.reading.progress.standing.steps.Steps.{SoFar}
 use Rattle.wasm_module_validator_sharing.specs.reading.progress.Progress.{Kept, Progress, IsAt}

@@ -1,7 +1,7 @@
 use Rattle.std.proofs.Common.{◌∙◌, ◌+◌, ◌-◌, ◌++◌, ap, length, sym, arith}
 use Rattle.std.proofs.lemmas.List.{length-append}
 use Rattle.wasm_module_validator_groups.specs.adding.Interned.{ids_from}
-use Rattle.wasm_module_validator_groups.proofs.Adding.{ids_step}
+use Rattle.wasm_module_validator_groups.proofs.Added.{ids_step}
 use Rattle.wasm_module_validator_groups.proofs.adding.interning.add_type_ids.Goals as goal
 
 pub loop-number-preserved : goal.loop-number-preserved

@@ -1,7 +1,7 @@
 use Rattle.std.proofs.Common.{◌≡◌, ◌∙◌, true, ap, sym, rules}
 use Rattle.wasm_types.specs.features.Features.{needs_canonical_types}
 use Rattle.wasm_types.specs.groups.Entries.{declared_types}
-use Rattle.wasm_module_validator_groups.proofs.Adding.{kept_on}
+use Rattle.wasm_module_validator_groups.proofs.Added.{kept_on}
 use Rattle.wasm_module_validator_groups.proofs.adding.written.kept_form.Goals as goal
 
 pub returns-clause-kept : goal.returns-clause-kept

@@ -1,5 +1,5 @@
 use Rattle.std.proofs.Common.{ap, ◌∙◌, reverse, arith}
-use Rattle.wasm_operator_validator_state.specs.attempts.contracts.log.RollbackLog.{the_view}
+use Rattle.wasm_operator_validator_state.specs.contracts.attempts.log.RollbackLog.{the_view}
 use Rattle.wasm_operator_validator_state.specs.attempts.Log.{Log, undone, with_frame, with_set}
 use Rattle.wasm_operator_validator_state.proofs.Noting.{leaves_opened, leaves_standing, unset_some}
 use Rattle.wasm_operator_validator_state.proofs.attempts.log.RollbackLog.pop_ctrl.Goals as goal
