@@ -1,3 +1,4 @@
+use Rattle.std.proofs.Common.{rules}
 use Rattle.std.proofs.Common.{◌∙◌, ◌++◌, ◌∷◌, [], ap, refl, arith}
 use Rattle.wasm_module_validator_lists.proofs.Places.{laid_more, items_more}
 use Rattle.wasm_module_validator_lists.proofs.snapshots.seal.Goals as goal
@@ -14,3 +15,6 @@ returns-in-Ok-clause-items g c =
     let more = c.push_in_room.ensures ∙ ap (λ l. l ++ c.in-Ok.shared ∷ []) c.reserve.ensures.items in
     let is = ap (λ s. s.items.items) c.in-Ok.ensures.ok ∙ ap (λ v. v.items) c.replace-items.ensures.value ∙ c.shrink_to_fit.ensures.items in
     items_more (λ s. s.value.items.items) (λ s. s.value.prior) c.args.snapshots.now.items c.push_in_room.new.items.items c.in-Ok.shared c.args.current.now.items [] more is refl
+
+pub returns-in-Err-clause-current_stays : goal.returns-in-Err-clause-current_stays
+returns-in-Err-clause-current_stays c = search rules

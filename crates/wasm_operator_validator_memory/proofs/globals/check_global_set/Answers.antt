@@ -1,3 +1,4 @@
+use Rattle.std.proofs.Common.{rules}
 use Rattle.std.proofs.Common.{[], ◌∷◌, false}
 use Rattle.wasm_operator_validator_determined.specs.expression.info.declared.proposal.Proposal.TheVariants.{Mvp}
 use Rattle.wasm_operator_validator_determined.specs.expression.memory.declared.memory.MemoryOperator.TheVariants as memory
@@ -48,3 +49,6 @@ returns-clause-room g c = λ e.
     let m = g.R.WasmModuleResources.meaning c.args.resources.now in
     has_table_types m c.args.validator.now (op.Memory (memory.GlobalSet c.args.global_index)) Mvp false (c.in-Ok-usable_global.global.content_type ∷ []) [] (set_in_table c.args.global_index) c.in-Ok.ensures.begins
     (set_type m c.args.validator.now c.args.global_index c.in-Ok-usable_global.global c.in-Ok-usable_global.ensures.usable c.if-not-global.false)
+
+pub returns-then-not-global-clause-room : goal.returns-then-not-global-clause-room
+returns-then-not-global-clause-room c = search rules

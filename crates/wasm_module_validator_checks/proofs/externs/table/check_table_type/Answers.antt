@@ -1,3 +1,4 @@
+use Rattle.std.proofs.Common.{rules}
 use Rattle.std.proofs.Common.{ℕ}
 use Rattle.wasm_module_validator_checks.specs.limits.rules.Valid.{IsValidElementType, IsValidTableType}
 use Rattle.wasm_module_validator_checks.specs.externs.Refusals.{allowing}
@@ -10,3 +11,6 @@ returns-in-Err-clause-refused g c =
     let z = c.args.settings.now in
     refusal_from z.features (λ b. IsValidElementType (allowing b z) m.«module» c.args.ty.now.element_type) (λ b. IsValidTableType (allowing b z) m.«module» c.args.ty.now)
     c.in-Err.error.kind (λ b h. h.element) c.in-Err.ensures.refused
+
+pub returns-then-not-are_within-clause-refused : goal.returns-then-not-are_within-clause-refused
+returns-then-not-are_within-clause-refused c = search rules

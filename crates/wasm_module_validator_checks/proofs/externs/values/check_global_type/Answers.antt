@@ -1,3 +1,4 @@
+use Rattle.std.proofs.Common.{rules}
 use Rattle.std.proofs.Common.{ℕ}
 use Rattle.wasm_module_validator_checks.specs.limits.rules.Valid.{IsValidValueType, IsValidGlobalType}
 use Rattle.wasm_module_validator_checks.specs.externs.Refusals.{allowing}
@@ -10,3 +11,6 @@ returns-in-Err-clause-refused g c =
     let z = c.args.settings.now in
     refusal_from z.features (λ b. IsValidValueType (allowing b z) m.«module» c.args.ty.now.content_type) (λ b. IsValidGlobalType (allowing b z) m.«module» c.args.ty.now)
     c.in-Err.error.kind (λ b h. h.content) c.in-Err.ensures.refused
+
+pub returns-clause-answer : goal.returns-clause-answer
+returns-clause-answer c = search rules

@@ -10,3 +10,6 @@ returns-clause-kept g c =
     kept_on (g.M.InternRecGroup.settings c.args.target.now).features (g.M.InternRecGroup.ids c.args.target.now) _ (declared_types c.args.rec_group)
     (declared_types c.canonicalize_rec_group.new.rec_group) (sym (c.needs_type_canonicalization.ensures ∙ ap needs_canonical_types c.features.ensures) ∙ on)
     c.new.ensures.ids c.in_ok-canonicalize_rec_group.ensures.canonical
+
+pub returns-in_err-canonicalize_rec_group-clause-at : goal.returns-in_err-canonicalize_rec_group-clause-at
+returns-in_err-canonicalize_rec_group-clause-at c = search rules

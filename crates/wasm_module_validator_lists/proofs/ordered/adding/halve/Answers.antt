@@ -1,3 +1,4 @@
+use Rattle.std.proofs.Common.{rules}
 use Rattle.std.proofs.Common.{◌∙◌, sym, ap, map, set, drop}
 use Rattle.std.proofs.lemmas.List.{take_rest}
 use Rattle.wasm_module_validator_lists.specs.ordered.Chunks.{half}
@@ -21,3 +22,9 @@ pub returns-clause-sized : goal.returns-clause-sized
 returns-clause-sized c =
     sized_now (map (λ v. v.items) c.args.chunks.now.items) (map (λ v. v.items) (set c.insert.new.self.items c.args.at c.shorten.new.chunk)) c.args.at (returns-clause-ok c)
     (within_map (λ v. v.items) c.args.chunks.now.items c.args.at c.requires.within) c.requires.long c.requires.sized
+
+pub returns-in_err-insert-clause-same : goal.returns-in_err-insert-clause-same
+returns-in_err-insert-clause-same c = search rules
+
+pub returns-in_err-insert-clause-sized : goal.returns-in_err-insert-clause-sized
+returns-in_err-insert-clause-sized c = search rules

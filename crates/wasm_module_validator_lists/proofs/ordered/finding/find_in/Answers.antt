@@ -1,3 +1,4 @@
+use Rattle.std.proofs.Common.{rules}
 use Rattle.std.proofs.Common.{◌∙◌, sym, arith}
 use Rattle.wasm_module_validator_lists.proofs.Splits.{misses_less, misses_around, not_less, greater_from}
 use Rattle.wasm_module_validator_lists.proofs.ordered.finding.find_in.Goals as goal
@@ -14,3 +15,6 @@ pub returns-in-Greater : goal.returns-in-Greater
 returns-in-Greater g c =
     misses_around _ c.args.numbers.now c.place_in-at.result c.place_in-at.ensures.less
     (greater_from _ c.args.numbers.now c.place_in-at.result c.requires (sym c.compare.ensures ∙ c.in-Greater.is))
+
+pub returns-in-Equal : goal.returns-in-Equal
+returns-in-Equal c = search rules

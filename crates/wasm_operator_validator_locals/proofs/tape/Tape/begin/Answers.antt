@@ -1,0 +1,5 @@
+use Rattle.std.proofs.Common.{rules}
+use Rattle.wasm_operator_validator_locals.proofs.tape.Tape.begin.Goals as goal
+
+pub returns : goal.returns
+returns c = search rules
