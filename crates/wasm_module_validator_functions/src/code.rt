@@ -6,8 +6,5 @@
 mod bodies;
 mod laws;
 
-pub use crate::{
-    FuncToValidate, FuncValidator, FuncValidatorAllocations, FunctionBody, WasmModuleResources,
-};
 pub use bodies::{Body, judge_bodies};
 pub use laws::bodies_are_worked;

@@ -11,6 +11,8 @@
 //! let allocs = validator.into_allocations();
 //! ```
 //!
+//! The bodies of a module, one after the other, are [`code`].
+//!
 //! `specs/Locals.antt` defines which bytes spell locals that a function may have, and `specs/Functions.antt` which spell a function
 //! that is valid, and why others are refused.
 #![tactic(auto)]

@@ -24,8 +24,9 @@ pub use items::SectionItem;
 pub use payloads::check_header;
 pub use progress::InProgress;
 pub use shared::SharedModule;
-pub use wasm_module_validator_functions::code::{
-    Body, FuncToValidate, FuncValidator, FuncValidatorAllocations, judge_bodies,
+pub use wasm_module_validator_functions::code::{Body, judge_bodies};
+pub use wasm_module_validator_functions::{
+    FuncToValidate, FuncValidator, FuncValidatorAllocations,
 };
 pub use wasm_module_validator_initialising::{OperatorValidatorAllocations, check_data_with};
 pub use wasm_module_validator_standing::ModuleState;
