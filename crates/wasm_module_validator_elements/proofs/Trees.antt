@@ -19,7 +19,7 @@ use Rattle.wasm_sections_items.specs.declared.elements.element.ElementItemsOf.Th
 use Rattle.wasm_sections_items.specs.elements.Spells.{ElementTree, ElementMode, ElementItems, passive, active, declared, functions, expressions}
 use Rattle.wasm_sections_items.specs.elements.Passing.{values_of, items_at}
 use Rattle.wasm_sections_items.specs.elements.Elements.{mode_of, items_of, is_whole, has_whole}
-use Rattle.wasm_module_validator_segments.specs.constants.operator_rules.constants.Constants.{IsConstant}
+use Rattle.wasm_module_validator_segments.specs.constants.rules.constants.Constants.{IsConstant}
 use Rattle.wasm_module_validator_segments.specs.constants.rules.Operands.{ValueType}
 use Rattle.wasm_module_validator_segments.specs.constants.rules.Context.{Module}
 use Rattle.wasm_module_validator_segments.specs.rules.Spaces.{element_type}

@@ -15,7 +15,7 @@ use Rattle.wasm_types.specs.values.declared.value.ValType.TheVariants as value
 use Rattle.wasm_sections_items.specs.elements.Spells.{ElementMode, ElementItems, passive, active, declared, functions, expressions}
 use Rattle.wasm_module_validator_segments.specs.constants.expression.Code.{Code}
 use Rattle.wasm_module_validator_segments.specs.constants.expression.Spelling.{SpelledExpression}
-use Rattle.wasm_module_validator_segments.specs.constants.operator_rules.constants.Constants.{IsConstant}
+use Rattle.wasm_module_validator_segments.specs.constants.rules.constants.Constants.{IsConstant}
 use Rattle.wasm_module_validator_segments.specs.constants.rules.Context.{Module, Table, address_type}
 use Rattle.wasm_module_validator_segments.specs.rules.Spaces.{value_in, element_type}
 use Rattle.wasm_module_validator_segments.specs.rules.Valid.{Each, IsValidMode, AreValidItems, item_count, table_index}

@@ -30,7 +30,7 @@ use Rattle.wasm_sections_items.specs.declared.segments.segment.DataKindOf.{DataK
 use Rattle.wasm_sections_items.specs.declared.segments.segment.DataKindOf.TheVariants as data_kind
 use Rattle.wasm_sections_items.specs.segments.Segments.{mode_of as data_mode_of}
 use Rattle.wasm_operator_validator_constants.specs.Checked.{ChecksConstant, StopsConstant}
-use Rattle.wasm_operator_validator_constants.specs.operator_rules.constants.Constants.{IsConstant, seeing}
+use Rattle.wasm_operator_validator_constants.specs.rules.constants.Constants.{IsConstant, seeing}
 use Rattle.wasm_operator_validator_constants.specs.resources.Meaning.{Meaning, type_in, reference_in, global_in, table_in}
 use Rattle.wasm_operator_validator_constants.specs.rules.Operands.{ValueType}
 use Rattle.wasm_operator_validator_constants.specs.rules.Context.{Module, Global, Table, address_type}

@@ -23,7 +23,7 @@ use Rattle.wasm_operator_validator_constants.specs.rules.Context.{Module, Contex
 use Rattle.wasm_operator_validator_constants.specs.rules.InstructionTypes.{◌⟶◌}
 use Rattle.wasm_operator_validator_constants.specs.rules.Row.{Row}
 use Rattle.wasm_operator_validator_constants.specs.rules.Typed.{IsBody}
-use Rattle.wasm_operator_validator_constants.specs.operator_rules.constants.Constants.{constant_context, IsConstant, seeing}
+use Rattle.wasm_operator_validator_constants.specs.rules.constants.Constants.{constant_context, IsConstant, seeing}
 use Rattle.wasm_module_validator_checks.specs.limits.rules.Spaces.{value_in}
 use Rattle.wasm_module_validator_checks.specs.limits.rules.worked.Trees.{everything, only, constant as short_constant, long as long_constant, funcref}
 use Rattle.wasm_module_validator_segments.specs.Judged.{IsConstantText, IsTable, IsData}

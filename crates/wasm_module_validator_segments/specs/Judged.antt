@@ -12,7 +12,7 @@ use Rattle.wasm_sections_items.specs.segments.Spells.{GlobalTree, DataMode}
 use Rattle.wasm_sections_items.specs.segments.Tables.{TableTree}
 use Rattle.wasm_operator_validator_constants.specs.expression.Code.{Code}
 use Rattle.wasm_operator_validator_constants.specs.expression.Spelling.{SpelledExpression}
-use Rattle.wasm_operator_validator_constants.specs.operator_rules.constants.Constants.{IsConstant}
+use Rattle.wasm_operator_validator_constants.specs.rules.constants.Constants.{IsConstant}
 use Rattle.wasm_operator_validator_constants.specs.rules.Operands.{ValueType}
 use Rattle.wasm_operator_validator_constants.specs.rules.Context.{Module}
 use Rattle.wasm_module_validator_checks.specs.limits.rules.Spaces.{value_in}

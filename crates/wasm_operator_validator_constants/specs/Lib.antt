@@ -7,7 +7,6 @@ pub mod Checked
 -- What is proved of them.
 pub mod laws
 -- The rules and laws of the crates below, under their names: crates above cite them here.
-pub use Rattle.wasm_operator_validator_rules.specs as operator_rules
 pub use Rattle.wasm_operator_validator_expression.specs.expression as expression
 pub use Rattle.wasm_operator_validator_expression.specs.rules as rules
 pub use Rattle.wasm_operator_validator_expression.specs.resources as resources
