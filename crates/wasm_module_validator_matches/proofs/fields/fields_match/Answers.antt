@@ -1,3 +1,4 @@
+use Rattle.std.proofs.lemmas.Grind.{common_steps}
 use Rattle.std.proofs.Common.{◌≡◌, true, false, arith, refl}
 use Rattle.wasm_module_validator_type_trees.specs.Groups.{count}
 use Rattle.wasm_module_validator_type_trees.specs.BelowIds.{IsIdBelow}
@@ -14,3 +15,6 @@ field_matches-requires-clause-first c =
 pub field_matches-requires-clause-second : goal.field_matches-requires-clause-second
 field_matches-requires-clause-second c =
     field_read (IsIdBelow (count c.args.types.now.groups)) c.args.b.now c.loop-i.i c.index-b-i.result c.requires.second (omega arith) c.index-b-i.is
+
+pub loop-i-preserved : goal.loop-i-preserved
+loop-i-preserved c = grind (arith, common_steps)

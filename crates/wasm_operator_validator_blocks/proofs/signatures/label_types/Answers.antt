@@ -3,3 +3,6 @@ use Rattle.wasm_operator_validator_blocks.proofs.signatures.label_types.Goals as
 
 pub returns-in-Loop : goal.returns-in-Loop
 returns-in-Loop c = search rules
+
+pub returns-in-Block : goal.returns-in-Block
+returns-in-Block c = search rules

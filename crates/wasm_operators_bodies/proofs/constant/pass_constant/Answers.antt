@@ -1,3 +1,4 @@
+use Rattle.std.proofs.Common.{rules}
 use Rattle.std.proofs.Common.{true, is_some, sym, ◌∙◌, ap, subst}
 use Rattle.wasm_types.specs.decoding.Decoder.{State, Takes}
 use Rattle.wasm_operators_reader.specs.Standing.{Standing}
@@ -11,3 +12,6 @@ returns-clause-read c =
     let closed = none_open c.pass_end.new.operators.frames (c.if-is_some.ensures ∙ ap is_some c.current_frame.ensures) in
     let read = constant_read c.args.reader c.pass_end.new.operators run closed in
     (read.0, read.1, subst (λ (b : State). Takes c.args.reader read.0 b) (sym c.get_binary_reader.ensures) read.2)
+
+pub returns-then-is_some-clause-read : goal.returns-then-is_some-clause-read
+returns-then-is_some-clause-read c = search rules

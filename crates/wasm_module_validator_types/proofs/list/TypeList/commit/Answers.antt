@@ -1,3 +1,4 @@
+use Rattle.std.proofs.Common.{rules}
 use Rattle.std.proofs.Common.{◌∙◌, ap}
 use Rattle.wasm_module_validator_types.proofs.Holding.{groups_same, lists_stay, lists_closed}
 use Rattle.wasm_module_validator_types.proofs.list.TypeList.commit.Goals as goal
@@ -19,3 +20,6 @@ returns-clause-stays c = groups_same c.self.inside.lists c.commit.new.self c.com
 
 pub returns-clause-same : goal.returns-clause-same
 returns-clause-same c = groups_same c.self.inside.lists c.in_ok-lists.lists c.in_ok-lists.ensures.same ∙ ap (λ l. l.groups) c.self.view_is
+
+pub returns-clause-closed : goal.returns-clause-closed
+returns-clause-closed c = search rules

@@ -1,3 +1,4 @@
+use Rattle.std.proofs.Common.{rules}
 use Rattle.std.proofs.Common.{ap, arith}
 use Rattle.std.proofs.lemmas.Option.{slice_get_within}
 use Rattle.wasm_module_validator_type_trees.specs.Groups.{count, group_numbers}
@@ -17,3 +18,6 @@ rec_group_id_of-requires c =
       ap (λ l. count l.groups) c.self.view_is,
       c.new.ensures,
     )
+
+pub returns-in-Some-id_of : goal.returns-in-Some-id_of
+returns-in-Some-id_of c = search rules

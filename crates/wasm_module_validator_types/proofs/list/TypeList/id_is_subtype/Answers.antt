@@ -1,3 +1,4 @@
+use Rattle.std.proofs.Common.{rules}
 use Rattle.std.proofs.Common.{◌≡◌, ◌∙◌, ◌<◌, ℕ, ap, sym, subst, refl, true, false, arith}
 use Rattle.std.proofs.lemmas.Bool.{eqb-true, eq-eqb}
 use Rattle.wasm_types.specs.indices.declared.index.CoreTypeId.{CoreTypeId}
@@ -18,3 +19,6 @@ chain-preserved c =
     let known = c.chain.invariant.0 in
     let apart : c.chain.at ≡ c.args.b → false ≡ true = λ e. sym c.if-eq.false ∙ (c.eq.ensures ∙ eq-eqb c.chain.at.0 c.args.b.0 (ap (λ (x : CoreTypeId). x.0) e)) in
     (omega arith, (λ h. below_next (c.chain.invariant.1.0 h) c.in-Some.above up (λ e. let z = apart e in cc), λ h. c.chain.invariant.1.1 (declared up h)))
+
+pub returns-in-None : goal.returns-in-None
+returns-in-None c = search rules
