@@ -2,6 +2,8 @@
 //!
 //! Each check is Ok exactly where the rule of modules holds under the settings. The sizes of their types are added one by one, as
 //! the rule adds them.
+//!
+//! [`names`] keeps them by their names.
 #![tactic(auto)]
 
 mod exports;

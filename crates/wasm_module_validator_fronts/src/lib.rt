@@ -6,6 +6,8 @@
 //! far come first among its own, and nothing is refused but a section that is no payload. [`walks_are_judged`] says what follows where
 //! its frames are judged (`wasm_module_validator_steps`): each frame behind those before it, and nothing is refused. `specs/Walks.antt`
 //! defines where a walk stands. There is no code here: each law is the contract of a function that does nothing.
+//!
+//! [`framed`] says that a module is accepted exactly where all its frames are judged so, and its bodies are valid.
 #![tactic(auto)]
 
 pub mod framed;

@@ -2,7 +2,10 @@
 //! types and recursive types).
 //!
 //! The contracts speak of ids (`specs/ValidTypes.antt`); where all groups are in canonical form, that is what the rules say of
-//! the types that the ids stand for (`types_are_valid_as_trees`). Nothing here takes memory.
+//! the types that the ids stand for (`types_are_valid_as_trees`). These checks take no memory.
+//!
+//! [`composites`] checks what a type is made of, and [`adding`] takes a whole group into a module: into canonical form, interned, and
+//! checked where it is new.
 #![tactic(auto)]
 
 pub mod adding;

@@ -63,6 +63,7 @@ pub fn check_data_with(
     requires within { IsWithinCeilings state.now.spaces.settings.limits }
     ensures answer { TellsItem section.data_segments types.now.groups state.now (data_tree segment.now) result }
     ensures added { OnOk result (AddsItem section.data_segments types.now.groups state.now (data_tree segment.now) types.now.groups state.now) }
+    ensures refused { IfErr result (λ e. UnlessMemory e.kind (RefusesData state.now.spaces.settings (constants_of types.now.groups state.now.spaces) state.now.spaces.imported_globals offset segment.now.kind e)) }
 {
     judge_data(alloc, segment, state, types, allocs, offset)
 }

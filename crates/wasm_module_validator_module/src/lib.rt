@@ -3,6 +3,8 @@
 //!
 //! What is added was checked before; here it is held against its limit alone. `specs/Spaces.antt` says what a contract sees of a
 //! module: one space grows, and all else stays.
+//!
+//! [`view`] has what is looked up in a module that was read, with its list of types.
 #![tactic(auto)]
 
 mod adding;

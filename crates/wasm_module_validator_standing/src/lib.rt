@@ -3,6 +3,8 @@
 //! `specs/Standing.antt` says when it does. What a call of the state decides of an item is then what the rules ask of the tree with that
 //! item, and what the call leaves stands for every tree that has the item. There is no code here: each law is the contract of a function
 //! that does nothing.
+//!
+//! [`so_far`] says when index spaces alone are those of a tree, and what its context is then.
 #![tactic(auto)]
 
 mod laws;

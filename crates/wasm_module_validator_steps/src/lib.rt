@@ -6,6 +6,8 @@
 //! added, and what is tested where a section begins; which bytes stand for items; what a frame does. [`sections_are_added`] promises
 //! that a section is added item by item exactly where it is valid as a whole and the module is within its limits then. There is no code
 //! here: each law is the contract of a function that does nothing.
+//!
+//! [`contexts`] has what lies below it: each item judged in the context of what was read before it.
 #![tactic(auto)]
 
 pub mod contexts;

@@ -3,6 +3,7 @@
 //! [`OperatorArity::operator_arity`] answers by what a [`ModuleArity`] looks up: types, tags, and the open frames.
 //! `wasm_operator_validator_rules` has the table that it answers, and what the rules of typing say of it;
 //! [`laws::arities_are_those_of_the_rules`] joins the two.
+//! Where the number is the same in every module, [`fixed`] has it.
 #![tactic(auto)]
 
 mod answering;

@@ -2,6 +2,8 @@
 //!
 //! `specs/laws/Determined.antt` says how the promise of a check (`Checks` of `wasm_operator_validator_state`) follows from its steps and
 //! an equation of the table of instruction types. An operator owes that equation alone.
+//!
+//! [`numbers`] checks the operators on numbers so, and constants.
 #![tactic(auto)]
 
 mod copying;

@@ -1,4 +1,7 @@
-//! The locals of a function: the first one by one, and all as runs of one type.
+//! The locals of a function: their types, the first one by one and all as runs of one type; and which of them are initialised
+//! ([`inits`]).
+//!
+//! [`tape`] is the stack under what a validator of operators keeps: it can take back what was done to it since a moment.
 #![tactic(auto)]
 
 pub mod inits;

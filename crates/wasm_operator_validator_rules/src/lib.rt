@@ -3,6 +3,8 @@
 //! There is no code here but the laws, each on the contract of a function that does nothing. `specs/` is read in the order of
 //! its `Lib.antt`: what the rules know of operands, the context, the classes of operators, the table of instruction types,
 //! the rows of all other operators, and the typing of code.
+//!
+//! [`arity`] has how many operands each operator takes and gives, and [`constants`] which expressions are constant.
 #![tactic(auto)]
 
 pub mod arity;

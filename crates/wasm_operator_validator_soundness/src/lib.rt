@@ -2,6 +2,7 @@
 //!
 //! There is no code here but the laws, each on the contract of a function that does nothing. `specs/` is read in the order of
 //! its `Lib.antt`: values and their types, how instructions run, and what it means that they are never stuck.
+//! [`accepted`] says the same of a body that the validator accepts.
 #![tactic(auto)]
 
 pub mod accepted;

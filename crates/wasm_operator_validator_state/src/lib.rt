@@ -3,6 +3,8 @@
 //! `specs/State.antt` says what is known and which operators may still come; `specs/Steps.antt` what the steps of a validator do,
 //! by the stacks that its operands stand for; `specs/Refusals.antt` what refusals of a few bytes are; `specs/laws/` how a visit's
 //! promise follows from what its steps did.
+//!
+//! [`attempts`] keeps what one attempt did to the stacks, so that it can be taken back.
 #![tactic(auto)]
 
 pub mod attempts;

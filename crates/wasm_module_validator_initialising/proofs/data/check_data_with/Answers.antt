@@ -10,3 +10,6 @@ returns-clause-answer c = data_told c.args.types.now.groups c.args.state.now (da
 pub returns-clause-added : goal.returns-clause-added
 returns-clause-added c =
     always c.judge_data.result _ (data_added c.args.types.now.groups c.args.state.now (data_tree c.args.segment.now) c.args.state.now refl)
+
+pub returns-clause-refused : goal.returns-clause-refused
+returns-clause-refused c = c.judge_data.ensures.refused
