@@ -1,10 +1,13 @@
 -- What each kind of items promises, from what the calls of the state promise.
-use Rattle.std.proofs.Common.{◌≡◌, ◌∙◌, ◌+◌, ℕ, List, length, Result, Ok, Err, sym, ap, arith}
-use Rattle.std.specs.Prelude.{OnOk, ◌↔◌}
+use Rattle.std.proofs.Common.{◌≡◌, ◌∙◌, ◌+◌, ℕ, List, length, Result, Ok, Err, sym, ap, subst, arith}
+use Rattle.std.specs.Prelude.{OnOk, IfErr, ◌↔◌}
 use Rattle.std.proofs.lemmas.List.{length_push}
 use Rattle.wasm_types.specs.error.Denials.{Tells}
 use Rattle.wasm_types.specs.error.DenialLaws.{denies_from}
 use Rattle.wasm_types.specs.error.ErrorValue.{ErrorValue}
+use Rattle.wasm_types.specs.error.declared.error.ErrorKind.{ErrorKind}
+use Rattle.wasm_types.specs.error.declared.error.ErrorKind.TheVariants.{Other}
+use Rattle.wasm_types.specs.reader.Reading.{IsNotMemory}
 use Rattle.wasm_types.specs.limits.Settings.{Settings}
 use Rattle.wasm_module_validator_type_trees.specs.Groups.{Group}
 use Rattle.wasm_module_validator_standing.specs.items.Items.{Items}
@@ -24,6 +27,12 @@ alike_told (Err e) P Q both h = denies_from e.kind P (Unit {0} × Q) (λ q. both
 pub both_told : {X : Type 0} (result : Result X ErrorValue) (M P Q : Type 0) → M → P ↔ Q → Tells result P → Tells result (M × Q)
 both_told (Ok u) M P Q fact both h = (fact, both.0 h)
 both_told (Err e) M P Q fact both h = denies_from e.kind P (M × Q) (λ q. both.1 q.1) h
+
+-- a refusal of kind Other is none for memory
+pub other_there : {X : Type 0} (result : Result X ErrorValue) (offset : ℕ) → IfErr result (λ e. (e.kind ≡ Other) × (e.offset ≡ offset))
+    → IfErr result (λ e. IsNotMemory e.kind × (e.offset ≡ offset))
+other_there (Ok u) offset h = tt
+other_there (Err e) offset h = (subst IsNotMemory (sym h.0) tt, h.1)
 
 -- an item that is no group leaves the count of groups
 pub item_added : {X : Type 0} (s : Section) (x : ItemRead s) (result : Result X ErrorValue) (groups grown : List Group) (i j : Items) (count : ℕ)

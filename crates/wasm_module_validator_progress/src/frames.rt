@@ -1,8 +1,8 @@
 //! Frames of a module that are no items: where a section begins, and the code section.
 
-ghost use Rattle.std.specs.Prelude.{◌≡◌, ◌<◌, ◌≤◌, ◌+◌, List, OnOk, IfSome, length, option_map, slice_get};
+ghost use Rattle.std.specs.Prelude.{◌≡◌, ◌<◌, ◌≤◌, ◌+◌, List, OnOk, IfErr, IfSome, length, option_map, slice_get};
 ghost use Rattle.wasm_types.specs.decoding.Decoder.{State};
-ghost use Rattle.wasm_types.specs.error.Denials.{Tells};
+ghost use Rattle.wasm_types.specs.error.Denials.{Tells, UnlessMemory};
 ghost use Rattle.wasm_types.specs.error.declared.error.ErrorKind.TheVariants.{Other};
 ghost use Rattle.wasm_types.specs.limits.Settings.{Settings};
 ghost use Rattle.wasm_sections_payloads.specs.Payloads.{Counts};
@@ -21,7 +21,7 @@ use wasm_types::{Error, Result};
 // The refusal of a body of more bytes than the limit.
 #[cold]
 fn long_body(most: u32, offset: u64) -> Error
-    ensures { result.kind ≡ Other }
+    ensures { (result.kind ≡ Other) × (result.offset ≡ offset) }
 {
     Error::fmt(
         format_args!("function body size count exceeds limit of {most}"),
@@ -32,7 +32,7 @@ fn long_body(most: u32, offset: u64) -> Error
 // The refusal of a body that is that of no function.
 #[cold]
 fn too_many_bodies(offset: u64) -> Error
-    ensures { result.kind ≡ Other }
+    ensures { (result.kind ≡ Other) × (result.offset ≡ offset) }
 {
     Error::new("code section entry exceeds number of functions", offset)
 }
@@ -58,13 +58,15 @@ pub(crate) fn function_behind_in(state: &ModuleState, bodies: usize) -> Option<(
 ///
 /// # Errors
 ///
-/// That section is not the code section; or the body is longer than a body may be: the first of these.
+/// That section is not the code section; or the body is longer than a body may be: the first of these, of kind `Other`, where the body
+/// begins.
 pub(crate) fn check_body_behind(
     state: &ModuleState,
     last: u32,
     body: &FunctionBody<'_>,
 ) -> Result<()>
-    ensures { Tells result ((last ≡ code_place) × (length body.now.rest ≤ state.now.spaces.settings.limits.body_bytes)) }
+    ensures answer { Tells result ((last ≡ code_place) × (length body.now.rest ≤ state.now.spaces.settings.limits.body_bytes)) }
+    ensures refused { IfErr result (λ e. (e.kind ≡ Other) × (e.offset ≡ body.now.place)) }
 {
     let reader = body.get_binary_reader();
     let offset = reader.original_position();
@@ -82,6 +84,7 @@ impl InProgress {
     // Refuses a section whose place is not behind that of the last.
     pub(crate) fn begin_section(&mut self, place: u32, offset: u64) -> Result<()>
         ensures answer { Tells result (self.old.last < place) }
+        ensures refused { IfErr result (λ e. (e.kind ≡ Other) × (e.offset ≡ offset)) }
         ensures begun { self.new ≡ record self.old { last = place } }
     {
         let last = self.last;
@@ -124,9 +127,10 @@ impl InProgress {
     ///
     /// # Errors
     ///
-    /// The section is out of order.
+    /// The section is out of order, of kind `Other`, at `offset`.
     pub fn take_code_start(&mut self, offset: u64) -> Result<()>
         ensures answer { (z : Settings) (p : SoFar) (bodies : List TheBody) → IsAt z self.old bodies p → Tells result (p.last < code_place) }
+        ensures refused { IfErr result (λ e. (e.kind ≡ Other) × (e.offset ≡ offset)) }
         ensures added { OnOk result ((z : Settings) (p : SoFar) (bodies : List TheBody) → IsAt z self.old bodies p → IsAt z self.new bodies (record p { last = code_place })) }
         ensures kept { self.new.kept ≡ self.old.kept }
     {
@@ -143,7 +147,8 @@ impl InProgress {
 
     // Checks where a body comes, behind a section of this place, and how long it is.
     fn check_body(&self, last: u32, body: &FunctionBody<'_>) -> Result<()>
-        ensures { Tells result ((last ≡ code_place) × (length body.now.rest ≤ self.now.kept.items.spaces.settings.limits.body_bytes)) }
+        ensures answer { Tells result ((last ≡ code_place) × (length body.now.rest ≤ self.now.kept.items.spaces.settings.limits.body_bytes)) }
+        ensures refused { IfErr result (λ e. (e.kind ≡ Other) × (e.offset ≡ body.now.place)) }
     {
         check_body_behind(&self.collected.state, last, body)
     }
@@ -153,7 +158,7 @@ impl InProgress {
     /// # Errors
     ///
     /// The code section has not begun, or another section came behind it; the body is longer than a body may be; each function has
-    /// its body; or there is no memory.
+    /// its body: the first of these, of kind `Other`, where the body begins; or there is no memory to keep it.
     pub fn take_body<'a>(
         &mut self,
         body: FunctionBody<'a>,
@@ -162,6 +167,7 @@ impl InProgress {
         ensures answer { (z : Settings) (p : SoFar) → IsAt z self.old bodies.old.items p → body.entry.settings ≡ z → Tells result ((q : SoFar) × JudgesBody z p body.entry.rest q) }
         ensures added { OnOk result ((z : Settings) (p q : SoFar) → IsAt z self.old bodies.old.items p → body.entry.settings ≡ z → JudgesBody z p body.entry.rest q
             → IsAt z self.new bodies.new.items q) }
+        ensures refused { IfErr result (λ e. UnlessMemory e.kind ((e.kind ≡ Other) × (e.offset ≡ body.entry.place))) }
         ensures kept { self.new.kept ≡ self.old.kept }
     {
         match self.check_body(self.last, &body) {

@@ -1,8 +1,9 @@
 //! The items of a section, whatever they are.
 
-ghost use Rattle.std.specs.Prelude.{◌≡◌, List, OnOk, true};
+ghost use Rattle.std.specs.Prelude.{◌≡◌, List, OnOk, IfErr, true};
 ghost use Rattle.wasm_types.specs.decoding.Decoder.{State, Done};
 ghost use Rattle.wasm_types.specs.error.Denials.{Tells};
+ghost use Rattle.wasm_types.specs.reader.Reading.{IsNotMemory};
 ghost use Rattle.wasm_types.specs.limits.Limits.{IsWithinCeilings, default_limits};
 ghost use Rattle.wasm_types.specs.limits.Settings.{Settings};
 ghost use Rattle.wasm_module_validator_resources.specs.Named.{IsReadOver};
@@ -36,10 +37,11 @@ pub trait SectionItem<'a>: FromReader<'a> {
     fn place() -> u32
         ensures { result ≡ place section };
 
-    /// Refuses a section of more items than there may be.
+    /// Refuses a section of more items than there may be, or that no feature allows, at this offset.
     fn check_count(state: &ModuleState, count: u32, offset: u64) -> Result<()>
         ensures answer { (groups : List Group) (z : Settings) (m : ModuleTree) → Stands groups state.now z m → IsUnread section m
-            → Tells result (MayBegin z section × Fits z section m count) };
+            → Tells result (MayBegin z section × Fits z section m count) }
+        ensures refused { IfErr result (λ e. IsNotMemory e.kind × (e.offset ≡ offset)) };
 
     /// Checks an item that was read, which begins at this offset, and adds it.
     fn add_to(

@@ -1,6 +1,6 @@
 //! What each payload does to a module in progress.
 
-ghost use Rattle.std.specs.Prelude.{◌≡◌, ◌⊎◌, ℕ, List, OnOk};
+ghost use Rattle.std.specs.Prelude.{◌≡◌, ◌⊎◌, ℕ, List, OnOk, IfErr};
 ghost use Rattle.wasm_types.specs.decoding.Decoder.{State, Done};
 ghost use Rattle.wasm_types.specs.error.Denials.{Tells};
 ghost use Rattle.wasm_types.specs.reader.Reading.{IsNotMemory};
@@ -21,8 +21,13 @@ use wasm_sections_payloads::Payload;
 use wasm_types::{Error, Result, WasmFeatures};
 
 /// Refuses what is no module of the version that there is.
+///
+/// # Errors
+///
+/// It is a component, for the lack of a feature; or a module of another version, of kind `Other`: at `offset`.
 pub fn check_header(num: u16, encoding: Encoding, offset: u64) -> Result<()>
     ensures answer { Tells result ((num ≡ 1) × (layer_of encoding ≡ 0)) }
+    ensures refused { IfErr result (λ e. IsNotMemory e.kind × (e.offset ≡ offset)) }
 {
     match encoding {
         Encoding::Module => (),
@@ -37,7 +42,7 @@ pub fn check_header(num: u16, encoding: Encoding, offset: u64) -> Result<()>
 // The refusal of a component.
 #[cold]
 fn component(offset: u64) -> Error
-    ensures { IsNotMemory result.kind }
+    ensures { IsNotMemory result.kind × (result.offset ≡ offset) }
 {
     Error::missing_feature(
         WasmFeatures::COMPONENT_MODEL,
@@ -49,7 +54,7 @@ fn component(offset: u64) -> Error
 // The refusal of a module of another version.
 #[cold]
 fn unknown_version(num: u16, offset: u64) -> Error
-    ensures { IsNotMemory result.kind }
+    ensures { IsNotMemory result.kind × (result.offset ≡ offset) }
 {
     Error::fmt(format_args!("unknown binary version: {num:#x}"), offset)
 }
@@ -57,7 +62,7 @@ fn unknown_version(num: u16, offset: u64) -> Error
 // The refusal of a section of another id.
 #[cold]
 fn unknown_section(id: u8, offset: u64) -> Error
-    ensures { IsNotMemory result.kind }
+    ensures { IsNotMemory result.kind × (result.offset ≡ offset) }
 {
     Error::fmt(format_args!("malformed section id: {id}"), offset)
 }
