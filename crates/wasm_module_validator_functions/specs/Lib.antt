@@ -2,7 +2,7 @@
 pub mod Locals
 pub mod Functions
 pub mod Trying
-pub mod Rows
+pub mod Lent
 -- How a validation's promise follows from its steps: laws, with the proofs.
 pub mod laws
 -- The bodies of a module, one after the other.

@@ -1,7 +1,7 @@
 -- How much there is to visit in a type, and what is held.
 pub mod Sizes
 pub mod Held
-pub mod Rows
+pub mod Lent
 -- What an index of a group means in a list.
 pub mod Canonicalized
 -- Worked rows.

@@ -5,6 +5,7 @@ pub mod Needs
 pub mod Parsing
 pub mod Settled
 -- Laws.
+pub mod SettledLaws
 pub mod StepLaws
 pub mod PlaceLaws
 -- Worked rows.

@@ -5,6 +5,7 @@ pub mod ValueKinds
 pub mod Trees
 pub mod Values
 pub mod Spells
+pub mod Spelled
 pub mod Text
 pub mod ValueText
 pub mod Order
@@ -17,11 +18,11 @@ pub mod Decode
 pub mod DecodeValues
 -- Laws, among them that each decoder reads just what the rules spell.
 pub mod Laws
-pub mod Ties
+pub mod TieLaws
 pub mod DecodeLaws
-pub mod HeapExact
-pub mod ReferenceExact
-pub mod ValueExact
+pub mod HeapLaws
+pub mod ReferenceLaws
+pub mod ValueLaws
 pub mod RemapLaws
 pub mod WorkedTypeLaws
 -- The rules and laws of the crates below, under their names: crates above cite them here.
