@@ -6,6 +6,8 @@ pub mod State
 pub mod Steps
 pub mod Entering
 pub mod Bodies
+-- Laws of the enum for what is known.
+pub mod PackedLaws
 -- Worked operands and refusals.
 pub mod worked
 -- How a visit's promise follows from its steps: laws, with the proofs.
