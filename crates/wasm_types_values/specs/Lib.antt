@@ -11,12 +11,12 @@ pub mod ValueText
 pub mod Order
 pub mod Constants
 pub mod Remap
--- How a reference lies in its bits.
+-- Definitions: how a reference lies in its bits.
 pub mod Bits
 -- Decoders.
 pub mod Decode
 pub mod DecodeValues
--- Laws, among them that each decoder reads just what the rules spell.
+-- Laws, among them that each decoder reads just what the rules spell, and worked types.
 pub mod Laws
 pub mod TieLaws
 pub mod DecodeLaws
