@@ -1,4 +1,14 @@
 -- worked rows
 pub mod Edges
+pub mod Sets
+pub mod Reading
+pub mod Trees
+pub mod Remaps
+pub mod Groups
 -- that they come out so
 pub mod EdgeLaws
+pub mod SetLaws
+pub mod ReadingLaws
+pub mod TreeLaws
+pub mod RemapLaws
+pub mod GroupLaws
