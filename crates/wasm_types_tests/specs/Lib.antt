@@ -3,6 +3,7 @@ pub mod Edges
 pub mod Sets
 pub mod Reading
 pub mod Trees
+pub mod Kinds
 pub mod Remaps
 pub mod Groups
 -- that they come out so
@@ -10,5 +11,6 @@ pub mod EdgeLaws
 pub mod SetLaws
 pub mod ReadingLaws
 pub mod TreeLaws
+pub mod KindLaws
 pub mod RemapLaws
 pub mod GroupLaws

@@ -6,6 +6,7 @@ ghost use Rattle.wasm_types_tests.specs.Edges.{UnsignedEdges32, UnsignedEdges64,
 ghost use Rattle.wasm_types_tests.specs.Sets.{InflatedRows, PackedRows, WithinRows};
 ghost use Rattle.wasm_types_tests.specs.Reading.{ReachedRows, GivenRows, OffsetRows, SaidRows, NextRows};
 ghost use Rattle.wasm_types_tests.specs.Trees.{TreeRows, BitRows};
+ghost use Rattle.wasm_types_tests.specs.Kinds.{KindRows, OrderRows, WordRows};
 ghost use Rattle.wasm_types_tests.specs.Remaps.{IndexRows, ShapeRows, RemapRows};
 ghost use Rattle.wasm_types_tests.specs.Groups.{DeclaredRows, ValueRows, CopyRows, TextRows};
 
@@ -51,6 +52,14 @@ pub fn readings_are_worked()
 pub fn trees_are_worked()
     ensures trees { TreeRows }
     ensures bits { BitRows }
+{}
+
+/// What each type is, how references are ordered, and how types are written (WebAssembly 3.0, structure and text format, types).
+#[tactic(auto, using(crate::specs::KindLaws::kind_rows, crate::specs::KindLaws::order_rows, crate::specs::KindLaws::word_rows))]
+pub fn kinds_are_worked()
+    ensures kinds { KindRows }
+    ensures order { OrderRows }
+    ensures words { WordRows }
 {}
 
 /// The indices of types in order, their shapes, and what a call leaves that replaces indices.
