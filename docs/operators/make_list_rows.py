@@ -1,10 +1,11 @@
 """Writes the rows of `wasm_operators_tests::list`: each operator of the checked-in list, with its row of the table of opcodes
-and the kinds of what it carries.
+and the kinds of what it carries; and each that carries something, with what stands behind its opcode.
 
     make_list_rows.py operators.csv CRATES
 
 CRATES is the folder of crates. One file of `specs/` for each group, a row a line. What an operator carries stands for any
-value (`Carried` in `specs/Listed.antt`). The kind of a field follows from its name and its type in the list, which are the standard's.
+value (`Carried` in `specs/Listed.antt`); beside what stands behind the opcode its numbers are 1, 2 and so on, and of two references
+only the second may be null. The kind of a field follows from its name and its type in the list, which are the standard's.
 """
 
 import csv
@@ -135,6 +136,51 @@ def text_of(file, groups):
     return text + "use Rattle.wasm_operators_tests.specs.list.Listed.{Carried, Listed, listed}\n" + body
 
 
+def carried_of(row, constructor, alias):
+    """An operator of distinct values, and these values behind its opcode, in the order of the bytes."""
+    fields = [it.split(":", 1) for it in row["immediates"].split()]
+    numbers, values = iter("123"), []
+    for name, kind in fields:
+        if kind == "ref_type":
+            values.append("(to_non_null c)" if name == "from_ref_type" else "(to_null c)")
+            continue
+        value = field_of(row, name, kind)[1]
+        values.append(next(numbers) if value == "number" else f"c.{value}")
+    if any(kind == "ref_type" for _, kind in fields):
+        immediates = [f"CastBranch {' '.join(values)}"]
+    else:
+        kinds = [field_of(row, *it)[0] for it in fields]
+        immediates = [f"{kind} {f'({value} ∷ [])' if value == 'c.value' else value}" for kind, value in zip(kinds, values)]
+    if row["name"] == "atomic.fence":
+        immediates = ["ZeroByte"]
+    op = " ".join([f"{alias}.{row['variant']}", *values])
+    return f"carries (op.{constructor} {f'({op})' if values else op}) ({' ∷ '.join([*immediates, '[]'])})"
+
+
+def carried_text(groups):
+    """The file of what each operator carries, by groups."""
+    body, aliases = "", ""
+    for key in (it for it in GROUPS if it in groups):
+        _, constructor, enum, crate, module = GROUPS[key]
+        rows = [it for it in groups[key] if it["immediates"] or it["name"] == "atomic.fence"]
+        if not rows:
+            continue
+        alias = alias_of(constructor)
+        if crate:
+            aliases += f"use Rattle.wasm_operators_operator.specs.{crate}.declared.{module}.{enum}.TheVariants as {alias}\n"
+        lines = [carried_of(row, constructor, alias if crate else "op") for row in rows]
+        body += f"\nabbrev pub {alias}_carries : Carried → List Carries\n{alias}_carries c =\n    " + " ∷\n    ".join(lines) + " ∷ []\n"
+    unnamed = re.sub(r"\w+\.\w+", "", body)
+    found = [it for it in KINDS if re.search(rf"\b{it}\b", unnamed)]
+    spaces = [it for it in found if KINDS.index(it) > KINDS.index("ZeroByte")]
+    text = "-- What each operator carries behind its opcode, in the order of the bytes, as the list has it (written by\n"
+    text += "-- docs/operators/make_list_rows.py).\nuse Rattle.std.specs.Prelude.{List, [], ◌∷◌}\n"
+    text += f"use Rattle.wasm_operators_operator.specs.immediates.Kinds.{{{', '.join(spaces)}}}\n"
+    text += f"use Rattle.wasm_operators_operator.specs.immediates.Immediates.{{{', '.join(it for it in found if it not in spaces)}}}\n"
+    text += aliases + "use Rattle.wasm_operators_operator.specs.Op as op\n"
+    return text + "use Rattle.wasm_operators_tests.specs.list.Listed.{Carried, Carries, carries, to_non_null, to_null}\n" + body
+
+
 def main(list_file, crates):
     with open(list_file, encoding="utf-8") as it:
         rows = list(csv.DictReader(it))
@@ -145,6 +191,9 @@ def main(list_file, crates):
     for file, groups in files.items():
         with open(f"{crates}/wasm_operators_tests/specs/list/{file}Rows.antt", "w", encoding="utf-8") as it:
             it.write(text_of(file, groups))
+    groups = {key: found for by_file in files.values() for key, found in by_file.items()}
+    with open(f"{crates}/wasm_operators_tests/specs/list/CarriedRows.antt", "w", encoding="utf-8") as it:
+        it.write(carried_text(groups))
 
 
 main(*sys.argv[1:])

@@ -1,10 +1,13 @@
 pub mod FrameRows
 pub mod EqualityRows
 pub mod FeatureRows
+pub mod OperatorRows
+pub mod ShapeRows
 pub mod ArgumentRows
 pub mod NumberRows
 pub mod ByteRows
 pub mod TypeRows
 pub mod TableRows
+pub mod LabelRows
 pub mod PlainRows
 pub mod PrefixedRows

@@ -9,7 +9,11 @@ pub mod ThreadsRows
 pub mod VectorsRows
 pub mod VectorNumbersRows
 pub mod Every
+-- Worked rows: what each carries.
+pub mod CarriedRows
 -- Worked rows: what else is worked of them.
 pub mod FrameRows
 pub mod EqualityRows
 pub mod FeatureRows
+pub mod OperatorRows
+pub mod ShapeRows

@@ -6,6 +6,7 @@ pub mod NumberRows
 pub mod ByteRows
 pub mod TypeRows
 pub mod TableRows
+pub mod LabelRows
 -- Worked operators.
 pub mod PlainRows
 pub mod PrefixedRows

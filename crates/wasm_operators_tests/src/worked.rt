@@ -6,6 +6,7 @@ ghost use Rattle.wasm_operators_tests.specs.worked.NumberRows.{NumberRows};
 ghost use Rattle.wasm_operators_tests.specs.worked.ByteRows.{ByteRows};
 ghost use Rattle.wasm_operators_tests.specs.worked.TypeRows.{TypeRows};
 ghost use Rattle.wasm_operators_tests.specs.worked.TableRows.{TableRows};
+ghost use Rattle.wasm_operators_tests.specs.worked.LabelRows.{LabelRows};
 ghost use Rattle.wasm_operators_tests.specs.worked.PlainRows.{PlainRows};
 ghost use Rattle.wasm_operators_tests.specs.worked.PrefixedRows.{PrefixedRows};
 
@@ -16,6 +17,7 @@ pub const fn immediates_are_worked()
     ensures bytes { ByteRows }
     ensures types { TypeRows }
     ensures tables { TableRows }
+    ensures labels { LabelRows }
 {}
 
 /// Operators of each group, read and refused; codes that no operator has; and bytes that end too early.

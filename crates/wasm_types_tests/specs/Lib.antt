@@ -1,4 +1,16 @@
 -- Worked rows.
 pub mod Edges
+pub mod Sets
+pub mod Reading
+pub mod Trees
+pub mod Kinds
+pub mod Remaps
+pub mod Groups
 -- Laws: that they come out so.
 pub mod EdgeLaws
+pub mod SetLaws
+pub mod ReadingLaws
+pub mod TreeLaws
+pub mod KindLaws
+pub mod RemapLaws
+pub mod GroupLaws

@@ -1,5 +1,5 @@
 -- A row of the list, and what it is compared with.
-use Rattle.std.specs.Prelude.{◌≡◌, ℕ, ℤ, List, Option, map}
+use Rattle.std.specs.Prelude.{◌≡◌, ℕ, ℤ, List, Option, map, true, false}
 use Rattle.wasm_types.specs.reader.declared.words.Ieee32.{Ieee32}
 use Rattle.wasm_types.specs.reader.declared.words.Ieee64.{Ieee64}
 use Rattle.wasm_types.specs.values.declared.heap.HeapType.{HeapType}
@@ -14,9 +14,10 @@ use Rattle.wasm_operators_operator.specs.immediates.declared.memory.Ordering.{Or
 use Rattle.wasm_operators_operator.specs.immediates.declared.vector.V128.{V128}
 use Rattle.wasm_operators_operator.specs.immediates.Tables.{Labels, CatchTable}
 use Rattle.wasm_operators_operator.specs.immediates.Kinds.{Kind}
+use Rattle.wasm_operators_operator.specs.immediates.Immediates.{Immediate}
 use Rattle.wasm_operators_operator.specs.Op.{Op}
 use Rattle.wasm_operators_operator.specs.Table.{info_of}
-use Rattle.wasm_operators_operator.specs.Immediates.{kinds_of}
+use Rattle.wasm_operators_operator.specs.Immediates.{immediates_of, kinds_of}
 
 -- a value for each field of an operator, by its type: the rows hold whatever it is
 pub record Carried : Type 0 where
@@ -53,3 +54,26 @@ in_tables r = record { op = r.op; info = info_of r.op; kinds = kinds_of r.op }
 -- each of these rows stands in the tables
 abbrev pub AreInTables : (Carried → List Listed) → Type 0
 AreInTables rows = (c : Carried) → map in_tables (rows c) ≡ rows c
+
+-- an operator, and what stands behind its opcode, in the order of the bytes
+pub record Carries : Type 0 where
+  pub op : Op
+  pub immediates : List Immediate
+
+abbrev pub carries : Op → List Immediate → Carries
+carries op immediates = record { op = op; immediates = immediates }
+
+-- two references that differ
+abbrev pub to_non_null : Carried → Reference
+to_non_null c = record { nullable = false; heap = c.heap }
+
+abbrev pub to_null : Carried → Reference
+to_null c = record { nullable = true; heap = c.heap }
+
+-- the same operator, with what the tables have of it
+abbrev pub as_carried : Carries → Carries
+as_carried r = record { op = r.op; immediates = immediates_of r.op }
+
+-- each of these rows stands in the tables
+abbrev pub AreCarried : (Carried → List Carries) → Type 0
+AreCarried rows = (c : Carried) → map as_carried (rows c) ≡ rows c

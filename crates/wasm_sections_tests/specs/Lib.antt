@@ -1,0 +1,8 @@
+-- worked rows
+pub mod Items
+pub mod Frames
+pub mod Payloads
+-- that they come out so
+pub mod ItemLaws
+pub mod FrameLaws
+pub mod PayloadLaws
