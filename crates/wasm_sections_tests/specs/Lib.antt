@@ -1,8 +1,8 @@
--- worked rows
+-- Worked rows.
 pub mod Items
 pub mod Frames
 pub mod Payloads
--- that they come out so
+-- Laws: that they come out so.
 pub mod ItemLaws
 pub mod FrameLaws
 pub mod PayloadLaws
