@@ -1,4 +1,6 @@
 -- worked rows
 pub mod Edges
+pub mod Answers
 -- that they come out so
 pub mod EdgeLaws
+pub mod AnswerLaws
