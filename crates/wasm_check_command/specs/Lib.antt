@@ -1,4 +1,4 @@
--- What the program promises, in reading order.
+-- Rules: what the program promises, in reading order. `Commands` has worked rows.
 pub mod Lines
 pub mod Faults
 pub mod Verdict

@@ -4,5 +4,5 @@ pub mod Accepts
 pub mod States
 pub mod Methods
 pub mod Payloads
--- Laws, with the proofs.
+-- Laws, with the proofs. `StateRows` there has worked rows.
 pub mod laws

@@ -1,9 +1,10 @@
--- Groups as they are written, and their canonical forms.
+-- Rules: groups as they are written, and their canonical forms.
 pub mod Written
 pub mod Canonical
+-- Definitions: canonical forms as they are stored, and what is refused.
 pub mod Packed
 pub mod Refused
 -- Worked groups.
 pub mod Worked
--- The laws, with the proofs.
+-- Laws, with the proofs.
 pub mod laws

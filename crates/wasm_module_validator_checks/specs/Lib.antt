@@ -1,6 +1,6 @@
--- The features and limits that hold, counts against them.
+-- Rules of modules by the features and limits that hold: those of the crate below, under their name.
 pub mod limits
--- Types of tables, memories, globals and tags.
+-- Definitions: which types of tables, memories, globals and tags are refused.
 pub mod externs
--- Sections that are one number, calls in turn.
+-- Definitions: sections that are one number, and calls in turn.
 pub mod sections

@@ -1,3 +1,3 @@
--- Functions by their index, and which calls come in turn.
+-- Definitions: functions by their index, and which calls come in turn.
 pub mod Functions
 pub mod Turns

@@ -1,2 +1,2 @@
--- Laws of groups as they are read.
+-- Laws of groups as they are read. The rules are those of the crates below.
 pub mod GroupLaws

@@ -3,7 +3,7 @@ use Rattle.std.proofs.Common.{◌≡◌, ◌↔◌, ℕ, zero, suc, ◌+◌, ◌
 use Rattle.std.specs.Prelude.{◌⊎◌}
 use Rattle.wasm_types.specs.limits.Settings.{Settings}
 use Rattle.wasm_types.specs.decoding.Decoder.{State, Outcome, Done, Short, Fault, Decoder, continue_with, pure, ◌>>=◌, repeated}
-use Rattle.wasm_types.specs.decoding.Exact.{value_is, state_is}
+use Rattle.wasm_types.specs.decoding.ExactLaws.{value_is, state_is}
 use Rattle.wasm_types.specs.error.Denials.{Denies, UnlessMemory}
 use Rattle.wasm_types.specs.error.DenialLaws.{denies_from}
 use Rattle.wasm_types.specs.error.ErrorValue.{ErrorValue}

@@ -1,5 +1,5 @@
--- Element segments with their constant expressions, which of them are valid, what they name, and why others are refused: definitions,
--- in the order in which they are read.
+-- Rules: element segments with their constant expressions, which of them are valid, what they name, and why others are refused, in
+-- the order in which they are read. `Items` has a decoder too.
 pub mod Trees
 pub mod Judged
 pub mod Items

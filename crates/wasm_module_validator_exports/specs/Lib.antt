@@ -1,4 +1,4 @@
--- What imports become by ids.
+-- Definitions: what imports become by ids.
 pub mod Imports
--- What is kept of both, by their names.
+-- Rules and worked rows: what is kept of both, by their names.
 pub mod names

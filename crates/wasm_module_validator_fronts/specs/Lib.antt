@@ -1,4 +1,4 @@
--- What reads by which settings, and where a walk over a module stands.
+-- Definitions: what reads by which settings, and where a walk over a module stands.
 pub mod Walks
 -- Laws: frames that calls gave come first among those of a module.
 pub mod FrontLaws
@@ -7,5 +7,5 @@ pub mod WalkLaws
 pub mod JudgedLaws
 -- Worked walks.
 pub mod Worked
--- A module is accepted exactly where its frames are judged one by one.
+-- Laws: a module is accepted exactly where its frames are judged one by one.
 pub mod framed

@@ -1,9 +1,10 @@
--- The locals of a body, and its function: definitions, in the order in which they are read.
+-- Rules: the locals of a body, and its function, in the order in which they are read.
 pub mod Locals
 pub mod Functions
+-- Definitions: what an attempt leaves, and what is lent.
 pub mod Trying
-pub mod Rows
--- How a validation's promise follows from its steps: laws, with the proofs.
+pub mod Lent
+-- Laws, with the proofs: how a validation's promise follows from its steps. `WorkedLocals` there has worked rows.
 pub mod laws
--- The bodies of a module, one after the other.
+-- Rules, laws and worked rows: the bodies of a module, one after the other.
 pub mod code

@@ -3,6 +3,7 @@
 //! A [`FuncToValidate`] says which function is to be judged, and [`FuncToValidate::into_validator`] makes its [`FuncValidator`]:
 //! [`FuncValidator::validate`] judges a whole [`FunctionBody`]. It is Ok exactly where the bytes spell a valid function of the type,
 //! read under the validator's own features, out of memory aside. Or its parts are called one by one, locals first, then operators.
+//! A [`BodyJudge`] judges one body after the other in one memory, and does not say why one is refused.
 //!
 //! ```text
 //! let allocs = FuncValidatorAllocations::new(alloc);

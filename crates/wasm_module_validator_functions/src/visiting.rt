@@ -8,7 +8,7 @@ impl<R: WasmModuleResources> FuncValidator<R> {
     ghost use Rattle.std.specs.Borrow.{Lends, sem};
     ghost use Rattle.std.specs.Prelude.{◌≡◌};
     ghost use Rattle.wasm_module_validator_functions.specs.contracts.validator.FuncValidator.{the_row};
-    ghost use Rattle.wasm_module_validator_functions.specs.Rows.{validator_row};
+    ghost use Rattle.wasm_module_validator_functions.specs.Lent.{validator_row};
 
     /// The visitor that judges the operators of this body: it has this validator and its module, and answers errors at `offset`, the offset
     /// of the operator that is visited next. What the visitor leaves of the validator, this one has then. Whoever holds the visitor takes

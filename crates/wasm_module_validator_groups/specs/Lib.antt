@@ -1,8 +1,8 @@
--- Valid types over ids.
+-- Rules: valid types over ids.
 pub mod ValidTypes
--- Their laws, with the proofs.
+-- Laws of them, with the proofs.
 pub mod laws
--- Composite types.
+-- Rules and laws of composite types.
 pub mod composites
--- Groups added to a module.
+-- Definitions and worked rows: groups added to a module.
 pub mod adding

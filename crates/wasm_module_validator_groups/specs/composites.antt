@@ -1,4 +1,4 @@
--- Valid composite types over ids.
+-- Rules: valid composite types over ids.
 pub mod Composites
--- Their laws, with the proofs.
+-- Laws of them, with the proofs.
 pub mod laws

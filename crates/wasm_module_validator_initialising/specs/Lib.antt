@@ -1,6 +1,6 @@
--- Items as they are read, and what they name.
+-- Definitions: items as they are read, and what they name.
 pub mod Read
--- Why items are refused, and where.
+-- Definitions: why items are refused, and where.
 pub mod Refusals
 -- Worked rows.
 pub mod Worked

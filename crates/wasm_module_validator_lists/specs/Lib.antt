@@ -1,4 +1,4 @@
--- A list that is shared as it stands.
+-- Definitions and worked rows: a list that is shared as it stands.
 pub mod snapshots
--- Numbers in an order that the caller tells.
+-- Definitions, laws and worked rows: numbers in an order that the caller tells.
 pub mod ordered

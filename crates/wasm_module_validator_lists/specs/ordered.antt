@@ -1,8 +1,8 @@
--- Numbers in order beside what is sought.
+-- Definitions: numbers in order beside what is sought.
 pub mod Order
 -- Laws: what was added, and what stays as it was.
 pub mod OrderLaws
--- How they lie in memory.
+-- Definitions: how they lie in memory.
 pub mod Chunks
 -- Worked lists.
 pub mod Worked

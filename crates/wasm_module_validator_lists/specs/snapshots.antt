@@ -1,4 +1,4 @@
--- What a list of snapshots holds.
+-- Definitions: what a list of snapshots holds.
 pub mod Pieces
 -- Worked lists.
 pub mod Worked

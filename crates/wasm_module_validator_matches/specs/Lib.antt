@@ -1,6 +1,6 @@
--- Matching over ids.
+-- Rules: matching over ids.
 pub mod MatchesById
 -- Worked types.
 pub mod Worked
--- Their laws, with the proofs.
+-- Laws, with the proofs.
 pub mod laws

@@ -1,4 +1,4 @@
--- What a contract sees of a module that is being read.
+-- Rules: what a contract sees of a module that is being read.
 pub mod Spaces
--- What is looked up in a module that was read.
+-- Rules: what is looked up in a module that was read.
 pub mod view

@@ -1,6 +1,6 @@
--- A module in which each function may be referred to, and the functions that an expression refers to.
+-- Definitions: a module in which each function may be referred to, and the functions that an expression refers to.
 pub mod Referring
 pub mod Naming
--- What is proved of both.
+-- Laws of both.
 pub mod ReferringLaws
 pub mod NamingLaws

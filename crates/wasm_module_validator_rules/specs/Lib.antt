@@ -4,7 +4,7 @@ pub mod Binary
 pub mod Spaces
 pub mod Valid
 pub mod Accepts
--- What is proved of them: bytes fully spell at most one module.
+-- Laws: bytes fully spell at most one module.
 pub mod UniqueLaws
 pub mod ElementLaws
 pub mod ModuleLaws

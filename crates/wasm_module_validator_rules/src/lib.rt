@@ -1,8 +1,9 @@
 //! The rules of modules: which bytes spell a module, and which modules are valid (WebAssembly 3.0, structure, binary format and
 //! validation, modules).
 //!
-//! There is no code here but laws and worked modules, each on the contract of a function that does nothing. `specs/` is read in the order of its `Lib.antt`: the module as a tree, the bytes that spell it, its
-//! index spaces, constant expressions, valid modules, and what is accepted.
+//! There is no code here but laws and worked modules, each on the contract of a function that does nothing. `specs/` is read in the
+//! order of its `Lib.antt`: the module as a tree, the bytes that spell it, its index spaces, valid modules, and what is accepted. The
+//! rules of constant expressions, which these cite, stand in `wasm_operator_validator_rules`.
 #![tactic(auto)]
 
 mod laws;

@@ -1,9 +1,9 @@
--- Globals, tables and data segments with their constant expressions, which of them are valid, and why others are refused: definitions,
--- in the order in which they are read.
+-- Rules: globals, tables and data segments with their constant expressions, which of them are valid, and why others are refused, in
+-- the order in which they are read.
 pub mod Trees
 pub mod Judged
 pub mod Refusals
--- What is proved of answers and addresses.
+-- Laws of answers and addresses.
 pub mod Laws
 -- Worked items, a pair for each rule.
 pub mod Worked

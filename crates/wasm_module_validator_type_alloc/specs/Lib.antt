@@ -1,8 +1,8 @@
--- How much there is to visit in a type, and what is held.
+-- Definitions: how much there is to visit in a type, what is held, and what is lent.
 pub mod Sizes
 pub mod Held
-pub mod Rows
--- What an index of a group means in a list.
+pub mod Lent
+-- Definitions: what an index of a group means in a list.
 pub mod Canonicalized
 -- Worked rows.
 pub mod Worked

@@ -39,7 +39,7 @@ impl Deref for TypeAlloc {
 impl DerefMut for TypeAlloc {
     ghost use Rattle.std.specs.Borrow.{Lends, sem};
     ghost use Rattle.wasm_module_validator_type_alloc.specs.contracts.alloc.TypeAlloc.{the_row};
-    ghost use Rattle.wasm_module_validator_type_alloc.specs.Rows.{list_row};
+    ghost use Rattle.wasm_module_validator_type_alloc.specs.Lent.{list_row};
 
     ghost deref_mut_gives = { λ types list. list ≡ types.list };
 

@@ -1,11 +1,11 @@
--- What a list of types stores.
+-- Definitions: what a list of types stores.
 pub mod Stored
 pub mod Lists
 pub mod Rolled
 pub mod Beside
 pub mod Known
 pub mod Depths
--- What a contract sees of it.
+-- Definitions: what a contract sees of it.
 pub mod Lookups
 pub mod List
 -- Worked rows.

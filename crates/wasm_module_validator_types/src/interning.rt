@@ -13,7 +13,7 @@ use wasm_types::{CoreTypeId, FuncType, RecGroup, Result as Reading, SubType};
 
 impl TypeList {
     /// The id of a type that is interned as a group of its own (`intern_canonical_rec_group`). Refused are, before all else
-    /// but want of memory, a type past 2^20 types and a group that would be the 2^32nd behind the first. A refusal changes no
+    /// (out of memory aside), a type past 2^20 types and a group that would be the 2^32nd behind the first. A refusal changes no
     /// type and no id.
     pub fn intern_sub_type(&mut self, sub_ty: SubType, offset: u64) -> Reading<CoreTypeId>
         requires can_intern { IsTrue self.old.can_intern }

@@ -26,7 +26,7 @@ use wasm_types_groups::laws::order_is_of_types;
 /// The most types that a list has: each id fits the 20 bits of an index.
 pub const MAX_TYPES: usize = 1 << 20;
 
-/// The interned types: each group in canonical form once, each type under an id of its own.
+/// The interned types, each under an id of its own. A group in canonical form stands once.
 #[derive(Drop)]
 pub struct TypeList {
     pub(crate) alloc: Global,

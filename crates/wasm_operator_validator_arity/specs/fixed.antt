@@ -1,2 +1,2 @@
--- Numbers of operands in 32 bits.
+-- Definitions: numbers of operands in 32 bits.
 pub mod Ended

@@ -1,1 +1,2 @@
+-- Rules: what types of functions and blocks mean.
 pub mod Signatures

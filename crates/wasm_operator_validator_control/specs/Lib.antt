@@ -1,11 +1,11 @@
--- What steps of the checks do: definitions.
+-- Definitions: what steps of the checks do.
 pub mod Jumps
 pub mod Opening
 pub mod Ending
--- How operands fit several labels, and what a call may name.
+-- Definitions: how operands fit several labels, and what a call may name.
 pub mod Fitting
 pub mod Callees
--- How a check's promise follows from its steps: laws, with the proofs.
+-- Laws, with the proofs: how a check's promise follows from its steps.
 pub mod laws
 -- The rules and laws of the crates below, under their names: crates above cite them here.
 pub use Rattle.wasm_operator_validator_determined.specs.expression as expression

@@ -1,6 +1,6 @@
--- Which bytes a validator accepts as an expression, and why it refuses others: definitions.
+-- Rules: which bytes a validator accepts as an expression, and why it refuses others.
 pub mod Validating
--- How that follows from the visits of the operators: laws, with the proofs.
+-- Laws, with the proofs: how that follows from the visits of the operators.
 pub mod laws
 -- The rules and laws of the crates below, under their names: crates above cite them here.
 pub use Rattle.wasm_operator_validator_state.specs.expression as expression

@@ -1,7 +1,7 @@
 //! Expressions that are validated as they are read.
 //!
 //! [`validate_operators`] drives a visitor that validates ([`Validating`]) along an expression. `specs/Validating.antt` defines which
-//! bytes are accepted, and why others are refused.
+//! bytes are accepted, and why others are refused. [`accepts_operators`] does the same, and does not say why.
 #![tactic(auto)]
 
 pub mod laws;

@@ -1,2 +1,2 @@
--- Where the body of a function begins.
+-- Definitions: where the body of a function begins.
 pub mod Functions

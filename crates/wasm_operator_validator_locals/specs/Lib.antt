@@ -1,6 +1,6 @@
--- Locals as runs of one type, and what a refusal is.
+-- Definitions: locals as runs of one type, and what a refusal is.
 pub mod Locals
--- A stack that can take back what was done to it since a moment.
+-- Definitions: a stack that can take back what was done to it since a moment.
 pub mod tape
--- Which locals are initialised.
+-- Definitions: which locals are initialised.
 pub mod inits

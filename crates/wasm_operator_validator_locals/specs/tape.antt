@@ -1,2 +1,2 @@
--- What stood where an attempt began, and what a rollback puts back.
+-- Definitions: what stood where an attempt began, and what a rollback puts back.
 pub mod Kept

@@ -1,15 +1,15 @@
--- Which accesses a memory allows.
+-- Definitions: which accesses a memory allows.
 pub mod Reaching
--- What tables and references are, by cases.
+-- Definitions: what tables and references are, by cases.
 pub mod Tables
--- What a global is by its sharedness, and what a choice gives.
+-- Definitions: what a global is by its sharedness, and what a choice gives.
 pub mod Variables
 pub mod Choices
--- When memory may be wanted: laws.
+-- Laws: when memory may be wanted.
 pub mod RoomLaws
--- Which locals that a body declares have a value: laws.
+-- Laws: which locals that a body declares have a value.
 pub mod DeclaredLaws
--- What an access takes and gives: laws, with the proofs.
+-- Laws, with the proofs: what an access takes and gives.
 pub mod laws
 -- The rules and laws of the crates below, under their names: crates above cite them here.
 pub use Rattle.wasm_operator_validator_determined.specs.expression as expression

@@ -1,4 +1,4 @@
--- What names in code stand for, and what each look-up answers.
+-- Rules: what names in code stand for, and what each look-up answers.
 pub mod Meaning
 pub mod Answers
 -- The rules and laws of the crates below, under their names: crates above cite them here.

@@ -10,7 +10,7 @@ pub mod Typed
 pub mod worked
 -- The rules and laws of the crates below, under their names: crates above cite them here.
 pub use Rattle.wasm_operators_expression.specs as expression
--- How many operands each operator takes and gives.
+-- Rules, laws and worked rows: how many operands each operator takes and gives.
 pub mod arity
--- Which operators and expressions are constant.
+-- Rules and worked rows: which operators and expressions are constant.
 pub mod constants

@@ -1,5 +1,5 @@
--- What operators take and give, by their codes, and what a step over them does.
+-- Definitions: what operators take and give, by their codes, and what a step over them does.
 pub mod Shapes
 pub mod Steps
--- Numbers that are passed over.
+-- Definitions: numbers that are passed over.
 pub mod Passing

@@ -1,9 +1,9 @@
--- One activation is sound: definitions, in the order in which they are read.
+-- Rules: one activation is sound, in the order in which they are read.
 pub mod Values
 pub mod Machine
 pub mod Soundness
 pub mod Beginning
 -- Worked values, runs and stuck configurations: rows that hold and rows that do not.
 pub mod worked
--- What is accepted as a body is never stuck.
+-- Rules: what is accepted as a body is never stuck.
 pub mod accepted

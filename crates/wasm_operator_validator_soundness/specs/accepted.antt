@@ -1,2 +1,2 @@
--- The soundness of bodies that a validator accepts.
+-- Rules: the soundness of bodies that a validator accepts.
 pub mod Accepted

@@ -1,16 +1,17 @@
--- How the open frames lie in memory.
+-- Definitions: how the open frames lie in memory.
 pub mod Layout
--- What lies under others in the innermost frame.
+-- Definitions: what lies under others in the innermost frame.
 pub mod Peeking
--- How many operands there are, and how a frame lies over those around it.
+-- Definitions: how many operands there are, and how a frame lies over those around it.
 pub mod Heights
+-- Worked frames, and the laws that they come out so.
 pub mod Worked
 pub mod WorkedLaws
--- Operators one after the other over the operands of the innermost frame.
+-- Definitions: operators one after the other over the operands of the innermost frame.
 pub mod Running
--- Locals that a body declares.
+-- Definitions: locals that a body declares.
 pub mod Defining
--- What a type that a module writes stands for, and what an attempt leaves: laws, with the proofs.
+-- Laws, with the proofs: what a type that a module writes stands for, and what an attempt leaves.
 pub mod laws
 -- The rules and laws of the crates below, under their names: crates above cite them here.
 pub use Rattle.wasm_operator_validator_state.specs.expression as expression

@@ -1,4 +1,4 @@
--- What is known, which operators may come, what steps do, and what refusals are: definitions, in the order in which they are read.
+-- Rules: what is known, which operators may come, what steps do, and what refusals are, in the order in which they are read.
 pub mod Names
 pub mod Packed
 pub mod Refusals
@@ -6,13 +6,15 @@ pub mod State
 pub mod Steps
 pub mod Entering
 pub mod Bodies
+-- Laws of the enum for what is known.
+pub mod PackedLaws
 -- Worked operands and refusals.
 pub mod worked
--- How a visit's promise follows from its steps: laws, with the proofs.
+-- Laws, with the proofs: how a visit's promise follows from its steps. `Rows` there has laws of rows of the rules, and no worked ones.
 pub mod laws
 -- The rules and laws of the crates below, under their names: crates above cite them here.
 pub use Rattle.wasm_operator_validator_resources.specs.expression as expression
 pub use Rattle.wasm_operator_validator_resources.specs.rules as rules
 pub use Rattle.wasm_operator_validator_resources.specs as resources
--- What an attempt did to the stacks, so that it can be taken back.
+-- Definitions and worked rows: what an attempt did to the stacks, so that it can be taken back.
 pub mod attempts

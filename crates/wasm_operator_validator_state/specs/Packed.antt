@@ -1,5 +1,5 @@
 -- What is known of an operand, as one enum.
-use Rattle.std.specs.Prelude.{◌≡◌, refl, Some, None}
+use Rattle.std.specs.Prelude.{Some, None}
 use Rattle.wasm_types.specs.values.declared.value.ValType.TheVariants as vals
 use Rattle.wasm_types.specs.values.declared.heap.AbstractHeapType.TheVariants as heap
 use Rattle.wasm_operator_validator_state.specs.declared.operand.MaybeType.{MaybeType}
@@ -56,28 +56,3 @@ known_of kind.UnknownExn = maybe.UnknownRef (Some heap.Exn)
 known_of kind.UnknownNoExn = maybe.UnknownRef (Some heap.NoExn)
 known_of kind.UnknownCont = maybe.UnknownRef (Some heap.Cont)
 known_of kind.UnknownNoCont = maybe.UnknownRef (Some heap.NoCont)
-
--- no two cases say the same
-pub same_kind : (k : Kind) → kind_of (known_of k) ≡ k
-same_kind kind.I32 = refl
-same_kind kind.I64 = refl
-same_kind kind.F32 = refl
-same_kind kind.F64 = refl
-same_kind kind.V128 = refl
-same_kind (kind.Ref r) = refl
-same_kind kind.Bottom = refl
-same_kind kind.Unknown = refl
-same_kind kind.UnknownFunc = refl
-same_kind kind.UnknownExtern = refl
-same_kind kind.UnknownAny = refl
-same_kind kind.UnknownNone = refl
-same_kind kind.UnknownNoExtern = refl
-same_kind kind.UnknownNoFunc = refl
-same_kind kind.UnknownEq = refl
-same_kind kind.UnknownStruct = refl
-same_kind kind.UnknownArray = refl
-same_kind kind.UnknownI31 = refl
-same_kind kind.UnknownExn = refl
-same_kind kind.UnknownNoExn = refl
-same_kind kind.UnknownCont = refl
-same_kind kind.UnknownNoCont = refl

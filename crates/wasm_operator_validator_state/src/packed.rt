@@ -46,7 +46,8 @@ impl Model for Operand {
     ghost use Rattle.std.proofs.Common.{ap};
     ghost use Rattle.wasm_operator_validator_state.specs.declared.operand.MaybeType.{MaybeType as TheMaybeType};
     ghost use Rattle.wasm_operator_validator_state.specs.declared.packed.Kind.{Kind as TheKind};
-    ghost use Rattle.wasm_operator_validator_state.specs.Packed.{kind_of, known_of, same_kind};
+    ghost use Rattle.wasm_operator_validator_state.specs.Packed.{kind_of, known_of};
+    ghost use Rattle.wasm_operator_validator_state.specs.PackedLaws.{same_kind};
 
     ghost Value = { TheMaybeType };
 

@@ -1,4 +1,4 @@
--- Operators that have no rule yet.
+-- Definitions: what a visit that answers an error promises, and which operators have no rule yet.
 pub mod Told
 pub mod Unsupported
 -- The rules and laws of the crates below, under their names: crates above cite them here.

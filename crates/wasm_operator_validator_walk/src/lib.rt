@@ -2,6 +2,7 @@
 //!
 //! [`validate_expression`] drives the visitor that validates (`wasm_operator_validator_visits`) along an expression, by the walk of
 //! `wasm_operator_validator_expression`. `specs/Validating.antt` there defines which bytes are accepted, and why others are refused.
+//! [`accepts_expression`] does the same, and does not say why.
 #![tactic(auto)]
 
 mod operators;

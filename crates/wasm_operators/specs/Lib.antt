@@ -1,0 +1,1 @@
+-- This crate has no rules of its own: those of its parts stand with the parts.

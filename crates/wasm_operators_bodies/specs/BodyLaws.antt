@@ -2,7 +2,7 @@
 use Rattle.std.proofs.Common.{◌≡◌, ℕ, List, length, ◌++◌, refl, sym, ap, ◌∙◌, subst}
 use Rattle.wasm_types.specs.decoding.Decoder.{State, Outcome, Done, Short, Fault, continue_with, ◌>>=◌, pure, bytes, IsLawful, Decides, Then}
 use Rattle.wasm_types.specs.decoding.Laws.{lawful->>=, lawful-pure}
-use Rattle.wasm_types.specs.decoding.Exact.{Exactly, decides->>=, decides-same, decides-bytes}
+use Rattle.wasm_types.specs.decoding.ExactLaws.{Exactly, decides->>=, decides-same, decides-bytes}
 use Rattle.wasm_types.specs.decoding.Leb.{u32, IsUnsigned}
 use Rattle.wasm_types.specs.decoding.LebLaws.{decides-u32}
 use Rattle.wasm_types.specs.reader.Parts.{part_at, next_part, counted_part}

@@ -4,7 +4,7 @@ use Rattle.wasm_types.specs.limits.Settings.{Settings}
 use Rattle.wasm_types.specs.decoding.declared.Refusal.TheVariants.{Other}
 use Rattle.wasm_types.specs.decoding.Decoder.{State, Done, Grammar, Then, IsLawful, Decides}
 use Rattle.wasm_types.specs.decoding.Laws.{lawful->>=, lawful-pure, lawful-refuse}
-use Rattle.wasm_types.specs.decoding.Exact.{done_then, decides->>=, decides-same, decides-pure, decides-refuse}
+use Rattle.wasm_types.specs.decoding.ExactLaws.{done_then, decides->>=, decides-same, decides-pure, decides-refuse}
 use Rattle.wasm_types.specs.decoding.ListLaws.{lawful-from_place, decides-from_place, lawful-refuse_at, decides-refuse_at}
 use Rattle.wasm_operators_reader.specs.immediates.declared.frames.FrameKind.{FrameKind}
 use Rattle.wasm_operators_reader.specs.immediates.declared.frames.FrameKind.TheVariants.{Block}

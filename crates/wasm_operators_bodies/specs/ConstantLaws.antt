@@ -6,7 +6,7 @@ use Rattle.std.proofs.Common.{◌≡◌, inl, inr, ℕ, ◌+◌, Bool, true, fal
 use Rattle.wasm_types.specs.limits.Settings.{Settings}
 use Rattle.wasm_types.specs.decoding.Decoder.{State, Takes}
 use Rattle.wasm_types.specs.decoding.Laws.{takes_none, Takes-then}
-use Rattle.wasm_types.specs.decoding.Exact.{same_state}
+use Rattle.wasm_types.specs.decoding.ExactLaws.{same_state}
 use Rattle.wasm_types.specs.error.ErrorValue.{ErrorValue}
 use Rattle.wasm_types.specs.reader.Reading.{IsNotMemory}
 use Rattle.wasm_operators_reader.specs.immediates.declared.frames.FrameKind.{FrameKind}

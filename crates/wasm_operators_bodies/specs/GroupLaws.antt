@@ -1,7 +1,7 @@
 -- What a reader of groups reads one by one is what the decoder of all of them answers.
 use Rattle.std.proofs.Common.{◌≡◌, ℕ, zero, suc, ◌+◌, ◌-◌, ◌<◌, ◌≤◌, List, [], ◌∷◌, ◌++◌, refl, sym, ap, ◌∙◌, subst, arith}
 use Rattle.wasm_types.specs.decoding.Decoder.{State, Outcome, Done, Short, Fault, continue_with, ◌>>=◌, pure}
-use Rattle.wasm_types.specs.decoding.Exact.{done_then, value_is, state_is}
+use Rattle.wasm_types.specs.decoding.ExactLaws.{done_then, value_is, state_is}
 use Rattle.wasm_types.specs.decoding.Leb.{u32}
 use Rattle.wasm_types.specs.limits.Settings.{Settings}
 use Rattle.wasm_types.specs.error.declared.error.ErrorKind.{ErrorKind}

@@ -1,12 +1,12 @@
--- The rules, in reading order.
+-- Rules, in reading order. `Locals` and `Groups` have decoders too.
 pub mod Locals
 pub mod Groups
 pub mod Bodies
 pub mod Constants
--- How constant expressions are read.
+-- Decoders: how constant expressions are read.
 pub mod Until
 pub mod ConstantDecoder
--- What is proved of it.
+-- Laws.
 pub mod LocalsLaws
 pub mod GroupLaws
 pub mod BodyLaws

@@ -7,7 +7,7 @@ use Rattle.wasm_types.specs.decoding.Lists.{refuse_at}
 use Rattle.wasm_types.specs.limits.Settings.{Settings}
 use Rattle.wasm_types.specs.values.declared.value.ValType.{ValType}
 use Rattle.wasm_types.specs.values.DecodeValues.{value_type}
-use Rattle.wasm_types.specs.values.ValueExact.{SpelledValue}
+use Rattle.wasm_types.specs.values.Spelled.{SpelledValue}
 
 -- a group of locals: how many, and their type
 pub record LocalGroup : Type 0 where

@@ -6,7 +6,7 @@ use Rattle.std.proofs.lemmas.List.{append-nil}
 use Rattle.wasm_types.specs.decoding.declared.Refusal.TheVariants.{Other}
 use Rattle.wasm_types.specs.decoding.Decoder.{◌>>=◌, pure, IsLawful, Decides, Grammar, Then, Many}
 use Rattle.wasm_types.specs.decoding.Laws.{lawful->>=, lawful-pure, lawful-if}
-use Rattle.wasm_types.specs.decoding.Exact.{Mapped, decides->>=, decides-same, decides-pure, decides-if, decides-map}
+use Rattle.wasm_types.specs.decoding.ExactLaws.{Mapped, decides->>=, decides-same, decides-pure, decides-if, decides-map}
 use Rattle.wasm_types.specs.decoding.Leb.{u32, IsUnsigned}
 use Rattle.wasm_types.specs.decoding.LebLaws.{lawful-unsigned, decides-u32}
 use Rattle.wasm_types.specs.decoding.Lists.{refuse_at}
@@ -14,7 +14,8 @@ use Rattle.wasm_types.specs.decoding.ListLaws.{lawful-from_place, decides-from_p
 use Rattle.wasm_types.specs.limits.Settings.{Settings}
 use Rattle.wasm_types.specs.values.DecodeValues.{value_type}
 use Rattle.wasm_types.specs.values.DecodeLaws.{lawful-value_type}
-use Rattle.wasm_types.specs.values.ValueExact.{SpelledValue, decides-value_type}
+use Rattle.wasm_types.specs.values.Spelled.{SpelledValue}
+use Rattle.wasm_types.specs.values.ValueLaws.{decides-value_type}
 use Rattle.wasm_operators_bodies.specs.Locals.{LocalGroup, group_of, total, most_locals, SpelledGroup, SpelledLocals, group, room_or, group_within, groups_within, locals}
 
 -- ---- one group

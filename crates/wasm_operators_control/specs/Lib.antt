@@ -1,6 +1,6 @@
--- operators that keep lists, as plain trees
+-- Rules: operators that keep lists, as plain trees.
 pub mod Trees
--- their rows of the tables of opcodes and of immediates
+-- Rules: their rows of the tables of opcodes and of immediates.
 pub mod Table
 pub mod Immediates
 -- The rules and laws of the crates below, under their names: crates above cite them here.

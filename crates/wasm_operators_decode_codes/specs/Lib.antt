@@ -1,7 +1,8 @@
--- what contracts cite
+-- Definitions: the role of an opcode.
 pub mod OpcodeRoles
+-- Definitions with their laws: an opcode with immediates of its kinds is an operator's.
 pub mod CodedOperators
--- what is proved of it
+-- Laws, with what they alone cite: what each variant carries, and that it takes any immediates of its kinds.
 pub mod Carried
 pub mod Filled
 pub mod ControlFilled

@@ -1,4 +1,4 @@
--- what stands behind the opcodes of each group, by shape
+-- Definitions that contracts cite: what stands behind the opcodes of each group, by shape.
 pub mod Control
 pub mod Parametric
 pub mod Exception

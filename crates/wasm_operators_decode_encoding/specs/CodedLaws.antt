@@ -4,7 +4,7 @@ use Rattle.wasm_operators_operator.specs.types.decoding.declared.Refusal.TheVari
 use Rattle.wasm_operators_operator.specs.types.decoding.Decoder.{Grammar, ◌>>=◌, pure, IsLawful, Decides, Then}
 use Rattle.wasm_operators_operator.specs.types.decoding.Laws.{lawful->>=, lawful-pure}
 use Rattle.wasm_operators_operator.specs.types.decoding.ListLaws.{lawful-from_place, decides-from_place, lawful-refuse_at, decides-refuse_at}
-use Rattle.wasm_operators_operator.specs.types.decoding.Exact.{decides->>=, decides-same, decides-map, Mapped}
+use Rattle.wasm_operators_operator.specs.types.decoding.ExactLaws.{decides->>=, decides-same, decides-map, Mapped}
 use Rattle.wasm_operators_operator.specs.types.limits.Settings.{Settings}
 use Rattle.wasm_operators_decode_immediates.specs.immediates.Kinds.{Kind}
 use Rattle.wasm_operators_decode_immediates.specs.immediates.Immediates.{kind_of}

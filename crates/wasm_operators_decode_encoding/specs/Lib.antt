@@ -1,12 +1,14 @@
--- what contracts cite
+-- Rules: immediates one after the other, opcodes, and which kinds stand behind a code. Decoders of the first two stand beside them.
+-- `Rows` and `KeptRows` are not worked rows, but speak of those of the table of opcodes; `KeptRows` has laws of them too.
 pub mod Sequences
 pub mod Opcodes
 pub mod Rows
 pub mod KeptRows
 pub mod Groups
+-- Rules: which bytes spell an operator, with the decoders in `Coded`.
 pub mod Coded
 pub mod Operators
--- what is proved of it
+-- Laws.
 pub mod SequenceLaws
 pub mod OpcodeLaws
 pub mod CodedLaws

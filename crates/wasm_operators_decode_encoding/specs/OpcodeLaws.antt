@@ -2,7 +2,7 @@
 use Rattle.std.proofs.Common.{◌≡◌, ℕ, true, false, List, [], ◌∷◌, Option, Some, None, refl, sym, ap, subst, ◌∙◌}
 use Rattle.wasm_operators_operator.specs.types.decoding.Decoder.{Grammar, ◌>>=◌, pure, byte, IsLawful, Decides}
 use Rattle.wasm_operators_operator.specs.types.decoding.Laws.{lawful->>=, lawful-pure, lawful-byte, lawful-if}
-use Rattle.wasm_operators_operator.specs.types.decoding.Exact.{decides-byte, decides-if, decides-map, decides-same, decides-pure, Mapped}
+use Rattle.wasm_operators_operator.specs.types.decoding.ExactLaws.{decides-byte, decides-if, decides-map, decides-same, decides-pure, Mapped}
 use Rattle.wasm_operators_operator.specs.types.decoding.Leb.{u32, IsUnsigned}
 use Rattle.wasm_operators_operator.specs.types.decoding.LebLaws.{lawful-unsigned, decides-u32}
 use Rattle.wasm_operators_decode_encoding.specs.Opcodes.{Opcode, is_prefix, plain, prefixed, opcode_after, opcode, Spells, SpelledOpcode}

@@ -2,7 +2,7 @@
 use Rattle.std.proofs.Common.{◌≡◌, ℕ, List, [], ◌∷◌, map, refl, sym, ap, subst, ◌∙◌}
 use Rattle.wasm_operators_operator.specs.types.decoding.Decoder.{Grammar, IsLawful, Decides, Then}
 use Rattle.wasm_operators_operator.specs.types.decoding.Laws.{lawful->>=, lawful-pure}
-use Rattle.wasm_operators_operator.specs.types.decoding.Exact.{decides->>=, decides-same, decides-map, decides-pure, Mapped}
+use Rattle.wasm_operators_operator.specs.types.decoding.ExactLaws.{decides->>=, decides-same, decides-map, decides-pure, Mapped}
 use Rattle.wasm_operators_operator.specs.types.limits.Settings.{Settings}
 use Rattle.wasm_operators_decode_immediates.specs.immediates.Kinds.{Kind}
 use Rattle.wasm_operators_decode_immediates.specs.immediates.Immediates.{Immediate, kind_of}

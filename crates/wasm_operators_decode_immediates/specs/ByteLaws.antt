@@ -5,15 +5,16 @@ use Rattle.std.proofs.lemmas.Bool.{eqb-true, eqb-false, ltb-true, ltb-false}
 use Rattle.wasm_operators_immediates.specs.types.decoding.declared.Refusal.TheVariants.{Other}
 use Rattle.wasm_operators_immediates.specs.types.decoding.Decoder.{refuse, byte, bytes, choice, IsLawful, Decides}
 use Rattle.wasm_operators_immediates.specs.types.decoding.Laws.{lawful-byte, lawful->>=, lawful-pure, lawful-refuse, lawful-if, lawful-bytes, lawful-repeated, lawful-choice}
-use Rattle.wasm_operators_immediates.specs.types.decoding.Exact.{Exactly, Mapped, ReadsTagged, decides-same, decides-pure, decides-refuse, decides-if, decides-map}
-use Rattle.wasm_operators_immediates.specs.types.decoding.Exact.{decides-byte, decides-bytes, decides-repeated, decides-table, sound-pure, reads-pure}
+use Rattle.wasm_operators_immediates.specs.types.decoding.ExactLaws.{Exactly, Mapped, ReadsTagged, decides-same, decides-pure, decides-refuse, decides-if, decides-map}
+use Rattle.wasm_operators_immediates.specs.types.decoding.ExactLaws.{decides-byte, decides-bytes, decides-repeated, decides-table, sound-pure, reads-pure}
 use Rattle.wasm_operators_immediates.specs.types.decoding.LebLaws.{lawful-unsigned, decides-u32}
 use Rattle.wasm_operators_immediates.specs.types.decoding.ListLaws.{lawful-listed_within, decides-listed_within}
 use Rattle.wasm_operators_immediates.specs.types.limits.Settings.{Settings}
 use Rattle.wasm_operators_immediates.specs.types.values.DecodeValues.{value_type}
 use Rattle.wasm_operators_immediates.specs.types.values.DecodeLaws.{lawful-value_type}
-use Rattle.wasm_operators_immediates.specs.types.values.HeapExact.{heads, tails}
-use Rattle.wasm_operators_immediates.specs.types.values.ValueExact.{SpelledValue, decides-value_type}
+use Rattle.wasm_operators_immediates.specs.types.values.HeapLaws.{heads, tails}
+use Rattle.wasm_operators_immediates.specs.types.values.Spelled.{SpelledValue}
+use Rattle.wasm_operators_immediates.specs.types.values.ValueLaws.{decides-value_type}
 use Rattle.wasm_operators_immediates.specs.declared.memory.Ordering.{Ordering}
 use Rattle.wasm_operators_immediates.specs.declared.memory.Ordering.TheVariants.{AcqRel, SeqCst}
 use Rattle.wasm_operators_immediates.specs.declared.vector.V128.{V128}

@@ -8,7 +8,7 @@ use Rattle.wasm_operators_immediates.specs.types.decoding.Lists.{listed_within, 
 use Rattle.wasm_operators_immediates.specs.types.limits.Settings.{Settings}
 use Rattle.wasm_operators_immediates.specs.types.values.declared.value.ValType.{ValType}
 use Rattle.wasm_operators_immediates.specs.types.values.DecodeValues.{value_type}
-use Rattle.wasm_operators_immediates.specs.types.values.ValueExact.{SpelledValue}
+use Rattle.wasm_operators_immediates.specs.types.values.Spelled.{SpelledValue}
 use Rattle.wasm_operators_immediates.specs.declared.memory.Ordering.{Ordering}
 use Rattle.wasm_operators_immediates.specs.declared.memory.Ordering.TheVariants.{AcqRel, SeqCst}
 use Rattle.wasm_operators_immediates.specs.declared.vector.V128.{V128}

@@ -5,13 +5,14 @@ use Rattle.std.proofs.lemmas.Bool.{eqb-true, eqb-false, ltb-true, ltb-false}
 use Rattle.wasm_operators_immediates.specs.types.decoding.declared.Refusal.TheVariants.{Other}
 use Rattle.wasm_operators_immediates.specs.types.decoding.Decoder.{Grammar, ◌>>=◌, pure, byte, IsLawful, Decides, Then}
 use Rattle.wasm_operators_immediates.specs.types.decoding.Laws.{lawful-byte, lawful->>=, lawful-pure, lawful-refuse, lawful-if}
-use Rattle.wasm_operators_immediates.specs.types.decoding.Exact.{Mapped, decides->>=, decides-same, decides-refuse, decides-if, decides-map, decides-byte}
+use Rattle.wasm_operators_immediates.specs.types.decoding.ExactLaws.{Mapped, decides->>=, decides-same, decides-refuse, decides-if, decides-map, decides-byte}
 use Rattle.wasm_operators_immediates.specs.types.decoding.Leb.{u32, IsUnsigned}
 use Rattle.wasm_operators_immediates.specs.types.decoding.LebLaws.{lawful-unsigned, decides-u32}
 use Rattle.wasm_operators_immediates.specs.types.values.Reference.{Reference}
 use Rattle.wasm_operators_immediates.specs.types.values.Decode.{heap_type, reference, long_reference}
 use Rattle.wasm_operators_immediates.specs.types.values.DecodeLaws.{lawful-heap_type}
-use Rattle.wasm_operators_immediates.specs.types.values.HeapExact.{Spelled, decides-heap_type, heads, tails}
+use Rattle.wasm_operators_immediates.specs.types.values.Spelled.{Spelled}
+use Rattle.wasm_operators_immediates.specs.types.values.HeapLaws.{decides-heap_type, heads, tails}
 use Rattle.wasm_operators_decode_immediates.specs.declared.cast.CastBranch.{CastBranch}
 use Rattle.wasm_operators_decode_immediates.specs.MemoryArguments.{weight}
 use Rattle.wasm_operators_decode_immediates.specs.Casts.{branch, cast_after, cast_branch, SpelledCast}

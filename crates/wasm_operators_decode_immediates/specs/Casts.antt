@@ -5,7 +5,7 @@ use Rattle.wasm_operators_immediates.specs.types.decoding.Decoder.{Decoder, ◌>
 use Rattle.wasm_operators_immediates.specs.types.decoding.Leb.{u32, IsUnsigned}
 use Rattle.wasm_operators_immediates.specs.types.values.Reference.{Reference}
 use Rattle.wasm_operators_immediates.specs.types.values.Decode.{long_reference}
-use Rattle.wasm_operators_immediates.specs.types.values.HeapExact.{Spelled}
+use Rattle.wasm_operators_immediates.specs.types.values.Spelled.{Spelled}
 use Rattle.wasm_operators_decode_immediates.specs.declared.cast.CastBranch.{CastBranch}
 use Rattle.wasm_operators_decode_immediates.specs.MemoryArguments.{weight}
 

@@ -6,7 +6,7 @@ use Rattle.std.proofs.lemmas.List.{append-nil}
 use Rattle.wasm_operators_immediates.specs.types.decoding.declared.Refusal.TheVariants.{Other}
 use Rattle.wasm_operators_immediates.specs.types.decoding.Decoder.{Grammar, ◌>>=◌, IsLawful, Decides, Then}
 use Rattle.wasm_operators_immediates.specs.types.decoding.Laws.{lawful->>=, lawful-pure, lawful-if}
-use Rattle.wasm_operators_immediates.specs.types.decoding.Exact.{decides->>=, decides-same, decides-pure, decides-if}
+use Rattle.wasm_operators_immediates.specs.types.decoding.ExactLaws.{decides->>=, decides-same, decides-pure, decides-if}
 use Rattle.wasm_operators_immediates.specs.types.decoding.ListLaws.{lawful-from_place, decides-from_place, lawful-refuse_at, decides-refuse_at}
 use Rattle.wasm_operators_immediates.specs.types.decoding.Leb.{u32, IsUnsigned}
 use Rattle.wasm_operators_immediates.specs.types.decoding.LebLaws.{lawful-unsigned, decides-u32}

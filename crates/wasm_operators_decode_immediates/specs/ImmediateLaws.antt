@@ -2,7 +2,7 @@
 use Rattle.std.proofs.Common.{◌≡◌, ℕ, List, refl, subst}
 use Rattle.wasm_operators_immediates.specs.types.decoding.Decoder.{Done, Decoder, Grammar, pure, IsLawful, Decides}
 use Rattle.wasm_operators_immediates.specs.types.decoding.Laws.{lawful->>=, lawful-pure}
-use Rattle.wasm_operators_immediates.specs.types.decoding.Exact.{Sound, Reads, sound-map, reads-map}
+use Rattle.wasm_operators_immediates.specs.types.decoding.ExactLaws.{Sound, Reads, sound-map, reads-map}
 use Rattle.wasm_operators_immediates.specs.types.decoding.Leb.{u32, s32, s64, IsUnsigned, IsSigned}
 use Rattle.wasm_operators_immediates.specs.types.decoding.LebLaws.{lawful-unsigned, decides-u32}
 use Rattle.wasm_operators_immediates.specs.types.decoding.SignedLaws.{lawful-signed, decides-s32, decides-s64}
@@ -11,7 +11,8 @@ use Rattle.wasm_operators_immediates.specs.types.decoding.TextLaws.{lawful-word,
 use Rattle.wasm_operators_immediates.specs.types.limits.Settings.{Settings}
 use Rattle.wasm_operators_immediates.specs.types.values.Decode.{heap_type}
 use Rattle.wasm_operators_immediates.specs.types.values.DecodeLaws.{lawful-heap_type}
-use Rattle.wasm_operators_immediates.specs.types.values.HeapExact.{Spelled, decides-heap_type}
+use Rattle.wasm_operators_immediates.specs.types.values.Spelled.{Spelled}
+use Rattle.wasm_operators_immediates.specs.types.values.HeapLaws.{decides-heap_type}
 use Rattle.wasm_operators_immediates.specs.Kinds as kind
 use Rattle.wasm_operators_immediates.specs.Kinds.{Kind, IndexSpace}
 use Rattle.wasm_operators_immediates.specs.Labels.{labels, SpelledLabels}

@@ -7,7 +7,7 @@ use Rattle.wasm_operators_immediates.specs.types.decoding.Text.{word, IsWord}
 use Rattle.wasm_operators_immediates.specs.types.limits.Settings.{Settings}
 use Rattle.wasm_operators_immediates.specs.types.features.Features.{has, MultiMemory, CallIndirectOverlong}
 use Rattle.wasm_operators_immediates.specs.types.values.Decode.{heap_type}
-use Rattle.wasm_operators_immediates.specs.types.values.HeapExact.{Spelled}
+use Rattle.wasm_operators_immediates.specs.types.values.Spelled.{Spelled}
 use Rattle.wasm_operators_immediates.specs.Kinds as kind
 use Rattle.wasm_operators_immediates.specs.Kinds.{Kind, IndexSpace, Memories, Tables}
 use Rattle.wasm_operators_immediates.specs.Labels.{labels, SpelledLabels}

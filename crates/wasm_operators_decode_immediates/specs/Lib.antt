@@ -1,10 +1,10 @@
--- what contracts cite
+-- Rules: which bytes spell immediates. Decoders of these, beside them, in all of these files but `Accesses`.
 pub mod Bytes
 pub mod Accesses
 pub mod MemoryArguments
 pub mod Casts
 pub mod Immediates
--- what is proved of it
+-- Laws.
 pub mod ByteLaws
 pub mod FlagLaws
 pub mod MemoryLaws

@@ -3,7 +3,7 @@ use Rattle.std.proofs.Common.{◌≡◌, ℕ, List, [], ◌++◌, refl, sym, ap,
 use Rattle.wasm_operators_immediates.specs.types.decoding.declared.Refusal.TheVariants.{Other}
 use Rattle.wasm_operators_immediates.specs.types.decoding.Decoder.{Grammar, IsLawful, Decides, Then}
 use Rattle.wasm_operators_immediates.specs.types.decoding.Laws.{lawful->>=, lawful-pure}
-use Rattle.wasm_operators_immediates.specs.types.decoding.Exact.{Mapped, decides->>=, decides-same, decides-pure, decides-map}
+use Rattle.wasm_operators_immediates.specs.types.decoding.ExactLaws.{Mapped, decides->>=, decides-same, decides-pure, decides-map}
 use Rattle.wasm_operators_immediates.specs.types.decoding.Leb.{IsUnsigned}
 use Rattle.wasm_operators_immediates.specs.types.decoding.LebLaws.{lawful-unsigned, decides-u32, decides-u64}
 use Rattle.wasm_operators_immediates.specs.types.features.Features.{has, MultiMemory, Memory64}

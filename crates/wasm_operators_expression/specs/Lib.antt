@@ -1,10 +1,10 @@
--- The rules, in reading order. What an operator does to a frame is defined in `Roles` of `wasm_operators_operator`.
+-- Rules, in reading order. What an operator does to a frame is defined in `Roles` of `wasm_operators_operator`.
 pub mod Code
 pub mod Spelling
--- What contracts promise besides them.
+-- Definitions that contracts cite besides them.
 pub mod Frames
 pub mod Stack
--- What is proved of it.
+-- Laws.
 pub mod FrameLaws
 pub mod SpellingLaws
 -- The rules and laws of the crates below, under their names: crates above cite them here.

@@ -2,7 +2,7 @@
 use Rattle.std.proofs.Common.{◌≡◌, ℕ, ◌+◌, ◌-◌, ◌<◌, ◌^◌, List, [], length, take, refl, sym, ap, ◌∙◌, arith, IsTrue}
 use Rattle.std.proofs.lemmas.List.{length-append, append-nil, take_at}
 use Rattle.wasm_types.specs.decoding.Decoder.{State, Done, Takes, repeated, bytes}
-use Rattle.wasm_types.specs.decoding.Exact.{decides-repeated, decides-bytes}
+use Rattle.wasm_types.specs.decoding.ExactLaws.{decides-repeated, decides-bytes}
 use Rattle.wasm_types.specs.decoding.Leb.{u32, IsUnsigned}
 use Rattle.wasm_types.specs.decoding.LebLaws.{decides-u32}
 use Rattle.wasm_types.specs.decoding.Lists.{size_within}

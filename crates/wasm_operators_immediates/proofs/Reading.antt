@@ -2,7 +2,7 @@
 use Rattle.std.proofs.Common.{◌≡◌, ℕ, zero, suc, ◌+◌, ◌-◌, ◌<◌, List, [], ◌∷◌, ◌++◌, length, refl, ap, ◌∙◌, subst, arith, IsTrue}
 use Rattle.std.proofs.lemmas.Bool.{eqb-true}
 use Rattle.wasm_types.specs.decoding.Decoder.{State, Outcome, Done, Short, Fault, Takes, Decoder, Many, repeated, pure, continue_with, ◌>>=◌}
-use Rattle.wasm_types.specs.decoding.Exact.{decides-repeated, done_then}
+use Rattle.wasm_types.specs.decoding.ExactLaws.{decides-repeated, done_then}
 use Rattle.wasm_types.specs.decoding.Leb.{u32, IsUnsigned}
 use Rattle.wasm_types.specs.decoding.LebLaws.{decides-u32}
 use Rattle.std.specs.Prelude.{Err}

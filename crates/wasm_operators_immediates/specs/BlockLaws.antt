@@ -9,7 +9,7 @@ use Rattle.wasm_types.specs.decoding.declared.Refusal.TheVariants.{Other}
 use Rattle.wasm_types.specs.decoding.Decoder.{State, Outcome, Done, Short, Fault, Decoder, Grammar, continue_with, ◌>>=◌, pure, byte, IsLawful}
 use Rattle.wasm_types.specs.decoding.Decoder.{IsBeyond, GoesForward, TakesOne, Decides, Takes, Then}
 use Rattle.wasm_types.specs.decoding.Laws.{lawful-byte, lawful->>=, lawful-pure, lawful-if, lawful-look, TakesOne-byte}
-use Rattle.wasm_types.specs.decoding.Exact.{Sound, Mapped, decides->>=, decides-pure, decides-if, decides-map, decides-byte, decides-look_apart}
+use Rattle.wasm_types.specs.decoding.ExactLaws.{Sound, Mapped, decides->>=, decides-pure, decides-if, decides-map, decides-byte, decides-look_apart}
 use Rattle.wasm_types.specs.decoding.Leb.{s33, signed, seven_bits, IsSigned, nonnegative, negative, longer}
 use Rattle.wasm_types.specs.decoding.SignedLaws.{lawful-signed, decides-s33}
 use Rattle.wasm_types.specs.values.declared.heap.HeapType.{HeapType}
@@ -21,9 +21,10 @@ use Rattle.wasm_types.specs.values.Spells.{abstract_byte, SpellsReference}
 use Rattle.wasm_types.specs.values.Decode.{begins_index}
 use Rattle.wasm_types.specs.values.DecodeValues.{value_type, value_type_after}
 use Rattle.wasm_types.specs.values.DecodeLaws.{lawful-value_type, lawful-value_type_after}
-use Rattle.wasm_types.specs.values.HeapExact.{heads, tails, byte_range}
-use Rattle.wasm_types.specs.values.ReferenceExact.{reference_some}
-use Rattle.wasm_types.specs.values.ValueExact.{SpelledValue, decides-value_type}
+use Rattle.wasm_types.specs.values.HeapLaws.{heads, tails, byte_range}
+use Rattle.wasm_types.specs.values.ReferenceLaws.{reference_some}
+use Rattle.wasm_types.specs.values.Spelled.{SpelledValue}
+use Rattle.wasm_types.specs.values.ValueLaws.{decides-value_type}
 use Rattle.wasm_operators_immediates.specs.declared.block.BlockType.{BlockType}
 use Rattle.wasm_operators_immediates.specs.declared.block.BlockType.TheVariants.{Empty, Val, FuncType}
 use Rattle.wasm_operators_immediates.specs.Blocks.{refuse_here, indexed, function_block, begins_value, value_block, empty_after, empty_block, block_at, block_type, SpelledBlock}

@@ -6,7 +6,7 @@ use Rattle.wasm_types.specs.decoding.Decoder.{Decoder, Grammar, Fault, ◌>>=◌
 use Rattle.wasm_types.specs.decoding.Leb.{s33, IsSigned}
 use Rattle.wasm_types.specs.values.Decode.{begins_index}
 use Rattle.wasm_types.specs.values.DecodeValues.{value_type}
-use Rattle.wasm_types.specs.values.ValueExact.{SpelledValue}
+use Rattle.wasm_types.specs.values.Spelled.{SpelledValue}
 use Rattle.wasm_operators_immediates.specs.declared.block.BlockType.{BlockType}
 use Rattle.wasm_operators_immediates.specs.declared.block.BlockType.TheVariants.{Empty, Val, FuncType}
 

@@ -3,7 +3,7 @@ use Rattle.std.proofs.Common.{ℕ, List, ◌∷◌, refl, sym, ap, subst}
 use Rattle.wasm_types.specs.decoding.declared.Refusal.TheVariants.{Other}
 use Rattle.wasm_types.specs.decoding.Decoder.{Grammar, ◌>>=◌, pure, refuse, byte, choice, IsLawful, Decides, Then}
 use Rattle.wasm_types.specs.decoding.Laws.{lawful-byte, lawful->>=, lawful-pure, lawful-refuse, lawful-choice}
-use Rattle.wasm_types.specs.decoding.Exact.{Sound, Reads, ReadsTagged, Mapped, decides->>=, decides-same, decides-map, decides-table, sound-map, reads-map}
+use Rattle.wasm_types.specs.decoding.ExactLaws.{Sound, Reads, ReadsTagged, Mapped, decides->>=, decides-same, decides-map, decides-table, sound-map, reads-map}
 use Rattle.wasm_types.specs.decoding.Leb.{u32, IsUnsigned}
 use Rattle.wasm_types.specs.decoding.LebLaws.{lawful-unsigned, decides-u32}
 use Rattle.wasm_types.specs.decoding.Lists.{listed_within, IsListedWithin}

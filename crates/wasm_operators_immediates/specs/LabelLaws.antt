@@ -2,7 +2,7 @@
 use Rattle.std.proofs.Common.{ℕ, List, refl, sym, ap, subst}
 use Rattle.wasm_types.specs.decoding.Decoder.{Grammar, ◌>>=◌, pure, IsLawful, Decides, Then}
 use Rattle.wasm_types.specs.decoding.Laws.{lawful->>=, lawful-pure}
-use Rattle.wasm_types.specs.decoding.Exact.{decides->>=, decides-same, decides-map, Mapped}
+use Rattle.wasm_types.specs.decoding.ExactLaws.{decides->>=, decides-same, decides-map, Mapped}
 use Rattle.wasm_types.specs.decoding.Leb.{u32, IsUnsigned}
 use Rattle.wasm_types.specs.decoding.LebLaws.{lawful-unsigned, decides-u32}
 use Rattle.wasm_types.specs.decoding.Lists.{listed_within, IsListedWithin}

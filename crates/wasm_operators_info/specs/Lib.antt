@@ -1,2 +1,2 @@
--- what is told of an operator
+-- Rules: what is told of an operator.
 pub mod Info

@@ -1,3 +1,3 @@
--- rows of the tables of opcodes and of immediates
+-- Rules: rows of the tables of opcodes and of immediates.
 pub mod Table
 pub mod Immediates

@@ -1,11 +1,11 @@
--- operators as trees, the tables of opcodes and of immediates, and the order in frames
+-- Rules: operators as trees, the tables of opcodes and of immediates, and the order in frames.
 pub mod Op
 pub mod Table
 pub mod Immediates
 pub mod Roles
--- worked rows of them
+-- Worked rows of them.
 pub mod RoleRows
--- what is proved of them
+-- Laws.
 pub mod Laws
 pub mod EqualityLaws
 -- The rules and laws of the crates below, under their names: crates above cite them here.

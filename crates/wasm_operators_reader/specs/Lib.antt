@@ -1,10 +1,10 @@
--- The rules, in reading order.
+-- Definitions, in reading order.
 pub mod Standing
 pub mod Iterating
 pub mod Frequent
 pub mod Visiting
 pub mod Walking
--- What is proved of it.
+-- Laws.
 pub mod StandingLaws
 pub mod RunLaws
 pub mod MeetLaws

@@ -1,4 +1,4 @@
-//! A place in bytes, kept as an offset.
+//! A reader of bytes that keeps where it stands as an offset.
 
 ghost use Rattle.std.specs.Prelude.{◌≡◌, ◌==◌, ◌<◌, get_or, length};
 ghost use Rattle.wasm_types.specs.decoding.Decoder.{Reaches};

@@ -1,8 +1,8 @@
--- Every operator beside the list.
+-- Worked rows: every operator beside the list.
 pub mod list
--- Worked bytes of operators.
+-- Worked rows: bytes of operators.
 pub mod worked
--- Operators on vectors, tellings, iterators.
+-- Worked rows: operators on vectors, tellings, iterators.
 pub mod reader
--- Worked bytes of bodies.
+-- Worked rows: bytes of bodies.
 pub mod bodies

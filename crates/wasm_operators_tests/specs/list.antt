@@ -1,6 +1,6 @@
--- what is compared
+-- Definitions: what is compared.
 pub mod Listed
--- the list, by groups
+-- Worked rows: the list, by groups.
 pub mod ControlRows
 pub mod MemoryRows
 pub mod NumbersRows
@@ -9,7 +9,7 @@ pub mod ThreadsRows
 pub mod VectorsRows
 pub mod VectorNumbersRows
 pub mod Every
--- what else is worked of them
+-- Worked rows: what else is worked of them.
 pub mod FrameRows
 pub mod EqualityRows
 pub mod FeatureRows

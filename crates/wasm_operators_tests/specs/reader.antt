@@ -1,4 +1,4 @@
--- worked rows
+-- Worked rows.
 pub mod Rows
--- that they come out so
+-- Laws: that they come out so.
 pub mod RowLaws

@@ -1,11 +1,11 @@
--- what worked bytes are read as
+-- Definitions: what worked bytes are read as.
 pub mod Worked
--- immediates
+-- Worked immediates.
 pub mod ArgumentRows
 pub mod NumberRows
 pub mod ByteRows
 pub mod TypeRows
 pub mod TableRows
--- operators
+-- Worked operators.
 pub mod PlainRows
 pub mod PrefixedRows

@@ -1,4 +1,4 @@
--- rows of the tables of opcodes and of immediates
+-- Rules: rows of the tables of opcodes and of immediates.
 pub mod Table
 pub mod Immediates
 -- The rules and laws of the crates below, under their names: crates above cite them here.

@@ -1,4 +1,4 @@
--- The rules, in reading order.
+-- Definitions: which operators keep a list in memory.
 pub mod Memory
 -- The rules and laws of the crates below, under their names: crates above cite them here.
 pub use Rattle.wasm_operators_operator.specs.immediates as immediates

@@ -2,7 +2,8 @@
 //!
 //! A visitor is told each operator by a visit of its own, a method of one of the traits of groups in the crates above
 //! this one. All visits of a [`Visitor`] promise one relation, which the visitor names: of itself before, the operator,
-//! the answer, and itself after. `specs/Memory.antt` defines which operators keep a list, so that a copy of one takes
+//! the answer, and itself after. What lends a visitor ([`Lender`]), as a reference or
+//! a box does, is a visitor too. `specs/Memory.antt` defines which operators keep a list, so that a copy of one takes
 //! memory.
 #![tactic(auto)]
 

@@ -1,4 +1,4 @@
--- what contracts cite: an operator that was read at an offset and told
+-- Definitions: an operator that was read at an offset and told.
 pub mod Short
--- and several of them, one after the other, that open and close no frame
+-- Definitions: several of them, one after the other, that open and close no frame.
 pub mod Plain

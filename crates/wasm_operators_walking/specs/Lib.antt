@@ -1,6 +1,6 @@
--- The rules, in reading order.
+-- Definitions, in reading order.
 pub mod InFrame
--- What is proved of it.
+-- Laws.
 pub mod InFrameLaws
 -- The rules and laws of the crates below, under their names: crates above cite them here.
 pub use Rattle.wasm_operators_reader.specs as reader

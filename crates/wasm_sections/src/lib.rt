@@ -4,12 +4,10 @@
 //!
 //! - `wasm_sections_frames`: a module as a header and sections, their order and counts; definitions alone;
 //! - `wasm_sections_limited`: a section's count and items, one by one;
-//! - `wasm_sections_items`: imports and exports;
-//! - `wasm_sections_items`: globals, tables and data segments, over any constant expressions;
-//! - `wasm_sections_items`: element segments, over any constant expressions;
-//! - `wasm_sections_parser`: a module as its frames, one at a time, from pieces; `wasm_sections_parser_laws` says what single frames
-//!   are, `wasm_sections_parser_laws` what calls take and leave, `wasm_sections_parser_laws` what runs give,
-//!   `wasm_sections_parser_laws` how many bytes are asked for;
+//! - `wasm_sections_items`: imports and exports; globals, tables and data segments, and element segments, over any constant
+//!   expressions;
+//! - `wasm_sections_parser`: a module as its frames, one at a time, from pieces;
+//! - `wasm_sections_parser_laws`: what single frames are, what calls take and leave, what runs give, and how many bytes are asked for;
 //! - `wasm_sections_payloads`: the parser of payloads: frames as payloads, each section with a reader of its items, from pieces or
 //!   all of a module.
 //!

@@ -1,7 +1,7 @@
 -- Bytes are the frames of at most one module.
 use Rattle.std.proofs.Common.{◌≡◌, ℕ, zero, suc, List, [], ◌∷◌, ◌++◌, length, refl, sym, ap, ◌∙◌, subst, arith}
 use Rattle.wasm_types.specs.decoding.Decoder.{State, Outcome, Done, Decoder, Grammar, Decides, Many}
-use Rattle.wasm_types.specs.decoding.Exact.{value_is, state_is}
+use Rattle.wasm_types.specs.decoding.ExactLaws.{value_is, state_is}
 use Rattle.wasm_types.specs.limits.Settings.{Settings, no_features}
 use Rattle.wasm_sections_frames.specs.Outer.{SpelledHeader, SpelledPart, Outer, SpelledOuter}
 use Rattle.wasm_sections_frames.specs.Decode.{header, part}

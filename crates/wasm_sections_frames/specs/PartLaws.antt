@@ -8,7 +8,7 @@ use Rattle.wasm_types.specs.decoding.declared.Refusal.{Refusal}
 use Rattle.wasm_types.specs.decoding.declared.Refusal.TheVariants.{Other}
 use Rattle.wasm_types.specs.decoding.Decoder.{State, Outcome, Done, Short, Fault, Decoder, Grammar, byte, bytes, ended, inside, within, Takes, IsLawful, Decides, Then}
 use Rattle.wasm_types.specs.decoding.Laws.{lawful-byte, lawful->>=, lawful-pure, lawful-refuse, lawful-if, lawful-bytes}
-use Rattle.wasm_types.specs.decoding.Exact.{
+use Rattle.wasm_types.specs.decoding.ExactLaws.{
   Exactly,
   Mapped,
   value_is,
@@ -27,7 +27,7 @@ use Rattle.wasm_types.specs.decoding.Leb.{u32, listed, IsUnsigned, IsListed}
 use Rattle.wasm_types.specs.decoding.LebLaws.{lawful-unsigned, decides-u32, decides-listed}
 use Rattle.wasm_types.specs.decoding.Text.{little_endian, name, sized, Within, IsSized}
 use Rattle.wasm_types.specs.decoding.TextLaws.{decides-name, lawful-sized, decides-sized}
-use Rattle.wasm_types.specs.values.HeapExact.{heads, tails}
+use Rattle.wasm_types.specs.values.HeapLaws.{heads, tails}
 use Rattle.wasm_sections_frames.specs.Outer.{Header, SpelledHeader, magic, Part, custom, code, section, IsBytes, SpelledNamed, SpelledEntry, SpelledPart}
 use Rattle.wasm_sections_frames.specs.Decode.{is_magic, header_of, header_after, magic_after, header, counted_bytes, rest_after, named_rest, part_after, part}
 

@@ -1,6 +1,6 @@
--- Imports and exports.
+-- Rules, decoders, laws and worked rows of imports and exports.
 pub mod imports
--- Globals, tables and data segments.
+-- Rules, decoders, laws and worked rows of globals, tables and data segments. `Tables` has rules and decoders in one file.
 pub mod segments
--- Element segments.
+-- Rules, decoders, laws and worked rows of element segments.
 pub mod elements

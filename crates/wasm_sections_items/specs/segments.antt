@@ -3,7 +3,7 @@ pub mod Spells
 pub mod Segments
 -- Decoders.
 pub mod Decode
--- Tables: rules and decoders.
+-- Rules: which bytes spell tables. Decoders of these, beside them.
 pub mod Tables
 -- Laws.
 pub mod DecodeLaws

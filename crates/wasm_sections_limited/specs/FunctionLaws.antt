@@ -4,7 +4,7 @@ use Rattle.std.proofs.lemmas.List.{append-nil}
 use Rattle.wasm_types.specs.decoding.declared.Refusal.TheVariants as refusals
 use Rattle.wasm_types.specs.decoding.Decoder.{State, Outcome, Done, Fault, Grammar, continue_with, ◌>>=◌, IsLawful, Decides, Then}
 use Rattle.wasm_types.specs.decoding.Laws.{lawful->>=, lawful-pure}
-use Rattle.wasm_types.specs.decoding.Exact.{decides->>=, decides-same, decides-pure}
+use Rattle.wasm_types.specs.decoding.ExactLaws.{decides->>=, decides-same, decides-pure}
 use Rattle.wasm_types.specs.decoding.ListLaws.{lawful-from_place, decides-from_place, lawful-refuse_at, decides-refuse_at}
 use Rattle.wasm_types.specs.error.declared.error.ErrorKind.{ErrorKind}
 use Rattle.wasm_types.specs.error.declared.error.ErrorKind.TheVariants.{EndOfData, MissingFeature, OutOfMemory, Failed, Other}

@@ -1,4 +1,4 @@
--- Rules: what comes next of the items of a section.
+-- Rules: what comes next of the items of a section. `Functions` has decoders too.
 pub mod Walking
 pub mod Runs
 pub mod Functions

@@ -3,7 +3,7 @@ use Rattle.std.proofs.Common.{◌≡◌, ℕ, List, [], ◌∷◌, refl, sym, ap
 use Rattle.std.specs.Prelude.{IfOk}
 use Rattle.wasm_types.specs.limits.Settings.{Settings}
 use Rattle.wasm_types.specs.decoding.Decoder.{State, Done, first_of_rest, byte}
-use Rattle.wasm_types.specs.decoding.Exact.{state_is}
+use Rattle.wasm_types.specs.decoding.ExactLaws.{state_is}
 use Rattle.wasm_types.specs.decoding.Leb.{u32}
 use Rattle.wasm_types.specs.decoding.LebLaws.{decides-u32}
 use Rattle.wasm_sections_parser.specs.declared.frame.Frame.{Frame}

@@ -1,13 +1,6 @@
 -- The error of a part that is all there.
-use Rattle.std.proofs.Common.{◌≡◌, ℕ, ◌+◌, List, [], ◌∷◌, ◌++◌, length, refl, sym, ap, ◌∙◌, arith, Some}
-use Rattle.std.proofs.lemmas.List.{append-nil, length-append}
-use Rattle.wasm_types.specs.decoding.Decoder.{State, Outcome, Done, Short, Decoder, bytes}
-use Rattle.wasm_types.specs.decoding.Exact.{decides-bytes}
 use Rattle.wasm_types.specs.error.declared.error.ErrorKind.{ErrorKind}
 use Rattle.wasm_types.specs.error.declared.error.ErrorKind.TheVariants.{EndOfData, MissingFeature, OutOfMemory, Failed, Other}
-use Rattle.wasm_types.specs.error.ErrorText.{hint_of}
-use Rattle.wasm_types.specs.reader.Reading.{FailsAt, IsNotMemory}
-use Rattle.wasm_sections_parser.specs.Steps.{found, in_part}
 
 -- an end of data is a fault there
 abbrev pub settled : ErrorKind → ErrorKind
@@ -16,59 +9,3 @@ settled (MissingFeature f) = MissingFeature f
 settled OutOfMemory = OutOfMemory
 settled Failed = Failed
 settled Other = Other
-
-module _ {A B : Type 0} (f : A → List ℕ → B) (t : State) where
-  pub settled_found : (k : ErrorKind) (p : ℕ) (o : Outcome A) → FailsAt k p o → FailsAt (settled k) p (found f t o)
-  settled_found (EndOfData h) p o e = rw e refl
-  settled_found (MissingFeature m) p o e = rw e refl
-  settled_found OutOfMemory p o e = tt
-  settled_found Failed p o e = e
-  settled_found Other p o e = rw e refl
-
-pub settled_memory : (k : ErrorKind) → IsNotMemory k → IsNotMemory (settled k)
-settled_memory (EndOfData h) m = tt
-settled_memory (MissingFeature f) m = tt
-settled_memory OutOfMemory m = m
-settled_memory Failed m = tt
-settled_memory Other m = tt
-
--- ---- a part that is read by a reader of its own
-
-module _ {A B : Type 0} (d : Decoder A) (f : A → List ℕ → B) (part t : State) where
-  pub part_refused : (k : ErrorKind) (p : ℕ) → FailsAt k p (d part) → FailsAt (settled k) p (in_part d f part t)
-  unfolding in_part
-  part_refused k p e = settled_found f t k p (d part) e
-
-  pub part_read : (x : A) (u : State) → d part ≡ Done x u → in_part d f part t ≡ Done (f x u.rest) t
-  unfolding in_part
-  part_read x u e = ap (found f t) e
-
--- ---- bytes
-
--- where bytes that were read stand
-pub bytes_span : (n : ℕ) (s t : State) (text : List ℕ) → bytes n s ≡ Done text t → s.place + length text ≡ t.place
-bytes_span n s t text e =
-    let h = (decides-bytes n).sound s t text e in
-    omega (arith, h.1.place, ap length h.2.1)
-
-no_bytes : (xs : List ℕ) → length xs ≡ 0 → xs ≡ []
-no_bytes [] e = refl
-no_bytes (x ∷ xs) e = absurd (omega arith)
-
--- all bytes that are left
-pub all_bytes : (n : ℕ) (s t : State) (text : List ℕ) → n ≡ length s.rest → bytes n s ≡ Done text t → text ≡ s.rest
-all_bytes n s t text m e =
-    let h = (decides-bytes n).sound s t text e in
-    let none : t.rest ≡ [] = no_bytes t.rest (omega (arith, m, h.2.0, ap length h.2.1, ap length h.1.parts, length-append h.0 t.rest)) in
-    sym h.2.1 ∙ sym (append-nil h.0) ∙ ap (λ (z : List ℕ). h.0 ++ z) (sym none) ∙ sym h.1.parts
-
--- an error that asks for bytes is an end of data
-pub hinted : {A : Type 0} (k : ErrorKind) (p n : ℕ) (o : Outcome A) → hint_of k ≡ Some n → FailsAt k p o → o ≡ Short p n
-hinted (EndOfData h) p n o q e = e ∙ ap (λ (z : ℕ). Short p z) (some_is h n q)
-  where
-    some_is : (x y : ℕ) → Some x ≡ Some y → x ≡ y
-    some_is x y q' = cc
-hinted (MissingFeature m) p n o q e = absurd cc
-hinted OutOfMemory p n o q e = absurd cc
-hinted Failed p n o q e = absurd cc
-hinted Other p n o q e = absurd cc

@@ -3,7 +3,7 @@ use Rattle.std.proofs.Common.{◌≡◌, ℕ, ◌-◌, ◌^◌, List, [], ◌∷
 use Rattle.wasm_types.specs.limits.Settings.{no_features}
 use Rattle.wasm_types.specs.decoding.declared.Refusal.TheVariants.{Other}
 use Rattle.wasm_types.specs.decoding.Decoder.{State, Done, Short, Fault}
-use Rattle.wasm_types.specs.decoding.Exact.{state_is}
+use Rattle.wasm_types.specs.decoding.ExactLaws.{state_is}
 use Rattle.wasm_types.specs.decoding.Leb.{unsigned, u32, last, more}
 use Rattle.wasm_types.specs.decoding.LebLaws.{decides-u32}
 use Rattle.wasm_types.specs.values.WorkedTypeLaws.{start_of, behind}

@@ -5,7 +5,7 @@ use Rattle.std.proofs.lemmas.List.{length-append}
 use Rattle.wasm_types.specs.limits.Settings.{Settings}
 use Rattle.wasm_types.specs.decoding.Decoder.{State, Takes}
 use Rattle.wasm_types.specs.decoding.Laws.{takes_none, Takes-then}
-use Rattle.wasm_types.specs.decoding.Exact.{same_state}
+use Rattle.wasm_types.specs.decoding.ExactLaws.{same_state}
 use Rattle.wasm_sections_frames.specs.Outer as outer
 use Rattle.wasm_sections_frames.specs.Outer.{Part, Outer, id_of, rank, with_rank, ranks, Ascends}
 use Rattle.wasm_sections_parser.specs.declared.progress.Progress.{Progress}

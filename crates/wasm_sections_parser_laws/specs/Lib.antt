@@ -8,9 +8,9 @@ pub mod FrontLaws
 pub mod RefusalLaws
 -- Worked rows.
 pub mod Worked
--- What single frames are: each step is spelled, what is spelled is given, what is remembered.
+-- Rules and laws of single frames: each step is spelled, what is spelled is given, what is remembered.
 pub mod steps
--- Calls of a parser: what each takes and leaves, and that they are a run.
+-- Rules and laws of calls of a parser: what each takes and leaves, and that they are a run.
 pub mod calls
--- How many bytes a parser asks for.
+-- Rules, laws and worked rows: how many bytes a parser asks for.
 pub mod hints

@@ -6,7 +6,7 @@ use Rattle.std.proofs.lemmas.List.{append-nil}
 use Rattle.wasm_types.specs.limits.Settings.{Settings}
 use Rattle.wasm_types.specs.decoding.Decoder.{State, Outcome, Done, Short, continue_with, ◌>>=◌, first_of_rest, GoesOn, Takes}
 use Rattle.wasm_types.specs.decoding.Leb.{u32}
-use Rattle.wasm_types.specs.decoding.Exact.{value_is, state_is}
+use Rattle.wasm_types.specs.decoding.ExactLaws.{value_is, state_is}
 use Rattle.wasm_types.specs.error.declared.error.ErrorKind.{ErrorKind}
 use Rattle.wasm_types.specs.error.declared.error.ErrorKind.TheVariants.{EndOfData, MissingFeature, OutOfMemory, Failed, Other}
 use Rattle.wasm_types.specs.error.ErrorValue.{ErrorValue}

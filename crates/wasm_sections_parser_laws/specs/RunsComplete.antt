@@ -4,7 +4,7 @@ use Rattle.std.proofs.lemmas.Bool.{le-leb}
 use Rattle.std.proofs.lemmas.List.{length-append}
 use Rattle.wasm_types.specs.limits.Settings.{Settings}
 use Rattle.wasm_types.specs.decoding.Decoder.{State, Outcome, Done, continue_with, pure, Many, Takes}
-use Rattle.wasm_types.specs.decoding.Exact.{same_state}
+use Rattle.wasm_types.specs.decoding.ExactLaws.{same_state}
 use Rattle.wasm_sections_frames.specs.Outer as outer
 use Rattle.wasm_sections_frames.specs.Outer.{Header, Part, Outer, IsOrdered, SpelledEntry, id_of, rank, ranks, Ascends}
 use Rattle.wasm_sections_frames.specs.Decode.{header}

@@ -5,7 +5,7 @@ use Rattle.wasm_types.specs.limits.Settings.{no_features}
 use Rattle.wasm_types.specs.features.declared.WasmFeatures.{WasmFeatures}
 use Rattle.wasm_types.specs.decoding.declared.Refusal.TheVariants as refusals
 use Rattle.wasm_types.specs.decoding.Decoder.{State, Outcome, Done, Short, Fault}
-use Rattle.wasm_types.specs.decoding.Exact.{value_is, state_is}
+use Rattle.wasm_types.specs.decoding.ExactLaws.{value_is, state_is}
 use Rattle.wasm_types.specs.decoding.Leb.{unsigned}
 use Rattle.wasm_types.specs.error.declared.error.ErrorKind.TheVariants.{Failed, Other, OutOfMemory}
 use Rattle.wasm_types.specs.error.ErrorValue.{ErrorValue}

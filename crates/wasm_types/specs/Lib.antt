@@ -10,5 +10,5 @@ pub use Rattle.wasm_types_groups.specs.values as values
 pub use Rattle.wasm_types_externs.specs as externs
 pub use Rattle.wasm_types_groups.specs.fields as fields
 pub use Rattle.wasm_types_groups.specs as groups
--- Those that attributes of readers cite, which take a file's own names alone.
+-- The laws and decoders that attributes of readers cite, which take a file's own names alone.
 pub mod Laws

@@ -7,7 +7,7 @@ use Rattle.wasm_types_decoding.specs.declared.Refusal.{Refusal}
 use Rattle.wasm_types_decoding.specs.declared.Refusal.TheVariants.{Other}
 use Rattle.wasm_types_decoding.specs.Decoder.{Decoder, ◌>>=◌, pure, refuse, byte, IsLawful, Decides, Grammar, Then, repeated, Many}
 use Rattle.wasm_types_decoding.specs.Laws.{lawful-byte, lawful->>=, lawful-pure, lawful-refuse, lawful-if, lawful-repeated}
-use Rattle.wasm_types_decoding.specs.Exact.{decides->>=, decides-same, decides-pure, decides-refuse, decides-if, decides-byte, decides-map, decides-repeated}
+use Rattle.wasm_types_decoding.specs.ExactLaws.{decides->>=, decides-same, decides-pure, decides-refuse, decides-if, decides-byte, decides-map, decides-repeated}
 use Rattle.wasm_types_decoding.specs.Leb.{IsUnsigned, last, more, unsigned, u32, u64, listed, IsListed}
 
 pub lawful-unsigned : (k r : ℕ) → IsLawful (unsigned k r)

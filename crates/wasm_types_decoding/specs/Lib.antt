@@ -1,15 +1,17 @@
--- what contracts cite: states, outcomes, decoders and grammars
+-- Rules: states, outcomes and grammars; how a decoder decides a grammar; which bytes spell numbers, lists and names.
+-- The decoders of these stand in the same files, each beside its grammar.
 pub mod Decoder
 pub mod Leb
 pub mod Lists
 pub mod Text
--- what a refusal's offset is
+-- Rules: what a refusal's offset is.
 pub mod Places
--- worked bytes
+-- Worked bytes.
 pub mod Rows
--- what is proved of them: laws, exactness, rows
+-- Laws: of outcomes, that decoders read just what the grammars spell, where refusals stand, and that the rows come out so.
 pub mod Laws
-pub mod Exact
+pub mod ExactLaws
+pub mod PlaceLaws
 pub mod LebLaws
 pub mod SignedLaws
 pub mod ListLaws

@@ -7,7 +7,7 @@ use Rattle.wasm_types_decoding.specs.declared.Refusal.{Refusal}
 use Rattle.wasm_types_decoding.specs.declared.Refusal.TheVariants.{Other}
 use Rattle.wasm_types_decoding.specs.Decoder.{Decoder, ◌>>=◌, pure, IsLawful, Decides, Grammar, Then, repeated, Many}
 use Rattle.wasm_types_decoding.specs.Laws.{lawful->>=, lawful-pure, lawful-if, lawful-repeated}
-use Rattle.wasm_types_decoding.specs.Exact.{decides->>=, decides-same, decides-pure, decides-if, decides-repeated}
+use Rattle.wasm_types_decoding.specs.ExactLaws.{decides->>=, decides-same, decides-pure, decides-if, decides-repeated}
 use Rattle.wasm_types_decoding.specs.Leb.{IsUnsigned, u32}
 use Rattle.wasm_types_decoding.specs.LebLaws.{lawful-unsigned, decides-u32}
 use Rattle.wasm_types_decoding.specs.Lists.{refuse_at, at_most_or, size_within, listed_within, IsSizeWithin, IsListedWithin}

@@ -7,7 +7,7 @@ use Rattle.wasm_types_decoding.specs.declared.Refusal.{Refusal}
 use Rattle.wasm_types_decoding.specs.declared.Refusal.TheVariants.{Other}
 use Rattle.wasm_types_decoding.specs.Decoder.{Decoder, ◌>>=◌, pure, refuse, byte, IsLawful, Decides, Grammar}
 use Rattle.wasm_types_decoding.specs.Laws.{lawful-byte, lawful->>=, lawful-pure, lawful-refuse, lawful-if}
-use Rattle.wasm_types_decoding.specs.Exact.{decides-same, decides-pure, decides-refuse, decides-if, decides-byte, decides-map}
+use Rattle.wasm_types_decoding.specs.ExactLaws.{decides-same, decides-pure, decides-refuse, decides-if, decides-byte, decides-map}
 use Rattle.wasm_types_decoding.specs.Leb.{IsSigned, nonnegative, negative, longer, seven_bits, last_bits, signed, s32, s33, s64}
 
 lawful-last_bits : (r b : ℕ) → IsLawful (last_bits r b)

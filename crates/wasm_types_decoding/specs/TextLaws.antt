@@ -9,8 +9,8 @@ use Rattle.wasm_types_decoding.specs.declared.Refusal.{Refusal}
 use Rattle.wasm_types_decoding.specs.declared.Refusal.TheVariants.{Other}
 use Rattle.wasm_types_decoding.specs.Decoder.{State, Outcome, Done, Short, Fault, Decoder, Grammar, pure, refuse, bytes, Takes, IsLawful, Decides, Then, ended, inside, within}
 use Rattle.wasm_types_decoding.specs.Laws.{lawful->>=, lawful-pure, lawful-refuse, lawful-if, lawful-bytes, lawful-within}
-use Rattle.wasm_types_decoding.specs.Exact.{value_is, state_is, done_then, decides->>=, decides-same, decides-pure, decides-refuse, decides-if}
-use Rattle.wasm_types_decoding.specs.Exact.{decides-map, decides-bytes, Exactly, Mapped}
+use Rattle.wasm_types_decoding.specs.ExactLaws.{value_is, state_is, done_then, decides->>=, decides-same, decides-pure, decides-refuse, decides-if}
+use Rattle.wasm_types_decoding.specs.ExactLaws.{decides-map, decides-bytes, Exactly, Mapped}
 use Rattle.wasm_types_decoding.specs.Leb.{IsUnsigned, u32}
 use Rattle.wasm_types_decoding.specs.LebLaws.{lawful-unsigned, decides-u32}
 use Rattle.wasm_types_decoding.specs.Text.{little_endian, IsWord, word, if_utf8, text_of, skipped, counted_within, IsAnyName, IsName, any_name, name}

@@ -1,10 +1,10 @@
--- what contracts cite: an error's value, its text, what an answer tells of a fact
+-- Definitions: an error's value, its text, what an answer tells of a fact.
 pub mod ErrorValue
 pub mod ErrorText
 pub mod Denials
--- errors worked by hand
+-- Worked errors.
 pub mod Rows
--- what is proved of them
+-- Laws.
 pub mod DenialLaws
 pub mod RowLaws
 -- the rules of features, under their name: crates above cite them here

@@ -6,7 +6,7 @@ use Rattle.std.proofs.lemmas.Bool.{eqb-true, eqb-false, ltb-true, ltb-false}
 use Rattle.wasm_types_values.specs.decoding.declared.Refusal.TheVariants.{Other}
 use Rattle.wasm_types_values.specs.decoding.Decoder.{Decoder, Grammar, ◌>>=◌, byte, IsLawful, Decides, Then}
 use Rattle.wasm_types_values.specs.decoding.Laws.{lawful-byte, lawful->>=, lawful-pure, lawful-refuse, lawful-if}
-use Rattle.wasm_types_values.specs.decoding.Exact.{Mapped, decides->>=, decides-same, decides-pure, decides-refuse, decides-if, decides-map, decides-byte}
+use Rattle.wasm_types_values.specs.decoding.ExactLaws.{Mapped, decides->>=, decides-same, decides-pure, decides-refuse, decides-if, decides-map, decides-byte}
 use Rattle.wasm_types_values.specs.decoding.Leb.{u32, IsUnsigned}
 use Rattle.wasm_types_values.specs.decoding.LebLaws.{lawful-unsigned, decides-u32, decides-u64}
 use Rattle.wasm_types_values.specs.declared.value.ValType.{ValType}
@@ -14,9 +14,11 @@ use Rattle.wasm_types_values.specs.Reference.{Reference}
 use Rattle.wasm_types_values.specs.Decode.{reference_type}
 use Rattle.wasm_types_values.specs.DecodeValues.{value_type}
 use Rattle.wasm_types_values.specs.DecodeLaws.{lawful-reference_type, lawful-value_type}
-use Rattle.wasm_types_values.specs.HeapExact.{heads, tails}
-use Rattle.wasm_types_values.specs.ReferenceExact.{SpelledReference, decides-reference_type}
-use Rattle.wasm_types_values.specs.ValueExact.{SpelledValue, decides-value_type}
+use Rattle.wasm_types_values.specs.HeapLaws.{heads, tails}
+use Rattle.wasm_types_values.specs.Spelled.{SpelledReference}
+use Rattle.wasm_types_values.specs.ReferenceLaws.{decides-reference_type}
+use Rattle.wasm_types_values.specs.Spelled.{SpelledValue}
+use Rattle.wasm_types_values.specs.ValueLaws.{decides-value_type}
 use Rattle.wasm_types_externs.specs.declared.limits.LimitsFlags.{LimitsFlags}
 use Rattle.wasm_types_externs.specs.declared.table.TableType.{TableType}
 use Rattle.wasm_types_externs.specs.declared.memory.MemoryType.{MemoryType}

@@ -4,8 +4,8 @@ use Rattle.std.specs.Prelude.{◌≡◌, ℕ, ◌+◌, ◌*◌, List, [], ◌∷
 use Rattle.std.specs.Option.{is_some}
 use Rattle.wasm_types_values.specs.decoding.Decoder.{Grammar}
 use Rattle.wasm_types_values.specs.decoding.Leb.{IsUnsigned}
-use Rattle.wasm_types_values.specs.ValueExact.{SpelledValue}
-use Rattle.wasm_types_values.specs.ReferenceExact.{SpelledReference}
+use Rattle.wasm_types_values.specs.Spelled.{SpelledValue}
+use Rattle.wasm_types_values.specs.Spelled.{SpelledReference}
 use Rattle.wasm_types_externs.specs.declared.limits.LimitsFlags.{LimitsFlags}
 use Rattle.wasm_types_externs.specs.declared.table.TableType.{TableType}
 use Rattle.wasm_types_externs.specs.declared.memory.MemoryType.{MemoryType}

@@ -1,9 +1,9 @@
--- what contracts cite: the table of features, sets, the inflated form
+-- Rules: the table of features, sets, the inflated form.
 pub mod Features
 pub mod Sets
 pub mod Inflated
--- what holds of every set, as statements
+-- Laws of every set.
 pub mod Laws
--- sets worked by hand, and that they come out so
+-- Worked sets, and the laws that they come out so.
 pub mod Rows
 pub mod RowLaws

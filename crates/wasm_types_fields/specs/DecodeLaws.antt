@@ -6,7 +6,7 @@ use Rattle.std.proofs.lemmas.List.{append-nil}
 use Rattle.wasm_types_values.specs.decoding.declared.Refusal.TheVariants.{Other}
 use Rattle.wasm_types_values.specs.decoding.Decoder.{Decoder, Grammar, ◌>>=◌, pure, byte, IsLawful, Decides, Then}
 use Rattle.wasm_types_values.specs.decoding.Laws.{lawful-byte, lawful->>=, lawful-pure, lawful-refuse, lawful-choice, lawful-if}
-use Rattle.wasm_types_values.specs.decoding.Exact.{decides->>=, decides-same, decides-pure, decides-if, decides-map, Mapped, decides-choice, has_tag}
+use Rattle.wasm_types_values.specs.decoding.ExactLaws.{decides->>=, decides-same, decides-pure, decides-if, decides-map, Mapped, decides-choice, has_tag}
 use Rattle.wasm_types_values.specs.decoding.Leb.{u32, IsUnsigned}
 use Rattle.wasm_types_values.specs.decoding.LebLaws.{lawful-unsigned, decides-u32}
 use Rattle.wasm_types_values.specs.decoding.Lists.{refuse_at, listed_within, IsListedWithin}
@@ -18,7 +18,8 @@ use Rattle.wasm_types_values.specs.declared.value.ValType.{ValType}
 use Rattle.wasm_types_values.specs.declared.value.StorageType.{StorageType}
 use Rattle.wasm_types_values.specs.DecodeValues.{value_type, storage_type}
 use Rattle.wasm_types_values.specs.DecodeLaws.{lawful-value_type, lawful-storage_type}
-use Rattle.wasm_types_values.specs.ValueExact.{SpelledValue, SpelledStorage, decides-value_type, decides-storage_type}
+use Rattle.wasm_types_values.specs.Spelled.{SpelledValue, SpelledStorage}
+use Rattle.wasm_types_values.specs.ValueLaws.{decides-value_type, decides-storage_type}
 use Rattle.wasm_types_fields.specs.declared.field.FieldType.{FieldType}
 use Rattle.wasm_types_fields.specs.Signatures.{Signature}
 use Rattle.wasm_types_fields.specs.Spells.{IsMutability, SpelledField, SpelledFields, SpelledSignature, SpelledIndex}

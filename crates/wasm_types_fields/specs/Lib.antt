@@ -6,7 +6,7 @@ pub mod Text
 pub mod Spells
 -- Decoders.
 pub mod Decode
--- Laws.
+-- Laws, and worked fields.
 pub mod SignatureLaws
 pub mod DecodeLaws
 pub mod WorkedFieldLaws
@@ -20,4 +20,5 @@ pub use Rattle.wasm_types_values.specs.reader as reader
 pub use Rattle.wasm_types_values.specs.indices as indices
 pub use Rattle.wasm_types_values.specs.trees as trees
 pub use Rattle.wasm_types_values.specs as values
+-- The laws and decoders that attributes of readers cite, which take a file's own names alone.
 pub mod Laws

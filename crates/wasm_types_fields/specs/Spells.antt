@@ -5,7 +5,7 @@ use Rattle.wasm_types_values.specs.decoding.Lists.{IsListedWithin}
 use Rattle.wasm_types_values.specs.limits.Settings.{Settings}
 use Rattle.wasm_types_values.specs.indices.declared.index.UnpackedIndex.{UnpackedIndex}
 use Rattle.wasm_types_values.specs.Spells.{SpellsExactIndex}
-use Rattle.wasm_types_values.specs.ValueExact.{SpelledValue, SpelledStorage}
+use Rattle.wasm_types_values.specs.Spelled.{SpelledValue, SpelledStorage}
 use Rattle.wasm_types_fields.specs.declared.field.FieldType.{FieldType}
 use Rattle.wasm_types_fields.specs.Signatures.{Signature}
 

@@ -5,11 +5,12 @@ pub mod Kinds
 pub mod Text
 pub mod Copies
 pub mod Remap
--- Decoders, and the values that they answer.
+-- Rules: which bytes spell the values that decoders answer.
 pub mod SpellsTypes
+-- Decoders.
 pub mod DecodeTypes
 pub mod Places
--- Laws.
+-- Laws, and worked groups.
 pub mod TypeLaws
 pub mod Laws
 pub mod SpellsLaws

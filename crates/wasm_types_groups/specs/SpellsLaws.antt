@@ -9,7 +9,7 @@ use Rattle.wasm_types_fields.specs.indices.declared.index.UnpackedIndex.{Unpacke
 use Rattle.wasm_types_fields.specs.values.declared.value.ValType.{ValType}
 use Rattle.wasm_types_fields.specs.values.Values.{value_of}
 use Rattle.wasm_types_fields.specs.values.Spells.{SpellsValue}
-use Rattle.wasm_types_fields.specs.values.ValueExact.{SpelledValue}
+use Rattle.wasm_types_fields.specs.values.Spelled.{SpelledValue}
 use Rattle.wasm_types_fields.specs.Fields.{field_of}
 use Rattle.wasm_types_fields.specs.declared.field.FieldType.{FieldType}
 use Rattle.wasm_types_fields.specs.Spells.{SpelledField}

@@ -3,7 +3,7 @@
 use Rattle.std.specs.Prelude.{◌≡◌, ◌⊎◌, ℕ, List, [], ◌∷◌, ◌++◌, Bool, true, false, Option, Some, None, map}
 use Rattle.std.specs.Option.{is_some}
 use Rattle.wasm_types_fields.specs.decoding.Decoder.{Grammar}
-use Rattle.wasm_types_fields.specs.decoding.Exact.{Mapped}
+use Rattle.wasm_types_fields.specs.decoding.ExactLaws.{Mapped}
 use Rattle.wasm_types_fields.specs.decoding.Lists.{IsListedWithin}
 use Rattle.wasm_types_fields.specs.limits.Settings.{Settings}
 use Rattle.wasm_types_fields.specs.indices.declared.index.UnpackedIndex.{UnpackedIndex}

@@ -4,7 +4,7 @@ use Rattle.std.proofs.lemmas.Bool.{eqb-true, eqb-false}
 use Rattle.wasm_types_fields.specs.decoding.declared.Refusal.TheVariants.{Other}
 use Rattle.wasm_types_fields.specs.decoding.Decoder.{Decoder, Grammar, ◌>>=◌, pure, refuse, byte, IsLawful, Decides, Then}
 use Rattle.wasm_types_fields.specs.decoding.Laws.{lawful-byte, lawful->>=, lawful-pure, lawful-refuse, lawful-choice, lawful-if}
-use Rattle.wasm_types_fields.specs.decoding.Exact.{decides->>=, decides-same, decides-pure, decides-refuse, decides-if, decides-map, decides-byte, Mapped}
+use Rattle.wasm_types_fields.specs.decoding.ExactLaws.{decides->>=, decides-same, decides-pure, decides-refuse, decides-if, decides-map, decides-byte, Mapped}
 use Rattle.wasm_types_fields.specs.decoding.Lists.{listed_within, IsListedWithin}
 use Rattle.wasm_types_fields.specs.decoding.ListLaws.{lawful-listed_within, decides-listed_within}
 use Rattle.wasm_types_fields.specs.limits.Settings.{Settings}

@@ -1,7 +1,7 @@
--- The definitions that contracts cite; `Bits` proves too that packing and unpacking undo one another.
+-- Rules: indices, their bits and their text. `Bits` proves too that packing and unpacking undo one another.
 pub mod Indices
 pub mod Bits
 pub mod Text
--- What the functions of src/laws.rt promise, and worked rows of the definitions.
+-- Laws, which src/laws.rt promises, and worked rows.
 pub mod Laws
 pub mod Worked

@@ -1,6 +1,6 @@
--- what contracts cite: limits, and what a module is judged by
+-- Rules: limits, and what a module is judged by.
 pub mod Limits
 pub mod Settings
--- limits worked by hand, and that they come out so
+-- Worked limits, and the laws that they come out so.
 pub mod Rows
 pub mod RowLaws

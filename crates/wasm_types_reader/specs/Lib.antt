@@ -1,16 +1,17 @@
 pub use Rattle.wasm_types_error.specs.ErrorText
 pub use Rattle.wasm_types_error.specs.ErrorValue
 pub use Rattle.wasm_types_numbers.specs.Numbers
--- what contracts cite: what a read answers, values that nobody wants, parts, bytes below 128, the errors of numbers, messages
+-- Definitions: what a read answers, values that nobody wants, parts, bytes below 128, the errors of numbers, messages. `Parts` and
+-- `Words` have decoders too.
 pub mod Reading
 pub mod Draining
 pub mod Parts
 pub mod Words
 pub mod Flaws
 pub mod Messages
--- readings worked by hand
+-- Worked readings.
 pub mod Rows
--- what is proved of them: laws, exactness, rows
+-- Laws: of reading, exactness, rows.
 pub mod ReadingLaws
 pub mod PartLaws
 pub mod WordLaws
@@ -21,5 +22,5 @@ pub use Rattle.wasm_types_numbers.specs.decoding as decoding
 pub use Rattle.wasm_types_error.specs.features as features
 pub use Rattle.wasm_types_error.specs as error
 pub use Rattle.wasm_types_numbers.specs as numbers
--- Those that attributes of readers cite, which take a file's own names alone.
+-- The laws and decoders that attributes of readers cite, which take a file's own names alone.
 pub mod Laws

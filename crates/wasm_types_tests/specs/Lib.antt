@@ -1,6 +1,6 @@
--- worked rows
+-- Worked rows.
 pub mod Edges
 pub mod Answers
--- that they come out so
+-- Laws: that they come out so.
 pub mod EdgeLaws
 pub mod AnswerLaws

@@ -1,7 +1,7 @@
 -- Where a reader stands behind a byte.
 use Rattle.std.proofs.Common.{◌≡◌, ℕ, ◌+◌, ◌<◌, List, [], ◌∷◌, sym, ap, arith}
 use Rattle.wasm_types_reader.specs.decoding.Decoder.{State, Done, first_of_rest, byte}
-use Rattle.wasm_types_reader.specs.decoding.Exact.{state_is}
+use Rattle.wasm_types_reader.specs.decoding.ExactLaws.{state_is}
 
 one_further : (rest : List ℕ) (s t : State) (b : ℕ) → first_of_rest rest s ≡ Done b t → t.place ≡ s.place + 1
 one_further [] s t b e = absurd cc

@@ -5,23 +5,24 @@ pub mod ValueKinds
 pub mod Trees
 pub mod Values
 pub mod Spells
+pub mod Spelled
 pub mod Text
 pub mod ValueText
 pub mod Order
 pub mod Constants
 pub mod Remap
--- How a reference lies in its bits.
+-- Definitions: how a reference lies in its bits.
 pub mod Bits
 -- Decoders.
 pub mod Decode
 pub mod DecodeValues
--- Laws, among them that each decoder reads just what the rules spell.
+-- Laws, among them that each decoder reads just what the rules spell, and worked types.
 pub mod Laws
-pub mod Ties
+pub mod TieLaws
 pub mod DecodeLaws
-pub mod HeapExact
-pub mod ReferenceExact
-pub mod ValueExact
+pub mod HeapLaws
+pub mod ReferenceLaws
+pub mod ValueLaws
 pub mod RemapLaws
 pub mod WorkedTypeLaws
 -- The rules and laws of the crates below, under their names: crates above cite them here.

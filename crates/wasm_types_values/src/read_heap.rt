@@ -42,7 +42,7 @@ impl<'a> FromReader<'a> for AbstractHeapType {
     ghost use Rattle.wasm_types_values.specs.declared.heap.AbstractHeapType.{AbstractHeapType as TheType};
     ghost use Rattle.wasm_types_values.specs.Decode.{abstract_heap_type};
     ghost use Rattle.wasm_types_values.specs.DecodeLaws.{lawful-abstract_heap_type};
-    ghost use Rattle.wasm_types_values.specs.HeapExact.{SpellsAbstract, decides-abstract_heap_type};
+    ghost use Rattle.wasm_types_values.specs.HeapLaws.{SpellsAbstract, decides-abstract_heap_type};
 
     ghost Value = { TheType };
 
@@ -119,7 +119,8 @@ impl<'a> FromReader<'a> for HeapType {
     ghost use Rattle.wasm_types_values.specs.declared.heap.HeapType.{HeapType as TheType};
     ghost use Rattle.wasm_types_values.specs.Decode.{heap_type};
     ghost use Rattle.wasm_types_values.specs.DecodeLaws.{lawful-heap_type};
-    ghost use Rattle.wasm_types_values.specs.HeapExact.{Spelled, decides-heap_type};
+    ghost use Rattle.wasm_types_values.specs.Spelled.{Spelled};
+    ghost use Rattle.wasm_types_values.specs.HeapLaws.{decides-heap_type};
 
     ghost Value = { TheType };
 

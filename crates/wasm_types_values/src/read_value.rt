@@ -59,7 +59,8 @@ impl<'a> FromReader<'a> for RefType {
     ghost use Rattle.wasm_types_values.specs.Reference.{Reference};
     ghost use Rattle.wasm_types_values.specs.Decode.{reference_type};
     ghost use Rattle.wasm_types_values.specs.DecodeLaws.{lawful-reference_type};
-    ghost use Rattle.wasm_types_values.specs.ReferenceExact.{SpelledReference, decides-reference_type};
+    ghost use Rattle.wasm_types_values.specs.Spelled.{SpelledReference};
+    ghost use Rattle.wasm_types_values.specs.ReferenceLaws.{decides-reference_type};
 
     ghost Value = { Reference };
 
@@ -112,7 +113,8 @@ impl<'a> FromReader<'a> for ValType {
     ghost use Rattle.wasm_types_values.specs.declared.value.ValType.{ValType as TheType};
     ghost use Rattle.wasm_types_values.specs.DecodeValues.{value_type};
     ghost use Rattle.wasm_types_values.specs.DecodeLaws.{lawful-value_type};
-    ghost use Rattle.wasm_types_values.specs.ValueExact.{SpelledValue, decides-value_type};
+    ghost use Rattle.wasm_types_values.specs.Spelled.{SpelledValue};
+    ghost use Rattle.wasm_types_values.specs.ValueLaws.{decides-value_type};
 
     ghost Value = { TheType };
 
@@ -144,7 +146,8 @@ impl<'a> FromReader<'a> for StorageType {
     ghost use Rattle.wasm_types_values.specs.declared.value.StorageType.{StorageType as TheType};
     ghost use Rattle.wasm_types_values.specs.DecodeValues.{storage_type};
     ghost use Rattle.wasm_types_values.specs.DecodeLaws.{lawful-storage_type};
-    ghost use Rattle.wasm_types_values.specs.ValueExact.{SpelledStorage, decides-storage_type};
+    ghost use Rattle.wasm_types_values.specs.Spelled.{SpelledStorage};
+    ghost use Rattle.wasm_types_values.specs.ValueLaws.{decides-storage_type};
 
     ghost Value = { TheType };
 

@@ -458,7 +458,7 @@ impl PartialOrd for RefType {
     ghost use Rattle.std.specs.Cmp.Rules.{comparing};
     ghost use Rattle.std.specs.Ordering.{as_partial_cmp};
     ghost use Rattle.wasm_types_values.specs.Kinds.{reference_cmp};
-    ghost use Rattle.wasm_types_values.specs.Ties.{reference_ties};
+    ghost use Rattle.wasm_types_values.specs.TieLaws.{reference_ties};
 
     ghost partial_cmp = { as_partial_cmp reference_cmp };
 
@@ -473,7 +473,7 @@ impl Ord for RefType {
     ghost use Rattle.std.proofs.Common.{rules};
     ghost use Rattle.std.specs.Cmp.Rules.{comparing};
     ghost use Rattle.wasm_types_values.specs.Kinds.{reference_cmp};
-    ghost use Rattle.wasm_types_values.specs.Ties.{reference_ties};
+    ghost use Rattle.wasm_types_values.specs.TieLaws.{reference_ties};
 
     ghost cmp = { reference_cmp };
 

@@ -2,7 +2,7 @@
 use Rattle.std.specs.Prelude.{IfErr, OnOk}
 use Rattle.std.proofs.Common.{◌≡◌, ◌∙◌, Some, Result, Ok, Err, inl, inr, ℕ, zero, suc, ◌+◌, ◌<◌, ◌≤◌, List, [], ◌∷◌, ◌++◌, length, Bool, true, false, refl, sym, ap, subst, arith}
 use Rattle.wasm_types.specs.decoding.Decoder.{State as Bytes, Outcome, Done, Short, Fault, ◌>>=◌, pure, continue_with, repeated, Takes}
-use Rattle.wasm_types.specs.decoding.Exact.{value_is, state_is, done_then}
+use Rattle.wasm_types.specs.decoding.ExactLaws.{value_is, state_is, done_then}
 use Rattle.wasm_types.specs.decoding.Leb.{u32, listed}
 use Rattle.wasm_types.specs.decoding.LebLaws.{decides-listed}
 use Rattle.wasm_types.specs.limits.Settings.{Settings}

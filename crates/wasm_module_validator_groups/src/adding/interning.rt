@@ -64,7 +64,7 @@ fn check_added<M: InternRecGroup>(
 /// Refused are, in this order: a group that is written as one where garbage collection is not allowed, a type with more than
 /// one supertype, an index that the group may not have, more types than a list has, and the first type that is not valid. A
 /// refusal adds no id to the module. A group that is new and has a type that is not valid stays in the list, which may be
-/// used for no other group; any other refusal leaves the list as it was, want of memory too.
+/// used for no other group; any other refusal, out of memory too, leaves the list as it was.
 pub fn canonicalize_and_intern_rec_group<M: InternRecGroup>(
     target: &mut M,
     types: &mut TypeList,

@@ -1,1 +1,2 @@
+-- Laws: worked rows.
 pub mod Entities

@@ -1,7 +1,7 @@
 -- A count that was read, and the items behind it.
 use Rattle.std.proofs.Common.{◌≡◌, ℕ, zero, suc, ◌+◌, List, [], ◌∷◌, ◌++◌, length, refl, sym, ap, ◌∙◌, subst}
 use Rattle.wasm_types.specs.decoding.Decoder.{State, Outcome, Done, Grammar, Many, Takes}
-use Rattle.wasm_types.specs.decoding.Exact.{value_is, state_is}
+use Rattle.wasm_types.specs.decoding.ExactLaws.{value_is, state_is}
 use Rattle.wasm_types.specs.decoding.Leb.{u32, IsUnsigned, IsListed}
 use Rattle.wasm_types.specs.decoding.LebLaws.{decides-u32}
 

@@ -6,15 +6,15 @@ use Rattle.std.proofs.lemmas.List.{append-nil}
 use Rattle.wasm_types.specs.decoding.declared.Refusal.TheVariants.{Other}
 use Rattle.wasm_types.specs.decoding.Decoder.{Decoder, Grammar, ◌>>=◌, pure, byte, repeated, IsLawful, Decides, Then}
 use Rattle.wasm_types.specs.decoding.Laws.{lawful->>=, lawful-pure, lawful-refuse, lawful-byte, lawful-if, lawful-repeated}
-use Rattle.wasm_types.specs.decoding.Exact.{Mapped, decides->>=, decides-same, decides-pure, decides-refuse, decides-byte, decides-if, decides-map}
+use Rattle.wasm_types.specs.decoding.ExactLaws.{Mapped, decides->>=, decides-same, decides-pure, decides-refuse, decides-byte, decides-if, decides-map}
 use Rattle.wasm_types.specs.decoding.Leb.{u32, listed, IsUnsigned, IsListed}
 use Rattle.wasm_types.specs.decoding.LebLaws.{lawful-unsigned, decides-u32, decides-listed}
-use Rattle.wasm_types.specs.values.HeapExact.{heads, tails}
+use Rattle.wasm_types.specs.values.HeapLaws.{heads, tails}
 use Rattle.wasm_types.specs.values.Reference.{Reference}
-use Rattle.wasm_types.specs.values.ReferenceExact.{SpelledReference}
+use Rattle.wasm_types.specs.values.Spelled.{SpelledReference}
 use Rattle.wasm_types.specs.values.Decode.{reference_type}
 use Rattle.wasm_types.specs.values.DecodeLaws.{lawful-reference_type}
-use Rattle.wasm_types.specs.values.ReferenceExact.{decides-reference_type}
+use Rattle.wasm_types.specs.values.ReferenceLaws.{decides-reference_type}
 use Rattle.wasm_sections_items.specs.elements.Spells.{
   ElementMode,
   passive,

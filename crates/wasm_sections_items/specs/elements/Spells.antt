@@ -6,7 +6,7 @@ use Rattle.wasm_types.specs.decoding.Leb.{IsUnsigned, IsListed}
 use Rattle.wasm_types.specs.values.declared.heap.AbstractHeapType.TheVariants as heap
 use Rattle.wasm_types.specs.values.declared.heap.HeapType.TheVariants.{Abstract}
 use Rattle.wasm_types.specs.values.Reference.{Reference}
-use Rattle.wasm_types.specs.values.ReferenceExact.{SpelledReference}
+use Rattle.wasm_types.specs.values.Spelled.{SpelledReference}
 
 -- How an element segment is used: by instructions alone; copied at first into a table at an offset, into table 0 where none is
 -- named; or only to declare the functions that bodies refer to.

@@ -4,7 +4,7 @@ use Rattle.wasm_types.specs.decoding.declared.Refusal.TheVariants.{Other}
 use Rattle.wasm_types.specs.limits.Settings.{Settings}
 use Rattle.wasm_types.specs.decoding.Decoder.{Grammar, refuse, byte, choice, IsLawful, Decides, Then}
 use Rattle.wasm_types.specs.decoding.Laws.{lawful-byte, lawful->>=, lawful-pure, lawful-refuse, lawful-choice}
-use Rattle.wasm_types.specs.decoding.Exact.{Mapped, ReadsTagged, decides->>=, decides-same, decides-map, decides-table, sound-pure, reads-pure}
+use Rattle.wasm_types.specs.decoding.ExactLaws.{Mapped, ReadsTagged, decides->>=, decides-same, decides-map, decides-table, sound-pure, reads-pure}
 use Rattle.wasm_types.specs.decoding.Leb.{u32, IsUnsigned}
 use Rattle.wasm_types.specs.decoding.LebLaws.{lawful-unsigned, decides-u32}
 use Rattle.wasm_types.specs.decoding.Text.{name, IsName}

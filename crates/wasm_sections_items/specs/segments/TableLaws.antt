@@ -5,11 +5,12 @@ use Rattle.std.proofs.lemmas.Bool.{eqb-true, eqb-false}
 use Rattle.wasm_types.specs.decoding.declared.Refusal.TheVariants.{Other}
 use Rattle.wasm_types.specs.decoding.Decoder.{State, Outcome, Done, Short, Fault, Decoder, Grammar, continue_with, ◌>>=◌, pure, byte, Takes, IsBeyond, GoesForward, IsLawful, TakesOne, Decides, Then}
 use Rattle.wasm_types.specs.decoding.Laws.{lawful-byte, lawful->>=, lawful-pure, lawful-refuse, lawful-if, lawful-look, TakesOne-byte}
-use Rattle.wasm_types.specs.decoding.Exact.{Mapped, Sound, Reads, decides->>=, decides-same, decides-refuse, decides-if, decides-map, decides-byte, decides-look_apart}
+use Rattle.wasm_types.specs.decoding.ExactLaws.{Mapped, Sound, Reads, decides->>=, decides-same, decides-refuse, decides-if, decides-map, decides-byte, decides-look_apart}
 use Rattle.wasm_types.specs.values.Decode.{reference_after, reference_type}
 use Rattle.wasm_types.specs.values.DecodeLaws.{lawful-reference_after}
-use Rattle.wasm_types.specs.values.HeapExact.{heads, tails}
-use Rattle.wasm_types.specs.values.ReferenceExact.{SpelledReference, reference_begins, reference_some}
+use Rattle.wasm_types.specs.values.HeapLaws.{heads, tails}
+use Rattle.wasm_types.specs.values.Spelled.{SpelledReference}
+use Rattle.wasm_types.specs.values.ReferenceLaws.{reference_begins, reference_some}
 use Rattle.wasm_types.specs.externs.declared.table.TableType.{TableType}
 use Rattle.wasm_types.specs.externs.Decode.{limits_flags, table_after, table_type}
 use Rattle.wasm_types.specs.externs.Spells.{SpelledTable}

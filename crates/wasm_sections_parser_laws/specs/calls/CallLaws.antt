@@ -6,7 +6,7 @@ use Rattle.std.proofs.lemmas.List.{drop_at}
 use Rattle.wasm_types.specs.limits.Limits.{default_limits}
 use Rattle.wasm_types.specs.limits.Settings.{Settings}
 use Rattle.wasm_types.specs.decoding.Decoder.{State, extended, Outcome, Done, GoesForward, GoesOn, Takes}
-use Rattle.wasm_types.specs.decoding.Exact.{same_state}
+use Rattle.wasm_types.specs.decoding.ExactLaws.{same_state}
 use Rattle.wasm_sections_parser.specs.declared.frame.Frame.{Frame}
 use Rattle.wasm_sections_parser.specs.declared.frame.Frame.TheVariants as frames
 use Rattle.wasm_sections_parser.specs.declared.parser.Parser.{Parser}

@@ -6,7 +6,7 @@ use Rattle.wasm_types.specs.limits.Settings.{Settings}
 use Rattle.wasm_types.specs.decoding.declared.Refusal.TheVariants.{Other}
 use Rattle.wasm_types.specs.decoding.Decoder.{State, Outcome, Done, Short, Fault, ◌>>=◌, pure, refuse, byte, first_of_rest, bytes, Takes}
 use Rattle.wasm_types.specs.decoding.Laws.{Takes-then}
-use Rattle.wasm_types.specs.decoding.Exact.{value_is, state_is, done_then, decides-bytes}
+use Rattle.wasm_types.specs.decoding.ExactLaws.{value_is, state_is, done_then, decides-bytes}
 use Rattle.wasm_types.specs.decoding.Leb.{u32, IsUnsigned}
 use Rattle.wasm_types.specs.decoding.LebLaws.{decides-u32}
 use Rattle.wasm_types.specs.decoding.Lists.{refuse_at}

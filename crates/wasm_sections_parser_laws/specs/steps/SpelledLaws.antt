@@ -4,7 +4,7 @@ use Rattle.std.specs.Prelude.{nat_lt, ◌-◌, ◌==◌}
 use Rattle.wasm_types.specs.limits.Settings.{Settings}
 use Rattle.wasm_types.specs.decoding.declared.Refusal.TheVariants.{Other}
 use Rattle.wasm_types.specs.decoding.Decoder.{State, Outcome, Done, Short, Fault, ◌>>=◌, pure, refuse, byte, bytes, Takes}
-use Rattle.wasm_types.specs.decoding.Exact.{value_is, state_is, done_then}
+use Rattle.wasm_types.specs.decoding.ExactLaws.{value_is, state_is, done_then}
 use Rattle.wasm_types.specs.decoding.Leb.{u32}
 use Rattle.wasm_types.specs.decoding.Lists.{refuse_at}
 use Rattle.wasm_types.specs.decoding.Text.{name}

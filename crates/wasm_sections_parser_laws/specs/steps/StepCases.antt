@@ -5,7 +5,7 @@ use Rattle.std.proofs.lemmas.Bool.{leb-true, leb-false, ltb-false, le-ltb}
 use Rattle.wasm_types.specs.limits.Settings.{Settings}
 use Rattle.wasm_types.specs.decoding.declared.Refusal.TheVariants.{Other}
 use Rattle.wasm_types.specs.decoding.Decoder.{State, Outcome, Done, ◌>>=◌, pure, bytes, Takes}
-use Rattle.wasm_types.specs.decoding.Exact.{value_is, state_is, done_then}
+use Rattle.wasm_types.specs.decoding.ExactLaws.{value_is, state_is, done_then}
 use Rattle.wasm_types.specs.decoding.Lists.{refuse_at}
 use Rattle.wasm_sections_frames.specs.Decode.{header}
 use Rattle.wasm_sections_frames.specs.Outer.{Header, SpelledEntry}

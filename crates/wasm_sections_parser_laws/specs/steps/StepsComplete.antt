@@ -6,7 +6,7 @@ use Rattle.std.proofs.lemmas.List.{length-append}
 use Rattle.wasm_types.specs.limits.Settings.{Settings}
 use Rattle.wasm_types.specs.decoding.declared.Refusal.TheVariants.{Other}
 use Rattle.wasm_types.specs.decoding.Decoder.{State, Outcome, Done, Fault, ◌>>=◌, continue_with, pure, first_of_rest, bytes, Takes}
-use Rattle.wasm_types.specs.decoding.Exact.{decides-bytes}
+use Rattle.wasm_types.specs.decoding.ExactLaws.{decides-bytes}
 use Rattle.wasm_types.specs.decoding.Leb.{u32, IsUnsigned}
 use Rattle.wasm_types.specs.decoding.LebLaws.{decides-u32}
 use Rattle.wasm_types.specs.decoding.Lists.{refuse_at}

@@ -1,5 +1,5 @@
-use Rattle.std.proofs.Common.{rules}
-use Rattle.std.proofs.Common.{true, is_some, sym, ◌∙◌, ap, subst}
+use Rattle.std.proofs.Common.{true, is_some, sym, ◌∙◌, ap, subst, arith, rules}
+use Rattle.std.proofs.lemmas.Grind.{common_steps, elements}
 use Rattle.wasm_types.specs.decoding.Decoder.{State, Takes}
 use Rattle.wasm_operators_reader.specs.Standing.{Standing}
 use Rattle.wasm_operators_bodies.specs.Constants.{PassesTo}
@@ -15,3 +15,6 @@ returns-clause-read c =
 
 pub returns-then-is_some-clause-read : goal.returns-then-is_some-clause-read
 returns-then-is_some-clause-read c = search rules
+
+pub returns-then-is_some-clause-stops : goal.returns-then-is_some-clause-stops
+returns-then-is_some-clause-stops c = first_of (search rules, first_of (grind (arith, common_steps), grind (arith, elements)))

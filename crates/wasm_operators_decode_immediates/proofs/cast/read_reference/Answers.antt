@@ -1,6 +1,6 @@
 -- The index of a heap type that was read fits.
 use Rattle.std.proofs.Common.{◌≡◌, true, false}
-use Rattle.wasm_operators_immediates.specs.types.values.HeapExact.{heap_type-fits}
+use Rattle.wasm_operators_immediates.specs.types.values.HeapLaws.{heap_type-fits}
 use Rattle.wasm_operators_decode_immediates.proofs.cast.read_reference.Goals as goal
 
 pub unreachable-requires : goal.unreachable-requires

@@ -4,7 +4,7 @@ use Rattle.wasm_types.specs.decoding.Decoder.{State, Done}
 use Rattle.wasm_types.specs.decoding.Leb.{u32}
 use Rattle.wasm_types.specs.reader.Reading.{Fails}
 use Rattle.wasm_sections_parser.specs.Steps.{section_next}
-use Rattle.wasm_sections_parser.specs.Settled.{part_refused, part_read}
+use Rattle.wasm_sections_parser.specs.SettledLaws.{part_refused, part_read}
 use Rattle.wasm_sections_parser.proofs.sections.read_counted.Goals as goal
 
 pub returns-in-Err-clause-answer : goal.returns-in-Err-clause-answer

@@ -1,7 +1,7 @@
 -- A name, and all that follows it in the part.
 use Rattle.wasm_types.specs.decoding.Text.{name}
 use Rattle.wasm_sections_parser.specs.Steps.{custom_next}
-use Rattle.wasm_sections_parser.specs.Settled.{part_refused, part_read, all_bytes}
+use Rattle.wasm_sections_parser.specs.SettledLaws.{part_refused, part_read, all_bytes}
 use Rattle.wasm_sections_parser.proofs.sections.read_custom.Goals as goal
 
 pub returns-in-Err-clause-answer : goal.returns-in-Err-clause-answer

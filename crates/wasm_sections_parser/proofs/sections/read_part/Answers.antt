@@ -1,6 +1,6 @@
 -- A part's bytes stand between the reader's offsets.
 use Rattle.std.proofs.Common.{arith}
-use Rattle.wasm_sections_parser.specs.Settled.{bytes_span}
+use Rattle.wasm_sections_parser.specs.SettledLaws.{bytes_span}
 use Rattle.wasm_sections_parser.proofs.sections.read_part.Goals as goal
 
 pub part_between-requires : goal.part_between-requires

@@ -1,6 +1,6 @@
 -- The index of a heap type that was read fits.
 use Rattle.std.proofs.Common.{◌≡◌, true, false}
-use Rattle.wasm_types_values.specs.HeapExact.{heap_type-fits}
+use Rattle.wasm_types_values.specs.HeapLaws.{heap_type-fits}
 use Rattle.wasm_types_values.proofs.read_value.read_long.Goals as goal
 
 pub unreachable-requires : goal.unreachable-requires

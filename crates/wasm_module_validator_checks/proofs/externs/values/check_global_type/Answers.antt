@@ -1,7 +1,7 @@
-use Rattle.std.proofs.Common.{rules}
-use Rattle.std.proofs.Common.{ℕ}
+use Rattle.std.proofs.Common.{ℕ, arith, rules}
+use Rattle.std.proofs.lemmas.Grind.{common_steps}
 use Rattle.wasm_module_validator_checks.specs.limits.rules.Valid.{IsValidValueType, IsValidGlobalType}
-use Rattle.wasm_module_validator_checks.specs.externs.Refusals.{allowing}
+use Rattle.wasm_module_validator_checks.specs.externs.Refusals.{allowing, has}
 use Rattle.wasm_module_validator_checks.proofs.Refusing.{refusal_from}
 use Rattle.wasm_module_validator_checks.proofs.externs.values.check_global_type.Goals as goal
 
@@ -14,3 +14,7 @@ returns-in-Err-clause-refused g c =
 
 pub returns-clause-answer : goal.returns-clause-answer
 returns-clause-answer c = search rules
+
+pub returns-in_err-require-clause-refused : goal.returns-in_err-require-clause-refused
+unfolding has
+returns-in_err-require-clause-refused c = first_of (search rules, grind (arith, common_steps))

@@ -3,7 +3,7 @@ use Rattle.std.proofs.Common.{refl, sym, subst}
 use Rattle.wasm_types.specs.decoding.Decoder.{State}
 use Rattle.wasm_types.specs.reader.Reading.{Fails}
 use Rattle.wasm_sections_parser.specs.Steps.{step}
-use Rattle.wasm_sections_parser.specs.Settled.{hinted}
+use Rattle.wasm_sections_parser.specs.SettledLaws.{hinted}
 use Rattle.wasm_sections_parser.specs.Parsing.{comes}
 use Rattle.wasm_sections_parser.proofs.parser.Parser.next.Goals as goal
 

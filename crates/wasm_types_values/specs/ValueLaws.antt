@@ -1,24 +1,17 @@
 -- Value types and storage types are read exactly where bytes spell them.
 use Rattle.std.proofs.Common.{◌≡◌, ℕ, List, [], ◌∷◌, refl, sym, subst, arith, eqb, true, false}
 use Rattle.std.proofs.lemmas.Bool.{eqb-true, eqb-false}
-use Rattle.wasm_types_reader.specs.decoding.Decoder.{Grammar, pure, Decides}
-use Rattle.wasm_types_reader.specs.decoding.Exact.{Mapped, decides-same, decides-pure, decides-if, decides-map, decides-byte}
+use Rattle.wasm_types_reader.specs.decoding.Decoder.{pure, Decides}
+use Rattle.wasm_types_reader.specs.decoding.ExactLaws.{Mapped, decides-same, decides-pure, decides-if, decides-map, decides-byte}
 use Rattle.wasm_types_values.specs.declared.value.ValType.{ValType}
 use Rattle.wasm_types_values.specs.declared.value.ValType.TheVariants.{I32, I64, F32, F64, V128, Ref}
 use Rattle.wasm_types_values.specs.declared.value.StorageType.{StorageType}
 use Rattle.wasm_types_values.specs.declared.value.StorageType.TheVariants.{I8, I16, Val}
-use Rattle.wasm_types_values.specs.Values.{value_of, storage_of}
-use Rattle.wasm_types_values.specs.Spells.{SpellsValue, SpellsStorage}
+use Rattle.wasm_types_values.specs.Spelled.{SpelledReference, SpelledValue, SpelledStorage}
 use Rattle.wasm_types_values.specs.Decode.{reference_after}
 use Rattle.wasm_types_values.specs.DecodeValues.{reference_value_after, value_type_after, value_type, storage_type_after, storage_type}
-use Rattle.wasm_types_values.specs.HeapExact.{heads, tails}
-use Rattle.wasm_types_values.specs.ReferenceExact.{SpelledReference, reference_begins, reference_some, decides-reference_after}
-
-abbrev pub SpelledValue : Grammar ValType
-SpelledValue v text = SpellsValue (value_of v) text
-
-abbrev pub SpelledStorage : Grammar StorageType
-SpelledStorage x text = SpellsStorage (storage_of x) text
+use Rattle.wasm_types_values.specs.HeapLaws.{heads, tails}
+use Rattle.wasm_types_values.specs.ReferenceLaws.{reference_begins, reference_some, decides-reference_after}
 
 value_some : (v : ValType) → SpelledValue v [] → ⊥
 value_some I32 e = cc

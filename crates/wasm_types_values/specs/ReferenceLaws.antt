@@ -1,8 +1,8 @@
 -- Reference types are read exactly where bytes spell them.
 use Rattle.std.proofs.Common.{◌≡◌, ℕ, ◌≤◌, List, [], ◌∷◌, refl, sym, ap, subst, arith, eqb, Bool, true, false, inl, inr}
 use Rattle.std.proofs.lemmas.Bool.{eqb-true, eqb-false}
-use Rattle.wasm_types_reader.specs.decoding.Decoder.{Grammar, ◌>>=◌, pure, Decides}
-use Rattle.wasm_types_reader.specs.decoding.Exact.{Mapped, decides-same, decides-if, decides-map, decides-byte}
+use Rattle.wasm_types_reader.specs.decoding.Decoder.{◌>>=◌, pure, Decides}
+use Rattle.wasm_types_reader.specs.decoding.ExactLaws.{Mapped, decides-same, decides-if, decides-map, decides-byte}
 use Rattle.wasm_types_values.specs.declared.heap.AbstractHeapType.{AbstractHeapType}
 use Rattle.wasm_types_values.specs.declared.heap.HeapType.{HeapType}
 use Rattle.wasm_types_values.specs.declared.heap.HeapType.TheVariants.{Abstract, Concrete, Exact}
@@ -10,10 +10,8 @@ use Rattle.wasm_types_values.specs.Reference.{Reference}
 use Rattle.wasm_types_values.specs.Trees.{abstract_of, heap_of}
 use Rattle.wasm_types_values.specs.Spells.{abstract_byte, null_byte, SpellsReference}
 use Rattle.wasm_types_values.specs.Decode.{abstract_heap_type, heap_type, reference, reference_after, reference_type}
-use Rattle.wasm_types_values.specs.HeapExact.{heads, tails, byte_range, SpellsAbstract, decides-with_type, decides-abstract_heap_type, Spelled, decides-heap_type}
-
-abbrev pub SpelledReference : Grammar Reference
-SpelledReference r text = SpellsReference r.nullable (heap_of r.heap) text
+use Rattle.wasm_types_values.specs.Spelled.{Spelled, SpelledReference}
+use Rattle.wasm_types_values.specs.HeapLaws.{heads, tails, byte_range, SpellsAbstract, decides-with_type, decides-abstract_heap_type, decides-heap_type}
 
 -- the three forms of a reference type, by its first byte
 pub data Form (c : ℕ) (text : List ℕ) : Bool → HeapType → Type 0 where

@@ -6,8 +6,8 @@ use Rattle.std.proofs.lemmas.Bool.{eqb-true, eqb-false, ltb-true, ltb-false, lt-
 use Rattle.std.proofs.lemmas.List.{append-nil}
 use Rattle.wasm_types_reader.specs.decoding.declared.Refusal.TheVariants.{Other}
 use Rattle.wasm_types_reader.specs.decoding.Decoder.{State, Done, Decoder, Grammar, ◌>>=◌, pure, byte, Takes, Decides, Then}
-use Rattle.wasm_types_reader.specs.decoding.Exact.{Mapped, Sound, decides->>=, decides-same, decides-pure, decides-refuse, decides-if, decides-map}
-use Rattle.wasm_types_reader.specs.decoding.Exact.{decides-byte, decides-look_apart}
+use Rattle.wasm_types_reader.specs.decoding.ExactLaws.{Mapped, Sound, decides->>=, decides-same, decides-pure, decides-refuse, decides-if, decides-map}
+use Rattle.wasm_types_reader.specs.decoding.ExactLaws.{decides-byte, decides-look_apart}
 use Rattle.wasm_types_reader.specs.decoding.ListLaws.{decides-from_place, decides-refuse_at}
 use Rattle.wasm_types_reader.specs.decoding.Leb.{u32, s33, IsUnsigned, IsSigned, nonnegative, negative, longer}
 use Rattle.wasm_types_reader.specs.decoding.LebLaws.{decides-u32}
@@ -20,6 +20,7 @@ use Rattle.wasm_types_values.specs.declared.heap.HeapType.TheVariants.{Abstract,
 use Rattle.wasm_types_values.specs.Bits.{Fits}
 use Rattle.wasm_types_values.specs.Trees.{abstract_of, heap_of}
 use Rattle.wasm_types_values.specs.Spells.{abstract_byte, SpellsHeap}
+use Rattle.wasm_types_values.specs.Spelled.{Spelled}
 use Rattle.wasm_types_values.specs.Decode.{find, abstract_types, type_of_byte, with_type, abstract_heap_type, concrete_from, exact_from}
 use Rattle.wasm_types_values.specs.Decode.{concrete_heap_type, exact_heap_type, heap_type_after, begins_index, heap_type_at, heap_type}
 
@@ -222,9 +223,6 @@ decides-other : Decides (byte >>= heap_type_after) SpellsOther
 decides-other = decides-byte heap_type_after SpellsOther other_some decides-heap_type_after
 
 -- ---- heap types
-
-abbrev pub Spelled : Grammar HeapType
-Spelled h text = SpellsHeap (heap_of h) text
 
 -- a number with a sign, at least 0, begins as an index does
 index_begins : {N : ℕ} {v : ℤ} {b : ℕ} {text : List ℕ} (m : ℕ) → v ≡ pos m → IsSigned N v (b ∷ text) → begins_index b ≡ true
