@@ -1,5 +1,6 @@
 -- Worked rows.
 pub mod Edges
+pub mod Answers
 pub mod Sets
 pub mod Reading
 pub mod Trees
@@ -8,6 +9,7 @@ pub mod Remaps
 pub mod Groups
 -- Laws: that they come out so.
 pub mod EdgeLaws
+pub mod AnswerLaws
 pub mod SetLaws
 pub mod ReadingLaws
 pub mod TreeLaws

@@ -2,6 +2,8 @@
 
 ghost use Rattle.std.specs.Prelude.{◌≡◌, ◌<◌, ◌^◌};
 ghost use Rattle.wasm_types.specs.indices.Indices.{number_of};
+ghost use Rattle.wasm_types.specs.features.declared.WasmFeatures.{WasmFeatures as Features};
+ghost use Rattle.wasm_types_tests.specs.Answers.{DenialRows, TellingRows, RefusalRows};
 ghost use Rattle.wasm_types_tests.specs.Edges.{UnsignedEdges32, UnsignedEdges64, SignedEdges32, SignedEdges33, SignedEdges64};
 ghost use Rattle.wasm_types_tests.specs.Sets.{InflatedRows, PackedRows, WithinRows};
 ghost use Rattle.wasm_types_tests.specs.Reading.{ReachedRows, GivenRows, OffsetRows, SaidRows, NextRows};
@@ -78,4 +80,12 @@ pub fn groups_are_declared_as_worked()
     ensures values { ValueRows }
     ensures copies { CopyRows }
     ensures texts { TextRows }
+{}
+
+/// What an answer tells of a fact, by each kind of refusal: it denies it, unless memory ran out, and promises its offset.
+#[tactic(auto, using(crate::specs::AnswerLaws::denial_rows, crate::specs::AnswerLaws::telling_rows, crate::specs::AnswerLaws::refusal_rows))]
+pub fn answers_are_worked()
+    ensures denials { (f : Features) → DenialRows f }
+    ensures answers { TellingRows }
+    ensures refusals { (f : Features) → RefusalRows f }
 {}

@@ -1,0 +1,87 @@
+-- What the validation of a body, of its locals and of its expression promises, and what a try of an operator does: where something was
+-- refused before, each is refused for that, and nothing else is left (WebAssembly 3.0, validation, modules, functions and locals). Which
+-- bytes spell a function that is valid.
+use Rattle.std.specs.Prelude.{◌≡◌, ◌+◌, ◌<◌, ℕ, true, false, List, [], ◌∷◌, length, Some, None, slice_get, Result, Ok, Err}
+use Rattle.wasm_types.specs.decoding.Decoder.{State as Bytes}
+use Rattle.wasm_types.specs.error.ErrorValue.{ErrorValue}
+use Rattle.wasm_types.specs.error.declared.error.ErrorKind.{ErrorKind}
+use Rattle.wasm_types.specs.error.declared.error.ErrorKind.TheVariants.{Failed, Other}
+use Rattle.wasm_types.specs.limits.Limits.{default_limits}
+use Rattle.wasm_types.specs.limits.Settings.{Settings, no_features}
+use Rattle.wasm_types.specs.trees.Trees.{TypeTree}
+use Rattle.wasm_types.specs.values.declared.value.ValType.TheVariants.{I32}
+use Rattle.wasm_operator_validator_stacks.specs.expression.operator.Op.{Op}
+use Rattle.wasm_operator_validator_stacks.specs.rules.Context.{Module, Signature, IsFunctionType}
+use Rattle.wasm_operator_validator_stacks.specs.resources.Meaning.{Meaning}
+use Rattle.wasm_operator_validator_stacks.specs.state.State.{State}
+use Rattle.wasm_operator_validator_expression.specs.Validating.{Validates}
+use Rattle.wasm_module_validator_functions.specs.Locals.{judged_by, ReadsLocals, DefinesMore}
+use Rattle.wasm_module_validator_functions.specs.Functions.{SpellsValidFunction, ValidatesFunction}
+use Rattle.wasm_module_validator_functions.specs.Trying.{settled, Tries}
+
+-- ---- where something was refused before
+
+-- it is refused for that where it begins; and for something else
+abbrev pub failed_at : Bytes → ErrorValue
+failed_at s = record { kind = Failed; offset = s.place; message = [] }
+
+abbrev pub fault_at : Bytes → ErrorValue
+fault_at s = record { kind = Other; offset = s.place; message = [] }
+
+abbrev pub Answer : Type 0
+Answer = Result (Unit {0}) ErrorValue
+
+pub record LocalsRead (m : Meaning) (s : Bytes) (σ : State) : Type 0 where
+  pub refused : ReadsLocals m s σ (Err (failed_at s)) s σ
+  pub read : ReadsLocals m s σ (Ok tt) s σ → ⊥
+  pub refused_otherwise : ReadsLocals m s σ (Err (fault_at s)) s σ → ⊥
+  pub refused_further : (t : Bytes) → (t ≡ s → ⊥) → ReadsLocals m s σ (Err (failed_at s)) t σ → ⊥
+  pub recovered : ReadsLocals m s σ (Err (failed_at s)) s (record σ { failed = false }) → ⊥
+  pub defined : DefinesMore m σ 1 I32 (Ok tt) σ → ⊥
+  pub undefined : DefinesMore m σ 1 I32 (Err (failed_at s)) σ
+  pub undefined_otherwise : DefinesMore m σ 1 I32 (Err (fault_at s)) σ → ⊥
+
+pub record ExpressionsValidated (m : Meaning) (s : Bytes) (σ : State) : Type 0 where
+  pub refused : Validates m σ s (Err (failed_at s)) σ
+  pub accepted : Validates m σ s (Ok tt) σ → ⊥
+  pub refused_otherwise : Validates m σ s (Err (fault_at s)) σ → ⊥
+  pub recovered : Validates m σ s (Err (failed_at s)) (record σ { failed = false }) → ⊥
+  pub of_other_features : (τ : State) → τ.given.bits ≡ σ.given.bits + 1 → Validates m σ s (Err (failed_at s)) τ → ⊥
+
+pub record FunctionsValidated (m : Meaning) (s : Bytes) (σ : State) : Type 0 where
+  pub refused : ValidatesFunction m s σ (Err (failed_at s)) σ
+  pub accepted : ValidatesFunction m s σ (Ok tt) σ → ⊥
+  pub refused_otherwise : ValidatesFunction m s σ (Err (fault_at s)) σ → ⊥
+  pub recovered : ValidatesFunction m s σ (Err (failed_at s)) (record σ { failed = false }) → ⊥
+  pub of_other_features : (τ : State) → τ.given.bits ≡ σ.given.bits + 1 → ValidatesFunction m s σ (Err (failed_at s)) τ → ⊥
+
+pub record OperatorsTried (m : Meaning) (σ : State) (o : Op) : Type 0 where
+  pub refused : Tries m σ o (Some Failed) (settled σ)
+  pub done : Tries m σ o None (settled σ) → ⊥
+  pub refused_otherwise : Tries m σ o (Some Other) (settled σ) → ⊥
+  pub touched : (τ : State) → (τ ≡ settled σ → ⊥) → Tries m σ o (Some Failed) τ → ⊥
+  pub recovered : Tries m σ o (Some Failed) (record (settled σ) { failed = false }) → ⊥
+
+-- ---- where a frame is left open
+
+-- an expression that was accepted closes every frame, and so does a body
+pub record FramesClosed (m : Meaning) (s : Bytes) (σ τ : State) : Type 0 where
+  pub expression : (τ.opens ≡ [] → ⊥) → Validates m σ s (Ok tt) τ → ⊥
+  pub body : (τ.opens ≡ [] → ⊥) → ValidatesFunction m s σ (Ok tt) τ → ⊥
+
+-- ---- which bytes
+
+-- no locals, and an end
+abbrev pub empty_body : List ℕ
+empty_body = 0x00 ∷ 0x0b ∷ []
+
+abbrev pub procedure : Signature
+procedure = record { params = []; results = [] }
+
+pub record FunctionsSpelled (g : Module) (x : ℕ) : Type 0 where
+  pub empty : (t : TypeTree) → slice_get g.types x ≡ Some t → IsFunctionType t procedure → SpellsValidFunction no_features g x empty_body
+  pub no_type : slice_get g.types x ≡ None → SpellsValidFunction no_features g x empty_body → ⊥
+  pub nothing : SpellsValidFunction no_features g x [] → ⊥
+  pub too_many : (z : Settings) (text : List ℕ) (h : SpellsValidFunction z g x text) → default_limits.locals < length h.valid.signature.params → ⊥
+  pub features : (judged_by 5 no_features).features ≡ 5
+  pub limits : (judged_by 5 no_features).limits ≡ default_limits

@@ -1,0 +1,103 @@
+//! Worked rows, each the contract of a function that does nothing.
+
+ghost use Rattle.std.specs.Prelude.{◌≡◌, ℕ, true, List};
+ghost use Rattle.wasm_types.specs.decoding.Decoder.{State as Bytes};
+ghost use Rattle.wasm_types.specs.features.declared.WasmFeatures.{WasmFeatures};
+ghost use Rattle.wasm_types.specs.limits.Settings.{Settings};
+ghost use Rattle.wasm_types.specs.limits.declared.Limits.{Limits};
+ghost use Rattle.wasm_operator_validator_stacks.specs.expression.operator.Op.{Op};
+ghost use Rattle.wasm_operator_validator_stacks.specs.rules.Context.{Module};
+ghost use Rattle.wasm_operator_validator_stacks.specs.resources.Meaning.{Meaning};
+ghost use Rattle.wasm_operator_validator_stacks.specs.state.State.{State};
+ghost use Rattle.wasm_module_validator_exports.specs.declared.names.exports.NamedExport.{NamedExport};
+ghost use Rattle.wasm_module_validator_exports.specs.declared.names.imports.NamedImports.{NamedImports};
+ghost use Rattle.wasm_module_validator_sharing.specs.Sharing.{Handed};
+ghost use Rattle.wasm_module_validator_sharing.specs.reading.progress.Progress.{Kept, Progress};
+ghost use Rattle.wasm_module_validator_sharing.specs.reading.progress.functions.declared.code.bodies.Body.{Body};
+ghost use Rattle.wasm_module_validator_sharing.specs.reading.progress.standing.steps.Steps.{SoFar};
+ghost use Rattle.wasm_module_validator_standing.specs.type_trees.Groups.{Group};
+ghost use Rattle.wasm_module_validator.specs.Shown.{Learned};
+ghost use Rattle.wasm_module_validator.specs.declared.validator.Validator.{Validator};
+ghost use Rattle.wasm_module_validator_tests.specs.Added.{SpacesAdded, SpacesMarked, ContextsAdded, ContextsRefer, ModulesMean};
+ghost use Rattle.wasm_module_validator_tests.specs.Items.{ImportsNamed, NamesKept, RoomFor, Importable, Exportable, Imported, NextPlaces, Exported, NextCode, RefusedBy, NamesKnown, ReadOver};
+ghost use Rattle.wasm_module_validator_tests.specs.Reading.{ItemsRead, Begins, Refused};
+ghost use Rattle.wasm_module_validator_tests.specs.Standing.{Grown, StandsRows, ItemsTold, FitsTold};
+ghost use Rattle.wasm_module_validator_tests.specs.Bodies.{LocalsRead, ExpressionsValidated, FunctionsValidated, OperatorsTried, FramesClosed, FunctionsSpelled};
+ghost use Rattle.wasm_module_validator_tests.specs.Progress.{KeptRows, StandsFor, BodiesStand, BodiesJudged, ReachedRows, ReachedStands, NextTold, BodiesTold};
+ghost use Rattle.wasm_module_validator_tests.specs.Methods.{Turns, HeadersRead, SectionsTaken, EndsRows, Known, Answers, PayloadsTaken};
+
+/// What the spaces of a module and the context of the rules are with an item more (WebAssembly 3.0, structure, modules, indices; validation,
+/// conventions, contexts).
+pub const fn spaces_are_worked()
+    ensures added { (z : Settings) → SpacesAdded z }
+    ensures marked { (z : Settings) (x : ℕ) → SpacesMarked z x }
+    ensures contexts { ContextsAdded }
+    ensures references { ContextsRefer }
+    ensures meanings { (z : Settings) → ModulesMean z }
+{}
+
+/// When an item may be added, what is added with it, and what is left where it is refused (WebAssembly 3.0, validation, modules; appendix,
+/// implementation limitations).
+pub const fn items_are_worked()
+    ensures imports { ImportsNamed }
+    ensures names { (e : NamedExport) (n : NamedImports) → NamesKept e n }
+    ensures room { RoomFor }
+    ensures importable { Importable }
+    ensures exportable { Exportable }
+    ensures imported { (l : Limits) → Imported l }
+    ensures places { (z : Settings) → NextPlaces z }
+    ensures exported { (l : Limits) → Exported l }
+    ensures code { (z : Settings) → NextCode z }
+    ensures refusals { (f : WasmFeatures) → RefusedBy f }
+    ensures known { (z : Settings) → NamesKnown z }
+    ensures read { (z : Settings) → ReadOver z }
+{}
+
+/// What is read of items with constants, what may begin, and why data segments are refused (WebAssembly 3.0, binary format and validation,
+/// modules).
+pub const fn reading_is_worked()
+    ensures items { ItemsRead }
+    ensures sections { Begins }
+    ensures refusals { (z : Settings) (s : Bytes) → Refused z s }
+{}
+
+/// When the state of a module that is being read stands for a tree, and what is told of it (WebAssembly 3.0, validation, modules).
+pub const fn standing_is_worked()
+    ensures lists { (g h : Group) → Grown g h }
+    ensures states { (groups : List Group) (z : Settings) → StandsRows groups z }
+    ensures items { (groups : List Group) → ItemsTold groups }
+    ensures sections { (groups : List Group) → FitsTold groups }
+{}
+
+/// What the validation of a body promises, and which bytes spell a valid function (WebAssembly 3.0, validation, modules, functions and locals).
+pub const fn functions_are_worked()
+    ensures locals { (m : Meaning) (s : Bytes) (σ : State) → σ.failed ≡ true → LocalsRead m s σ }
+    ensures expressions { (m : Meaning) (s : Bytes) (σ : State) → σ.failed ≡ true → ExpressionsValidated m s σ }
+    ensures bodies { (m : Meaning) (s : Bytes) (σ : State) → σ.failed ≡ true → FunctionsValidated m s σ }
+    ensures operators { (m : Meaning) (σ : State) (o : Op) → σ.failed ≡ true → OperatorsTried m σ o }
+    ensures frames { (m : Meaning) (s : Bytes) (σ τ : State) → FramesClosed m s σ τ }
+    ensures spelled { (g : Module) (x : ℕ) → FunctionsSpelled g x }
+{}
+
+/// What is kept of a module, and when it stands for what was judged (WebAssembly 3.0, binary format and validation, modules).
+pub const fn progress_is_worked()
+    ensures kept { (z : Settings) (g h : Group) → KeptRows z g h }
+    ensures stands { (groups : List Group) (bits : ℕ) → StandsFor groups bits }
+    ensures bodies { (groups : List Group) (z : Settings) (r : Progress) (b : Body) (p : SoFar) → BodiesStand groups z r b p }
+    ensures judged { (z : Settings) → BodiesJudged z }
+    ensures reached { (groups : List Group) (z : Settings) (k : Kept) (r : Progress) → ReachedRows groups z k r }
+    ensures shared { (groups : List Group) (bits : ℕ) → ReachedStands groups bits }
+    ensures next { (groups : List Group) (bits : ℕ) → NextTold groups bits }
+    ensures handed { (f : Handed) → BodiesTold f }
+{}
+
+/// What the methods of a validator promise, in turn and out of turn (WebAssembly 3.0, binary format and validation, modules).
+pub const fn methods_are_worked()
+    ensures turns { Turns }
+    ensures headers { (v : Validator) → HeadersRead v }
+    ensures sections { (v : Validator) (c : _) (b : Bytes) → SectionsTaken v c b }
+    ensures ends { (v : Validator) → EndsRows v }
+    ensures known { (v : Validator) → Known v }
+    ensures answers { (b : Bytes) (f : Handed) (l : Learned) → Answers b f l }
+    ensures payloads { (v : Validator) (c : _) (n : ℕ) (r : _) → PayloadsTaken v c n r }
+{}

@@ -1,0 +1,42 @@
+-- Where the body of a function begins, and which functions may have a type: of a module with a function type of one parameter and two
+-- results at index 0, and a struct at index 1 (WebAssembly 3.0, validation, functions).
+use Rattle.std.specs.Prelude.{◌≡◌, ◌<◌, ℕ, Bool, true, false, List, [], ◌∷◌, length}
+use Rattle.wasm_types.specs.limits.Limits.{default_limits}
+use Rattle.wasm_types.specs.trees.Types.{i32, i64, number}
+use Rattle.wasm_types.specs.trees.Trees.{TypeTree}
+use Rattle.wasm_types.specs.values.declared.value.ValType.{ValType}
+use Rattle.wasm_types.specs.values.declared.value.ValType.TheVariants.{I32, I64}
+use Rattle.wasm_operator_validator_determined.specs.expression.immediates.declared.block.BlockType.TheVariants as block
+use Rattle.wasm_operator_validator_determined.specs.rules.Context.{Signature}
+use Rattle.wasm_operator_validator_determined.specs.resources.Meaning.{Meaning}
+use Rattle.wasm_operator_validator_determined.specs.state.State.{State}
+use Rattle.wasm_operator_validator_determined.specs.state.Bodies.{fresh}
+use Rattle.wasm_operator_validator_determined.specs.stacks.Layout.{none_saved}
+use Rattle.wasm_operator_validator_functions.specs.Functions.{HasFunctionType, MayBegin, Begins}
+use Rattle.wasm_operator_validator_tests.specs.Answers.{listed}
+use Rattle.wasm_operator_validator_determined.specs.rules.arity.Worked.{splitting}
+
+abbrev pub its_signature : Signature
+its_signature = record { params = number i64 ∷ []; results = number i32 ∷ number i32 ∷ [] }
+
+-- a body of the type at this index begins, under features with the bits 5
+abbrev pub begun_with : List ValType → ℕ → Bool → ℕ → State
+begun_with locals params shared x = fresh (record { bits = 5; locals = locals; params = params; shared = shared }) (block.FuncType x) none_saved
+
+pub record BeginningRows : Type 0 where
+  pub function : HasFunctionType listed 0 splitting its_signature
+  pub no_function : (t : TypeTree) (b : Signature) → HasFunctionType listed 1 t b → ⊥
+  pub no_type : (t : TypeTree) (b : Signature) → HasFunctionType listed 9 t b → ⊥
+  pub may : MayBegin listed 0
+  pub may_not_struct : MayBegin listed 1 → ⊥
+  pub may_not_none : MayBegin listed 9 → ⊥
+  pub may_not_large : (m : Meaning) (x : ℕ) (t : TypeTree) (b : Signature) → HasFunctionType m x t b → default_limits.locals < length b.params → MayBegin m x → ⊥
+  pub begins : Begins listed 5 0 (begun_with (I64 ∷ []) 1 false 0)
+  pub not_of_a_struct : Begins listed 5 1 (begun_with (I64 ∷ []) 1 false 1) → ⊥
+  pub no_other_features : Begins listed 4 0 (begun_with (I64 ∷ []) 1 false 0) → ⊥
+  pub not_without_locals : Begins listed 5 0 (begun_with [] 0 false 0) → ⊥
+  pub no_other_local : Begins listed 5 0 (begun_with (I32 ∷ []) 1 false 0) → ⊥
+  pub no_further_local : Begins listed 5 0 (begun_with (I64 ∷ I32 ∷ []) 2 false 0) → ⊥
+  pub not_unset : Begins listed 5 0 (begun_with (I64 ∷ []) 0 false 0) → ⊥
+  pub not_shared : Begins listed 5 0 (begun_with (I64 ∷ []) 1 true 0) → ⊥
+  pub no_other_frame : Begins listed 5 0 (begun_with (I64 ∷ []) 1 false 1) → ⊥
