@@ -1,7 +1,8 @@
 //! The items of each kind of section.
 
-ghost use Rattle.std.specs.Prelude.{◌≡◌, List, OnOk, true};
+ghost use Rattle.std.specs.Prelude.{◌≡◌, List, OnOk, IfErr, true};
 ghost use Rattle.wasm_types.specs.error.Denials.{Tells};
+ghost use Rattle.wasm_types.specs.reader.Reading.{IsNotMemory};
 ghost use Rattle.wasm_types.specs.limits.Limits.{IsWithinCeilings};
 ghost use Rattle.wasm_types.specs.limits.Settings.{Settings};
 ghost use Rattle.wasm_module_validator_resources.specs.Named.{IsReadOver};
@@ -121,6 +122,7 @@ impl<'a> SectionItem<'a> for TableOf<ConstExpr<'a>> {
     fn check_count(state: &ModuleState, count: u32, offset: u64) -> Result<()>
         ensures answer { (groups : List Group) (z : Settings) (m : ModuleTree) → Stands groups state.now z m → IsUnread section.tables m
             → Tells result (MayBegin z section.tables × Fits z section.tables m count) }
+        ensures refused { IfErr result (λ e. IsNotMemory e.kind × (e.offset ≡ offset)) }
     {
         state.check_table_count(count, offset)
     }
@@ -243,6 +245,7 @@ impl<'a> SectionItem<'a> for GlobalOf<ConstExpr<'a>> {
     fn check_count(state: &ModuleState, count: u32, offset: u64) -> Result<()>
         ensures answer { (groups : List Group) (z : Settings) (m : ModuleTree) → Stands groups state.now z m → IsUnread section.globals m
             → Tells result (MayBegin z section.globals × Fits z section.globals m count) }
+        ensures refused { IfErr result (λ e. IsNotMemory e.kind × (e.offset ≡ offset)) }
     {
         state.check_global_count(count, offset)
     }
@@ -292,6 +295,7 @@ impl<'a> SectionItem<'a> for Export<'a> {
     fn check_count(state: &ModuleState, count: u32, offset: u64) -> Result<()>
         ensures answer { (groups : List Group) (z : Settings) (m : ModuleTree) → Stands groups state.now z m → IsUnread section.exports m
             → Tells result (MayBegin z section.exports × Fits z section.exports m count) }
+        ensures refused { IfErr result (λ e. IsNotMemory e.kind × (e.offset ≡ offset)) }
     {
         state.check_export_count(count, offset)
     }
@@ -341,6 +345,7 @@ impl<'a> SectionItem<'a> for ElementOf<'a, ConstExpr<'a>> {
     fn check_count(state: &ModuleState, count: u32, offset: u64) -> Result<()>
         ensures answer { (groups : List Group) (z : Settings) (m : ModuleTree) → Stands groups state.now z m → IsUnread section.element_segments m
             → Tells result (MayBegin z section.element_segments × Fits z section.element_segments m count) }
+        ensures refused { IfErr result (λ e. IsNotMemory e.kind × (e.offset ≡ offset)) }
     {
         state.check_element_segment_count(count, offset)
     }
@@ -390,6 +395,7 @@ impl<'a> SectionItem<'a> for DataOf<'a, ConstExpr<'a>> {
     fn check_count(state: &ModuleState, count: u32, offset: u64) -> Result<()>
         ensures answer { (groups : List Group) (z : Settings) (m : ModuleTree) → Stands groups state.now z m → IsUnread section.data_segments m
             → Tells result (MayBegin z section.data_segments × Fits z section.data_segments m count) }
+        ensures refused { IfErr result (λ e. IsNotMemory e.kind × (e.offset ≡ offset)) }
     {
         state.check_data_segment_count(count, offset)
     }
