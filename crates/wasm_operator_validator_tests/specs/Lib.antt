@@ -5,6 +5,7 @@ pub mod States
 pub mod Attempts
 pub mod Beginning
 pub mod Steps
+pub mod Taken
 -- that they hold
 pub mod CountLaws
 pub mod AnswerLaws
@@ -12,3 +13,4 @@ pub mod StateLaws
 pub mod AttemptLaws
 pub mod BeginningLaws
 pub mod StepLaws
+pub mod TakenLaws

@@ -13,6 +13,7 @@ ghost use Rattle.wasm_operator_validator_tests.specs.States.{RefusalsTold, Answe
 ghost use Rattle.wasm_operator_validator_tests.specs.Attempts.{NotesRows, AttemptsRows};
 ghost use Rattle.wasm_operator_validator_tests.specs.Beginning.{BeginningRows};
 ghost use Rattle.wasm_operator_validator_tests.specs.Steps.{NamesWritten, StacksChanged, OperandsExchanged, AbstractFits, BeginningsStopped, LocalsDeclared, FunctionsAt};
+ghost use Rattle.wasm_operator_validator_tests.specs.Taken.{TakenRows, ConstantsBegin};
 
 /// How many operands the operators take and give for which no rule of typing is there yet (WebAssembly 3.0, validation, instructions, and
 /// the proposals on custom descriptors, shared everything and stack switching).
@@ -67,4 +68,10 @@ pub const fn steps_are_worked()
     ensures beginnings { BeginningsStopped }
     ensures locals { LocalsDeclared }
     ensures functions { FunctionsAt }
+{}
+
+/// Which operators a run takes, and from which offset to which; where a constant begins.
+pub const fn runs_are_worked()
+    ensures runs { (m : Meaning) → TakenRows m }
+    ensures constants { ConstantsBegin }
 {}
