@@ -6,6 +6,8 @@ pub mod Standing
 pub mod Bodies
 pub mod Progress
 pub mod Methods
+pub mod Types
+pub mod Done
 -- that they hold
 pub mod AddedLaws
 pub mod ItemLaws
@@ -14,3 +16,5 @@ pub mod StandingLaws
 pub mod BodyLaws
 pub mod ProgressLaws
 pub mod MethodLaws
+pub mod TypeLaws
+pub mod DoneLaws

@@ -5,6 +5,7 @@ ghost use Rattle.wasm_types.specs.decoding.Decoder.{State as Bytes};
 ghost use Rattle.wasm_types.specs.features.declared.WasmFeatures.{WasmFeatures};
 ghost use Rattle.wasm_types.specs.limits.Settings.{Settings};
 ghost use Rattle.wasm_types.specs.limits.declared.Limits.{Limits};
+ghost use Rattle.wasm_types.specs.trees.Trees.{TypeTree};
 ghost use Rattle.wasm_operator_validator_stacks.specs.expression.operator.Op.{Op};
 ghost use Rattle.wasm_operator_validator_stacks.specs.rules.Context.{Module};
 ghost use Rattle.wasm_operator_validator_stacks.specs.resources.Meaning.{Meaning};
@@ -25,6 +26,8 @@ ghost use Rattle.wasm_module_validator_tests.specs.Standing.{Grown, StandsRows, 
 ghost use Rattle.wasm_module_validator_tests.specs.Bodies.{LocalsRead, ExpressionsValidated, FunctionsValidated, OperatorsTried, FramesClosed, FunctionsSpelled};
 ghost use Rattle.wasm_module_validator_tests.specs.Progress.{KeptRows, StandsFor, BodiesStand, BodiesJudged, ReachedRows, ReachedStands, NextTold, BodiesTold};
 ghost use Rattle.wasm_module_validator_tests.specs.Methods.{Turns, HeadersRead, SectionsTaken, EndsRows, Known, Answers, PayloadsTaken};
+ghost use Rattle.wasm_module_validator_tests.specs.Types.{TypesInterned, TypesMatched, TypesValid};
+ghost use Rattle.wasm_module_validator_tests.specs.Done.{LocalsDone, TriesDone, BodiesDone, FunctionsNamed};
 
 /// What the spaces of a module and the context of the rules are with an item more (WebAssembly 3.0, structure, modules, indices; validation,
 /// conventions, contexts).
@@ -100,4 +103,19 @@ pub const fn methods_are_worked()
     ensures known { (v : Validator) → Known v }
     ensures answers { (b : Bytes) (f : Handed) (l : Learned) → Answers b f l }
     ensures payloads { (v : Validator) (c : _) (n : ℕ) (r : _) → PayloadsTaken v c n r }
+{}
+
+/// Which types are interned, which match and which are valid, by their ids (WebAssembly 3.0, validation, types and matching).
+pub const fn types_are_worked()
+    ensures interned { TypesInterned }
+    ensures matched { TypesMatched }
+    ensures valid { TypesValid }
+{}
+
+/// What is promised where nothing is refused, and what expressions refer to (WebAssembly 3.0, validation, modules).
+pub const fn bodies_are_done()
+    ensures locals { (m : Meaning) → LocalsDone m }
+    ensures tries { (m : Meaning) → TriesDone m }
+    ensures bodies { (m : Meaning) (t : TypeTree) → BodiesDone m t }
+    ensures named { FunctionsNamed }
 {}

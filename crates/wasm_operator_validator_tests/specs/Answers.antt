@@ -3,16 +3,12 @@
 use Rattle.std.specs.Prelude.{◌≡◌, ℕ, Bool, true, false, [], ◌∷◌, Option, Some, None}
 use Rattle.wasm_types.specs.indices.declared.index.UnpackedIndex.{UnpackedIndex}
 use Rattle.wasm_types.specs.indices.declared.index.UnpackedIndex.TheVariants.{Module, RecGroup, Id}
-use Rattle.wasm_types.specs.fields.declared.func.FuncType.{FuncType}
-use Rattle.wasm_types.specs.trees.Types.{i32, i64, number, ref, abstract, concrete, exact, func, any, none, InnerOf, function}
-use Rattle.wasm_types.specs.trees.Trees.{TypeTree}
-use Rattle.wasm_types.specs.values.Reference.{Reference}
-use Rattle.wasm_types.specs.values.declared.heap.HeapType.{HeapType}
+use Rattle.wasm_types.specs.trees.Types.{i32, i64, number, ref, abstract, concrete, exact, func, any, none, function}
 use Rattle.wasm_types.specs.values.declared.heap.HeapType.TheVariants as heap
 use Rattle.wasm_types.specs.values.declared.heap.AbstractHeapType.TheVariants as abstract_heap
 use Rattle.wasm_types.specs.values.declared.value.ValType.TheVariants as value_type
 use Rattle.wasm_operator_validator_determined.specs.resources.Meaning.{Meaning, IsKnownIndex, named_type, heap_in, type_in, reference_in, function_in, global_in, table_in, top_heap}
-use Rattle.wasm_operator_validator_determined.specs.resources.Answers.{IsTypeOf, IsMissing}
+use Rattle.wasm_operator_validator_determined.specs.resources.Answers.{IsTypeOf}
 use Rattle.wasm_operator_validator_determined.specs.expression.operator.Op as op
 use Rattle.wasm_operator_validator_determined.specs.expression.operator.Op.{Op}
 use Rattle.wasm_operator_validator_determined.specs.expression.immediates.declared.block.BlockType.TheVariants as block

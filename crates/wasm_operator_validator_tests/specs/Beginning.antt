@@ -1,6 +1,6 @@
 -- Where the body of a function begins, and which functions may have a type: of a module with a function type of one parameter and two
 -- results at index 0, and a struct at index 1 (WebAssembly 3.0, validation, functions).
-use Rattle.std.specs.Prelude.{◌≡◌, ◌<◌, ℕ, Bool, true, false, List, [], ◌∷◌, length}
+use Rattle.std.specs.Prelude.{◌<◌, ℕ, Bool, true, false, List, [], ◌∷◌, length}
 use Rattle.wasm_types.specs.limits.Limits.{default_limits}
 use Rattle.wasm_types.specs.trees.Types.{i32, i64, number}
 use Rattle.wasm_types.specs.trees.Trees.{TypeTree}

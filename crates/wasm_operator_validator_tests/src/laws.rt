@@ -12,6 +12,8 @@ ghost use Rattle.wasm_operator_validator_tests.specs.Answers.{CountsEnd, NamesAn
 ghost use Rattle.wasm_operator_validator_tests.specs.States.{RefusalsTold, AnswersDo, KindsOfRefusals, NamesOfTypes, UsesRows, ChecksRows, VisitsRows};
 ghost use Rattle.wasm_operator_validator_tests.specs.Attempts.{NotesRows, AttemptsRows};
 ghost use Rattle.wasm_operator_validator_tests.specs.Beginning.{BeginningRows};
+ghost use Rattle.wasm_operator_validator_tests.specs.Steps.{NamesWritten, StacksChanged, OperandsExchanged, AbstractFits, BeginningsStopped, LocalsDeclared, FunctionsAt};
+ghost use Rattle.wasm_operator_validator_tests.specs.Taken.{TakenRows, ConstantsBegin};
 
 /// How many operands the operators take and give for which no rule of typing is there yet (WebAssembly 3.0, validation, instructions, and
 /// the proposals on custom descriptors, shared everything and stack switching).
@@ -54,4 +56,22 @@ pub const fn attempts_are_worked()
 /// Where the body of a function begins, and which functions may have a type (WebAssembly 3.0, validation, functions).
 pub const fn beginnings_are_worked()
     ensures { BeginningRows }
+{}
+
+/// What steps over open frames do, why an operator may not begin, which locals are declared, and which types are those of functions
+/// (WebAssembly 3.0, validation, instructions and functions).
+pub const fn steps_are_worked()
+    ensures names { NamesWritten }
+    ensures stacks { (m : Meaning) → StacksChanged m }
+    ensures operands { OperandsExchanged }
+    ensures fits { (m : Meaning) → AbstractFits m }
+    ensures beginnings { BeginningsStopped }
+    ensures locals { LocalsDeclared }
+    ensures functions { FunctionsAt }
+{}
+
+/// Which operators a run takes, and from which offset to which; where a constant begins.
+pub const fn runs_are_worked()
+    ensures runs { (m : Meaning) → TakenRows m }
+    ensures constants { ConstantsBegin }
 {}

@@ -5,7 +5,7 @@ use Rattle.wasm_types.specs.decoding.Decoder.{State, Decoder, Done, Short, Fault
 use Rattle.wasm_types.specs.limits.Settings.{no_features}
 use Rattle.wasm_types.specs.values.declared.value.ValType.TheVariants.{I32, I64, F64}
 use Rattle.wasm_operators_bodies.specs.Locals.{group_of, locals}
-use Rattle.wasm_operators_bodies.specs.Bodies.{body_bytes}
+use Rattle.wasm_operators_bodies.specs.Bodies.{body_bytes, OperatorsBegin}
 use Rattle.wasm_operators_bodies.specs.ConstantDecoder.{constant}
 
 -- a reader behind n bytes, with these left, where no feature is allowed
@@ -39,6 +39,14 @@ pub record BodyRows : Type 0 where
   pub two_bytes : reads body_bytes (0x02 ∷ 0x00 ∷ 0x0b ∷ []) (0x00 ∷ 0x0b ∷ [])
   pub no_byte : reads body_bytes (0x00 ∷ []) []
   pub cut_short : ends body_bytes (0x03 ∷ 0x00 ∷ []) 1 2
+
+-- where the operators of a body begin: behind no locals, behind one group, and nowhere else
+pub record BeginRows : Type 0 where
+  pub behind_none : OperatorsBegin (behind 0 (0x00 ∷ 0x0b ∷ [])) (behind 1 (0x0b ∷ []))
+  pub behind_a_group : OperatorsBegin (behind 0 (0x01 ∷ 0x02 ∷ 0x7f ∷ 0x0b ∷ [])) (behind 3 (0x0b ∷ []))
+  pub not_before : OperatorsBegin (behind 0 (0x01 ∷ 0x02 ∷ 0x7f ∷ 0x0b ∷ [])) (behind 1 (0x02 ∷ 0x7f ∷ 0x0b ∷ [])) → ⊥
+  pub not_further : OperatorsBegin (behind 0 (0x00 ∷ 0x0b ∷ [])) (behind 2 []) → ⊥
+  pub no_locals : (t : State) → OperatorsBegin (behind 0 (0x01 ∷ 0x01 ∷ 0x40 ∷ 0x0b ∷ [])) t → ⊥
 
 -- the first n bytes are this value, and these are left
 abbrev pub begins : {A : Type 0} → Decoder A → List ℕ → A → ℕ → List ℕ → Type 0

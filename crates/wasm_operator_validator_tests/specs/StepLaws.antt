@@ -1,0 +1,190 @@
+-- The rows of `Steps`.
+use Rattle.std.proofs.Common.{◌≡◌, ◌⊎◌, ◌∙◌, inl, inr, ℕ, Bool, true, false, List, [], ◌∷◌, length, Some, refl, sym, ap, arith, lit<, lit≤}
+use Rattle.wasm_types.specs.limits.Limits.{default_limits}
+use Rattle.wasm_types.specs.features.Features.{Floats, Simd, mask}
+use Rattle.wasm_types.specs.trees.Types.{i32, i64, number, function, any, eq, concrete}
+use Rattle.wasm_types.specs.trees.Trees.{TypeTree, opened}
+use Rattle.wasm_types.specs.trees.Below.{expanded}
+use Rattle.wasm_types.specs.trees.AbstractOrder.{AbstractBelow, same, eq_any}
+use Rattle.wasm_types.specs.values.declared.value.ValType.{ValType}
+use Rattle.wasm_types.specs.values.declared.value.ValType.TheVariants.{I32, I64}
+use Rattle.wasm_operator_validator_determined.specs.rules.Operands.{bottom}
+use Rattle.wasm_operator_validator_determined.specs.rules.Context.{Signature}
+use Rattle.wasm_operator_validator_determined.specs.rules.arity.Worked.{splitting, pair}
+use Rattle.wasm_operator_validator_determined.specs.resources.Meaning.{Meaning, type_in}
+use Rattle.wasm_operator_validator_determined.specs.state.declared.operand.MaybeType.{MaybeType}
+use Rattle.wasm_operator_validator_determined.specs.state.declared.operand.MaybeType.TheVariants as maybe
+use Rattle.wasm_operator_validator_determined.specs.state.State.{State}
+use Rattle.wasm_operator_validator_determined.specs.stacks.Running.{Operands}
+use Rattle.wasm_operator_validator_tests.specs.Answers.{listed}
+use Rattle.wasm_operator_validator_tests.specs.Beginning.{its_signature}
+use Rattle.wasm_operator_validator_tests.specs.Steps.{NamesWritten, StacksChanged, OperandsExchanged, AbstractFits, BeginningsStopped, LocalsDeclared, FunctionsAt}
+
+untrue : false ≡ true → ⊥
+untrue e = absurd cc
+
+turned : true ≡ false → ⊥
+turned e = absurd cc
+
+-- ---- names
+
+-- the two types are not one
+two_types : concrete splitting ≡ concrete pair → ⊥
+unfolding opened
+two_types e =
+    let p : splitting ≡ pair = cc in
+    let q = ap expanded p in
+    absurd cc
+
+pub names_written : NamesWritten
+unfolding opened
+names_written = record {
+  written = lit< tt;
+  written_exactly = lit< tt;
+  abstract_type = tt;
+  no_type = λ h. omega (arith, h);
+  by_an_id = λ h. h;
+  by_a_place = λ h. h;
+  named = record { nullable = refl; heap = record { same = refl; known = lit< tt; fits = lit< tt } };
+  not_null = λ h. untrue h.nullable;
+  another = λ h. two_types h.heap.same;
+  unknown = λ h. let k = h.heap.known in omega (arith, k);
+  not_named = λ h. h.heap.known;
+}
+
+-- ---- stacks
+
+pub stacks_changed : (m : Meaning) → StacksChanged m
+unfolding type_in
+stacks_changed m = record {
+  popped = record { same = record { given = refl; inits = refl; frames = (refl, refl, refl, refl); failed = refl; saved = refl }; stacks = λ s. (λ h. h.1, λ h. (refl, h)) };
+  popped_none = record { same = record { given = refl; inits = refl; frames = (refl, refl, refl, refl); failed = refl; saved = refl }; stacks = λ s. (λ h. h, λ h. h) };
+  not_popped = λ p. (p.stacks []).0 (refl, tt);
+  popped_another = λ p. let e : i32 ≡ i64 = ((p.stacks []).1 tt).0 in absurd cc;
+  popped_and_failed = λ p. turned p.same.failed;
+  jumped = record { same = record { given = refl; inits = refl; frames = (refl, refl, refl, refl); failed = refl; saved = refl }; stacks = λ s. tt };
+  not_jumped = λ j. j.stacks (bottom ∷ []);
+  jumped_with_operands = λ j. j.stacks [];
+  jumped_and_failed = λ j. turned j.same.failed;
+}
+
+-- ---- operands
+
+-- the types of operands that are known
+abbrev is_i32 : MaybeType → Bool
+is_i32 (maybe.Known I32) = true
+is_i32 _ = false
+
+abbrev top_is : Bool → List MaybeType → Bool
+top_is b [] = b
+top_is b (x ∷ xs) = is_i32 x
+
+-- both lists of operands have these lengths
+lengths : (a b : Operands) → a ≡ b → (length a.0 ≡ length b.0) × (length a.1 ≡ length b.1)
+lengths a b e = (ap (λ (x : Operands). length x.0) e, ap (λ (x : Operands). length x.1) e)
+
+pub operands_exchanged : OperandsExchanged
+operands_exchanged = record {
+  put = (maybe.Known I64 ∷ [], refl, refl);
+  put_another = λ (rest, e, f). let x = ap (λ (a : Operands). top_is false a.0) f in untrue (sym x);
+  not_put = λ (rest, e, f). let x = (lengths _ _ f).0 in let y = ap (λ (a : List MaybeType). length a) e in omega (arith, x, y);
+  put_under = λ (rest, e, f). let x = ap (λ (a : Operands). top_is false a.0) f in turned x;
+  taken = (maybe.Known I64 ∷ [], refl, refl);
+  taken_another = λ (rest, e, f). let x = ap (top_is false) e in turned x;
+  not_taken = λ (rest, e, f). let x = (lengths _ _ f).0 in let y = ap (λ (a : List MaybeType). length a) e in omega (arith, x, y);
+  taken_of_outer = λ (rest, e, f). let x = (lengths _ _ f).1 in omega (arith, x);
+  changed = (maybe.Known I64 ∷ [], refl, refl);
+  not_changed = λ (rest, e, f). let x = ap (λ (a : Operands). top_is false a.0) f in turned x;
+  changed_another = λ (rest, e, f). let x = ap (top_is false) e in turned x;
+  last_on_top = ([], refl, refl);
+  first_on_top = λ (rest, e, f). let x = ap (top_is false) e in turned x;
+  dropped = (maybe.Known I32, refl, refl);
+  not_dropped = λ (x, e, f). let y = ap (λ (a : List MaybeType). length a) e in omega (arith, y);
+  dropped_both = λ (x, e, f). let y = ap (λ (a : List MaybeType). length a) e in omega (arith, y);
+  dropped_none = λ (x, e, f). let y = ap (λ (a : List MaybeType). length a) e in omega (arith, y);
+  dropped_of_outer = λ (x, e, f). let y = ap (λ (a : List MaybeType). length a) f in omega (arith, y);
+}
+
+not_above : AbstractBelow any eq → ⊥
+not_above b = elim b [ ]
+
+pub abstract_fits : (m : Meaning) → AbstractFits m
+unfolding type_in
+abstract_fits m = record {
+  same = (tt, (refl, same));
+  below = (tt, (refl, eq_any));
+  above = λ h. not_above h.1.1;
+  of_another_sharing = λ h. untrue h.1.0;
+  number = λ h. h;
+}
+
+-- ---- what may begin
+
+neither : (n : ℕ) → (n ≡ mask Simd) ⊎ ((false ≡ true) × (n ≡ mask Floats)) → n ≡ mask Floats → ⊥
+neither n (inl e) f = omega (arith, e, f)
+neither n (inr (e, g)) f = untrue e
+
+not_asked : (n : ℕ) → (n ≡ 0) ⊎ ((false ≡ true) × (n ≡ mask Floats)) → n ≡ mask Floats → ⊥
+not_asked n (inl e) f = omega (arith, e, f)
+not_asked n (inr (e, g)) f = untrue e
+
+pub beginnings_stopped : BeginningsStopped
+beginnings_stopped = record {
+  after_refusal = refl;
+  not_after_refusal = untrue;
+  after_end = (refl, refl);
+  not_after_end = λ h. let e = h.1 in absurd cc;
+  refusal_first = λ h. turned h.0;
+  proposal_missed = (refl, tt, (refl, inl refl));
+  another_missed = λ h. neither _ h.2.1 refl;
+  nothing_missed = λ h. turned h.2.0;
+  floats_missed = (refl, tt, (refl, inr (refl, refl)));
+  floats_not_asked = λ h. not_asked _ h.2.1 refl;
+  end_first = λ h. h.1;
+  no_memory = λ h. h;
+}
+
+-- ---- locals and functions
+
+-- the first of these types, or i32
+abbrev first_of : List ValType → ValType
+first_of [] = I32
+first_of (t ∷ ts) = t
+
+pub locals_declared : LocalsDeclared
+unfolding default_limits type_in
+locals_declared = record {
+  two = record { named = I32; type = record { allowed = tt; known = tt; is = refl }; within = lit≤ tt; state = refl };
+  none = record { named = I32; type = record { allowed = tt; known = tt; is = refl }; within = lit≤ tt; state = refl };
+  one_more = λ d. let e = ap (λ (σ : State). length σ.given.locals) d.state in omega (arith, e);
+  not_declared = λ d. let e = ap (λ (σ : State). length σ.given.locals) d.state in omega (arith, e);
+  of_another_type = λ d.
+      let e = ap (λ (σ : State). first_of σ.given.locals) d.state in
+      let f = ap (type_in listed) e ∙ d.type.is in
+      absurd cc;
+  too_many = λ τ d. let w = d.within in omega (arith, w);
+}
+
+-- the type at the index is the first
+its_function : (b : Signature) (t : TypeTree) → Some splitting ≡ Some t → expanded t ≡ function b.params b.results → function (number i64 ∷ []) (number i32 ∷ number i32 ∷ []) ≡ function b.params b.results
+unfolding opened
+its_function b t e f = let g : splitting ≡ t = cc in ap expanded g ∙ f
+
+no_function : (b : Signature) (t : TypeTree) → Some pair ≡ Some t → expanded t ≡ function b.params b.results → ⊥
+unfolding opened
+no_function b t e f = let g : pair ≡ t = cc in let h = ap expanded g ∙ f in absurd cc
+
+pub functions_at : FunctionsAt
+unfolding opened
+functions_at = record {
+  function = (splitting, refl, refl);
+  not_none = λ h. h splitting its_signature refl refl;
+  no_function = λ t b e f. no_function b t e f;
+  no_type = λ t b e f. absurd cc;
+  not_a_struct = λ (t, e, f). no_function its_signature t e f;
+  another = λ (t, e, f). let g = its_function (record its_signature { params = [] }) t e f in absurd cc;
+  label_of_loop = refl;
+  label_of_block = refl;
+  label_of_if = refl;
+  label_of_else = refl;
+}
