@@ -1,6 +1,5 @@
 -- The rows of `Answers`.
-use Rattle.std.proofs.Common.{◌≡◌, ◌∙◌, ℕ, Bool, [], ◌∷◌, Option, Some, None, refl, sym, ap, arith, lit<}
-use Rattle.wasm_types.specs.trees.Types.{i32, i64, number, value, InnerOf, function, struct_of}
+use Rattle.std.proofs.Common.{◌≡◌, Option, Some, None, refl, sym, ap, arith, lit<}
 use Rattle.wasm_types.specs.trees.Trees.{TypeTree, opened}
 use Rattle.wasm_types.specs.trees.Below.{expanded}
 use Rattle.wasm_operator_validator_determined.specs.expression.operator.Op as op

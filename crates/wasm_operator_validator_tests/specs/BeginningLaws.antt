@@ -1,7 +1,7 @@
 -- The rows of `Beginning`.
-use Rattle.std.proofs.Common.{◌≡◌, ◌∙◌, ◌<◌, ◌≤◌, ℕ, Bool, true, false, List, [], ◌∷◌, length, map, Option, Some, None, slice_get, refl, sym, ap, subst, arith, lit≤}
+use Rattle.std.proofs.Common.{◌≡◌, ◌∙◌, ℕ, Bool, true, false, List, [], ◌∷◌, length, map, Option, Some, refl, sym, ap, arith, lit≤}
 use Rattle.wasm_types.specs.limits.Limits.{default_limits}
-use Rattle.wasm_types.specs.trees.Types.{i32, i64, number, InnerOf, function, struct_of}
+use Rattle.wasm_types.specs.trees.Types.{i32, i64, number, function}
 use Rattle.wasm_types.specs.trees.Trees.{TypeTree, opened}
 use Rattle.wasm_types.specs.trees.Below.{expanded, is_shared}
 use Rattle.wasm_types.specs.values.declared.value.ValType.{ValType}
@@ -11,7 +11,7 @@ use Rattle.wasm_operator_validator_determined.specs.rules.Operands.{ValueType}
 use Rattle.wasm_operator_validator_determined.specs.rules.Context.{Signature}
 use Rattle.wasm_operator_validator_determined.specs.resources.Meaning.{Meaning, type_in}
 use Rattle.wasm_operator_validator_determined.specs.state.State.{State, Open, types_in}
-use Rattle.wasm_operator_validator_functions.specs.Functions.{HasFunctionType, MayBegin, Begins}
+use Rattle.wasm_operator_validator_functions.specs.Functions.{HasFunctionType, Begins}
 use Rattle.wasm_operator_validator_tests.specs.Answers.{listed}
 use Rattle.wasm_operator_validator_tests.specs.Beginning.{its_signature, begun_with, BeginningRows}
 use Rattle.wasm_operator_validator_determined.specs.rules.arity.Worked.{splitting, pair}
