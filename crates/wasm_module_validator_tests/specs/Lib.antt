@@ -1,4 +1,4 @@
--- worked rows
+-- Worked rows.
 pub mod Added
 pub mod Items
 pub mod Reading
@@ -8,7 +8,8 @@ pub mod Progress
 pub mod Methods
 pub mod Types
 pub mod Done
--- that they hold
+pub mod Refusing
+-- Laws: that they hold.
 pub mod AddedLaws
 pub mod ItemLaws
 pub mod ReadingLaws
@@ -18,3 +19,4 @@ pub mod ProgressLaws
 pub mod MethodLaws
 pub mod TypeLaws
 pub mod DoneLaws
+pub mod RefusingLaws

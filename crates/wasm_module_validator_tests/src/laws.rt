@@ -1,11 +1,14 @@
 //! Worked rows, each the contract of a function that does nothing.
 
 ghost use Rattle.std.specs.Prelude.{◌≡◌, ℕ, true, List};
+ghost use Rattle.std.specs.declared.ops.Range.{Range};
 ghost use Rattle.wasm_types.specs.decoding.Decoder.{State as Bytes};
 ghost use Rattle.wasm_types.specs.features.declared.WasmFeatures.{WasmFeatures};
 ghost use Rattle.wasm_types.specs.limits.Settings.{Settings};
 ghost use Rattle.wasm_types.specs.limits.declared.Limits.{Limits};
 ghost use Rattle.wasm_types.specs.trees.Trees.{TypeTree};
+ghost use Rattle.wasm_sections_limited.specs.declared.section.SectionLimited.{SectionLimited};
+ghost use Rattle.wasm_sections_parser.specs.declared.frame.CustomSectionReader.{CustomSectionReader};
 ghost use Rattle.wasm_operator_validator_stacks.specs.expression.operator.Op.{Op};
 ghost use Rattle.wasm_operator_validator_stacks.specs.rules.Context.{Module};
 ghost use Rattle.wasm_operator_validator_stacks.specs.resources.Meaning.{Meaning};
@@ -17,6 +20,7 @@ ghost use Rattle.wasm_module_validator_sharing.specs.reading.progress.Progress.{
 ghost use Rattle.wasm_module_validator_sharing.specs.reading.progress.functions.declared.code.bodies.Body.{Body};
 ghost use Rattle.wasm_module_validator_sharing.specs.reading.progress.standing.steps.Steps.{SoFar};
 ghost use Rattle.wasm_module_validator_standing.specs.type_trees.Groups.{Group};
+ghost use Rattle.wasm_module_validator_standing.specs.steps.contexts.items.declared.elements.element.ElementOf.{ElementOf};
 ghost use Rattle.wasm_module_validator.specs.Shown.{Learned};
 ghost use Rattle.wasm_module_validator.specs.declared.validator.Validator.{Validator};
 ghost use Rattle.wasm_module_validator_tests.specs.Added.{SpacesAdded, SpacesMarked, ContextsAdded, ContextsRefer, ModulesMean};
@@ -26,6 +30,7 @@ ghost use Rattle.wasm_module_validator_tests.specs.Standing.{Grown, StandsRows, 
 ghost use Rattle.wasm_module_validator_tests.specs.Bodies.{LocalsRead, ExpressionsValidated, FunctionsValidated, OperatorsTried, FramesClosed, FunctionsSpelled};
 ghost use Rattle.wasm_module_validator_tests.specs.Progress.{KeptRows, StandsFor, BodiesStand, BodiesJudged, ReachedRows, ReachedStands, NextTold, BodiesTold};
 ghost use Rattle.wasm_module_validator_tests.specs.Methods.{Turns, HeadersRead, SectionsTaken, EndsRows, Known, Answers, PayloadsTaken};
+ghost use Rattle.wasm_module_validator_tests.specs.Refusing.{ItemsRefused};
 ghost use Rattle.wasm_module_validator_tests.specs.Types.{TypesInterned, TypesMatched, TypesValid};
 ghost use Rattle.wasm_module_validator_tests.specs.Done.{LocalsDone, TriesDone, BodiesDone, FunctionsNamed};
 
@@ -98,11 +103,11 @@ pub const fn progress_is_worked()
 pub const fn methods_are_worked()
     ensures turns { Turns }
     ensures headers { (v : Validator) → HeadersRead v }
-    ensures sections { (v : Validator) (c : _) (b : Bytes) → SectionsTaken v c b }
+    ensures sections { (v : Validator) (c : CustomSectionReader) (b : Bytes) → SectionsTaken v c b }
     ensures ends { (v : Validator) → EndsRows v }
     ensures known { (v : Validator) → Known v }
     ensures answers { (b : Bytes) (f : Handed) (l : Learned) → Answers b f l }
-    ensures payloads { (v : Validator) (c : _) (n : ℕ) (r : _) → PayloadsTaken v c n r }
+    ensures payloads { (v : Validator) (c : CustomSectionReader) (n : ℕ) (r : Range ℕ) → PayloadsTaken v c n r }
 {}
 
 /// Which types are interned, which match and which are valid, by their ids (WebAssembly 3.0, validation, types and matching).
@@ -118,4 +123,10 @@ pub const fn bodies_are_done()
     ensures tries { (m : Meaning) → TriesDone m }
     ensures bodies { (m : Meaning) (t : TypeTree) → BodiesDone m t }
     ensures named { FunctionsNamed }
+{}
+
+/// Why globals, tables and element segments are refused, and at which offset (WebAssembly 3.0, validation, modules).
+#[tactic(auto, using(crate::specs::RefusingLaws::items_refused))]
+pub fn refused_items_are_worked()
+    ensures { (z : Settings) (s : Bytes) (x : ElementOf Bytes) (f : SectionLimited ℕ) → ItemsRefused z s x f }
 {}
