@@ -165,6 +165,13 @@ told(
     0x19,
     "duplicate export name `a` already defined",
 )
+# the name would be a line of its own, `v: valid`
+told(
+    "export-name-of-several-lines",
+    HEADER + "01 04 01 60 00 00 02 05 01 00 00 00 00 07 1b 02 0a 0a 76 3a 20 76 61 6c 69 64 0a 00 00 0a 0a 76 3a 20 76 61 6c 69 64 0a 00 00",
+    0x25,
+    r"duplicate export name `\u{a}v: valid\u{a}` already defined",
+)
 told("module-information", HEADER + "01 0c 02 60 02 7f 7e 01 7f 60 02 7e 7f 00 03 02 01 00 04 04 01 70 00 0a 05 04 01 01 01 05 0d 03 01 00 01 06 06 01 7f 01 41 00 0b 09 07 01 05 70 01 d2 00 0b 0a 06 01 04 00 41 00 0b")
 told(
     "continuation-type-off",

@@ -1,19 +1,26 @@
 -- What clap finds in the words, as the files that they name.
-use Rattle.std.proofs.Common.{◌≡◌, ◌==◌, true, false, arith, ℕ, ◌<◌, List, [], ◌∷◌, length, map, ap, sym, subst, ◌∙◌}
+use Rattle.std.proofs.Common.{◌≡◌, ◌==◌, true, false, arith, ℕ, ◌<◌, List, [], ◌∷◌, length, map, ap, sym, subst, refl, inl, inr, ◌∙◌}
 use Rattle.std.specs.Prelude.{codes, Option, Some, None, Result, Ok, Err, IfOk, IfErr, IsSomeAnd, option_map, unwrap_or}
 use Rattle.clap.specs.Words.{FailsBy, fault_of, is_simple_and_free}
 use Rattle.clap.specs.declared.error.Error.{Error}
+use Rattle.std.proofs.lemmas.Bool.{eqb-true}
 use Rattle.std.specs.Borrow.{Bor}
 use Rattle.clap.specs.Simple.{App, HasMatchesOf, is_simple, matches_of}
-use Rattle.clap.specs.Walk.{all_of, rows_of}
-use Rattle.clap.specs.Matches.{found_of, matched_of, raw_values}
-use Rattle.clap.proofs.WalkLemmas.{raw_values-rows}
+use Rattle.clap.specs.Walk.{all_of, first_of, rows_of}
+use Rattle.clap.specs.Matches.{found_of, matched_of, raw_values, first_value}
+use Rattle.clap.proofs.WalkLemmas.{raw_values-rows, first_value-rows}
 use Rattle.clap.specs.declared.parser.matches.ArgMatches.{ArgMatches}
-use Rattle.wasm_check_command.specs.Words.{wasm_check, files_of, matches_on, refusals_of}
+use Rattle.wasm_check_command.specs.Words.{wasm_check, IsHelp, AsksForHelp, features_list, files_of, matches_on, refusals_of}
 use Rattle.wasm_check_command.specs.declared.command.Fault.{Fault}
 use Rattle.wasm_check_command.specs.declared.judging.Status.{Status}
 use Rattle.wasm_check_command.specs.declared.judging.Status.TheVariants.{AllValid, SomeInvalid}
-use Rattle.wasm_check_command.specs.Files.{texts, code_of, ReportsFiles, StopsFiles, IsStopped, Reports}
+use Rattle.wasm_types.specs.limits.Settings.{Settings}
+use Rattle.wasm_check_command.specs.Settings.{Asked, asked_by}
+use Rattle.wasm_check_command.specs.Files.{texts, asked_of, code_of, ReportsBy, StopsBy, IsStopped, Reports, HasNoStatus, IsUnshown}
+use Rattle.wasm_check_command.specs.declared.command.Fault.TheVariants as faults
+use Rattle.std.specs.Io.KnownBytes.{Keeps}
+use Rattle.clap.specs.Kinds.{HasKind, IsAmong}
+use Rattle.clap.specs.Values.{kind_of}
 
 -- the matches of a command that is this one are this one's
 pub matches_by : {E : Type 0} (a : App) (words : List (List ℕ)) (r : Result ArgMatches E) → a ≡ wasm_check → IfOk r (HasMatchesOf a words)
@@ -42,31 +49,90 @@ pub some_texts : (names : List (Bor (List ℕ))) → false ≡ (length names == 
 some_texts [] e = absurd cc
 some_texts (n ∷ names) e = omega arith
 
--- ---- over any judge of bytes
-module _ (accepts : List ℕ → Type 0) where
-  -- status 2 of what was judged is a fault's
-  pub judged_stopped : (a b : List (List ℕ)) (old new : Option (List ℕ)) (r : Result Status Fault) (n : ℕ) → a ≡ b → IfErr r (StopsFiles accepts a old new) → n ≡ code_of r → n ≡ 2
-      → IsStopped accepts b old new
-  judged_stopped a b old new (Ok AllValid) n e h q z = absurd (omega (arith, q, z))
-  judged_stopped a b old new (Ok SomeInvalid) n e h q z = absurd (omega (arith, q, z))
-  judged_stopped a b old new (Err f) n e h q z = subst (λ names. IsStopped accepts names old new) e (f, h)
+-- the list that the matches have for an option, as that of the words
+pub listed_by : (name : List ℕ) (words : List (List ℕ)) (m : ArgMatches) (o : Option (Bor (List ℕ))) → rows_of (found_of m) ≡ matches_on words
+    → option_map (λ s. s.now) o ≡ first_value (found_of m) name → option_map (λ s. s.now) o ≡ first_of name (matches_on words)
+listed_by name words m o r g = g ∙ first_value-rows (found_of m) name ∙ ap (first_of name) r
 
-  -- what was judged under other names is what was judged under these
-  pub judged_as : (a b : List (List ℕ)) (old new : Option (List ℕ)) (status : Status) → a ≡ b → 0 < length a → ReportsFiles accepts a old new status → Reports accepts b old new status
-  judged_as a b old new status e some reported = subst (λ names. Reports accepts names old new status) e (record { some = some; reported = reported })
+with_lists : Option (List ℕ) → Option (List ℕ) → Asked
+with_lists f l = record { features = f; limits = l }
+
+-- the lists that the matches have, as those of the words
+pub asks_by : (words : List (List ℕ)) (m : ArgMatches) (features limits : Option (Bor (List ℕ))) → rows_of (found_of m) ≡ matches_on words
+    → option_map (λ s. s.now) features ≡ first_value (found_of m) (codes "features") → option_map (λ s. s.now) limits ≡ first_value (found_of m) (codes "limits")
+    → asked_of (record { features = features; limits = limits }) ≡ asked_by words
+unfolding with_lists
+asks_by words m features limits r f l =
+    ap (λ x. with_lists x (option_map (λ s. s.now) limits)) (listed_by (codes "features") words m features r f)
+    ∙ ap (with_lists (features_list words)) (listed_by (codes "limits") words m limits r l)
+
+-- the matches have no file
+pub no_names : (words : List (List ℕ)) (m : ArgMatches) (o : Option (Bor (List (Bor (List ℕ))))) → rows_of (found_of m) ≡ matches_on words
+    → option_map (λ s. map (λ v. v.now) s.now) o ≡ option_map raw_values (matched_of (found_of m) (codes "FILE")) → o ≡ None → files_of words ≡ []
+no_names words m o r g e = sym (ap (λ (x : Option (List (List ℕ))). unwrap_or x [])
+    (ap (option_map (λ (s : Bor (List (Bor (List ℕ)))). map (λ v. v.now) s.now)) (sym e) ∙ g ∙ raw_values-rows (found_of m) (codes "FILE") ∙ ap (all_of (codes "FILE")) r))
+
+no_texts : (names : List (Bor (List ℕ))) → (length names == 0) ≡ true → texts names ≡ []
+no_texts [] e = refl
+no_texts (n ∷ names) e = let none : length (n ∷ names) ≡ 0 = eqb-true _ _ e in absurd (omega (arith, none))
+
+pub empty_names : (words : List (List ℕ)) (names : List (Bor (List ℕ))) → texts names ≡ files_of words → (length names == 0) ≡ true → files_of words ≡ []
+empty_names words names named e = sym named ∙ no_texts names e
+
+-- ---- over any judge of bytes
+module _ (accepts : Settings → List ℕ → Type 0) (words : List (List ℕ)) (old new : Option (List ℕ)) (kept : Keeps old new) where
+  -- the words name no files
+  pub no_files : files_of words ≡ [] → HasNoStatus accepts words old new
+  no_files e = inl (inr e, kept)
+
+  -- memory ran out
+  no_memory : HasNoStatus accepts words old new
+  no_memory = inr (inr (faults.OutOfMemory, inl (inr (inr refl), kept)))
+
+  -- clap refused the words
+  refused_words : (e : Error) → HasKind (refusals_of words) e → HasNoStatus accepts words old new
+  refused_words e (inl h) = no_memory
+  refused_words e (inr h) = inl (inl (λ none. subst (IsAmong (kind_of e)) none h), kept)
+
+-- clap answered with what was asked for
+pub asked_for : (words : List (List ℕ)) (e : Error) → HasKind (refusals_of words) e → IsHelp (kind_of e) → AsksForHelp words
+asked_for words e (inl h) (inl p) = absurd cc
+asked_for words e (inl h) (inr p) = absurd cc
+asked_for words e (inr h) (inl p) = inl (subst (λ k. IsAmong k (refusals_of words)) p h)
+asked_for words e (inr h) (inr p) = inr (subst (λ k. IsAmong k (refusals_of words)) p h)
+
+-- what clap answered was not shown as help
+pub unshown : (accepts : Settings → List ℕ → Type 0) (words : List (List ℕ)) (old new : Option (List ℕ)) (e : Error) → HasKind (refusals_of words) e
+    → IsUnshown (kind_of e) old new → HasNoStatus accepts words old new
+unshown accepts words old new e h (inl kept) = refused_words accepts words old new kept e h
+unshown accepts words old new e h (inr p) = inr (inl (asked_for words e h p.0, p.1))
+
+module _ (accepts : Settings → List ℕ → Type 0) (words : List (List ℕ)) (asked : Asked) (names : List (List ℕ)) (old new : Option (List ℕ))
+    (asks : asked ≡ asked_by words) (named : names ≡ files_of words) where
+  -- status 2 of what was judged is a fault's
+  pub judged_stopped : (r : Result Status Fault) (n : ℕ) → IfErr r (StopsBy accepts asked names old new) → n ≡ code_of r → n ≡ 2 → IsStopped accepts words old new
+  judged_stopped (Ok AllValid) n h q z = absurd (omega (arith, q, z))
+  judged_stopped (Ok SomeInvalid) n h q z = absurd (omega (arith, q, z))
+  judged_stopped (Err f) n h q z =
+      (f, subst (λ a. StopsBy accepts a (files_of words) old new f) asks (subst (λ ns. StopsBy accepts asked ns old new f) named h))
+
+  -- what was judged is what the words ask for
+  judged_as : (status : Status) → 0 < length names → ReportsBy accepts asked names old new status → Reports accepts words old new status
+  judged_as status some reported = record {
+    some = subst (λ (ns : List (List ℕ)). 0 < length ns) named some;
+    reported = subst (λ a. ReportsBy accepts a (files_of words) old new status) asks (subst (λ ns. ReportsBy accepts asked ns old new status) named reported);
+  }
 
   -- what status 0 promises of what was judged
-  pub judged_valid : (a b : List (List ℕ)) (old new : Option (List ℕ)) (r : Result Status Fault) (n : ℕ) → a ≡ b → 0 < length a → IfOk r (ReportsFiles accepts a old new)
-      → n ≡ code_of r → n ≡ 0
-      → Reports accepts b old new AllValid
-  judged_valid a b old new (Ok AllValid) n e some h q z = judged_as a b old new AllValid e some h
-  judged_valid a b old new (Ok SomeInvalid) n e some h q z = absurd (omega (arith, q, z))
-  judged_valid a b old new (Err f) n e some h q z = absurd (omega (arith, q, z))
+  pub judged_valid : (r : Result Status Fault) (n : ℕ) → 0 < length names → IfOk r (ReportsBy accepts asked names old new) → n ≡ code_of r → n ≡ 0
+      → Reports accepts words old new AllValid
+  judged_valid (Ok AllValid) n some h q z = judged_as AllValid some h
+  judged_valid (Ok SomeInvalid) n some h q z = absurd (omega (arith, q, z))
+  judged_valid (Err f) n some h q z = absurd (omega (arith, q, z))
 
   -- what status 1 promises of it
-  pub judged_invalid : (a b : List (List ℕ)) (old new : Option (List ℕ)) (r : Result Status Fault) (n : ℕ) → a ≡ b → 0 < length a → IfOk r (ReportsFiles accepts a old new)
-      → n ≡ code_of r → n ≡ 1
-      → Reports accepts b old new SomeInvalid
-  judged_invalid a b old new (Ok AllValid) n e some h q z = absurd (omega (arith, q, z))
-  judged_invalid a b old new (Ok SomeInvalid) n e some h q z = judged_as a b old new SomeInvalid e some h
-  judged_invalid a b old new (Err f) n e some h q z = absurd (omega (arith, q, z))
+  pub judged_invalid : (r : Result Status Fault) (n : ℕ) → 0 < length names → IfOk r (ReportsBy accepts asked names old new) → n ≡ code_of r → n ≡ 1
+      → Reports accepts words old new SomeInvalid
+  judged_invalid (Ok AllValid) n some h q z = absurd (omega (arith, q, z))
+  judged_invalid (Ok SomeInvalid) n some h q z = judged_as SomeInvalid some h
+  judged_invalid (Err f) n some h q z = absurd (omega (arith, q, z))

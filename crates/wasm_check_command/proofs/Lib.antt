@@ -1,3 +1,9 @@
+pub mod ShownLemmas
+pub mod InLine
 pub mod LineLemmas
 pub mod ReportLemmas
 pub mod FileLemmas
+pub mod ListLemmas
+pub mod FeatureLemmas
+pub mod RowsOfLists
+pub mod LimitLemmas

@@ -1,7 +1,7 @@
--- Worked command lines: what clap answers to them, and which files they name.
-use Rattle.std.specs.Prelude.{◌≡◌, List, [], ◌∷◌, codes, ℕ}
-use Rattle.clap.specs.declared.error.kind.ErrorKind.TheVariants.{DisplayHelp, MissingRequiredArgument, UnknownArgument}
-use Rattle.wasm_check_command.specs.Words.{refusals_of, files_of}
+-- Worked command lines: what clap answers to them, which files they name, and which lists their options have.
+use Rattle.std.specs.Prelude.{◌≡◌, List, [], ◌∷◌, Option, Some, None, codes, ℕ}
+use Rattle.clap.specs.declared.error.kind.ErrorKind.TheVariants.{ArgumentConflict, DisplayHelp, DisplayVersion, InvalidValue, MissingRequiredArgument, UnknownArgument}
+use Rattle.wasm_check_command.specs.Words.{refusals_of, files_of, features_list, limits_list}
 
 -- these words behind the program's own
 abbrev pub line_of : List (List ℕ) → List (List ℕ)
@@ -12,10 +12,28 @@ pub record Names (words files : List (List ℕ)) : Type 0 where
   pub taken : refusals_of words ≡ []
   pub named : files_of words ≡ files
 
+-- they name this one file, and have these lists
+pub record NamesOne (words : List (List ℕ)) (file : List ℕ) (features limits : Option (List ℕ)) : Type 0 where
+  pub names : Names words (file ∷ [])
+  pub features_are : features_list words ≡ features
+  pub limits_are : limits_list words ≡ limits
+
 -- the worked command lines, each with its answer
 pub record AreRead : Type 0 where
   pub two : Names (line_of (codes "a" ∷ codes "b" ∷ [])) (codes "a" ∷ codes "b" ∷ [])
   pub behind_dashes : Names (line_of (codes "--" ∷ codes "--help" ∷ codes "b" ∷ [])) (codes "--help" ∷ codes "b" ∷ [])
   pub help : refusals_of (line_of (codes "--help" ∷ [])) ≡ DisplayHelp ∷ []
+  pub version : refusals_of (line_of (codes "--version" ∷ [])) ≡ DisplayVersion ∷ []
   pub none : refusals_of (line_of []) ≡ MissingRequiredArgument ∷ []
   pub unknown : refusals_of (line_of (codes "--all" ∷ codes "a" ∷ [])) ≡ UnknownArgument ∷ []
+  pub no_list : NamesOne (line_of (codes "a" ∷ [])) (codes "a") None None
+  pub list : NamesOne (line_of (codes "--features" ∷ codes "mvp,gc" ∷ codes "a" ∷ [])) (codes "a") (Some (codes "mvp,gc")) None
+  pub list_behind : NamesOne (line_of (codes "a" ∷ codes "--features" ∷ codes "mvp" ∷ [])) (codes "a") (Some (codes "mvp")) None
+  pub list_in_one_word : NamesOne (line_of (codes "--features=mvp" ∷ codes "a" ∷ [])) (codes "a") (Some (codes "mvp")) None
+  pub empty_list : NamesOne (line_of (codes "--features=" ∷ codes "a" ∷ [])) (codes "a") (Some []) None
+  pub two_lists : refusals_of (line_of (codes "--features=mvp" ∷ codes "--features=gc" ∷ codes "a" ∷ [])) ≡ ArgumentConflict ∷ []
+  pub list_lacks : refusals_of (line_of (codes "a" ∷ codes "--features" ∷ [])) ≡ InvalidValue ∷ []
+  pub limits : NamesOne (line_of (codes "--limits" ∷ codes "locals=10" ∷ codes "a" ∷ [])) (codes "a") None (Some (codes "locals=10"))
+  pub limits_in_one_word : NamesOne (line_of (codes "a" ∷ codes "--limits=locals=10" ∷ codes "--features" ∷ codes "gc" ∷ [])) (codes "a") (Some (codes "gc"))
+      (Some (codes "locals=10"))
+  pub two_limits : refusals_of (line_of (codes "--limits=locals=1" ∷ codes "--limits=tags=1" ∷ codes "a" ∷ [])) ≡ ArgumentConflict ∷ []

@@ -1,12 +1,13 @@
--- The words of the command line: what clap answers to them, and which files they name.
-use Rattle.std.specs.Prelude.{◌≡◌, ◌≢◌, ◌⊎◌, ℕ, true, List, [], Some, codes, unwrap_or}
+-- The words of the command line: what clap answers to them, which files they name, and which lists their options have.
+use Rattle.std.specs.Prelude.{◌≡◌, ◌≢◌, ◌⊎◌, ℕ, true, List, [], Option, Some, codes, unwrap_or}
 use Rattle.clap.specs.Lexer.{usize_max}
-use Rattle.clap.specs.Words.{App, Rule, Row, all_of, matches_of, new_app, new_rule, with_rule}
+use Rattle.clap.specs.Words.{App, Rule, Row, all_of, first_of, matches_of, new_app, new_rule, with_rule}
 use Rattle.clap.specs.Words.{Kinds, IsAmong, fault_of}
-use Rattle.clap.specs.declared.error.kind.ErrorKind.TheVariants.{DisplayHelp}
-use Rattle.clap.specs.declared.builder.action.ArgAction.TheVariants.{Append}
+use Rattle.clap.specs.declared.error.kind.ErrorKind.{ErrorKind}
+use Rattle.clap.specs.declared.error.kind.ErrorKind.TheVariants.{DisplayHelp, DisplayVersion}
+use Rattle.clap.specs.declared.builder.action.ArgAction.TheVariants.{Append, Set}
 
--- the one argument, FILE: it takes at least one value, and has to be there
+-- the argument FILE: it takes at least one value, and has to be there
 abbrev pub file_rule : Rule
 file_rule = record (new_rule (codes "FILE")) {
   action = Some Append;
@@ -14,9 +15,17 @@ file_rule = record (new_rule (codes "FILE")) {
   required = true;
 }
 
+-- an option of this name, `--NAME LIST`, which may be there once
+abbrev pub list_rule : List ℕ → Rule
+list_rule name = record (new_rule name) { long = Some name; action = Some Set; value_names = 1 }
+
+-- a command with a version, so that `--version` asks for it
+abbrev pub with_version : App → App
+with_version a = record a { top = record a.top { has_version = true } }
+
 -- the command
 abbrev pub wasm_check : App
-wasm_check = with_rule (new_app (codes "wasm-check")) file_rule
+wasm_check = with_rule (with_rule (with_rule (with_version (new_app (codes "wasm-check"))) (list_rule (codes "features"))) (list_rule (codes "limits"))) file_rule
 
 -- the matches of the command on these words, of which the first is the program's own name
 abbrev pub matches_on : List (List ℕ) → List Row
@@ -26,13 +35,25 @@ matches_on words = matches_of wasm_check words
 abbrev pub files_of : List (List ℕ) → List (List ℕ)
 files_of words = unwrap_or (all_of (codes "FILE") (matches_on words)) []
 
+-- the list of `--features`, if it is there
+abbrev pub features_list : List (List ℕ) → Option (List ℕ)
+features_list words = first_of (codes "features") (matches_on words)
+
+-- that of `--limits`
+abbrev pub limits_list : List (List ℕ) → Option (List ℕ)
+limits_list words = first_of (codes "limits") (matches_on words)
+
 -- the kinds of what clap answers to these words in place of matches, none where it has matches
 abbrev pub refusals_of : List (List ℕ) → Kinds
 refusals_of words = fault_of wasm_check words
 
--- clap answers with the help
+-- an answer of this kind is what was asked for: the help or the version
+abbrev pub IsHelp : ErrorKind → Type 0
+IsHelp kind = (kind ≡ DisplayHelp) ⊎ (kind ≡ DisplayVersion)
+
+-- clap answers with one of them
 abbrev pub AsksForHelp : List (List ℕ) → Type 0
-AsksForHelp words = IsAmong DisplayHelp (refusals_of words)
+AsksForHelp words = IsAmong DisplayHelp (refusals_of words) ⊎ IsAmong DisplayVersion (refusals_of words)
 
 -- the words name no files: clap has no matches for them, or its matches have no file
 abbrev pub NamesNoFiles : List (List ℕ) → Type 0

@@ -1,27 +1,50 @@
 //! The command line: its words, its files, its faults and its statuses.
-ghost use Rattle.std.specs.Prelude.{◌≡◌, ℕ, ◌<◌, ◌≤◌, ◌⊎◌, List, map, length, IfOk, IfErr};
+ghost use Rattle.std.specs.Prelude.{◌≡◌, ℕ, ◌<◌, ◌≤◌, ◌⊎◌, false, List, codes, map, length, option_map, Ok, IfOk, IfErr, MatchResult};
 ghost use Rattle.std.specs.Io.KnownBytes.{Keeps};
 ghost use Rattle.wasm_check_command.specs.declared.judging.Status.TheVariants.{AllValid, SomeInvalid};
-ghost use Rattle.clap.specs.Words.{found_of, kind_of, rows_of, FailsBy};
-ghost use Rattle.clap.specs.declared.error.kind.ErrorKind.TheVariants.{DisplayHelp, OutOfMemory};
-ghost use Rattle.wasm_check_command.specs.Words.{matches_on, refusals_of, files_of};
+ghost use Rattle.clap.specs.Words.{app_of, found_of, kind_of, rows_of, rule_of, FailsBy};
+ghost use Rattle.clap.specs.declared.error.kind.ErrorKind.TheVariants.{OutOfMemory};
+ghost use Rattle.wasm_check_command.specs.Words.{IsHelp, matches_on, refusals_of, file_rule, list_rule, wasm_check};
 ghost use Rattle.wasm_check_command.specs.Commands.{AreRead};
+ghost use Rattle.wasm_types.specs.limits.Limits.{IsWithinCeilings};
+ghost use Rattle.wasm_check_command.specs.Settings.{IsGiven, features_by, limits_by, settings_of};
 ghost use Rattle.wasm_check_command.specs.Files.{texts, code_of, IsPlaced, IsNamed, FailsOpening, ReportsFiles, StopsFiles, Reports, Grows, ShowsHelp, HasNoStatus, IsUnshown};
+ghost use Rattle.wasm_check_command.specs.Files.{asked_of, RefusesFeatures, RefusesLimits, StopsEarly, ReportsBy, StopsBy};
 
 use crate::error::CheckError;
-use crate::judging::{Input, Judge, Status, check_by, write_text};
+use crate::features::find_features;
+use crate::judging::{Chosen, Input, Judge, Status, check_by, write_text};
+use crate::limits::{Wrong, find_limits};
+use crate::shown::Shown;
 use clap::error::ErrorKind;
 use clap::{Arg, ArgAction, ArgMatches, Command};
-use std::alloc::Global;
+use std::alloc::{AllocError, Global};
 use std::convert::AsStr;
 use std::fmt;
 use std::fs::File;
 use std::io::Write;
 use std::rt::Files;
+use wasm_types::{Limits, WasmFeatures};
+
+/// The version that `--version` prints.
+pub const VERSION: &str = "0.1.0";
+
+/// The lists that the options of the command line have, where they are there.
+#[derive(Debug, Drop)]
+struct Options<'a> {
+    /// That of `--features`.
+    features: Option<&'a str>,
+    /// That of `--limits`.
+    limits: Option<&'a str>,
+}
 
 /// Why a run came to no status of its files.
 #[derive(Debug, Drop)]
 enum Fault<'a> {
+    /// The list of `--features` has this word, which is unknown.
+    UnknownFeature(&'a str),
+    /// The list of `--limits` has this word, with which this is wrong.
+    WrongLimit(Wrong, &'a str),
     /// This file could not be opened.
     CannotOpen(&'a str),
     /// The judging stopped, at the file of this name where the error has a place.
@@ -38,16 +61,78 @@ impl fmt::Display for Fault<'_> {
 
     fn fmt<W: fmt::Write>(&self, f: &mut fmt::Formatter<W>) -> fmt::Result {
         match self {
-            Fault::CannotOpen(name) => write!(f, "wasm-check: {name}: cannot open"),
-            Fault::Stopped { error, name } => match error {
-                CheckError::Read(_) => write!(f, "wasm-check: {name}: cannot read"),
-                CheckError::TooLong(_) => write!(f, "wasm-check: {name}: too long"),
-                CheckError::OutOfMemory(_) => write!(f, "wasm-check: {name}: out of memory"),
-                CheckError::Write => write!(f, "wasm-check: cannot write"),
-            },
+            Fault::UnknownFeature(word) => {
+                let word = Shown(*word);
+                write!(f, "wasm-check: unknown feature `{word}`")
+            }
+            Fault::WrongLimit(wrong, word) => {
+                let word = Shown(*word);
+                match wrong {
+                    Wrong::Unknown => write!(f, "wasm-check: unknown limit `{word}`"),
+                    Wrong::BadValue => write!(f, "wasm-check: bad limit `{word}`"),
+                }
+            }
+            Fault::CannotOpen(name) => {
+                let name = Shown(*name);
+                write!(f, "wasm-check: {name}: cannot open")
+            }
+            Fault::Stopped { error, name } => {
+                let name = Shown(*name);
+                match error {
+                    CheckError::Read(_) => write!(f, "wasm-check: {name}: cannot read"),
+                    CheckError::TooLong(_) => write!(f, "wasm-check: {name}: too long"),
+                    CheckError::OutOfMemory(_) => write!(f, "wasm-check: {name}: out of memory"),
+                    CheckError::Write => write!(f, "wasm-check: cannot write"),
+                }
+            }
             Fault::OutOfMemory => write!(f, "wasm-check: out of memory"),
         }
     }
+}
+
+/// The files, of which there is at least one.
+fn files_argument<'a>(alloc: Global) -> Arg<'a>
+    ensures { (rule_of result ≡ file_rule) × (result.global ≡ false) }
+{
+    Arg::new(alloc, "FILE")
+        .help("A file to judge")
+        .required(true)
+        .num_args(1..)
+        .action(ArgAction::Append)
+}
+
+/// An option of this name, with a list.
+fn list_argument<'a>(alloc: Global, name: &'a str, help: &'a str) -> Arg<'a>
+    ensures { (rule_of result ≡ list_rule name.entry.now) × (result.global ≡ false) }
+{
+    Arg::new(alloc, name)
+        .long(name)
+        .help(help)
+        .value_name("LIST")
+        .action(ArgAction::Set)
+}
+
+/// The command, with its arguments.
+fn command<'a>(alloc: Global) -> Result<Command<'a>, AllocError>
+    ensures { IfOk result (λ c. app_of c ≡ wasm_check) }
+{
+    let features = list_argument(
+        alloc,
+        "features",
+        "The features that are allowed: words between commas, from left to right, as mvp,gc or no-simd",
+    );
+    let limits = list_argument(
+        alloc,
+        "limits",
+        "The limits that hold: words name=N between commas, as locals=10,tables=3; the others are those by default",
+    );
+    let command = Command::new(alloc, "wasm-check")
+        .version(VERSION)
+        .about("Says of each file whether it is a valid WebAssembly module")
+        .arg(features)?
+        .arg(limits)?
+        .arg(files_argument(alloc))?;
+    Ok(command)
 }
 
 /// The words, read as a command line.
@@ -55,15 +140,47 @@ fn parse<'a, S: AsStr>(alloc: Global, words: &'a [S]) -> Result<ArgMatches<'a>, 
     ensures ok { IfOk result (λ m. rows_of (found_of m) ≡ matches_on (map S.text words.now)) }
     ensures kinds { FailsBy (refusals_of (map S.text words.now)) result }
 {
-    let files = Arg::new(alloc, "FILE")
-        .help("A file to judge")
-        .required(true)
-        .num_args(1..)
-        .action(ArgAction::Append);
-    let command = Command::new(alloc, "wasm-check")
-        .about("Says of each file whether it is a valid WebAssembly module")
-        .arg(files)?;
-    command.try_get_matches_from(words)
+    command(alloc)?.try_get_matches_from(words)
+}
+
+/// The features of a list, or those by default.
+fn read_features<'a>(list: Option<&'a str>) -> Result<WasmFeatures, Fault<'a>>
+    ensures ok { IfOk result (λ f. features_by (option_map (λ l. l.now) list.entry) ≡ Ok f.0) }
+    ensures err { IfErr result (RefusesFeatures (option_map (λ l. l.now) list.entry)) }
+{
+    let Some(list) = list else {
+        return Ok(WasmFeatures::default());
+    };
+    match find_features(list) {
+        Ok(features) => Ok(features),
+        Err(unknown) => Err(Fault::UnknownFeature(unknown.word)),
+    }
+}
+
+/// The limits of a list, or those by default.
+fn read_limits<'a>(list: Option<&'a str>) -> Result<Limits, Fault<'a>>
+    ensures ok { IfOk result (λ l. limits_by (option_map (λ l. l.now) list.entry) ≡ Ok l) }
+    ensures within { IfOk result IsWithinCeilings }
+    ensures err { IfErr result (RefusesLimits (option_map (λ l. l.now) list.entry)) }
+{
+    let Some(list) = list else {
+        return Ok(Limits::default());
+    };
+    match find_limits(list) {
+        Ok(limits) => Ok(limits),
+        Err(fault) => Err(Fault::WrongLimit(fault.wrong, fault.word.word)),
+    }
+}
+
+/// What the options ask for: their lists are read in this order.
+fn read_options<'a>(options: &Options<'a>) -> Result<Chosen, Fault<'a>>
+    ensures ok { IfOk result (λ c. IsGiven (asked_of options.now) (settings_of c)) }
+    ensures within { IfOk result (λ c. IsWithinCeilings c.limits) }
+    ensures err { IfErr result (StopsEarly (asked_of options.now)) }
+{
+    let features = read_features(options.features)?;
+    let limits = read_limits(options.limits)?;
+    Ok(Chosen { features, limits })
 }
 
 /// Opens all files, in order.
@@ -106,27 +223,47 @@ fn name_of<'a>(error: CheckError, names: &[&'a str]) -> &'a str
     }
 }
 
-/// Opens all files, and judges them.
+/// Opens all files, and judges them by what was chosen.
 fn judge_files<'a, J: Judge, F: Files, W: Write>(
     judge: &J,
     alloc: Global,
     rt: &F,
     names: &[&'a str],
+    chosen: Chosen,
     out: &mut W,
 ) -> Result<Status, Fault<'a>>
-    ensures ok { IfOk result
-        (ReportsFiles J.accepts (texts names.now) (W.contents out.old) (W.contents out.new)) }
-    ensures err { IfErr result
-        (StopsFiles J.accepts (texts names.now) (W.contents out.old) (W.contents out.new)) }
+    requires within { IsWithinCeilings chosen.limits }
+    ensures ok { IfOk result (ReportsFiles (J.accepts (settings_of chosen)) (texts names.now)
+        (W.contents out.old) (W.contents out.new)) }
+    ensures err { IfErr result (StopsFiles (J.accepts (settings_of chosen)) (texts names.now)
+        (W.contents out.old) (W.contents out.new)) }
 {
     let inputs = open_all(alloc, rt, names)?;
-    match check_by(judge, alloc, inputs, out) {
+    match check_by(judge, alloc, inputs, chosen.features, chosen.limits, out) {
         Ok(status) => Ok(status),
         Err(error) => Err(Fault::Stopped {
             error,
             name: name_of(error, names),
         }),
     }
+}
+
+/// Reads the lists of the options, and then opens all files and judges them.
+fn judge_by_options<'a, J: Judge, F: Files, W: Write>(
+    judge: &J,
+    alloc: Global,
+    rt: &F,
+    options: &Options<'a>,
+    names: &[&'a str],
+    out: &mut W,
+) -> Result<Status, Fault<'a>>
+    ensures ok { IfOk result (ReportsBy J.accepts (asked_of options.now) (texts names.now)
+        (W.contents out.old) (W.contents out.new)) }
+    ensures err { IfErr result (StopsBy J.accepts (asked_of options.now) (texts names.now)
+        (W.contents out.old) (W.contents out.new)) }
+{
+    let chosen = read_options(options)?;
+    judge_files(judge, alloc, rt, names, chosen, out)
 }
 
 /// Says why there is no status of the files.
@@ -139,10 +276,42 @@ fn report<E: Write>(fault: &Fault<'_>, err: &mut E) -> u8
     2
 }
 
-/// Shows what `clap` answers in place of matches: its help, where it is asked for, or what is wrong with the words.
-fn show<W: Write, E: Write>(alloc: Global, answer: &clap::Error, out: &mut W, err: &mut E) -> u8
+/// These words as they are shown.
+fn shown_words<S: AsStr>(alloc: Global, words: &[S]) -> Result<Vec<String>, AllocError> {
+    let mut shown = Vec::new(alloc);
+    for word in words {
+        let word = Shown(word.as_str());
+        shown.push(format!(in alloc; "{word}")?)?;
+    }
+    Ok(shown)
+}
+
+/// Tells what is wrong with the words, in `clap`'s text. That has words as they are, so `clap` is asked for it over the
+/// words as they are shown: these have no control character, and where they differ no word is one that `clap` knows.
+fn tell_usage<S: AsStr, E: Write>(alloc: Global, words: &[S], err: &mut E) -> u8
+    ensures { result ≡ 2 }
+{
+    let Ok(shown) = shown_words(alloc, words) else {
+        return report(&Fault::OutOfMemory, err);
+    };
+    if let Err(answer) = parse(alloc, shown.as_slice()) {
+        let _ = write!(err, "{answer}");
+        let _ = err.flush();
+    }
+    2
+}
+
+/// Shows what `clap` answers in place of matches: its help or its version, if it is asked for, or what is wrong with the
+/// words.
+fn show<S: AsStr, W: Write, E: Write>(
+    alloc: Global,
+    words: &[S],
+    answer: &clap::Error,
+    out: &mut W,
+    err: &mut E,
+) -> u8
     ensures known { (result ≡ 0) ⊎ (result ≡ 2) }
-    ensures help { result ≡ 0 → (kind_of answer.now ≡ DisplayHelp) × Grows (W.contents out.old) (W.contents out.new) }
+    ensures help { result ≡ 0 → IsHelp (kind_of answer.now) × Grows (W.contents out.old) (W.contents out.new) }
     ensures unshown { result ≡ 2 → IsUnshown (kind_of answer.now) (W.contents out.old) (W.contents out.new) }
     ensures memory { kind_of answer.now ≡ OutOfMemory → Keeps (W.contents out.old) (W.contents out.new) }
     ensures quiet { result < 2 → Keeps (E.contents err.old) (E.contents err.new) }
@@ -150,10 +319,8 @@ fn show<W: Write, E: Write>(alloc: Global, answer: &clap::Error, out: &mut W, er
     if answer.kind() == ErrorKind::OutOfMemory {
         return report(&Fault::OutOfMemory, err);
     }
-    if answer.kind() != ErrorKind::DisplayHelp {
-        let _ = write!(err, "{answer}");
-        let _ = err.flush();
-        return 2;
+    if answer.use_stderr() {
+        return tell_usage(alloc, words, err);
     }
     let Ok(text) = format!(in alloc; "{answer}") else {
         return report(&Fault::OutOfMemory, err);
@@ -189,9 +356,10 @@ fn conclude<E: Write>(judged: &Result<Status, Fault<'_>>, err: &mut E) -> u8
 }
 
 /// Runs the program on these words, of which the first is its own name, and gives its exit status:
-/// 0 where all files are valid, or where `clap` answers the words with the help and it was shown; 1 where some file is
-/// invalid; 2 where the words name no files by `clap`'s reading, of which nothing is written to `out`, or where a fault
-/// stopped the judging or the help. All files are opened before the first is judged.
+/// 0 if all files are valid, or if `clap` answers the words with the help or the version and it was shown; 1 if some file is invalid; 2 if
+/// the words name no files by `clap`'s reading or have a list that is refused, and then nothing is written to `out`, or if a
+/// fault stopped the judging or the help. The files are judged by the features and limits that the words ask for. All files
+/// are opened before the first is judged.
 pub fn run_by<'a, J, F, S, W, E>(judge: &J, rt: &F, words: &'a [S], out: &mut W, err: &mut E) -> u8
 where
     J: Judge,
@@ -202,9 +370,11 @@ where
     ensures known { result ≤ 2 }
     ensures quiet { result < 2 → Keeps (E.contents err.old) (E.contents err.new) }
     ensures valid { result ≡ 0 → ShowsHelp (map S.text words.now) (W.contents out.old) (W.contents out.new)
-        ⊎ Reports J.accepts (files_of (map S.text words.now)) (W.contents out.old) (W.contents out.new) AllValid }
-    ensures invalid { result ≡ 1 → Reports J.accepts (files_of (map S.text words.now)) (W.contents out.old) (W.contents out.new) SomeInvalid }
-    ensures stopped { result ≡ 2 → HasNoStatus J.accepts (map S.text words.now) (W.contents out.old) (W.contents out.new) }
+        ⊎ Reports J.accepts (map S.text words.now) (W.contents out.old) (W.contents out.new) AllValid }
+    ensures invalid { result ≡ 1
+        → Reports J.accepts (map S.text words.now) (W.contents out.old) (W.contents out.new) SomeInvalid }
+    ensures stopped { result ≡ 2
+        → HasNoStatus J.accepts (map S.text words.now) (W.contents out.old) (W.contents out.new) }
 {
     let alloc = rt.alloc();
     match parse(alloc, words) {
@@ -215,9 +385,15 @@ where
             if names.is_empty() {
                 return 2;
             }
-            conclude(&judge_files(judge, alloc, rt, names, out), err)
+            let features = matches.get_str("features");
+            let limits = matches.get_str("limits");
+            let options = Options { features, limits };
+            conclude(
+                &judge_by_options(judge, alloc, rt, &options, names, out),
+                err,
+            )
         }
-        Err(answer) => show(alloc, &answer, out, err),
+        Err(answer) => show(alloc, words, &answer, out, err),
     }
 }
 

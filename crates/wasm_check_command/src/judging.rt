@@ -2,6 +2,9 @@
 ghost use Rattle.std.specs.Prelude.{◌≡◌, ℕ, List, IfOk, IfErr, OnOk, string_bytes};
 ghost use Rattle.std.specs.Io.KnownBytes.{Appends};
 ghost use Rattle.wasm_types.specs.error.Denials.{Tells};
+ghost use Rattle.wasm_types.specs.limits.Settings.{Settings};
+ghost use Rattle.wasm_types.specs.limits.Limits.{IsWithinCeilings};
+ghost use Rattle.wasm_check_command.specs.Settings.{settings_by, settings_of};
 ghost use Rattle.wasm_check_command.specs.Lines.{HasBytes, invalid_line};
 ghost use Rattle.wasm_check_command.specs.Faults.{FailsReading};
 ghost use Rattle.wasm_check_command.specs.Verdict.{WritesFront, IsVerdict, WritesLine, IsJudged, FailsWriting, FailsAt};
@@ -9,9 +12,10 @@ ghost use Rattle.wasm_check_command.specs.declared.error.CheckError.TheVariants.
 ghost use Rattle.wasm_check_command.specs.Reports.{sources_of, IsReported, Stops};
 
 use crate::error::CheckError;
+use crate::shown::Shown;
 use std::alloc::{AllocError, Global};
 use std::io::{self, Read, Write};
-use wasm_types::{Error, ErrorKind};
+use wasm_types::{Error, ErrorKind, Limits, WasmFeatures};
 
 /// The most bytes that an input may have.
 pub const MAX_BYTES: usize = 0x4000_0000;
@@ -21,16 +25,33 @@ const CHUNK: usize = 0x1_0000;
 
 /// What says of bytes whether they are valid.
 pub trait Judge {
-    /// Which bytes are valid.
-    ghost accepts: { List ℕ → Type 0 };
+    /// Which bytes are valid, by the features and limits that hold.
+    ghost accepts: { Settings → List ℕ → Type 0 };
 
-    /// Judges these bytes, which are those of the input at this place.
+    /// Judges these bytes by these features and limits. They are those of the input at this place.
     ///
     /// # Errors
     ///
     /// The bytes are not valid, for the reason and at the offset that the error has; or there was no memory.
-    fn judge(&self, alloc: Global, index: usize, bytes: &[u8]) -> Result<(), Error>
-        ensures { Tells result (accepts bytes.now) };
+    fn judge(
+        &self,
+        alloc: Global,
+        features: WasmFeatures,
+        limits: Limits,
+        index: usize,
+        bytes: &[u8],
+    ) -> Result<(), Error>
+        requires within { IsWithinCeilings limits }
+        ensures { Tells result (accepts (settings_by features.0 limits) bytes.now) };
+}
+
+/// What inputs are judged by.
+#[derive(Clone, Copy, Debug)]
+pub(crate) struct Chosen {
+    /// The features that are allowed.
+    pub(crate) features: WasmFeatures,
+    /// The limits that hold.
+    pub(crate) limits: Limits,
 }
 
 /// What is to be judged: a name, and what gives the bytes.
@@ -80,6 +101,8 @@ fn invalid_line(alloc: Global, name: &str, offset: u64, message: &str) -> Result
     ensures { IfOk result (λ line.
         string_bytes line ≡ invalid_line name.now offset message.now) }
 {
+    let name = Shown(name);
+    let message = Shown(message);
     format!(in alloc; "{name}: invalid at 0x{offset:x}: {message}\n")
 }
 
@@ -94,14 +117,19 @@ fn refusal_line(alloc: Global, name: &str, error: &Error) -> Result<String, Allo
 fn verdict_line<J: Judge>(
     judge: &J,
     alloc: Global,
+    chosen: Chosen,
     index: usize,
     name: &str,
     bytes: &[u8],
 ) -> Result<(bool, String), AllocError>
-    ensures { IfOk result (λ r. IsVerdict J.accepts name.now bytes.now r.0 (string_bytes r.1)) }
+    requires within { IsWithinCeilings chosen.limits }
+    ensures { IfOk result (λ r. IsVerdict (J.accepts (settings_of chosen)) name.now bytes.now r.0 (string_bytes r.1)) }
 {
-    match judge.judge(alloc, index, bytes) {
-        Ok(()) => Ok((true, format!(in alloc; "{name}: valid\n")?)),
+    match judge.judge(alloc, chosen.features, chosen.limits, index, bytes) {
+        Ok(()) => {
+            let name = Shown(name);
+            Ok((true, format!(in alloc; "{name}: valid\n")?))
+        }
         Err(error) => {
             if error.kind() == ErrorKind::OutOfMemory {
                 return Err(AllocError);
@@ -140,17 +168,19 @@ pub(crate) fn write_text<W: Write>(text: &[u8], out: &mut W) -> Result<(), Check
 fn judge_bytes<J: Judge, W: Write>(
     judge: &J,
     alloc: Global,
+    chosen: Chosen,
     index: usize,
     name: &str,
     bytes: &[u8],
     out: &mut W,
 ) -> Result<bool, CheckError>
+    requires within { IsWithinCeilings chosen.limits }
     ensures ok { IfOk result (λ valid.
-        WritesLine J.accepts name.now bytes.now valid (W.contents out.old) (W.contents out.new)) }
+        WritesLine (J.accepts (settings_of chosen)) name.now bytes.now valid (W.contents out.old) (W.contents out.new)) }
     ensures err { IfErr result
-        (FailsWriting J.accepts index name.now bytes.now (W.contents out.old) (W.contents out.new)) }
+        (FailsWriting (J.accepts (settings_of chosen)) index name.now bytes.now (W.contents out.old) (W.contents out.new)) }
 {
-    let Ok((is_valid, line)) = verdict_line(judge, alloc, index, name, bytes) else {
+    let Ok((is_valid, line)) = verdict_line(judge, alloc, chosen, index, name, bytes) else {
         return Err(CheckError::OutOfMemory(index));
     };
     write_text(line.as_bytes(), out)?;
@@ -161,18 +191,28 @@ fn judge_bytes<J: Judge, W: Write>(
 fn judge_input<J: Judge, R: Read + Drop, W: Write>(
     judge: &J,
     alloc: Global,
+    chosen: Chosen,
     index: usize,
     mut input: Input<'_, R>,
     buffer: &mut Vec<u8>,
     out: &mut W,
 ) -> Result<bool, CheckError>
-    ensures ok { IfOk result (λ valid. IsJudged J.accepts input.entry.name.now
+    requires within { IsWithinCeilings chosen.limits }
+    ensures ok { IfOk result (λ valid. IsJudged (J.accepts (settings_of chosen)) input.entry.name.now
         (R.remaining input.entry.reader) valid (W.contents out.old) (W.contents out.new)) }
-    ensures err { IfErr result (FailsAt J.accepts index input.entry.name.now
+    ensures err { IfErr result (FailsAt (J.accepts (settings_of chosen)) index input.entry.name.now
         (R.remaining input.entry.reader) (W.contents out.old) (W.contents out.new)) }
 {
     read_whole(index, &mut input.reader, buffer)?;
-    judge_bytes(judge, alloc, index, input.name, buffer.as_slice(), out)
+    judge_bytes(
+        judge,
+        alloc,
+        chosen,
+        index,
+        input.name,
+        buffer.as_slice(),
+        out,
+    )
 }
 
 /// Judges the inputs in order and writes their lines, through the first fault.
@@ -180,18 +220,20 @@ fn judge_all<J: Judge, R: Read + Drop, W: Write>(
     judge: &J,
     alloc: Global,
     inputs: Vec<Input<'_, R>>,
+    chosen: Chosen,
     out: &mut W,
 ) -> Result<Status, CheckError>
-    ensures ok { IfOk result (IsReported J.accepts (sources_of R.remaining inputs.entry.items)
+    requires within { IsWithinCeilings chosen.limits }
+    ensures ok { IfOk result (IsReported (J.accepts (settings_of chosen)) (sources_of R.remaining inputs.entry.items)
         (W.contents out.old) (W.contents out.new)) }
-    ensures err { IfErr result (Stops J.accepts (sources_of R.remaining inputs.entry.items)
+    ensures err { IfErr result (Stops (J.accepts (settings_of chosen)) (sources_of R.remaining inputs.entry.items)
         (W.contents out.old) (W.contents out.new)) }
 {
     let mut buffer = Vec::new(alloc);
     let mut status = Status::AllValid;
     let mut index = 0;
     for input in inputs {
-        if !judge_input(judge, alloc, index, input, &mut buffer, out)? {
+        if !judge_input(judge, alloc, chosen, index, input, &mut buffer, out)? {
             status = Status::SomeInvalid;
         }
         index += 1;
@@ -199,19 +241,23 @@ fn judge_all<J: Judge, R: Read + Drop, W: Write>(
     Ok(status)
 }
 
-/// Has each input judged, in order, and writes a line for each.
+/// Has each input judged by these features and limits, in order, and writes a line for each.
 pub fn check_by<J: Judge, R: Read + Drop, W: Write>(
     judge: &J,
     alloc: Global,
     inputs: Vec<Input<'_, R>>,
+    features: WasmFeatures,
+    limits: Limits,
     out: &mut W,
 ) -> Result<Status, CheckError>
-    ensures ok { IfOk result (IsReported J.accepts (sources_of R.remaining inputs.entry.items)
+    requires within { IsWithinCeilings limits }
+    ensures ok { IfOk result (IsReported (J.accepts (settings_by features.0 limits)) (sources_of R.remaining inputs.entry.items)
         (W.contents out.old) (W.contents out.new)) }
-    ensures err { IfErr result (Stops J.accepts (sources_of R.remaining inputs.entry.items)
+    ensures err { IfErr result (Stops (J.accepts (settings_by features.0 limits)) (sources_of R.remaining inputs.entry.items)
         (W.contents out.old) (W.contents out.new)) }
 {
-    let judged = judge_all(judge, alloc, inputs, out);
+    let chosen = Chosen { features, limits };
+    let judged = judge_all(judge, alloc, inputs, chosen, out);
     if out.flush().is_err() {
         return Err(CheckError::Write);
     }

@@ -8,8 +8,15 @@
 
 mod command;
 mod error;
+mod features;
 mod judging;
+mod limits;
+mod lists;
+mod shown;
 
-pub use command::{reads_worked_words, run_by};
+pub use command::{VERSION, reads_worked_words, run_by};
 pub use error::CheckError;
+pub use features::{UnknownFeature, parse_features, parses_worked_features};
 pub use judging::{Input, Judge, MAX_BYTES, Status, check_by};
+pub use limits::{LimitFault, parse_limits, parses_worked_limits};
+pub use shown::lines_end_once;

@@ -3,7 +3,7 @@
 //! [`check`] judges inputs one after another and writes a line for each. [`run`] reads the words of a command line,
 //! opens the files that they name, judges them as [`check`] does and gives the exit status. Each is one call of
 //! `wasm_check_command`, whose `specs/` defines the lines, the files, the words and the faults over whatever says which bytes
-//! are valid: here `Accepts` does. `main`, which hands over the words and the streams of the process, stands alone in
+//! are valid by which features and limits: here `AcceptsUnder` does. `main`, which hands over the words and the streams of the process, stands alone in
 //! `wasm_check`.
 #![tactic(auto)]
 
@@ -12,4 +12,7 @@ mod judging;
 
 pub use command::run;
 pub use judging::check;
-pub use wasm_check_command::{CheckError, Input, MAX_BYTES, Status, reads_worked_words};
+pub use wasm_check_command::{
+    CheckError, Input, LimitFault, MAX_BYTES, Status, UnknownFeature, VERSION, lines_end_once,
+    parse_features, parse_limits, parses_worked_features, parses_worked_limits, reads_worked_words,
+};

@@ -1,17 +1,17 @@
--- What the validator accepts where no features are chosen (WebAssembly 3.0, binary format, modules; validation, modules): the rules of
--- `wasm_module_validator_rules`, under the features and limits by default.
+-- What the validator accepts if no features and no limits are chosen (WebAssembly 3.0, binary format, modules; validation, modules): the rules
+-- of `wasm_module_validator_rules`, under the features and limits by default.
 use Rattle.std.specs.Prelude.{ℕ, List, []}
+use Rattle.wasm_types.specs.limits.Limits.{default_limits}
 use Rattle.wasm_types.specs.limits.Settings.{Settings}
 use Rattle.wasm_types.specs.features.Sets.{bits_of, default_features}
 use Rattle.wasm_module_validator_sharing.specs.reading.progress.standing.steps.contexts.rules.Accepts.{AcceptsUnder, Judges}
 use Rattle.wasm_module_validator_sharing.specs.reading.progress.standing.steps.contexts.rules.Syntax.{ModuleTree}
 use Rattle.wasm_module_validator_sharing.specs.reading.progress.standing.Standing.{Stands}
-use Rattle.wasm_module_validator_sharing.specs.reading.Reading.{under}
 use Rattle.wasm_module_validator.specs.Shown.{Learned}
 
--- the features and limits that hold where none are chosen
+-- the features and limits that hold if none are chosen
 abbrev pub default_settings : Settings
-default_settings = under (bits_of default_features)
+default_settings = record { features = bits_of default_features; limits = default_limits }
 
 -- the bytes spell some valid module by these
 abbrev pub Accepts : List ℕ → Type 0

@@ -6,3 +6,5 @@ pub mod Methods
 pub mod Payloads
 -- Laws, with the proofs. `StateRows` there has worked rows.
 pub mod laws
+-- The rules of modules, under their name: crates above cite them here.
+pub use Rattle.wasm_module_validator_sharing.specs.reading.progress.standing.steps.contexts.rules as rules

@@ -57,7 +57,7 @@ pub record InTurn {X : Type 0} (turn : Option ErrorKind) (v : Validator) (answer
 
 -- behind a header nothing was read; another one fails it
 abbrev pub IsBegun : {X : Type 0} → Validator → Result X ErrorValue → Validator → Type 0
-IsBegun v (Ok x) w = w ≡ record v { state = Module; reached = renewed_behind v.features.0 v.reached }
+IsBegun v (Ok x) w = w ≡ record v { state = Module; reached = renewed_behind v.settings v.reached }
 IsBegun v (Err e) w = w ≡ record v { state = Failed }
 
 -- the header of a module of version 1
@@ -99,7 +99,7 @@ BeginsCode v answer w =
 -- A function is handed out, and one body more came. Or each function has its body, and nothing changes; or it has failed, since the body
 -- may not come here, memory aside.
 abbrev pub IsBodyTaken : Bytes → Validator → Result Handed ErrorValue → Validator → Type 0
-IsBodyTaken body v (Ok f) w = IsHandedOut v.reached v.features.0 f × (w ≡ record v { reached = w.reached })
+IsBodyTaken body v (Ok f) w = IsHandedOut v.reached v.settings f × (w ≡ record v { reached = w.reached })
     × (w.reached.code ≡ Some (body_count v.reached.code + 1)) × (w.reached.progress.kept ≡ v.reached.progress.kept)
     × ((z : Settings) (p q : SoFar) → IsReached z v.reached p → body.settings ≡ z → JudgesBody z p body.rest q → IsReached z w.reached q)
 IsBodyTaken body v (Err e) w = (NoneLeft v.reached × (e.kind ≡ kinds.Other) × (w ≡ v))

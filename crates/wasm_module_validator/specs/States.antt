@@ -9,7 +9,7 @@ use Rattle.wasm_types.specs.reader.Reading.{IsNotMemory}
 use Rattle.wasm_module_validator_sharing.specs.reading.progress.standing.steps.Steps.{SoFar}
 use Rattle.wasm_module_validator_sharing.specs.reading.progress.standing.Standing.{IsGrown}
 use Rattle.wasm_module_validator_sharing.specs.reading.progress.Progress.{kept_groups}
-use Rattle.wasm_module_validator_sharing.specs.reading.Reading.{under, IsReadAs}
+use Rattle.wasm_module_validator_sharing.specs.reading.Reading.{IsReadAs}
 use Rattle.wasm_module_validator.specs.declared.validator.State.{State}
 use Rattle.wasm_module_validator.specs.declared.validator.State.TheVariants.{Unparsed, Module, Ended, Failed}
 use Rattle.wasm_module_validator.specs.declared.validator.Validator.{Validator}
@@ -26,10 +26,10 @@ Leaves z bytes (Err e) s = ((s ≡ Ended) × IsNotMemory e.kind × ((q : SoFar) 
     ⊎ ((s ≡ Failed) × Denies e.kind ((q : SoFar) × IsReadAs z bytes q))
 
 -- Behind a module that was accepted, or of which a function alone was refused, the list of types has what it had, with further groups or
--- none; and the module was read by the validator's features.
+-- none; and the module was read by the validator's features and limits.
 abbrev pub KeepsWhere : State → Validator → Validator → Type 0
-KeepsWhere Ended v w = IsGrown (kept_groups v.features.0 v.reached.progress.kept) w.reached.progress.kept.groups
-    × (w.reached.progress.kept.items.spaces.settings ≡ under v.features.0)
+KeepsWhere Ended v w = IsGrown (kept_groups v.settings v.reached.progress.kept) w.reached.progress.kept.groups
+    × (w.reached.progress.kept.items.spaces.settings ≡ v.settings)
 KeepsWhere Failed v w = Unit {0}
 KeepsWhere Unparsed v w = ⊥
 KeepsWhere Module v w = ⊥

@@ -2,7 +2,6 @@
 
 ghost use Rattle.wasm_types.specs.limits.Settings.{Settings};
 ghost use Rattle.std.specs.Prelude.{◌≡◌, ◌<◌, ℕ, List};
-ghost use Rattle.wasm_module_validator_sharing.specs.reading.Reading.{under};
 ghost use Rattle.wasm_module_validator_sharing.specs.reading.progress.standing.Standing.{IsGrown};
 ghost use Rattle.wasm_module_validator_sharing.specs.reading.progress.standing.steps.Steps.{nothing};
 ghost use Rattle.wasm_module_validator_sharing.specs.reading.progress.standing.type_trees.Groups.{Group, count, tree_of};
@@ -19,7 +18,7 @@ pub const fn states_are_worked()
 
 /// A validator behind a header stands for a module of which nothing was judged, whatever it read before.
 pub const fn validators_begin()
-    ensures { (bits : ℕ) (r : Reached) → IsReached (under bits) (renewed_behind bits r) nothing }
+    ensures { (z : Settings) (r : Reached) → IsReached z (renewed_behind z r) nothing }
 {}
 
 /// An id means the type that it meant, for as long as groups are only added to the list.

@@ -1,8 +1,8 @@
 //! A validator of WebAssembly modules.
 //!
 //! [`validate`] judges all the bytes of one module, and so does a [`Validator`]. Both promise Ok exactly where the bytes spell a module
-//! that is valid by the rules of `wasm_module_validator_rules`, under the features that are allowed, out of memory aside
-//! (`specs/Accepts.antt`). A module is read section by section, and its bodies are judged behind the last.
+//! that is valid by the rules of `wasm_module_validator_rules`, under the features that are allowed and the limits that hold, out of memory
+//! aside (`specs/Accepts.antt`). A module is read section by section, and its bodies are judged behind the last.
 //!
 //! Or a parser's payloads are taken one by one, each by a method of the [`Validator`]: what each accepts and leaves stands in
 //! `specs/Methods.antt`. [`Validator::code_section_entry`] hands each function out, to be judged whenever it suits.

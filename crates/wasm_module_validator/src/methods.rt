@@ -81,14 +81,14 @@ impl Validator {
         }
     }
 
-    /// Makes it ready for another module: as it was made, with the same id and features. The types of modules before stay in its list, by
-    /// the ids that they have. It takes no memory.
+    /// Makes it ready for another module: as it was made, with the same id, features and limits. The types of modules before stay in its list,
+    /// by the ids that they have. It takes no memory.
     pub fn reset(&mut self)
         requires { can_reset self.old.state ≡ true }
-        ensures { self.new ≡ record self.old { state = states.Unparsed; reached = renewed_behind self.old.features.0 self.old.reached } }
+        ensures { self.new ≡ record self.old { state = states.Unparsed; reached = renewed_behind self.old.settings self.old.reached } }
     {
         self.state = State::Unparsed;
-        self.reached.renew(self.features);
+        self.reached.renew(&self.settings);
     }
 
     /// What is known so far of the module that is being read, which is at level 0: from its header on, to its end.
@@ -130,7 +130,7 @@ impl Validator {
             }
         }
         self.state = State::Module;
-        self.reached.renew(self.features);
+        self.reached.renew(&self.settings);
         Ok(())
     }
 
@@ -316,7 +316,7 @@ impl Validator {
             Ok(()) => (),
             Err(error) => return Err(error),
         }
-        match self.reached.take_body(self.features, body) {
+        match self.reached.take_body(&self.settings, body) {
             Ok(Some(function)) => Ok(function),
             Ok(None) => Err(too_many_bodies(offset)),
             Err(error) => {

@@ -2,9 +2,8 @@
 
 ghost use Rattle.std.specs.Prelude.{◌≡◌, ◌↔◌, IsTrue, IfOk};
 ghost use Rattle.wasm_types.specs.error.Denials.{Tells};
-ghost use Rattle.wasm_types.specs.features.Sets.{bits_of, default_features};
+ghost use Rattle.wasm_types.specs.limits.Limits.{default_limits, IsWithinCeilings};
 ghost use Rattle.wasm_module_validator_sharing.specs.reading.progress.standing.steps.contexts.rules.Accepts.{AcceptsUnder};
-ghost use Rattle.wasm_module_validator_sharing.specs.reading.Reading.{under};
 ghost use Rattle.wasm_module_validator_sharing.specs.Sharing.{nothing_reached};
 ghost use Rattle.wasm_module_validator.specs.declared.validator.State.TheVariants as states;
 ghost use Rattle.wasm_module_validator.specs.Accepts.{Accepts, IsShown, default_settings};
@@ -13,8 +12,8 @@ ghost use Rattle.wasm_module_validator.specs.States.{IsLeft, Keeps, Leaves};
 use crate::types::Types;
 use std::alloc::Global;
 use wasm_module_validator_module::view::ValidatorId;
-use wasm_module_validator_sharing::SharedProgress;
-use wasm_types::{Error, ErrorKind, Result, WasmFeatures};
+use wasm_module_validator_sharing::{HeldSettings, SharedProgress};
+use wasm_types::{Error, ErrorKind, Limits, Result, WasmFeatures};
 
 /// How far a validator is.
 #[derive(Clone, Copy, Debug, PartialEq, Eq)]
@@ -35,43 +34,70 @@ pub struct Validator {
     pub(crate) alloc: Global,
     pub(crate) id: ValidatorId,
     pub(crate) state: State,
-    pub(crate) features: WasmFeatures,
+    // What it judges by, which never changes.
+    pub(crate) settings: HeldSettings,
     // The module whose sections come one by one, and the list of types.
     pub(crate) reached: SharedProgress,
 }
 
 impl Validator {
-    /// A validator that has read nothing, with the default features. It takes no memory.
+    /// A validator that has read nothing, with the default features and the default limits. It takes no memory.
     pub fn new(alloc: Global, id: ValidatorId) -> Validator
         ensures state { result.state ≡ states.Unparsed }
         ensures id { result.id ≡ id }
-        ensures features { result.features.0 ≡ bits_of default_features }
-        ensures reached { result.reached ≡ nothing_reached (under (bits_of default_features)) }
+        ensures settings { result.settings ≡ default_settings }
+        ensures reached { result.reached ≡ nothing_reached default_settings }
     {
         Validator::new_with_features(alloc, id, WasmFeatures::default())
     }
 
-    /// A validator that has read nothing, with these features. It takes no memory.
+    /// A validator that has read nothing, with these features and the default limits. It takes no memory.
     pub fn new_with_features(alloc: Global, id: ValidatorId, features: WasmFeatures) -> Validator
         ensures state { result.state ≡ states.Unparsed }
         ensures id { result.id ≡ id }
-        ensures features { result.features ≡ features }
-        ensures reached { result.reached ≡ nothing_reached (under features.0) }
+        ensures settings { result.settings ≡ record { features = features.0; limits = default_limits } }
+        ensures reached { result.reached ≡ nothing_reached (record { features = features.0; limits = default_limits }) }
     {
+        Validator::new_with_limits(alloc, id, features, Limits::default())
+    }
+
+    /// A validator that has read nothing, with these features and these limits, which never change. It takes no memory.
+    pub fn new_with_limits(
+        alloc: Global,
+        id: ValidatorId,
+        features: WasmFeatures,
+        limits: Limits,
+    ) -> Validator
+        requires within { IsWithinCeilings limits }
+        ensures state { result.state ≡ states.Unparsed }
+        ensures id { result.id ≡ id }
+        ensures settings { result.settings ≡ record { features = features.0; limits = limits } }
+        ensures reached { result.reached ≡ nothing_reached (record { features = features.0; limits = limits }) }
+    {
+        let settings = HeldSettings::new(features, limits);
+        let reached = SharedProgress::new(alloc, &settings);
         Validator {
             alloc,
             id,
             state: State::Unparsed,
-            features,
-            reached: SharedProgress::new(alloc, features),
+            settings,
+            reached,
         }
     }
 
     /// The features that are allowed.
     pub fn features(&self) -> WasmFeatures
-        ensures { result ≡ self.now.features }
+        ensures { result.0 ≡ self.now.settings.features }
     {
-        self.features
+        self.settings.features()
+    }
+
+    /// The limits that hold. None is above its ceiling.
+    pub fn limits(&self) -> Limits
+        ensures value { result ≡ self.now.settings.limits }
+        ensures within { IsWithinCeilings result }
+    {
+        self.settings.limits()
     }
 
     /// Whether nothing was read yet and nothing refused.
@@ -81,7 +107,7 @@ impl Validator {
         self.state == State::Unparsed
     }
 
-    /// Validates a module that is all of these bytes (WebAssembly 3.0, validation, modules).
+    /// Validates a module that is all of these bytes, by the validator's features and limits (WebAssembly 3.0, validation, modules).
     ///
     /// # Errors
     ///
@@ -92,20 +118,20 @@ impl Validator {
     /// group for which it has no room is answered as where there is no memory.
     pub fn validate_all(&mut self, bytes: &[u8]) -> Result<Types>
         requires { self.old.state ≡ states.Unparsed }
-        ensures verdict { Tells result (AcceptsUnder (under self.old.features.0) bytes.now) }
-        ensures shown { IfOk result (IsShown (under self.old.features.0) bytes.now) }
+        ensures verdict { Tells result (AcceptsUnder self.old.settings bytes.now) }
+        ensures shown { IfOk result (IsShown self.old.settings bytes.now) }
         ensures id { IfOk result (λ t. t.id ≡ self.old.id) }
-        ensures state { Leaves (under self.old.features.0) bytes.now result self.new.state }
+        ensures state { Leaves self.old.settings bytes.now result self.new.state }
         ensures others { self.new ≡ record self.old { state = self.new.state; reached = self.new.reached } }
         ensures types { IfOk result (λ t. t.kept.groups ≡ self.new.reached.progress.kept.groups) }
         ensures kept { Keeps self.old self.new }
     {
         self.state = State::Failed;
-        let bodies = match self.reached.read(self.features, bytes) {
+        let bodies = match self.reached.read(&self.settings, bytes) {
             Ok(bodies) => bodies,
             Err(error) => return Err(error),
         };
-        match self.reached.judge(self.features, bodies.as_slice()) {
+        match self.reached.judge(bodies.as_slice()) {
             Ok(()) => (),
             Err(error) => {
                 self.state = state_after(error.kind());
@@ -135,7 +161,7 @@ fn state_after(kind: ErrorKind) -> State
     }
 }
 
-/// Validates a module that is all of these bytes, with the default features (WebAssembly 3.0, validation, modules).
+/// Validates a module that is all of these bytes, with the default features and limits (WebAssembly 3.0, validation, modules).
 ///
 /// # Errors
 ///

@@ -6,12 +6,16 @@
 //!
 //! [`AddLent`] and [`add_lent_items`] are the same of items that are lent, and need not be moved: the prover does not cover a function that
 //! takes an import by value.
+//!
+//! Bodies of functions are no items that are added: each is kept as a [`Body`], and judged after all sections.
 #![tactic(auto)]
 
 mod add;
+mod bodies;
 mod lent;
 #[cfg(test)]
 mod tests;
 
 pub use add::{AddItem, add_items};
+pub use bodies::Body;
 pub use lent::{AddLent, add_lent_items};

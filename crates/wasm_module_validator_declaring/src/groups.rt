@@ -77,6 +77,7 @@ pub fn add_group(
     ensures stays { OnErr result (state.new ≡ state.old) }
     ensures refused { RefusedAt offset result }
     ensures can_intern { IsTrue types.new.can_intern }
+    ensures limits { types.new.limits ≡ types.old.limits }
     ensures grown { OnOk result (IsGrown types.old.groups types.new.groups) }
 {
     let further = rec_group.types().len();

@@ -1,14 +1,13 @@
 -- The frames that calls of a parser gave so far come first among those of the module that the whole text is, and a module has no others.
 use Rattle.std.proofs.Common.{◌≡◌, ℕ, ◌+◌, ◌<◌, ◌^◌, List, [], ◌∷◌, ◌++◌, length, drop, refl, sym, ap, ◌∙◌, subst, append_assoc, arith, Bool, true, false, Ok}
 use Rattle.std.proofs.lemmas.List.{append-nil}
-use Rattle.wasm_types.specs.limits.Limits.{default_limits}
 use Rattle.wasm_types.specs.limits.Settings.{Settings}
 use Rattle.wasm_types.specs.decoding.Decoder.{State, Outcome, Done, Short, continue_with, ◌>>=◌, first_of_rest, Takes}
 use Rattle.wasm_types.specs.decoding.Leb.{u32}
 use Rattle.wasm_types.specs.decoding.ExactLaws.{value_is, state_is}
 use Rattle.wasm_sections_parser.specs.declared.frame.Frame.{Frame}
 use Rattle.wasm_sections_parser.specs.declared.frame.Frame.TheVariants as frames
-use Rattle.wasm_sections_parser.specs.declared.parser.Parser.{Parser}
+use Rattle.wasm_sections_parser.specs.Parsers.{Parser}
 use Rattle.wasm_sections_parser.specs.declared.parser.Chunk.TheVariants.{Parsed}
 use Rattle.wasm_sections_parser.specs.declared.progress.Progress.{Progress}
 use Rattle.wasm_sections_parser.specs.Places.{IsPlacedBy, HasContentsAt}
@@ -16,7 +15,7 @@ use Rattle.wasm_sections_parser.specs.Steps.{Shape, the_end, is_over, Next, orde
 use Rattle.wasm_sections_parser.specs.Parsing.{shape_of, reads, between, at_end, Ends, Comes, IsOver, one_of, Parses}
 use Rattle.wasm_sections_parser_laws.specs.steps.StepCases.{step_between}
 use Rattle.wasm_sections_parser_laws.specs.calls.Runs.{fresh, Run}
-use Rattle.wasm_sections_parser_laws.specs.calls.Calls.{settings_of, shapes_of, stands, Called, Calls}
+use Rattle.wasm_sections_parser_laws.specs.calls.Calls.{shapes_of, stands, Called, Calls}
 use Rattle.wasm_sections_parser_laws.specs.calls.CallLaws.{call_cases, calls_run}
 use Rattle.wasm_sections_parser_laws.specs.calls.Advance.{is_end, parsed_is_over}
 use Rattle.wasm_sections_parser_laws.specs.Modules.{IsModule}
@@ -73,9 +72,9 @@ modules_one z text xs ys room m n =
 
 -- the frames that calls gave so far are a front of all
 pub calls_first : (p q : Parser) (text rest : List ℕ) (fs : List Frame) (ys : List Shape) → p.progress ≡ fresh → p.offset + length text < 2 ^ 64
-    → IsModule (settings_of p) text ys → Calls p text fs q rest → is_over q.progress ≡ false → (zs : List Shape) × (ys ≡ shapes_of fs ++ zs)
+    → IsModule p.settings text ys → Calls p text fs q rest → is_over q.progress ≡ false → (zs : List Shape) × (ys ≡ shapes_of fs ++ zs)
 calls_first p q text rest fs ys first room m calls going =
-    let z : Settings = settings_of p in
+    let z : Settings = p.settings in
     let t : State = record { rest = []; place = p.offset + length text; settings = z; start = p.offset } in
     let taken : Takes (reads p text) text t = record { parts = sym (append-nil text); place = refl; settings = refl; start = refl } in
     let run = module_run z m.outer text ys (reads p text) t m.frames m.ordered m.counted taken room in
@@ -111,25 +110,25 @@ placed_settings z s (frames.End place) q to h = tt
 
 -- a frame is read by the settings of the parser, which keeps them
 pub parsed_settings : (p : Parser) (text : List ℕ) (eof : Bool) (n : ℕ) (f : Frame) (q : Parser) → Parses p text eof (Ok (Parsed n f)) q
-    → HasSettings (settings_of p) f × (settings_of q ≡ settings_of p)
+    → HasSettings p.settings f × (q.settings ≡ p.settings)
 parsed_settings p text eof n f q h = over (is_over p.progress) h
   where
-    between : (b : Bool) → one_of b (Ends p eof (Ok (Parsed n f)) q) (Comes p text eof (Ok (Parsed n f)) q) → HasSettings (settings_of p) f × (settings_of q ≡ settings_of p)
-    between true g = (subst (HasSettings (settings_of p)) (sym g.3) tt, ap settings_of g.4)
+    between : (b : Bool) → one_of b (Ends p eof (Ok (Parsed n f)) q) (Comes p text eof (Ok (Parsed n f)) q) → HasSettings p.settings f × (q.settings ≡ p.settings)
+    between true g = (subst (HasSettings p.settings) (sym g.3) tt, ap (λ (v : Parser). v.settings) g.4)
     between false g =
-        (placed_settings (settings_of p) (reads p text) f q.progress g.after.place g.placed, (λ i. record { features = (g.features i).0; limits = default_limits }))
+        (placed_settings p.settings (reads p text) f q.progress g.after.place g.placed, g.settings)
 
     over : (b : Bool) → one_of b (IsOver p (Ok (Parsed n f)) q) (one_of (at_end p text) (Ends p eof (Ok (Parsed n f)) q) (Comes p text eof (Ok (Parsed n f)) q))
-        → HasSettings (settings_of p) f × (settings_of q ≡ settings_of p)
+        → HasSettings p.settings f × (q.settings ≡ p.settings)
     over true g = absurd g
     over false g = between (at_end p text) g
 
-pub calls_settings : (fs : List Frame) (p q : Parser) (text rest : List ℕ) → Calls p text fs q rest → settings_of q ≡ settings_of p
-calls_settings [] p q text rest h = ap settings_of (sym h.0)
+pub calls_settings : (fs : List Frame) (p q : Parser) (text rest : List ℕ) → Calls p text fs q rest → q.settings ≡ p.settings
+calls_settings [] p q text rest h = ap (λ (v : Parser). v.settings) (sym h.0)
 calls_settings (f ∷ fs) p q text rest h = calls_settings fs h.1 q (drop h.0 text) rest h.3 ∙ (parsed_settings p h.2.piece h.2.eof h.0 f h.1 h.2.parses).1
 
 -- behind calls a frame is read by the settings of the parser that began
-pub called_settings : (p q r : Parser) (text rest : List ℕ) (fs : List Frame) (n : ℕ) (f : Frame) → Calls p text fs q rest → Called q rest (Ok (Parsed n f)) r → HasSettings (settings_of p) f
+pub called_settings : (p q r : Parser) (text rest : List ℕ) (fs : List Frame) (n : ℕ) (f : Frame) → Calls p text fs q rest → Called q rest (Ok (Parsed n f)) r → HasSettings p.settings f
 called_settings p q r text rest fs n f h c =
     subst (λ (z : Settings). HasSettings z f) (calls_settings fs p q text rest h) (parsed_settings q c.piece c.eof n f r c.parses).0
 
@@ -186,7 +185,7 @@ calls_end (f ∷ (g ∷ gs)) p q text rest going h over =
 
 -- behind the end, the frames before it are those of the module that the text is
 pub calls_ended : (p q : Parser) (text rest : List ℕ) (fs : List Frame) → p.progress ≡ fresh → Calls p text fs q rest → is_over q.progress ≡ true
-    → (ys : List Shape) × (shapes_of fs ≡ ys ++ the_end ∷ []) × IsModule (settings_of p) text ys
+    → (ys : List Shape) × (shapes_of fs ≡ ys ++ the_end ∷ []) × IsModule p.settings text ys
 calls_ended p q text rest fs first calls over =
     let e = calls_end fs p q text rest (ap is_over first) calls over in
     let m = end_given e.before p e.last q text e.left e.size e.place first e.calls e.called in
@@ -194,7 +193,7 @@ calls_ended p q text rest fs first calls over =
 
 -- with the end, the frames that calls gave are a front of those of the module
 pub calls_with_end : (p q : Parser) (text rest : List ℕ) (fs : List Frame) (ys : List Shape) → p.progress ≡ fresh → p.offset + length text < 2 ^ 64
-    → IsModule (settings_of p) text ys → Calls p text fs q rest → (zs : List Shape) × (ys ++ the_end ∷ [] ≡ shapes_of fs ++ zs)
+    → IsModule p.settings text ys → Calls p text fs q rest → (zs : List Shape) × (ys ++ the_end ∷ [] ≡ shapes_of fs ++ zs)
 calls_with_end p q text rest fs ys first room m calls = over (is_over q.progress) refl
   where
     over : (b : Bool) → is_over q.progress ≡ b → (zs : List Shape) × (ys ++ the_end ∷ [] ≡ shapes_of fs ++ zs)
@@ -203,5 +202,5 @@ calls_with_end p q text rest fs ys first room m calls = over (is_over q.progress
         (k.0 ++ the_end ∷ [], ap (λ (xs : List Shape). xs ++ the_end ∷ []) k.1 ∙ append_assoc (shapes_of fs) k.0 (the_end ∷ []))
     over true e =
         let k = calls_ended p q text rest fs first calls e in
-        let same : ys ≡ k.0 = modules_one (settings_of p) text ys k.0 (omega (arith, room)) m k.2 in
+        let same : ys ≡ k.0 = modules_one p.settings text ys k.0 (omega (arith, room)) m k.2 in
         ([], ap (λ (xs : List Shape). xs ++ the_end ∷ []) same ∙ sym k.1 ∙ sym (append-nil (shapes_of fs)))

@@ -12,11 +12,11 @@ use Rattle.wasm_types.specs.error.declared.error.ErrorKind.TheVariants as kinds
 use Rattle.wasm_types.specs.error.ErrorValue.{ErrorValue}
 use Rattle.wasm_types.specs.reader.Reading.{FailsAt, IsNotMemory}
 use Rattle.wasm_sections_parser.specs.declared.frame.Frame.{Frame}
-use Rattle.wasm_sections_parser.specs.declared.parser.Parser.{Parser}
+use Rattle.wasm_sections_parser.specs.Parsers.{Parser}
 use Rattle.wasm_sections_parser.specs.Parsing.{shape_of}
 use Rattle.wasm_sections_parser.specs.Steps.{Shape, section, the_end}
 use Rattle.wasm_sections_parser_laws.specs.calls.Runs.{fresh}
-use Rattle.wasm_sections_parser_laws.specs.calls.Calls.{settings_of, shapes_of}
+use Rattle.wasm_sections_parser_laws.specs.calls.Calls.{shapes_of}
 use Rattle.wasm_sections_parser_laws.specs.Modules.{IsModule}
 use Rattle.wasm_sections_payloads.specs.Payloads.{cut, only_number, front_of}
 use Rattle.wasm_sections_payloads.specs.Walking.{Standing, NextPayload}
@@ -110,25 +110,25 @@ module _ (z : Settings) where
       subst (λ (s : SoFar). JudgesShapes z nothing ys s) (sym k.2.1 ∙ k.2.2) k.1
 
 module _ (p : Parser) (text : List ℕ) (ys : List Shape) (r : SoFar) (first : p.progress ≡ fresh) (room : p.offset + length text < 2 ^ 64)
-    (m : IsModule (settings_of p) text ys) (j : JudgesShapes (settings_of p) nothing ys r) where
+    (m : IsModule p.settings text ys) (j : JudgesShapes p.settings nothing ys r) where
   -- a frame that a walk gave is judged behind those before it
   pub judged_next : (fs : List Frame) (f : Frame) (t : Standing) → IsBehind p text (fs ++ f ∷ []) t
-      → (q : SoFar) × (s : SoFar) × JudgesShapes (settings_of p) nothing (shapes_of fs) q × JudgesShape (settings_of p) q (shape_of f) s
+      → (q : SoFar) × (s : SoFar) × JudgesShapes p.settings nothing (shapes_of fs) q × JudgesShape p.settings q (shape_of f) s
   judged_next fs f t h =
       let front = walk_first p text (fs ++ f ∷ []) ys t first room m h in
-      let k = split_at (settings_of p) fs f (ys ++ the_end ∷ []) front.0 r (shapes_before fs f (ys ++ the_end ∷ []) front.0 front.1) (with_end (settings_of p) ys r j) in
+      let k = split_at p.settings fs f (ys ++ the_end ∷ []) front.0 r (shapes_before fs f (ys ++ the_end ∷ []) front.0 front.1) (with_end p.settings ys r j) in
       (k.0, k.1, k.2, k.3)
 
   -- nothing is refused
   pub judged_not_refused : (fs : List Frame) (s t : Standing) (e : ErrorValue) → IsBehind p text fs s → NextPayload s (Some (Err e)) t → ⊥
   judged_not_refused fs s t e h next =
       let k = refused_next p text fs s t h ys e first room m next in
-      let l = judged_split (settings_of p) (shapes_of fs) (section k.0 k.1.rest ∷ k.2) nothing r (subst (λ (xs : List Shape). JudgesShapes (settings_of p) nothing xs r) k.3 j) in
-      judged_is_payload (settings_of p) l.0 l.2.0 k.0 k.1 e.kind e.offset l.2.1 k.5 k.6
+      let l = judged_split p.settings (shapes_of fs) (section k.0 k.1.rest ∷ k.2) nothing r (subst (λ (xs : List Shape). JudgesShapes p.settings nothing xs r) k.3 j) in
+      judged_is_payload p.settings l.0 l.2.0 k.0 k.1 e.kind e.offset l.2.1 k.5 k.6
 
 -- behind the end, what was judged are the frames of the module
 pub judged_ended : (p : Parser) (text : List ℕ) (fs : List Frame) (s : Standing) (q : SoFar) → p.progress ≡ fresh → IsBehind p text fs s → s.over ≡ true
-    → JudgesShapes (settings_of p) nothing (shapes_of fs) q → (ys : List Shape) × IsModule (settings_of p) text ys × JudgesShapes (settings_of p) nothing ys q
+    → JudgesShapes p.settings nothing (shapes_of fs) q → (ys : List Shape) × IsModule p.settings text ys × JudgesShapes p.settings nothing ys q
 judged_ended p text fs s q first h over j =
     let k = walk_ended p text fs s first h over in
-    (k.0, k.2, without_end (settings_of p) k.0 q (subst (λ (xs : List Shape). JudgesShapes (settings_of p) nothing xs q) k.1 j))
+    (k.0, k.2, without_end p.settings k.0 q (subst (λ (xs : List Shape). JudgesShapes p.settings nothing xs q) k.1 j))

@@ -4,11 +4,11 @@ use Rattle.std.proofs.lemmas.List.{append-nil}
 use Rattle.wasm_types.specs.error.ErrorValue.{ErrorValue}
 use Rattle.wasm_sections_parser.specs.declared.frame.Frame.{Frame}
 use Rattle.wasm_sections_parser.specs.declared.frame.Frame.TheVariants as frames
-use Rattle.wasm_sections_parser.specs.declared.parser.Parser.{Parser}
+use Rattle.wasm_sections_parser.specs.Parsers.{Parser}
 use Rattle.wasm_sections_parser.specs.declared.parser.Chunk.TheVariants.{Parsed}
 use Rattle.wasm_sections_parser.specs.Steps.{Shape, the_end, is_over}
 use Rattle.wasm_sections_parser_laws.specs.calls.Runs.{fresh}
-use Rattle.wasm_sections_parser_laws.specs.calls.Calls.{settings_of, shapes_of, Called, Calls}
+use Rattle.wasm_sections_parser_laws.specs.calls.Calls.{shapes_of, Called, Calls}
 use Rattle.wasm_sections_parser_laws.specs.calls.Advance.{is_end, parsed_is_over}
 use Rattle.wasm_sections_parser_laws.specs.Modules.{IsModule}
 use Rattle.wasm_sections_parser_laws.specs.RefusalLaws.{not_refused}
@@ -28,17 +28,17 @@ behind_nothing p text s first e = subst (IsBehind p text []) (sym e) (record { c
 
 -- behind the end, the frames before it are those of the module that the text is
 pub walk_ended : (p : Parser) (text : List ℕ) (fs : List Frame) (s : Standing) → p.progress ≡ fresh → IsBehind p text fs s → s.over ≡ true
-    → (ys : List Shape) × (shapes_of fs ≡ ys ++ the_end ∷ []) × IsModule (settings_of p) text ys
+    → (ys : List Shape) × (shapes_of fs ≡ ys ++ the_end ∷ []) × IsModule p.settings text ys
 walk_ended p text fs s first h over = calls_ended p s.parser text s.rest fs first h.calls (h.over ∙ over)
 
 -- anywhere, the frames so far come first among those of the module and the end
 pub walk_first : (p : Parser) (text : List ℕ) (fs : List Frame) (ys : List Shape) (s : Standing) → p.progress ≡ fresh → p.offset + length text < 2 ^ 64
-    → IsModule (settings_of p) text ys → IsBehind p text fs s → (zs : List Shape) × (ys ++ the_end ∷ [] ≡ shapes_of fs ++ zs)
+    → IsModule p.settings text ys → IsBehind p text fs s → (zs : List Shape) × (ys ++ the_end ∷ [] ≡ shapes_of fs ++ zs)
 walk_first p text fs ys s first room m h = calls_with_end p s.parser text s.rest fs ys first room m h.calls
 
 module _ (p : Parser) (text : List ℕ) (fs : List Frame) (s t : Standing) (h : IsBehind p text fs s) where
   -- a frame more
-  frame_next : (f : Frame) → IsFrameOf s.parser s.rest f t.parser t.rest → HasSettings (settings_of p) f × Calls p text (fs ++ f ∷ []) t.parser t.rest × (is_over t.parser.progress ≡ is_end f)
+  frame_next : (f : Frame) → IsFrameOf s.parser s.rest f t.parser t.rest → HasSettings p.settings f × Calls p text (fs ++ f ∷ []) t.parser t.rest × (is_over t.parser.progress ≡ is_end f)
   frame_next f k =
       let c = frame_called s.parser s.rest f t.parser t.rest k in (
         called_settings p s.parser t.parser text s.rest fs c.0 f h.calls c.1,
@@ -47,14 +47,14 @@ module _ (p : Parser) (text : List ℕ) (fs : List Frame) (s t : Standing) (h : 
       )
 
   -- a payload comes: it is that of a frame more
-  pub payload_next : (x : Payload) → NextPayload s (Some (Ok x)) t → (f : Frame) × IsPayloadOf f x × HasSettings (settings_of p) f × IsBehind p text (fs ++ f ∷ []) t
+  pub payload_next : (x : Payload) → NextPayload s (Some (Ok x)) t → (f : Frame) × IsPayloadOf f x × HasSettings p.settings f × IsBehind p text (fs ++ f ∷ []) t
   payload_next x next =
       let f : Frame = next.1.0 in
       let k = frame_next f next.1.1 in
       (f, next.1.2, k.0, record { calls = k.1; over = k.2 ∙ sym next.1.3 })
 
   -- of a module nothing is refused but a section that is no payload
-  pub refused_next : (ys : List Shape) (e : ErrorValue) → p.progress ≡ fresh → p.offset + length text < 2 ^ 64 → IsModule (settings_of p) text ys → NextPayload s (Some (Err e)) t
+  pub refused_next : (ys : List Shape) (e : ErrorValue) → p.progress ≡ fresh → p.offset + length text < 2 ^ 64 → IsModule p.settings text ys → NextPayload s (Some (Err e)) t
       → RefusesNext p fs ys e
   refused_next ys e first room m next = go next.3
     where

@@ -6,9 +6,9 @@ use Rattle.wasm_types.specs.error.ErrorValue.{ErrorValue}
 use Rattle.wasm_types.specs.reader.Reading.{Fails, IsNotMemory}
 use Rattle.wasm_sections_parser.specs.declared.frame.Frame.{Frame}
 use Rattle.wasm_sections_parser.specs.declared.frame.Frame.TheVariants as frames
-use Rattle.wasm_sections_parser.specs.declared.parser.Parser.{Parser}
+use Rattle.wasm_sections_parser.specs.Parsers.{Parser}
 use Rattle.wasm_sections_parser.specs.Steps.{Shape, section, is_over}
-use Rattle.wasm_sections_parser_laws.specs.calls.Calls.{settings_of, shapes_of, Calls}
+use Rattle.wasm_sections_parser_laws.specs.calls.Calls.{shapes_of, Calls}
 use Rattle.wasm_sections_payloads.specs.Payloads.{front_of}
 use Rattle.wasm_sections_payloads.specs.Walking.{Standing}
 
@@ -30,5 +30,5 @@ pub record IsBehind (p : Parser) (text : List ℕ) (fs : List Frame) (s : Standi
 -- Of these frames of a module the one that comes behind those is refused: it is a section, read by the settings of the parser, whose
 -- contents don't begin with a count, or are not the one number that they are to be. It is never for memory.
 abbrev pub RefusesNext : Parser → List Frame → List Shape → ErrorValue → Type 0
-RefusesNext p fs ys e = (id : ℕ) × (b : State) × (zs : List Shape) × (ys ≡ shapes_of fs ++ section id b.rest ∷ zs) × (b.settings ≡ settings_of p)
+RefusesNext p fs ys e = (id : ℕ) × (b : State) × (zs : List Shape) × (ys ≡ shapes_of fs ++ section id b.rest ∷ zs) × (b.settings ≡ p.settings)
     × IsNotMemory e.kind × Fails e (front_of id b)

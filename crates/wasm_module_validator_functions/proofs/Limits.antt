@@ -1,14 +1,7 @@
 -- How many locals there are, by whether there is one at the limit.
-use Rattle.std.proofs.Common.{◌≡◌, ◌∙◌, ◌≤◌, ◌<◌, ℕ, List, length, Option, Some, None, true, false, min, inl, inr, slice_get, sym, ap, arith}
+use Rattle.std.proofs.Common.{◌≡◌, ◌∙◌, ◌≤◌, ◌<◌, ℕ, List, length, Option, Some, None, true, false, inl, inr, slice_get, sym, ap, arith}
 use Rattle.std.specs.Prelude.{is_some}
 use Rattle.std.proofs.lemmas.Option.{slice_get_within, slice_get_cases}
-use Rattle.wasm_types.specs.limits.Limits.{default_limits}
-use Rattle.wasm_types.specs.limits.declared.Limits.{Limits}
-use Rattle.wasm_types.specs.limits.Settings.{Settings}
-use Rattle.wasm_module_validator_functions.specs.Locals.{most}
-
-pub most_is : (z : Settings) (l : Limits) (n : ℕ) → l ≡ z.limits → n ≡ min l.locals default_limits.locals → n ≡ most z
-most_is z l n e f = f ∙ ap (λ (x : Limits). min x.locals default_limits.locals) e
 
 -- there is one at the limit
 pub past_most : {A : Type 0} (xs : List A) (o : Option A) (n k : ℕ) → n ≡ k → o ≡ slice_get xs n → is_some o ≡ true → k < length xs

@@ -3,19 +3,19 @@
 use Rattle.std.specs.Prelude.{◌≡◌, ◌↔◌, ◌⊎◌, ◌+◌, ◌≤◌, ℕ, List, [], ◌++◌, length, true, Some, is_some, slice_get, Result, IfErr, OnOk}
 use Rattle.wasm_types.specs.decoding.Decoder.{State as Bytes}
 use Rattle.wasm_types.specs.limits.Settings.{Settings}
-use Rattle.wasm_types.specs.limits.Limits.{default_limits}
+use Rattle.wasm_types.specs.limits.declared.Limits.{Limits}
 use Rattle.wasm_types.specs.error.Denials.{Tells}
 use Rattle.wasm_types.specs.error.ErrorValue.{ErrorValue}
 use Rattle.wasm_types.specs.error.declared.error.ErrorKind.TheVariants as kinds
 use Rattle.wasm_types.specs.trees.Trees.{TypeTree}
-use Rattle.wasm_operators_bodies.specs.Locals.{total, SpelledLocals}
+use Rattle.wasm_operators_bodies.specs.Locals.{SpelledLocals}
 use Rattle.wasm_operators_bodies.specs.reader.expression.Spelling.{SpelledExpression}
 use Rattle.wasm_operator_validator_stacks.specs.rules.Context.{Module}
 use Rattle.wasm_operator_validator_stacks.specs.resources.Meaning.{Meaning}
 use Rattle.wasm_operator_validator_stacks.specs.state.Refusals.{refused_by}
 use Rattle.wasm_operator_validator_stacks.specs.state.State.{State}
 use Rattle.wasm_operator_validator_functions.specs.Functions.{Begins}
-use Rattle.wasm_operator_validator_expression.specs.Validating.{StopsBy}
+use Rattle.wasm_operator_validator_expression.specs.Validating.{AcceptsExpression, StopsBy}
 use Rattle.wasm_module_validator_rules.specs.Syntax.{Function}
 use Rattle.wasm_module_validator_rules.specs.Binary.{SpelledFunction}
 use Rattle.wasm_module_validator_rules.specs.Valid.{IsValidFunction, HasValidBody}
@@ -31,47 +31,55 @@ pub record SpellsFunction (z : Settings) (f : Function) (text : List ℕ) : Type
   pub body : SpelledExpression z f.body body_text
   pub whole : text ≡ locals_text ++ body_text
 
--- The bytes spell a function that is valid as one of the type at an index. A validator of operators keeps no more locals than the
--- limit by default, also where the limit is higher.
+-- the bytes spell a function that is valid as one of the type at an index
 pub record SpellsValidFunction (z : Settings) (g : Module) (x : ℕ) (text : List ℕ) : Type 0 where
   pub function : Function
   pub spelled : SpellsFunction z function text
   pub type : TypeTree
   pub at : slice_get g.types x ≡ Some type
   pub valid : IsValidFunction z g type function
-  pub held : length valid.signature.params + total function.locals ≤ default_limits.locals
 
--- where the limits are no higher, and the bytes no more than the limit, these are the functions of the rules
+-- where the bytes are no more than the limit, these are the functions of the rules
 abbrev pub FunctionsAreThoseOfTheRules : Type 0
 FunctionsAreThoseOfTheRules =
-    (z : Settings) (g : Module) (x : ℕ) (text : List ℕ) → z.limits.locals ≤ default_limits.locals → length text ≤ z.limits.body_bytes
+    (z : Settings) (g : Module) (x : ℕ) (text : List ℕ) → length text ≤ z.limits.body_bytes
     → SpellsValidFunction z g x text ↔ (f : Function) × SpelledFunction z f text × HasValidBody z g x f
 
 -- ---- what the validation of a body promises
 
--- the same bytes, read under these features
-abbrev pub under : ℕ → Bytes → Bytes
-under bits s = record { rest = s.rest; place = s.place; settings = judged_by bits s.settings; start = s.start }
+-- the same bytes, read by these settings
+abbrev pub under : Settings → Bytes → Bytes
+under z s = record { rest = s.rest; place = s.place; settings = z; start = s.start }
+
+-- locals stand at the front that may come behind those that there are, and after them an expression that may come from there on
+pub record AcceptsRest (m : Meaning) (z : Settings) (s : Bytes) (σ : State) : Type 0 where
+  pub behind : Bytes
+  pub known : State
+  pub taken : TakesLocals m z s σ behind known
+  pub accepted : AcceptsExpression m known behind
 
 -- the locals were taken, and behind them the expression is refused
-pub record StopsInBody (m : Meaning) (s : Bytes) (σ : State) (e : ErrorValue) : Type 0 where
+pub record StopsInBody (m : Meaning) (z : Settings) (s : Bytes) (σ : State) (e : ErrorValue) : Type 0 where
   pub behind : Bytes
   pub known : State
   pub left : State
-  pub taken : TakesLocals m s σ behind known
+  pub taken : TakesLocals m z s σ behind known
   pub stops : StopsBy m known behind e left
 
 -- why a body is refused
-abbrev pub StopsFunction : Meaning → Bytes → State → ErrorValue → Type 0
-StopsFunction m s σ e = StopsLocals m s σ e ⊎ StopsInBody m s σ e
+abbrev pub StopsFunction : Meaning → Settings → Bytes → State → ErrorValue → Type 0
+StopsFunction m z s σ e = StopsLocals m z s σ e ⊎ StopsInBody m z s σ e
 
 -- Where a body of the function type at an index begins, it is not refused exactly where the bytes spell a valid function of that type,
--- out of memory aside; where something was refused before it is refused for that. Behind it no frame is open, or the validator has
--- failed. The features, and what an attempt has saved, stay.
-pub record ValidatesFunction (m : Meaning) (s : Bytes) (σ : State) (answer : Result (Unit {0}) ErrorValue) (τ : State) : Type 0 where
-  pub exact : (x : ℕ) → Begins m σ.given.bits x σ → Tells answer (SpellsValidFunction (judged_by σ.given.bits s.settings) m.«module» x s.rest)
+-- out of memory aside. From any state it is Ok only where the bytes are the rest of a function that is accepted from there, and never
+-- after the end. If something was refused before it is refused for that. Behind it no frame is open, or the validator has failed. The
+-- features, and what an attempt has saved, stay.
+pub record ValidatesFunction (m : Meaning) (l : Limits) (s : Bytes) (σ : State) (answer : Result (Unit {0}) ErrorValue) (τ : State) : Type 0 where
+  pub exact : (x : ℕ) → Begins m σ.given.bits x σ → Tells answer (SpellsValidFunction (judged_by σ.given.bits l) m.«module» x s.rest)
+  pub accepted : OnOk answer (AcceptsRest m (judged_by σ.given.bits l) (under (judged_by σ.given.bits l) s) σ)
+  pub over : σ.opens ≡ [] → OnOk answer ⊥
   pub stopped : σ.failed ≡ true → refused_by answer ≡ Some kinds.Failed
-  pub stops : IfErr answer (λ e. StopsFunction m (under σ.given.bits s) σ e)
+  pub stops : IfErr answer (StopsFunction m (judged_by σ.given.bits l) (under (judged_by σ.given.bits l) s) σ)
   pub ended : OnOk answer (τ.opens ≡ [])
   pub failed : τ.failed ≡ is_some (refused_by answer)
   pub features : τ.given.bits ≡ σ.given.bits

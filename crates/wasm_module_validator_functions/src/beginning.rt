@@ -1,14 +1,17 @@
 //! Which function is judged, and the memory that its validator uses.
 
-ghost use Rattle.std.specs.Prelude.{◌≡◌, [], None, IfOk, IfErr};
-ghost use Rattle.wasm_types.specs.error.Denials.{Denies, RefusedAt};
+ghost use Rattle.std.specs.Prelude.{◌≡◌, [], None, IfOk};
+ghost use Rattle.wasm_types.specs.limits.Limits.{IsWithinCeilings};
+ghost use Rattle.wasm_types.specs.error.Denials.{Tells};
+ghost use Rattle.wasm_operator_validator_stacks.specs.locals.Locals.{RefusedAt};
 ghost use Rattle.wasm_operator_validator_functions.specs.Functions.{Begins, MayBegin};
 
 use crate::FuncValidator;
+use crate::held::HeldLimits;
 use std::alloc::Global;
 use wasm_operator_validator_functions::new_func;
 use wasm_operator_validator_walk::{OperatorValidatorAllocations, WasmModuleResources};
-use wasm_types::{Result, WasmFeatures};
+use wasm_types::{Limits, Result, WasmFeatures};
 
 /// The memory of a validator of functions that is done, for another to use. Nothing else is left in it.
 #[derive(Drop)]
@@ -43,6 +46,8 @@ pub struct FuncToValidate<R> {
     pub ty: u32,
     /// The features by which the body is judged.
     pub features: WasmFeatures,
+    /// The limits by which the body is judged.
+    pub limits: Limits,
 }
 
 impl<R: WasmModuleResources + Drop> FuncToValidate<R> {
@@ -51,13 +56,15 @@ impl<R: WasmModuleResources + Drop> FuncToValidate<R> {
     ///
     /// # Errors
     ///
-    /// The module has no function type at the index, or one with more parameters than a function may have locals; or there is no
-    /// memory. The offset is 0, since no byte is read.
+    /// The module has no function type at the index, or one with more parameters than a function may have locals by these limits; or
+    /// there is no memory. The offset is 0, since no byte is read.
     pub fn into_validator(self, allocs: FuncValidatorAllocations) -> Result<FuncValidator<R>>
+        requires within { IsWithinCeilings self.limits }
+        ensures exact { Tells result (MayBegin (R.meaning self.resources) self.limits.locals self.ty) }
         ensures begins { IfOk result (λ v. Begins (R.meaning self.resources) self.features.0 self.ty v.validator) }
         ensures resources { IfOk result (λ v. v.resources ≡ self.resources) }
         ensures index { IfOk result (λ v. v.index ≡ self.index) }
-        ensures refused { IfErr result (λ e. Denies e.kind (MayBegin (R.meaning self.resources) self.ty)) }
+        ensures limits { IfOk result (λ v. v.limits ≡ self.limits) }
         ensures at { RefusedAt 0 result }
     {
         let FuncToValidate {
@@ -65,9 +72,10 @@ impl<R: WasmModuleResources + Drop> FuncToValidate<R> {
             index,
             ty,
             features,
+            limits,
         } = self;
         let FuncValidatorAllocations { allocs, alloc } = allocs;
-        let validator = match new_func(ty, 0, &features, &resources, allocs) {
+        let validator = match new_func(ty, 0, &features, limits, &resources, allocs) {
             Ok(validator) => validator,
             Err(error) => return Err(error),
         };
@@ -75,6 +83,7 @@ impl<R: WasmModuleResources + Drop> FuncToValidate<R> {
             validator,
             resources,
             index,
+            limits: HeldLimits::new(limits),
             alloc,
         })
     }

@@ -6,5 +6,5 @@
 mod bodies;
 mod laws;
 
-pub use bodies::{Body, judge_bodies};
+pub use bodies::judge_bodies;
 pub use laws::bodies_are_worked;

@@ -1,11 +1,12 @@
 //! What is known of a body so far.
 
 ghost use Rattle.std.specs.Prelude.{◌≡◌, min, Some, None, MatchOption, length, slice_get, option_map};
+ghost use Rattle.wasm_types.specs.limits.Limits.{IsWithinCeilings};
 ghost use Rattle.wasm_operator_validator_stacks.specs.Heights.{operands_in, frame_at, known_type};
 
 use crate::FuncValidator;
 use wasm_operator_validator_walk::{Frame, WasmModuleResources};
-use wasm_types::{ValType, WasmFeatures};
+use wasm_types::{Limits, ValType, WasmFeatures};
 
 impl<R: WasmModuleResources> FuncValidator<R> {
     /// The features by which the body is judged.
@@ -14,6 +15,15 @@ impl<R: WasmModuleResources> FuncValidator<R> {
         ensures { result.0 ≡ self.now.validator.given.bits }
     {
         self.validator.features()
+    }
+
+    /// The limits by which the body is judged.
+    #[inline]
+    pub fn limits(&self) -> Limits
+        ensures value { result ≡ self.now.limits }
+        ensures within { IsWithinCeilings result }
+    {
+        self.limits.get()
     }
 
     /// The module.

@@ -2,14 +2,14 @@
 
 ghost use Rattle.std.specs.Prelude.{◌≡◌, true, IfSome};
 ghost use Rattle.wasm_types.specs.decoding.Decoder.{State as Bytes, Done};
+ghost use Rattle.wasm_types.specs.limits.Limits.{IsWithinCeilings};
 ghost use Rattle.wasm_types.specs.values.DecodeValues.{value_type_after};
 ghost use Rattle.wasm_operators_bodies.specs.Locals.{LocalGroup, group};
 ghost use Rattle.wasm_operator_validator_stacks.specs.Defining.{DefinesLocals};
 ghost use Rattle.wasm_operator_validator_stacks.specs.resources.Meaning.{Meaning};
 ghost use Rattle.wasm_module_validator_functions.specs.Locals.{judged_by, TakesLocals};
-ghost use Rattle.wasm_module_validator_functions.specs.Functions.{under, SpellsValidFunction};
+ghost use Rattle.wasm_module_validator_functions.specs.Functions.{SpellsValidFunction};
 
-use crate::locals::most_locals;
 use crate::validator::read_under;
 use std::alloc::Global;
 use wasm_operator_validator_functions::begin_func;
@@ -18,7 +18,7 @@ use wasm_operator_validator_walk::{
     WasmModuleResources, accepts_expression,
 };
 use wasm_operators_bodies::FunctionBody;
-use wasm_types::{BinaryReader, ValType, WasmFeatures};
+use wasm_types::{BinaryReader, Limits, ValType, WasmFeatures};
 
 /// Judges bodies in one memory, and says of each no more than that it is valid, or nothing. So the usual body, which is, is judged without
 /// a place for a reason.
@@ -45,21 +45,23 @@ impl BodyJudge {
         }
     }
 
-    /// Whether the bytes of a body spell a valid function of the type at an index of the module's types, read under these features. It may say
-    /// no of a valid one too: then [`FuncValidator::validate`](crate::FuncValidator::validate) tells.
+    /// Whether the bytes of a body spell a valid function of the type at an index of the module's types, by these features and limits. It may
+    /// say no of a valid one too: then [`FuncValidator::validate`](crate::FuncValidator::validate) tells.
     pub fn accepts<R: WasmModuleResources>(
         &mut self,
         resources: &R,
         ty: u32,
         features: WasmFeatures,
+        limits: Limits,
         body: &FunctionBody<'_>,
     ) -> bool
-        ensures { result ≡ true → SpellsValidFunction (judged_by features.0 body.now.settings) (R.meaning resources.now).«module» ty body.now.rest }
+        requires within { IsWithinCeilings limits }
+        ensures { result ≡ true → SpellsValidFunction (judged_by features.0 limits) (R.meaning resources.now).«module» ty body.now.rest }
     {
-        if !begin_func(&mut self.validator, ty, features, resources) {
+        if !begin_func(&mut self.validator, ty, features, limits, resources) {
             return false;
         }
-        let mut reader = read_under(body.get_binary_reader(), features);
+        let mut reader = read_under(body.get_binary_reader(), features, limits);
         if !take_numbers(&mut self.validator, &mut reader) {
             return false;
         }
@@ -73,16 +75,17 @@ impl BodyJudge {
     }
 }
 
-/// Puts the locals at the front of a body behind those that there are, where all are numbers, and says whether it did.
+/// Puts the locals at the front of a body behind those that there are, where all are numbers and no more than the reader's limits say,
+/// and says whether it did.
 fn take_numbers(validator: &mut OperatorValidator, reader: &mut BinaryReader<'_>) -> bool
-    ensures { result ≡ true → (m : Meaning) → TakesLocals m reader.old validator.old reader.new validator.new }
+    ensures { result ≡ true → (m : Meaning) → TakesLocals m reader.old.settings reader.old validator.old reader.new validator.new }
 {
-    let most = most_locals(reader.limits());
+    let most = reader.limits().locals;
     let Some(count) = reader.short_u32() else {
         return false;
     };
     for _ in 0..count {
-        if !take_group(validator, reader) {
+        if !take_group(validator, most, reader) {
             return false;
         }
     }
@@ -92,10 +95,10 @@ fn take_numbers(validator: &mut OperatorValidator, reader: &mut BinaryReader<'_>
     true
 }
 
-/// Puts one group of locals behind those that there are.
-fn take_group(validator: &mut OperatorValidator, reader: &mut BinaryReader<'_>) -> bool
+/// Puts one group of locals behind those that there are, where a function has at most `most`.
+fn take_group(validator: &mut OperatorValidator, most: u32, reader: &mut BinaryReader<'_>) -> bool
     ensures taken { result ≡ true → (l : LocalGroup) × (group reader.old ≡ Done l reader.new)
-        × ((m : Meaning) → DefinesLocals m validator.old l.count l.type validator.new) }
+        × ((m : Meaning) → DefinesLocals m most validator.old l.count l.type validator.new) }
     ensures settings { reader.new.settings ≡ reader.old.settings }
 {
     let Some(count) = reader.short_u32() else {
@@ -107,7 +110,7 @@ fn take_group(validator: &mut OperatorValidator, reader: &mut BinaryReader<'_>) 
     let Some(ty) = number_of(byte) else {
         return false;
     };
-    validator.put_numbers(count, ty)
+    validator.put_numbers(most, count, ty)
 }
 
 /// The type of numbers that a byte spells.

@@ -2,12 +2,12 @@
 //!
 //! A [`FuncToValidate`] says which function is to be judged, and [`FuncToValidate::into_validator`] makes its [`FuncValidator`]:
 //! [`FuncValidator::validate`] judges a whole [`FunctionBody`]. It is Ok exactly where the bytes spell a valid function of the type,
-//! read under the validator's own features, out of memory aside. Or its parts are called one by one, locals first, then operators.
+//! read by the validator's own features and limits, out of memory aside. Or its parts are called one by one, locals first, then operators.
 //! A [`BodyJudge`] judges one body after the other in one memory, and does not say why one is refused.
 //!
 //! ```text
 //! let allocs = FuncValidatorAllocations::new(alloc);
-//! let mut validator = FuncToValidate { resources, index, ty, features }.into_validator(allocs)?;
+//! let mut validator = FuncToValidate { resources, index, ty, features, limits }.into_validator(allocs)?;
 //! validator.validate(&body)?;
 //! let allocs = validator.into_allocations();
 //! ```
@@ -22,6 +22,7 @@ mod arity;
 mod beginning;
 pub mod code;
 mod heights;
+mod held;
 mod judging;
 pub mod laws;
 mod locals;

@@ -1,7 +1,6 @@
 //! The locals of a body: read, and put at the end of those that there are.
 
-ghost use Rattle.std.specs.Prelude.{◌≡◌, min, IfOk, IfErr, OnOk};
-ghost use Rattle.wasm_types.specs.limits.Limits.{default_limits};
+ghost use Rattle.std.specs.Prelude.{◌≡◌, IfOk, IfErr, OnOk};
 ghost use Rattle.wasm_types.specs.error.Denials.{RefusedAt};
 ghost use Rattle.wasm_types.specs.decoding.Decoder.{Done, Reaches};
 ghost use Rattle.wasm_types.specs.decoding.Leb.{u32 as u32_decoder};
@@ -10,17 +9,17 @@ ghost use Rattle.wasm_types.specs.reader.Reading.{Fails, Gives};
 ghost use Rattle.wasm_types.specs.reader.Numbers.{IsRefused};
 ghost use Rattle.wasm_operators_bodies.specs.Locals.{LocalGroup, group, group_of};
 ghost use Rattle.wasm_operator_validator_stacks.specs.Defining.{DefinesLocals};
-ghost use Rattle.wasm_module_validator_functions.specs.Locals.{relocated, TakesLocals, RefusesGroup, StopsLocals, ReadsLocals, DefinesMore};
+ghost use Rattle.wasm_module_validator_functions.specs.Locals.{judged_by, relocated, TakesLocals, RefusesGroup, StopsLocals, ReadsLocals, DefinesMore};
 
 use crate::FuncValidator;
 use std::alloc::Global;
-use std::cmp::min;
 use wasm_operator_validator_walk::WasmModuleResources;
-use wasm_types::{BinaryReader, Error, Limits, Result, ValType};
+use wasm_types::{BinaryReader, Error, Result, ValType};
 
 impl<R: WasmModuleResources> FuncValidator<R> {
     /// Reads the locals at the front of a body, and puts them behind those that there are. The reader stands behind them then, where
-    /// the operators begin. It is Ok exactly where the bytes spell locals that the function may have, out of memory aside.
+    /// the operators begin. It is Ok exactly where the bytes spell locals that the function may have by the validator's own features
+    /// and limits, out of memory aside.
     ///
     /// # Errors
     ///
@@ -28,9 +27,10 @@ impl<R: WasmModuleResources> FuncValidator<R> {
     /// locals there are with it; or there is no memory. The reader stays then, the validator has failed, and each later call
     /// is refused.
     pub fn read_locals(&mut self, reader: &mut BinaryReader<'_>) -> Result<()>
-        ensures reads { ReadsLocals (R.meaning self.old.resources) reader.old self.old.validator result reader.new self.new.validator }
+        ensures reads { ReadsLocals (R.meaning self.old.resources) self.old.limits reader.old self.old.validator result reader.new self.new.validator }
         ensures resources { self.new.resources ≡ self.old.resources }
         ensures index { self.new.index ≡ self.old.index }
+        ensures limits { self.new.limits ≡ self.old.limits }
     {
         if self.validator.has_failed() {
             return Err(failed_before(reader.original_position()));
@@ -52,31 +52,34 @@ impl<R: WasmModuleResources> FuncValidator<R> {
     ///
     /// # Errors
     ///
-    /// Something was refused before; the module may not write the type, also for no locals; there would be more than 50,000 in all;
-    /// or there is no memory. The locals stay as they were.
+    /// Something was refused before; the module may not write the type, also for no locals; there would be more in all than the
+    /// validator's limits say; or there is no memory. The locals stay as they were.
     pub fn define_locals(&mut self, offset: u64, count: u32, ty: ValType) -> Result<()>
-        ensures defines { DefinesMore (R.meaning self.old.resources) self.old.validator count ty result self.new.validator }
+        ensures defines { DefinesMore (R.meaning self.old.resources) self.old.limits.locals self.old.validator count ty result self.new.validator }
         ensures stays { IfErr result (λ _. self.new ≡ self.old) }
         ensures resources { self.new.resources ≡ self.old.resources }
         ensures index { self.new.index ≡ self.old.index }
+        ensures limits { self.new.limits ≡ self.old.limits }
         ensures at { RefusedAt offset result }
     {
         if self.validator.has_failed() {
             return Err(failed_before(offset));
         }
+        let limits = self.limits.get();
         self.validator
-            .define_locals(offset, count, ty, &self.resources)
+            .define_locals(limits, offset, count, ty, &self.resources)
     }
 
     /// Puts all groups of locals behind those that there are. Where one is refused, those before it were put there.
     fn take_locals(&mut self, reader: &mut BinaryReader<'_>) -> Result<()>
-        ensures taken { OnOk result (TakesLocals (R.meaning self.old.resources) reader.old self.old.validator reader.new self.new.validator) }
-        ensures refused { IfErr result (λ e. StopsLocals (R.meaning self.old.resources) reader.old self.old.validator e) }
+        ensures taken { OnOk result (TakesLocals (R.meaning self.old.resources) (judged_by self.old.validator.given.bits self.old.limits) reader.old self.old.validator reader.new self.new.validator) }
+        ensures refused { IfErr result (λ e. StopsLocals (R.meaning self.old.resources) (judged_by self.old.validator.given.bits self.old.limits) reader.old self.old.validator e) }
         ensures others { self.new.validator ≡ relocated self.old.validator self.new.validator.given.locals }
         ensures resources { self.new.resources ≡ self.old.resources }
         ensures index { self.new.index ≡ self.old.index }
+        ensures limits { self.new.limits ≡ self.old.limits }
     {
-        let most = most_locals(reader.limits());
+        let most = self.limits.get().locals;
         let Some(count) = reader.short_u32() else {
             return Err(no_number(reader));
         };
@@ -96,20 +99,22 @@ impl<R: WasmModuleResources> FuncValidator<R> {
     #[tactic(auto, unfolding(crate::specs::Locals::group))]
     fn take_group(&mut self, reader: &mut BinaryReader<'_>) -> Result<()>
         ensures taken { IfOk result (λ _. (l : LocalGroup) × (group reader.old ≡ Done l reader.new)
-            × DefinesLocals (R.meaning self.old.resources) self.old.validator l.count l.type self.new.validator) }
-        ensures refused { IfErr result (λ e. RefusesGroup (R.meaning self.old.resources) reader.old self.old.validator e) }
+            × DefinesLocals (R.meaning self.old.resources) self.old.limits.locals self.old.validator l.count l.type self.new.validator) }
+        ensures refused { IfErr result (λ e. RefusesGroup (R.meaning self.old.resources) self.old.limits.locals reader.old self.old.validator e) }
         ensures stays { IfErr result (λ _. self.new ≡ self.old) }
         ensures settings { reader.new.settings ≡ reader.old.settings }
         ensures resources { self.new.resources ≡ self.old.resources }
         ensures index { self.new.index ≡ self.old.index }
+        ensures limits { self.new.limits ≡ self.old.limits }
     {
         let offset = reader.original_position();
         let group = match read_group(self.alloc, reader) {
             Ok(group) => group,
             Err(error) => return Err(error),
         };
+        let limits = self.limits.get();
         self.validator
-            .define_locals(offset, group.0, group.1, &self.resources)
+            .define_locals(limits, offset, group.0, group.1, &self.resources)
     }
 }
 
@@ -148,13 +153,6 @@ fn read_again(reader: &BinaryReader<'_>) -> Error
         Ok(_) => unreachable!(),
         Err(error) => error,
     }
-}
-
-/// How many locals a function may have: as the limits say, and no more than a validator keeps.
-pub(crate) fn most_locals(limits: Limits) -> u32
-    ensures { result ≡ min limits.locals default_limits.locals }
-{
-    min(limits.locals, Limits::default().locals)
 }
 
 /// The refusal of more locals than the limit.

@@ -31,6 +31,7 @@ impl<R: WasmModuleResources> FuncValidator<R> {
         ensures at { RefusedAt offset result }
         ensures resources { self.new.resources ≡ self.old.resources }
         ensures index { self.new.index ≡ self.old.index }
+        ensures limits { self.new.limits ≡ self.old.limits }
     {
         let name = operator.info().name;
         match judge(&mut self.validator, &self.resources, operator) {
@@ -50,6 +51,7 @@ impl<R: WasmModuleResources> FuncValidator<R> {
         ensures at { RefusedAt offset result }
         ensures resources { self.new.resources ≡ self.old.resources }
         ensures index { self.new.index ≡ self.old.index }
+        ensures limits { self.new.limits ≡ self.old.limits }
     {
         let name = operator.info().name;
         self.validator.begin_try_op();

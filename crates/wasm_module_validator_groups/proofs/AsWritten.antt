@@ -9,7 +9,7 @@ use Rattle.wasm_types.specs.indices.Indices.{number_of}
 use Rattle.wasm_types.specs.trees.Types.{entry_map, entry_of_subtype}
 use Rattle.wasm_types.specs.trees.Each.{EachOption}
 use Rattle.wasm_types.specs.trees.Trees.{GroupTree, RefTree, TypeTree, group_tree, type_meant, past_the_end, opened}
-use Rattle.wasm_types.specs.trees.Unfold.{Reference, Entry, reference_tree}
+use Rattle.wasm_types.specs.trees.Unfold.{GroupReference, Entry, reference_tree}
 use Rattle.wasm_types.specs.trees.Gates.{Has}
 use Rattle.wasm_types.specs.trees.ValidGroup.{written_entries, reference_at, type_at, written_tree, types_from, AreWellReferenced, IsValidType, AreValidTypes}
 use Rattle.wasm_types.specs.trees.laws.Types.{each_entry, entry_agrees, entry_twice}
@@ -87,7 +87,7 @@ plain_referenced bits start end own explicit (d ∷ ds) s h =
     )
 
 -- plain types unroll alike, whatever their references are taken for
-plain_entries : (f h : Reference → RefTree) (bits n : ℕ) (explicit : Bool) (ds : List Declared) → HaveOneSupertype ds → ArePlain bits ds
+plain_entries : (f h : GroupReference → RefTree) (bits n : ℕ) (explicit : Bool) (ds : List Declared) → HaveOneSupertype ds → ArePlain bits ds
     → map (entry_map f) (entries_of (record { is_canonical = false; types = ds })) ≡ map (entry_map h) (map (entry_map (reference_at n)) (written_entries (written explicit ds)))
 plain_entries f h bits n explicit [] s w = refl
 plain_entries f h bits n explicit (d ∷ ds) s w =

@@ -49,6 +49,7 @@ impl ModuleState {
             ⊎ (types.new.groups ≡ kept_group self.old.spaces.settings.features self.old.spaces.types (declared_types rec_group) ∷ types.old.groups)) }
         ensures refused { RefusedAt offset result }
         ensures can_intern { IsTrue types.new.can_intern }
+        ensures limits { types.new.limits ≡ types.old.limits }
     {
         self.module.add_types(rec_group, types, offset, check_limit)
     }

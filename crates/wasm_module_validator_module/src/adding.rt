@@ -82,6 +82,7 @@ impl Module {
             ⊎ (types.new.groups ≡ kept_group self.old.settings.features self.old.types (declared_types rec_group) ∷ types.old.groups)) }
         ensures at { RefusedAt offset result }
         ensures can_intern { IsTrue types.new.can_intern }
+        ensures limits { types.new.limits ≡ types.old.limits }
     {
         self.types.add_types(rec_group, types, offset, check_limit)
     }

@@ -10,7 +10,7 @@ use Rattle.wasm_sections_parser.specs.declared.frame.Frame.{Frame}
 use Rattle.wasm_sections_parser.specs.Parsing.{shape_of}
 use Rattle.wasm_sections_payloads.specs.declared.payload.Payload.{Payload}
 use Rattle.wasm_sections_payloads.specs.Payloads.{IsSectionOf, IsPayloadOf}
-use Rattle.wasm_module_validator_functions.specs.declared.code.bodies.Body.{Body}
+use Rattle.wasm_module_validator_adding.specs.declared.bodies.Body.{Body}
 use Rattle.wasm_module_validator_standing.specs.steps.Sections.{Section, number}
 use Rattle.wasm_module_validator_standing.specs.steps.Steps.{SoFar, JudgesSection, JudgesShape}
 use Rattle.wasm_module_validator_fronts.specs.Walks.{HasSettings}

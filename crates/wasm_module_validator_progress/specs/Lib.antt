@@ -6,5 +6,4 @@ pub mod laws
 pub use Rattle.wasm_module_validator_standing.specs as standing
 pub use Rattle.wasm_module_validator_standing.specs.so_far as so_far
 pub use Rattle.wasm_module_validator_fronts.specs as fronts
-pub use Rattle.wasm_module_validator_functions.specs.code as code
-pub use Rattle.wasm_module_validator_functions.specs as functions
+pub use Rattle.wasm_module_validator_adding.specs as adding

@@ -1,9 +1,12 @@
 -- A module that is being read, as contracts see it, and when it stands for what was judged (WebAssembly 3.0, validation, modules).
-use Rattle.std.specs.Prelude.{◌≡◌, ◌≤◌, ◌==◌, if◌then◌else◌, ℕ, List, [], length, map, take}
-use Rattle.wasm_types.specs.limits.Limits.{default_limits}
+use Rattle.std.specs.Prelude.{◌≡◌, ◌==◌, ◌&&◌, if◌then◌else◌, Bool, ℕ, List, [], length, map, take}
+use Rattle.wasm_types.specs.limits.contracts.LimitsPartialEq.TheImpl as limits
+use Rattle.wasm_types.specs.limits.Limits.{IsWithinCeilings}
 use Rattle.wasm_types.specs.limits.Settings.{Settings}
 use Rattle.wasm_module_validator_type_trees.specs.Groups.{Group}
-use Rattle.wasm_module_validator_groups.specs.adding.Modules.{settings_of}
+use Rattle.wasm_module_validator_types.specs.List.{Types}
+use Rattle.wasm_module_validator_module.specs.Spaces.{Spaces}
+use Rattle.wasm_module_validator_resources.specs.Named.{IsReadOver}
 use Rattle.wasm_module_validator_standing.specs.items.Items.{Items, no_items}
 use Rattle.wasm_module_validator_standing.specs.steps.contexts.rules.Syntax.{ModuleTree}
 use Rattle.wasm_module_validator_standing.specs.steps.contexts.rules.Valid.{Each}
@@ -11,8 +14,8 @@ use Rattle.wasm_module_validator_standing.specs.steps.Sections.{Section}
 use Rattle.wasm_module_validator_standing.specs.steps.Steps.{SoFar, IsJudged}
 use Rattle.wasm_module_validator_standing.specs.Standing.{IsGrown, Stands, IsReading}
 use Rattle.wasm_module_validator_texts.specs.Sections.{Reading}
-use Rattle.wasm_module_validator_functions.specs.code.Code.{IsReadBy}
-use Rattle.wasm_module_validator_functions.specs.declared.code.bodies.Body.{Body}
+use Rattle.wasm_module_validator_adding.specs.Bodies.{IsReadBy}
+use Rattle.wasm_module_validator_adding.specs.declared.bodies.Body.{Body}
 
 -- ---- what is kept
 
@@ -35,15 +38,26 @@ nothing_over groups z = record { kept = record { groups = groups; items = no_ite
 abbrev pub nothing_kept : Settings → Progress
 nothing_kept z = nothing_over [] z
 
+-- ---- the list of types
+
+-- Each type of the list is valid by the settings of a module, those that the module names are in it, the list has the limits of the module,
+-- and none of these is above its ceiling.
+abbrev pub IsOver : Types → Spaces → Type 0
+IsOver types spaces = IsReadOver types.groups spaces × (types.limits ≡ spaces.settings.limits) × IsWithinCeilings spaces.settings.limits
+
 -- ---- one module after another
 
--- the groups of the list that a module by these features begins with behind another: those that there are, where that was read by the same
-abbrev pub kept_groups : ℕ → Kept → List Group
-kept_groups bits k = if k.items.spaces.settings.features == bits then k.groups else []
+-- the features are the same, and each of the limits
+abbrev pub are_same : Settings → Settings → Bool
+are_same y z = (y.features == z.features) && limits.ghosts.eq y.limits z.limits
 
--- nothing was read of a module by these features, behind another
-abbrev pub renewed : ℕ → Kept → Progress
-renewed bits k = nothing_over (kept_groups bits k) (settings_of bits default_limits)
+-- the groups of the list that a module by these settings begins with after another: those that there are, if that was read by the same
+abbrev pub kept_groups : Settings → Kept → List Group
+kept_groups z k = if are_same k.items.spaces.settings z then k.groups else []
+
+-- nothing was read of a module by these settings, after another
+abbrev pub renewed : Settings → Kept → Progress
+renewed z k = nothing_over (kept_groups z k) z
 
 -- nothing was read of a module by the same settings, behind another
 abbrev pub next_over : Kept → Progress
@@ -74,9 +88,8 @@ abbrev pub type_of : Body → ℕ
 type_of b = b.type_index
 
 -- What is kept stands for what was judged: the state for the tree, the bodies for the bytes of bodies, each read by these settings and
--- with the type of its function. A function may have no more locals than by default, as the validator of bodies has it.
+-- with the type of its function.
 pub record IsAt (z : Settings) (r : Progress) (bs : List Body) (p : SoFar) : Type 0 where
-  pub locals : z.limits.locals ≤ default_limits.locals
   pub stands : Stands r.kept.groups r.kept.items z p.tree
   pub judged : IsJudged z p
   pub counted : r.kept.count ≡ length p.tree.types

@@ -1,17 +1,14 @@
 //! The items of a module so far, and the list of their types.
 
-ghost use Rattle.std.specs.Prelude.{◌≡◌, IfOk, OnErr, OnOk};
-ghost use Rattle.wasm_types.specs.limits.Limits.{default_limits};
-ghost use Rattle.wasm_module_validator_groups.specs.adding.Modules.{settings_of};
-ghost use Rattle.wasm_module_validator_progress.specs.Progress.{nothing_kept, renewed, next_over};
+ghost use Rattle.std.specs.Prelude.{◌≡◌, IfOk, IsTrue, OnErr, OnOk};
+ghost use Rattle.wasm_module_validator_progress.specs.Progress.{are_same, nothing_kept, renewed, next_over};
 
-use crate::SharedModule;
+use crate::{HeldSettings, SharedModule};
 use std::alloc::{AllocError, Global};
 use std::marker::Model;
 use std::mem;
 use wasm_module_validator_standing::ModuleState;
 use wasm_module_validator_types::TypeList;
-use wasm_types::{Limits, WasmFeatures};
 
 /// The items of a module that is being read, and the list of their types. A contract sees what is kept (`specs/Progress.antt`).
 #[derive(Drop)]
@@ -25,25 +22,33 @@ pub struct Collected {
 
 impl Model for Collected {
     ghost use Rattle.std.specs.Prelude.{◌≡◌, true};
-    ghost use Rattle.wasm_types.specs.limits.Limits.{default_limits};
-    ghost use Rattle.wasm_module_validator_resources.specs.Named.{IsReadOver};
-    ghost use Rattle.wasm_module_validator_progress.specs.Progress.{Kept};
+    ghost use Rattle.wasm_module_validator_progress.specs.Progress.{IsOver, Kept};
 
     ghost Value = { Kept };
 
     ghost view = { λ c. record { groups = c.types.groups; items = c.state; count = c.groups } };
 
-    ghost invariant = { λ c. IsReadOver c.types.groups c.state.spaces × (c.types.can_intern ≡ true) × (c.state.spaces.settings.limits ≡ default_limits) };
+    ghost invariant = { λ c. (c.types.can_intern ≡ true) × IsOver c.types c.state.spaces };
+}
+
+// Whether a module is read by these settings.
+fn has_settings(state: &ModuleState, settings: &HeldSettings) -> bool
+    ensures same { result ≡ are_same state.now.spaces.settings settings.now }
+    ensures equal { IsTrue result → state.now.spaces.settings ≡ settings.now }
+{
+    let own = state.settings();
+    own.features() == settings.features() && own.limits() == settings.limits()
 }
 
 impl Collected {
-    /// Of a module of which nothing was read, by these features and the limits that hold where none are chosen. It takes no memory.
-    pub(crate) fn new(alloc: Global, features: WasmFeatures) -> Collected
-        ensures { result ≡ (nothing_kept (settings_of features.0 default_limits)).kept }
+    /// Of a module of which nothing was read, by these settings. It takes no memory.
+    pub(crate) fn new(alloc: Global, settings: &HeldSettings) -> Collected
+        ensures { result ≡ (nothing_kept settings.now).kept }
     {
+        let limits = settings.limits();
         Collected {
-            state: ModuleState::new(alloc, features, Limits::default()),
-            types: TypeList::new(alloc),
+            state: ModuleState::new(alloc, settings.features(), limits),
+            types: TypeList::new(alloc, limits),
             groups: 0,
             alloc,
         }
@@ -60,14 +65,14 @@ impl Collected {
         (mem::replace(&mut self.state, state), groups)
     }
 
-    /// Begins with another module by these features, over the same list of types where this one was read by them too. It takes no memory.
-    pub(crate) fn renew(&mut self, features: WasmFeatures)
-        ensures { self.new ≡ (renewed features.0 self.old).kept }
+    /// Begins with another module by these settings, over the same list of types if this one was read by them too. It takes no memory.
+    pub(crate) fn renew(&mut self, settings: &HeldSettings)
+        ensures { self.new ≡ (renewed settings.now self.old).kept }
     {
-        if self.state.settings().features() == features {
+        if has_settings(&self.state, settings) {
             let _ = self.replace();
         } else {
-            *self = Collected::new(self.alloc, features);
+            *self = Collected::new(self.alloc, settings);
         }
     }
 

@@ -6,7 +6,7 @@ ghost use Rattle.wasm_types.specs.error.Denials.{Tells, UnlessMemory};
 ghost use Rattle.wasm_types.specs.error.declared.error.ErrorKind.TheVariants.{Other};
 ghost use Rattle.wasm_types.specs.limits.Settings.{Settings};
 ghost use Rattle.wasm_sections_payloads.specs.Payloads.{Counts};
-ghost use Rattle.wasm_module_validator_functions.specs.declared.code.bodies.Body.{Body as TheBody};
+ghost use Rattle.wasm_module_validator_adding.specs.declared.bodies.Body.{Body as TheBody};
 ghost use Rattle.wasm_module_validator_standing.specs.steps.Sections.{code_place};
 ghost use Rattle.wasm_module_validator_standing.specs.steps.Steps.{SoFar, JudgesSection, JudgesBody};
 ghost use Rattle.wasm_module_validator_progress.specs.Progress.{Grows, IsAt};

@@ -5,7 +5,7 @@ ghost use Rattle.wasm_types.specs.decoding.Decoder.{State};
 ghost use Rattle.wasm_types.specs.error.Denials.{Tells};
 ghost use Rattle.wasm_types.specs.limits.Settings.{Settings};
 ghost use Rattle.wasm_sections_payloads.specs.Payloads.{Counts};
-ghost use Rattle.wasm_module_validator_functions.specs.declared.code.bodies.Body.{Body as TheBody};
+ghost use Rattle.wasm_module_validator_adding.specs.declared.bodies.Body.{Body as TheBody};
 ghost use Rattle.wasm_module_validator_standing.specs.steps.Sections as section;
 ghost use Rattle.wasm_module_validator_standing.specs.steps.Steps.{SoFar, JudgesSection};
 ghost use Rattle.wasm_module_validator_progress.specs.Progress.{Grows, IsAt};

@@ -4,7 +4,7 @@ ghost use Rattle.std.specs.Prelude.{◌≡◌, List, OnOk, IfErr, true};
 ghost use Rattle.wasm_types.specs.decoding.Decoder.{State, Done};
 ghost use Rattle.wasm_types.specs.error.Denials.{Tells};
 ghost use Rattle.wasm_types.specs.reader.Reading.{IsNotMemory};
-ghost use Rattle.wasm_types.specs.limits.Limits.{IsWithinCeilings, default_limits};
+ghost use Rattle.wasm_types.specs.limits.Limits.{IsWithinCeilings};
 ghost use Rattle.wasm_types.specs.limits.Settings.{Settings};
 ghost use Rattle.wasm_module_validator_resources.specs.Named.{IsReadOver};
 ghost use Rattle.wasm_module_validator_type_trees.specs.Groups.{Group};
@@ -15,7 +15,7 @@ ghost use Rattle.wasm_module_validator_standing.specs.steps.Texts.{ItemRead, Add
 ghost use Rattle.wasm_module_validator_standing.specs.Standing.{IsGrown, Stands};
 ghost use Rattle.wasm_module_validator_texts.specs.Sections.{Reading, AddsIn, RefusesIn, MayBegin};
 ghost use Rattle.wasm_module_validator_texts.specs.Kinds.{WalksTell};
-ghost use Rattle.wasm_module_validator_progress.specs.Progress.{Grows, Reads, IsRead};
+ghost use Rattle.wasm_module_validator_progress.specs.Progress.{Grows, IsOver, Reads, IsRead};
 ghost use Rattle.wasm_module_validator_progress.specs.laws.Growing.{grows_by_nothing, grows_further};
 
 use crate::Collected;
@@ -62,6 +62,7 @@ pub trait SectionItem<'a>: FromReader<'a> {
         ensures over { OnOk result (IsReadOver types.new.groups state.new.spaces) }
         ensures interning { OnOk result (types.new.can_intern ≡ true) }
         ensures kept { state.new.spaces.settings ≡ state.old.spaces.settings }
+        ensures limits { types.new.limits ≡ types.old.limits }
         ensures grown { OnOk result (IsGrown types.old.groups types.new.groups) };
 
     /// Items whose bytes are read alike are the same.
@@ -80,14 +81,13 @@ fn add_or_forget<'a, T: SectionItem<'a>>(
     groups: &mut u32,
     offset: u64,
 ) -> Result<()>
-    requires over { IsReadOver types.old.groups state.old.spaces }
+    requires over { IsOver types.old state.old.spaces }
     requires interning { types.old.can_intern ≡ true }
-    requires limits { state.old.spaces.settings.limits ≡ default_limits }
     requires read { (z : Settings) × (s : State) × (t : State) × (T.FromReader.decoder z s ≡ Done (T.FromReader.view item) t) }
     ensures answer { (z : Settings) (m : ModuleTree) → Reads T.section types.old.groups state.old groups.old z m → Tells result ((n : ModuleTree) × AddsRead z T.section m (T.of item) n) }
     ensures added { OnOk result ((z : Settings) (m n : ModuleTree) → Reads T.section types.old.groups state.old groups.old z m → AddsRead z T.section m (T.of item) n
         → Reads T.section types.new.groups state.new groups.new z n) }
-    ensures kept { IsReadOver types.new.groups state.new.spaces × (types.new.can_intern ≡ true) × (state.new.spaces.settings.limits ≡ default_limits) }
+    ensures kept { (types.new.can_intern ≡ true) × IsOver types.new state.new.spaces }
     ensures settings { OnOk result (state.new.spaces.settings ≡ state.old.spaces.settings) }
     ensures grown { OnOk result (IsGrown types.old.groups types.new.groups) }
 {
@@ -95,8 +95,9 @@ fn add_or_forget<'a, T: SectionItem<'a>>(
         Ok(()) => Ok(()),
         Err(error) => {
             let settings = state.settings();
-            *state = ModuleState::new(alloc, settings.features(), settings.limits());
-            *types = TypeList::new(alloc);
+            let limits = settings.limits();
+            *state = ModuleState::new(alloc, settings.features(), limits);
+            *types = TypeList::new(alloc, limits);
             Err(error)
         }
     }

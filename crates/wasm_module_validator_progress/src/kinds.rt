@@ -144,6 +144,7 @@ impl<'a> SectionItem<'a> for TableOf<ConstExpr<'a>> {
         ensures over { OnOk result (IsReadOver types.new.groups state.new.spaces) }
         ensures interning { OnOk result (types.new.can_intern ≡ true) }
         ensures kept { state.new.spaces.settings ≡ state.old.spaces.settings }
+        ensures limits { types.new.limits ≡ types.old.limits }
         ensures grown { OnOk result (IsGrown types.old.groups types.new.groups) }
     {
         add_table(alloc, state, types, self, offset)
@@ -267,6 +268,7 @@ impl<'a> SectionItem<'a> for GlobalOf<ConstExpr<'a>> {
         ensures over { OnOk result (IsReadOver types.new.groups state.new.spaces) }
         ensures interning { OnOk result (types.new.can_intern ≡ true) }
         ensures kept { state.new.spaces.settings ≡ state.old.spaces.settings }
+        ensures limits { types.new.limits ≡ types.old.limits }
         ensures grown { OnOk result (IsGrown types.old.groups types.new.groups) }
     {
         add_global(alloc, state, types, self, offset)
@@ -317,6 +319,7 @@ impl<'a> SectionItem<'a> for Export<'a> {
         ensures over { OnOk result (IsReadOver types.new.groups state.new.spaces) }
         ensures interning { OnOk result (types.new.can_intern ≡ true) }
         ensures kept { state.new.spaces.settings ≡ state.old.spaces.settings }
+        ensures limits { types.new.limits ≡ types.old.limits }
         ensures grown { OnOk result (IsGrown types.old.groups types.new.groups) }
     {
         add_export_item(state, types, self, offset)
@@ -367,6 +370,7 @@ impl<'a> SectionItem<'a> for ElementOf<'a, ConstExpr<'a>> {
         ensures over { OnOk result (IsReadOver types.new.groups state.new.spaces) }
         ensures interning { OnOk result (types.new.can_intern ≡ true) }
         ensures kept { state.new.spaces.settings ≡ state.old.spaces.settings }
+        ensures limits { types.new.limits ≡ types.old.limits }
         ensures grown { OnOk result (IsGrown types.old.groups types.new.groups) }
     {
         add_element(alloc, state, types, self, offset)
@@ -417,6 +421,7 @@ impl<'a> SectionItem<'a> for DataOf<'a, ConstExpr<'a>> {
         ensures over { OnOk result (IsReadOver types.new.groups state.new.spaces) }
         ensures interning { OnOk result (types.new.can_intern ≡ true) }
         ensures kept { state.new.spaces.settings ≡ state.old.spaces.settings }
+        ensures limits { types.new.limits ≡ types.old.limits }
         ensures grown { OnOk result (IsGrown types.old.groups types.new.groups) }
     {
         check_data_item(alloc, state, types, self, offset)

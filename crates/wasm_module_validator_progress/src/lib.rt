@@ -17,17 +17,16 @@ mod items;
 mod kinds;
 mod payloads;
 mod progress;
+mod settings;
 mod shared;
 
 pub use collected::Collected;
 pub use items::SectionItem;
 pub use payloads::check_header;
 pub use progress::InProgress;
+pub use settings::HeldSettings;
 pub use shared::SharedModule;
-pub use wasm_module_validator_functions::code::{Body, judge_bodies};
-pub use wasm_module_validator_functions::{
-    FuncToValidate, FuncValidator, FuncValidatorAllocations,
-};
+pub use wasm_module_validator_adding::Body;
 pub use wasm_module_validator_initialising::{OperatorValidatorAllocations, check_data_with};
 pub use wasm_module_validator_standing::ModuleState;
 pub use wasm_module_validator_types::TypeList;

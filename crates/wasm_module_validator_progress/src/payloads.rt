@@ -8,7 +8,7 @@ ghost use Rattle.wasm_types.specs.limits.Settings.{Settings};
 ghost use Rattle.wasm_sections_parser.specs.declared.frame.Frame.{Frame};
 ghost use Rattle.wasm_sections_parser.specs.Parsing.{shape_of, layer_of};
 ghost use Rattle.wasm_sections_payloads.specs.Payloads.{only_number, IsPayloadOf};
-ghost use Rattle.wasm_module_validator_functions.specs.declared.code.bodies.Body.{Body as TheBody};
+ghost use Rattle.wasm_module_validator_adding.specs.declared.bodies.Body.{Body as TheBody};
 ghost use Rattle.wasm_module_validator_standing.specs.steps.Sections as section;
 ghost use Rattle.wasm_module_validator_standing.specs.steps.Steps.{SoFar, JudgesSection, JudgesShape};
 ghost use Rattle.wasm_module_validator_fronts.specs.Walks.{HasSettings};

@@ -1,19 +1,18 @@
 //! What is kept of a module that is being read.
 
 ghost use Rattle.std.specs.Prelude.{◌≡◌, IfOk, OnErr, OnOk};
-ghost use Rattle.wasm_types.specs.limits.Limits.{IsWithinCeilings, default_limits};
-ghost use Rattle.wasm_module_validator_groups.specs.adding.Modules.{settings_of};
+ghost use Rattle.wasm_types.specs.limits.Limits.{IsWithinCeilings};
 ghost use Rattle.wasm_module_validator_resources.specs.Named.{IsReadOver};
 ghost use Rattle.wasm_module_validator_resources.specs.Reading.{meaning_of};
 ghost use Rattle.wasm_module_validator_progress.specs.Progress.{nothing_kept, renewed, next_over};
 
-use crate::{Collected, SharedModule};
+use crate::{Collected, HeldSettings, SharedModule};
 use std::alloc::{AllocError, Global};
 use std::marker::Model;
 use wasm_module_validator_resources::OperatorValidatorResources;
 use wasm_module_validator_standing::ModuleState;
 use wasm_module_validator_types::TypeList;
-use wasm_types::WasmFeatures;
+use wasm_types::{Limits, WasmFeatures};
 
 /// A module that is being read. A contract sees what is kept (`specs/Progress.antt`).
 #[derive(Drop)]
@@ -32,26 +31,26 @@ impl Model for InProgress {
 }
 
 impl InProgress {
-    /// A module of which nothing was read, by these features and the limits that hold where none are chosen. It takes no memory.
-    pub fn new(alloc: Global, features: WasmFeatures) -> InProgress
-        ensures { result ≡ nothing_kept (settings_of features.0 default_limits) }
+    /// A module of which nothing was read, by these settings. It takes no memory.
+    pub fn new(alloc: Global, settings: &HeldSettings) -> InProgress
+        ensures { result ≡ nothing_kept settings.now }
     {
         InProgress {
-            collected: Collected::new(alloc, features),
+            collected: Collected::new(alloc, settings),
             last: 0,
         }
     }
 
-    /// Begins with another module by these features, of which nothing was read: over the same list of types, where this one was read by the
-    /// same features, and else over a list with none. It takes no memory.
-    pub fn renew(&mut self, features: WasmFeatures)
-        ensures { self.new ≡ renewed features.0 self.old.kept }
+    /// Begins with another module by these settings, of which nothing was read: over the same list of types, if this one was read by the
+    /// same settings, and else over a list with none. It takes no memory.
+    pub fn renew(&mut self, settings: &HeldSettings)
+        ensures { self.new ≡ renewed settings.now self.old.kept }
     {
-        self.collected.renew(features);
+        self.collected.renew(settings);
         self.last = 0;
     }
 
-    /// Gives the module as it was read, so that it may be shared, and begins with another by the same features, over the same list of types.
+    /// Gives the module as it was read, so that it may be shared, and begins with another by the same settings, over the same list of types.
     ///
     /// # Errors
     ///
@@ -73,10 +72,26 @@ impl InProgress {
         &self.collected.state
     }
 
-    /// The list that the types stand in. Each is valid, the module's are in it, and no limit is above what code can count.
+    /// The features that the module is read by.
+    pub fn features(&self) -> WasmFeatures
+        ensures { result.0 ≡ self.now.kept.items.spaces.settings.features }
+    {
+        self.collected.state.settings().features()
+    }
+
+    /// The limits that it is read by. None is above its ceiling.
+    pub fn limits(&self) -> Limits
+        ensures value { result ≡ self.now.kept.items.spaces.settings.limits }
+        ensures within { IsWithinCeilings result }
+    {
+        self.collected.state.settings().limits()
+    }
+
+    /// The list that the types stand in. Each is valid, the module's are in it, it has the module's limits, and none is above its ceiling.
     pub fn types(&self) -> &TypeList
         ensures value { result.now.groups ≡ self.now.kept.groups }
         ensures over { IsReadOver result.now.groups self.now.kept.items.spaces }
+        ensures limits { result.now.limits ≡ self.now.kept.items.spaces.settings.limits }
         ensures within { IsWithinCeilings self.now.kept.items.spaces.settings.limits }
     {
         &self.collected.types

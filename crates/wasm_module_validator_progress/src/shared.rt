@@ -27,15 +27,13 @@ pub struct SharedModule {
 
 impl Model for SharedModule {
     ghost use Rattle.std.specs.Prelude.{◌≡◌};
-    ghost use Rattle.wasm_types.specs.limits.Limits.{default_limits};
-    ghost use Rattle.wasm_module_validator_resources.specs.Named.{IsReadOver};
-    ghost use Rattle.wasm_module_validator_progress.specs.Progress.{Kept};
+    ghost use Rattle.wasm_module_validator_progress.specs.Progress.{IsOver, Kept};
 
     ghost Value = { Kept };
 
     ghost view = { λ c. record { groups = c.types.groups; items = c.state; count = c.groups } };
 
-    ghost invariant = { λ c. IsReadOver c.types.groups c.state.spaces × (c.state.spaces.settings.limits ≡ default_limits) };
+    ghost invariant = { λ c. IsOver c.types c.state.spaces };
 }
 
 impl SharedModule {
@@ -46,10 +44,11 @@ impl SharedModule {
         &self.state
     }
 
-    /// The list that its types stand in. Each is valid, the module's are in it, and no limit is above what code can count.
+    /// The list that its types stand in. Each is valid, the module's are in it, it has the module's limits, and none is above its ceiling.
     pub fn types(&self) -> &TypeList
         ensures value { result.now.groups ≡ self.now.groups }
         ensures over { IsReadOver result.now.groups self.now.items.spaces }
+        ensures limits { result.now.limits ≡ self.now.items.spaces.settings.limits }
         ensures within { IsWithinCeilings self.now.items.spaces.settings.limits }
     {
         &self.types

@@ -3,8 +3,6 @@ use Rattle.std.specs.Prelude.{ℕ, List}
 use Rattle.wasm_types.specs.limits.Settings.{Settings}
 use Rattle.wasm_sections_parser.specs.Steps.{Shape}
 use Rattle.wasm_sections_parser_laws.specs.Modules.{IsModule}
--- the features that are given, and the limits that hold where none are chosen
-pub use Rattle.wasm_module_validator_judging.specs.Bodies.{under}
 use Rattle.wasm_module_validator_judging.specs.progress.standing.steps.Steps.{SoFar, nothing, JudgesShapes}
 
 -- the bytes are a module, of which this was read when its frames were judged

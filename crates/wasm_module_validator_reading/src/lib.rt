@@ -8,7 +8,7 @@ mod reading;
 
 pub use reading::read_module;
 pub use wasm_module_validator_judging::{
-    Body, FuncToValidate, FuncValidator, FuncValidatorAllocations, InProgress, ModuleState,
-    OperatorValidatorAllocations, SectionItem, SharedModule, TypeList, check_data_with,
-    check_header, judge, judge_bodies,
+    Body, FuncToValidate, FuncValidator, FuncValidatorAllocations, HeldSettings, InProgress,
+    ModuleState, OperatorValidatorAllocations, SectionItem, SharedModule, TypeList,
+    check_data_with, check_header, judge, judge_bodies,
 };

@@ -4,32 +4,33 @@ ghost use Rattle.std.specs.Prelude.{◌≡◌, IfOk, OnOk};
 ghost use Rattle.wasm_types.specs.error.Denials.{Tells};
 ghost use Rattle.wasm_module_validator_judging.specs.progress.standing.steps.Steps.{SoFar};
 ghost use Rattle.wasm_module_validator_judging.specs.progress.Progress.{Grows, IsAt, nothing_over};
-ghost use Rattle.wasm_module_validator_reading.specs.Reading.{under, IsReadAs};
+ghost use Rattle.wasm_module_validator_reading.specs.Reading.{IsReadAs};
 
 use std::alloc::Global;
-use wasm_module_validator_judging::{Body, InProgress};
+use wasm_module_validator_judging::{Body, HeldSettings, InProgress};
 use wasm_sections_payloads::Parser;
-use wasm_types::{Result, WasmFeatures};
+use wasm_types::Result;
 
-/// Reads a module that is all of these bytes, by these features and the limits that hold where none are chosen, and gives its bodies. Its
-/// types go into the list of what nothing was read of yet, which may hold those of other modules.
+/// Reads a module that is all of these bytes, by these settings, and gives its bodies. Its types go into the list of what nothing was read of
+/// yet, which may hold those of other modules.
 ///
 /// # Errors
 ///
 /// The bytes are no module; or a section is not valid behind those before it: the first of these. Or there is no memory.
 pub fn read_module<'a>(
     alloc: Global,
-    features: WasmFeatures,
+    settings: &HeldSettings,
     progress: &mut InProgress,
     bytes: &'a [u8],
 ) -> Result<Vec<Body<'a>>>
-    requires { progress.old ≡ nothing_over progress.old.kept.groups (under features.0) }
-    ensures answer { Tells result ((q : SoFar) × IsReadAs (under features.0) bytes.now q) }
-    ensures stands { IfOk result (λ bodies. (q : SoFar) → IsReadAs (under features.0) bytes.now q → IsAt (under features.0) progress.new bodies.items q) }
+    requires { progress.old ≡ nothing_over progress.old.kept.groups settings.now }
+    ensures answer { Tells result ((q : SoFar) × IsReadAs settings.now bytes.now q) }
+    ensures stands { IfOk result (λ bodies. (q : SoFar) → IsReadAs settings.now bytes.now q → IsAt settings.now progress.new bodies.items q) }
     ensures grown { OnOk result (Grows progress.old.kept progress.new.kept) }
 {
     let mut parser = Parser::new(alloc, 0);
-    parser.set_features(features);
+    parser.set_features(settings.features());
+    parser.set_limits(settings.limits());
     let mut bodies = Vec::new(alloc);
     for payload in parser.parse_all(bytes) {
         let payload = match payload {

@@ -7,7 +7,7 @@ use Rattle.wasm_types.specs.indices.declared.index.CoreTypeId.{CoreTypeId}
 use Rattle.wasm_types.specs.indices.declared.index.UnpackedIndex.{UnpackedIndex}
 use Rattle.wasm_types.specs.trees.Types.{HeapOf, i32, i64, f32, f64, v128, number, ref, abstract, Abstract, func, InnerOf, function, array_of, struct_of, continuation, EntryOf, entry_map, inner_map}
 use Rattle.wasm_types.specs.trees.Trees.{TypeTree, opened}
-use Rattle.wasm_types.specs.trees.Below.{expanded, is_shared, abstract_of, DeclaredBelow, itself, IsBelowAbstract, IsAboveAbstract, Below}
+use Rattle.wasm_types.specs.trees.Below.{expanded, is_shared, abstract_above, DeclaredBelow, itself, IsBelowAbstract, IsAboveAbstract, Below}
 use Rattle.wasm_types.specs.trees.AbstractOrder.{top_of}
 use Rattle.wasm_types.specs.values.declared.value.ValType.{ValType}
 use Rattle.wasm_types.specs.values.declared.value.ValType.TheVariants.{I32, I64, F32, F64, V128, Ref}
@@ -131,7 +131,7 @@ pub nowhere_shared : (n : ℕ) → false ≡ is_shared (nowhere n)
 unfolding opened
 nowhere_shared n = refl
 
-pub nowhere_kind : (n : ℕ) → func ≡ abstract_of (expanded (nowhere n))
+pub nowhere_kind : (n : ℕ) → func ≡ abstract_above (expanded (nowhere n))
 unfolding opened
 nowhere_kind n = refl
 
@@ -144,7 +144,7 @@ pair_named P groups m i j n k g h p =
 
 -- ---- what is stored
 
-abstract_kept : {R S : Type 0} (f : R → S) (x : InnerOf R) → abstract_of (inner_map f x) ≡ abstract_of x
+abstract_kept : {R S : Type 0} (f : R → S) (x : InnerOf R) → abstract_above (inner_map f x) ≡ abstract_above x
 abstract_kept f (function ps rs) = refl
 abstract_kept f (array_of x) = refl
 abstract_kept f (struct_of xs) = refl
@@ -153,13 +153,13 @@ abstract_kept f (continuation r) = refl
 pub shared_in : {R : Type 0} (f : R → TypeTree) (x : EntryOf R) (t : TypeTree) → entry_map f x ≡ opened t → x.shared ≡ is_shared t
 shared_in f x t e = ap (λ (y : EntryOf TypeTree). y.shared) e
 
-pub abstract_in : {R : Type 0} (f : R → TypeTree) (x : EntryOf R) (t : TypeTree) → entry_map f x ≡ opened t → abstract_of x.inner ≡ abstract_of (expanded t)
-abstract_in f x t e = sym (abstract_kept f x.inner) ∙ ap (λ (y : EntryOf TypeTree). abstract_of y.inner) e
+pub abstract_in : {R : Type 0} (f : R → TypeTree) (x : EntryOf R) (t : TypeTree) → entry_map f x ≡ opened t → abstract_above x.inner ≡ abstract_above (expanded t)
+abstract_in f x t e = sym (abstract_kept f x.inner) ∙ ap (λ (y : EntryOf TypeTree). abstract_above y.inner) e
 
 abbrev top_in : Bool → Abstract → HeapOf TypeTree
 top_in b a = abstract b (top_of a)
 
-pub top_same : (t : TypeTree) (b : Bool) (a : Abstract) → b ≡ is_shared t → a ≡ abstract_of (expanded t) → top_in b a ≡ top_in (is_shared t) (abstract_of (expanded t))
+pub top_same : (t : TypeTree) (b : Bool) (a : Abstract) → b ≡ is_shared t → a ≡ abstract_above (expanded t) → top_in b a ≡ top_in (is_shared t) (abstract_above (expanded t))
 top_same t b a e f = λ i. top_in (e i) (f i)
 
 -- ---- value types

@@ -6,7 +6,7 @@ use Rattle.wasm_types.specs.indices.declared.index.UnpackedIndex.TheVariants.{Id
 use Rattle.wasm_types.specs.features.Features.{needs_canonical_types}
 use Rattle.wasm_types.specs.trees.Types.{Abstract, func, struct, array, cont, nofunc, none, nocont, InnerOf, function, array_of, struct_of, continuation}
 use Rattle.wasm_types.specs.trees.Trees.{TypeTree, group_tree, opened}
-use Rattle.wasm_types.specs.trees.Below.{expanded, is_shared, abstract_of, DeclaredBelow}
+use Rattle.wasm_types.specs.trees.Below.{expanded, is_shared, abstract_above, DeclaredBelow}
 use Rattle.wasm_types.specs.trees.AbstractOrder.{AbstractBelow}
 use Rattle.wasm_types.specs.trees.ValidGroup.{IsFunction}
 use Rattle.wasm_operator_validator_resources.specs.rules.Context.{written_type}
@@ -120,8 +120,8 @@ pub record HasSpan (groups : List Group) (id first len : ℕ) : Type 0 where
 
 -- a type is of this sharedness, and of a constructor below the abstract type
 abbrev pub IsUnderKind : TypeTree → Bool → Abstract → Type 0
-IsUnderKind t s a = (is_shared t ≡ s) × AbstractBelow (abstract_of (expanded t)) a
+IsUnderKind t s a = (is_shared t ≡ s) × AbstractBelow (abstract_above (expanded t)) a
 
 -- an abstract type is the bottom type of a type's constructor, and it is of the same sharedness
 abbrev pub IsOverKind : TypeTree → Bool → Abstract → Type 0
-IsOverKind t s a = (s ≡ is_shared t) × (a ≡ bottom_under (abstract_of (expanded t)))
+IsOverKind t s a = (s ≡ is_shared t) × (a ≡ bottom_under (abstract_above (expanded t)))

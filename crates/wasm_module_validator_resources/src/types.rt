@@ -5,7 +5,7 @@ ghost use Rattle.wasm_types.specs.error.Denials.{Tells};
 ghost use Rattle.wasm_types.specs.error.declared.error.ErrorKind.TheVariants.{Other};
 ghost use Rattle.wasm_types.specs.trees.Types.{entry_map};
 ghost use Rattle.wasm_types.specs.trees.Trees.{opened};
-ghost use Rattle.wasm_types.specs.trees.Below.{is_shared, expanded, abstract_of, DeclaredBelow};
+ghost use Rattle.wasm_types.specs.trees.Below.{is_shared, expanded, abstract_above, DeclaredBelow};
 ghost use Rattle.wasm_types.specs.values.Trees.{abstract_of as abstract_in};
 ghost use Rattle.wasm_types.specs.groups.Entries.{inner_of, declared_of};
 ghost use Rattle.wasm_operator_validator_resources.specs.rules.Context.{IsTypeIndex, written_type};
@@ -33,7 +33,7 @@ fn foreign_index(offset: u64) -> Error
 
 // The abstract type of a constructor.
 fn kind_of(inner: &CompositeInnerType) -> AbstractHeapType
-    ensures { abstract_in result ≡ abstract_of (inner_of inner.now) }
+    ensures { abstract_in result ≡ abstract_above (inner_of inner.now) }
 {
     match inner {
         CompositeInnerType::Func(_) => AbstractHeapType::Func,
@@ -126,7 +126,7 @@ impl<'a> OperatorValidatorResources<'a> {
     pub(crate) fn shape(&self, name: Named) -> Shape
         requires { IsInList self.now.types.now.groups name }
         ensures shared { result.shared ≡ is_shared (tree_meant self.now.types.now.groups name) }
-        ensures kind { abstract_in result.kind ≡ abstract_of (expanded (tree_meant self.now.types.now.groups name)) }
+        ensures kind { abstract_in result.kind ≡ abstract_above (expanded (tree_meant self.now.types.now.groups name)) }
     {
         match name {
             Named::Known(id) => {

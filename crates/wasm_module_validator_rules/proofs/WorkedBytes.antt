@@ -1,10 +1,11 @@
 -- The worked bytes: which modules they spell, and so whether they are accepted.
 use Rattle.std.specs.Prelude.{pos}
-use Rattle.std.proofs.Common.{◌≡◌, ℕ, suc, true, false, List, [], ◌∷◌, ◌++◌, length, None, refl, sym, ap, subst, inl, inr, arith, lit<, lit≤}
+use Rattle.std.proofs.Common.{◌≡◌, ℕ, suc, true, false, List, [], ◌∷◌, ◌++◌, length, Some, None, refl, sym, ap, subst, inl, inr, arith, lit<, lit≤}
 use Rattle.wasm_types.specs.decoding.Leb.{u32, IsUnsigned, IsListed, last}
 use Rattle.wasm_types.specs.decoding.Lists.{IsListedWithin}
 use Rattle.wasm_types.specs.decoding.LebLaws.{decides-u32}
 use Rattle.wasm_types.specs.decoding.Decoder.{Grammar, Many}
+use Rattle.wasm_types.specs.decoding.Text.{IsSized}
 use Rattle.wasm_types.specs.limits.Limits.{default_limits}
 use Rattle.wasm_types.specs.indices.declared.index.UnpackedIndex.{UnpackedIndex}
 use Rattle.wasm_types.specs.trees.Types.{ValueOf, i32, number, function}
@@ -16,17 +17,19 @@ use Rattle.wasm_types.specs.trees.ValidGroup.{Written}
 use Rattle.wasm_types.specs.values.Spells.{SpellsValue}
 use Rattle.wasm_types.specs.groups.Entries.{Declared}
 use Rattle.wasm_types.specs.groups.Spells.{SpellsGroup}
-use Rattle.wasm_sections_frames.specs.Outer.{Part, code, section, Outer, SpelledOuter, SpelledPart, SpelledHeader, Counts, Declares, DeclaresOrAbsent, IsCoreModule}
+use Rattle.wasm_sections_frames.specs.Outer.{Part, code, section, IsBytes, Outer, SpelledOuter, SpelledPart, SpelledHeader, Counts, Declares, DeclaresOrAbsent, IsCoreModule}
 use Rattle.wasm_sections_frames.specs.OuterLaws.{one_outer}
+use Rattle.wasm_sections_items.specs.segments.Spells.{SpelledData}
 use Rattle.wasm_module_validator_rules.specs.Syntax.{ModuleTree}
-use Rattle.wasm_module_validator_rules.specs.Binary.{SpelledGroup, SpelledFunction, SpelledSections, SpelledModule}
+use Rattle.wasm_module_validator_rules.specs.Binary.{SpelledGroup, SpelledConstant, SpelledFunction, SpelledSections, SpelledModule}
 use Rattle.wasm_module_validator_rules.specs.Valid.{IsValid}
 use Rattle.wasm_module_validator_rules.specs.UniqueLaws.{decided}
 use Rattle.wasm_module_validator_rules.specs.ModuleLaws.{one_module}
-use Rattle.wasm_module_validator_rules.specs.worked.Trees.{everything, without, empty, one_function, procedure, takes_i32, end, does}
+use Rattle.wasm_module_validator_rules.specs.worked.Trees.{everything, without, empty, one_function, procedure, takes_i32, end, does, passive_data}
 use Rattle.wasm_module_validator_rules.specs.worked.Modules.{starting}
-use Rattle.wasm_module_validator_rules.specs.worked.Bytes.{BytesWorked, header, takes_i32_section, function_section, start_section, code_section, count_section, tag_section}
-use Rattle.wasm_module_validator_rules.proofs.WorkedModules.{functions_worked}
+use Rattle.wasm_module_validator_rules.specs.worked.Bytes.{BytesWorked, header, procedure_section, takes_i32_section, function_section, start_section}
+use Rattle.wasm_module_validator_rules.specs.worked.Bytes.{code_section, two_bodies_section, count_section, data_section, tag_section}
+use Rattle.wasm_module_validator_rules.proofs.WorkedModules.{functions_worked, segments_worked}
 
 -- ---- numbers and lists
 
@@ -193,59 +196,281 @@ takes_group = function_group (number i32 ∷ []) [] (0x01 ∷ 0x7f ∷ []) (0x00
 takes_started : SpelledModule everything (starting (one_function takes_i32 end)) (header ++ takes_i32_section ++ function_section ++ start_section ++ code_section)
 takes_started = started takes_i32 (0x01 ∷ 0x7f ∷ 0x00 ∷ []) (last 32 5 5 (omega arith) (lit< tt) refl) takes_group
 
--- ---- frames that are no module
+-- ---- frames by themselves
 
--- a section of functions without code
-function_framed : SpelledOuter everything (module_with (section 3 (1 ∷ 0 ∷ []) ∷ [])) (header ++ function_section)
-function_framed = record {
-  header_text = header;
-  parts_text = function_section;
-  headed = head;
-  each = (function_section, [], few everything 3 (1 ∷ 0 ∷ []) (λ e. omega (arith, e)) (λ e. omega (arith, e)) (last 32 2 2 (omega arith) (lit< tt) refl), refl, refl);
-  whole = refl;
-}
+-- one section, and what is spelled behind it
+behind : (z : Settings) (id : ℕ) (contents : List ℕ) (ps : List Part) (text : List ℕ) → (id ≡ 0 → ⊥) → (id ≡ 10 → ⊥)
+    → IsUnsigned 32 (length contents) (length contents ∷ []) → Many (SpelledPart z) (length ps) ps text
+    → Many (SpelledPart z) (suc (length ps)) (section id contents ∷ ps) ((id ∷ length contents ∷ contents) ++ text)
+behind z id contents ps text p q n h = (id ∷ length contents ∷ contents, text, few z id contents p q n, h, refl)
 
-count_framed : SpelledOuter everything (module_with (section 12 (1 ∷ []) ∷ [])) (header ++ count_section)
-count_framed = record {
-  header_text = header;
-  parts_text = count_section;
-  headed = head;
-  each = (count_section, [], few everything 12 (1 ∷ []) (λ e. omega (arith, e)) (λ e. omega (arith, e)) one_is, refl, refl);
-  whole = refl;
-}
+framing : (z : Settings) (ps : List Part) (text : List ℕ) → Many (SpelledPart z) (length ps) ps text → SpelledOuter z (module_with ps) (header ++ text)
+framing z ps text h = record { header_text = header; parts_text = text; headed = head; each = h; whole = refl }
+
+two_is : IsUnsigned 32 2 (2 ∷ [])
+two_is = last 32 2 2 (omega arith) (lit< tt) refl
+
+three_is : IsUnsigned 32 3 (3 ∷ [])
+three_is = last 32 3 3 (omega arith) (lit< tt) refl
+
+four_is : IsUnsigned 32 4 (4 ∷ [])
+four_is = last 32 4 4 (omega arith) (lit< tt) refl
+
+abbrev procedure_part : Part
+procedure_part = section 1 (1 ∷ 0x60 ∷ 0 ∷ 0 ∷ [])
+
+abbrev function_part : Part
+function_part = section 3 (1 ∷ 0 ∷ [])
+
+abbrev idle_body : List ℕ
+idle_body = 0x00 ∷ 0x0b ∷ []
+
+-- a type, a function of it, and its bodies
+typed_functions : (ps : List Part) (text : List ℕ) → Many (SpelledPart everything) (length ps) ps text
+    → SpelledOuter everything (module_with (procedure_part ∷ function_part ∷ ps)) (header ++ (procedure_section ++ (function_section ++ text)))
+typed_functions ps text h = framing everything (procedure_part ∷ function_part ∷ ps) (procedure_section ++ (function_section ++ text))
+    (behind everything 1 (1 ∷ 0x60 ∷ 0 ∷ 0 ∷ []) (function_part ∷ ps) (function_section ++ text) (λ e. omega (arith, e)) (λ e. omega (arith, e)) four_is
+    (behind everything 3 (1 ∷ 0 ∷ []) ps text (λ e. omega (arith, e)) (λ e. omega (arith, e)) two_is h))
+
+entry : IsSized IsBytes idle_body (2 ∷ idle_body)
+entry = record { size = 2 ∷ []; content = idle_body; counted = two_is; spelled = refl; whole = refl }
+
+two_bodies_part : SpelledPart everything (code (idle_body ∷ idle_body ∷ [])) two_bodies_section
+two_bodies_part = (
+  0x07 ∷ 0x02 ∷ 0x02 ∷ 0x00 ∷ 0x0b ∷ 0x02 ∷ 0x00 ∷ 0x0b ∷ [],
+  refl,
+  record {
+    size = 7 ∷ [];
+    content = 0x02 ∷ 0x02 ∷ 0x00 ∷ 0x0b ∷ 0x02 ∷ 0x00 ∷ 0x0b ∷ [];
+    counted = last 32 7 7 (omega arith) (lit< tt) refl;
+    spelled = record {
+      count = 2 ∷ [];
+      values = 0x02 ∷ 0x00 ∷ 0x0b ∷ 0x02 ∷ 0x00 ∷ 0x0b ∷ [];
+      counted = two_is;
+      each = (2 ∷ idle_body, 2 ∷ idle_body, entry, (2 ∷ idle_body, [], entry, refl, refl), refl);
+      whole = refl;
+    };
+    whole = refl;
+  },
+)
+
+-- how many data segments are counted, and one that is there
+abbrev count_part : ℕ → Part
+count_part n = section 12 (n ∷ [])
+
+abbrev data_part : Part
+data_part = section 11 (1 ∷ 1 ∷ 0 ∷ [])
+
+data_behind : (z : Settings) → Many (SpelledPart z) 1 (data_part ∷ []) data_section
+data_behind z = behind z 11 (1 ∷ 1 ∷ 0 ∷ []) [] [] (λ e. omega (arith, e)) (λ e. omega (arith, e)) three_is refl
+
+counted_framed : (n : ℕ) → SpelledOuter everything (module_with (count_part n ∷ data_part ∷ [])) (header ++ (0x0c ∷ 0x01 ∷ n ∷ data_section))
+counted_framed n = framing everything (count_part n ∷ data_part ∷ []) (0x0c ∷ 0x01 ∷ n ∷ data_section)
+    (behind everything 12 (n ∷ []) (data_part ∷ []) data_section (λ e. omega (arith, e)) (λ e. omega (arith, e)) one_is (data_behind everything))
+
+count_framed : SpelledOuter everything (module_with (count_part 1 ∷ [])) (header ++ count_section)
+count_framed = framing everything (count_part 1 ∷ []) count_section (behind everything 12 (1 ∷ []) [] [] (λ e. omega (arith, e)) (λ e. omega (arith, e)) one_is refl)
 
 -- a tag section without tags, by whatever settings
 tags_framed : (z : Settings) → SpelledOuter z (module_with (section 13 (0 ∷ []) ∷ [])) (header ++ tag_section)
-tags_framed z = record {
-  header_text = header;
-  parts_text = tag_section;
-  headed = head;
-  each = (tag_section, [], few z 13 (0 ∷ []) (λ e. omega (arith, e)) (λ e. omega (arith, e)) one_is, refl, refl);
+tags_framed z = framing z (section 13 (0 ∷ []) ∷ []) tag_section (behind z 13 (0 ∷ []) [] [] (λ e. omega (arith, e)) (λ e. omega (arith, e)) one_is refl)
+
+-- ---- frames that are a module
+
+function_spelled : SpelledModule everything (one_function procedure end) (header ++ procedure_section ++ function_section ++ code_section)
+function_spelled = record {
+  outer = module_with (procedure_part ∷ function_part ∷ code (idle_body ∷ []) ∷ []);
+  framed = typed_functions (code (idle_body ∷ []) ∷ []) code_section (code_section, [], body_part, refl, refl);
+  core = record {
+    version = refl;
+    layer = refl;
+    known = (inr (1, refl), (inr (3, refl), (inr (12, refl), tt)));
+    ordered = (omega arith, (omega arith, (omega arith, tt)));
+    counts = record {
+      functions = 1;
+      declared = inl (inr (inl (refl, record { count = 1 ∷ []; items = 0 ∷ []; counted = one_is; whole = refl })));
+      defined = refl;
+      segments = uncounted;
+    };
+  };
+  sections = record {
+    types = single_of _ procedure 0x60 (0x00 ∷ 0x00 ∷ []) procedure_group;
+    imports = refl;
+    functions = single_of _ 0 0 [] zero_is;
+    tables = refl;
+    memories = refl;
+    tags = refl;
+    tags_allowed = tt;
+    globals = refl;
+    exports = refl;
+    start = tt;
+    element_segments = refl;
+    data_count = tt;
+    code = (body_spelled, tt);
+    data_segments = refl;
+  };
+}
+  where
+    uncounted : (n : ℕ) → Declares 12 n (procedure_part ∷ function_part ∷ code (idle_body ∷ []) ∷ []) → DeclaresOrAbsent 11 n (procedure_part ∷ function_part ∷ code (idle_body ∷ []) ∷ [])
+    uncounted n (inl h) = absurd (omega (arith, h.0))
+    uncounted n (inr (inl h)) = absurd (omega (arith, h.0))
+    uncounted n (inr (inr h)) = absurd h
+
+-- a passive data segment without bytes
+segment_spelled : SpelledData (SpelledConstant everything) passive_data (1 ∷ 0 ∷ [])
+segment_spelled = record {
+  flag = 1;
+  flag_text = 1 ∷ [];
+  behind = 0 ∷ [];
+  flagged = one_is;
+  spelled = inr (inl (refl, record { mode = refl; filled = record { size = 0 ∷ []; content = []; counted = zero_is; spelled = refl; whole = refl } }));
   whole = refl;
 }
 
-no_exceptions : Has (all_but Exceptions) Exceptions → ⊥
-unfolding has
-no_exceptions h = absurd cc
+uncounted_spelled : SpelledModule everything (record empty { data_segments = passive_data ∷ [] }) (header ++ data_section)
+uncounted_spelled = record {
+  outer = module_with (data_part ∷ []);
+  framed = framing everything (data_part ∷ []) data_section (data_behind everything);
+  core = record {
+    version = refl;
+    layer = refl;
+    known = (inr (13, refl), tt);
+    ordered = (omega arith, tt);
+    counts = record { functions = 0; declared = inr (refl, (λ e. omega (arith, e), tt)); defined = refl; segments = uncounted };
+  };
+  sections = record {
+    types = refl;
+    imports = refl;
+    functions = refl;
+    tables = refl;
+    memories = refl;
+    tags = refl;
+    tags_allowed = tt;
+    globals = refl;
+    exports = refl;
+    start = tt;
+    element_segments = refl;
+    data_count = tt;
+    code = tt;
+    data_segments = single_of _ passive_data 1 (0 ∷ []) segment_spelled;
+  };
+}
+  where
+    uncounted : (n : ℕ) → Declares 12 n (data_part ∷ []) → DeclaresOrAbsent 11 n (data_part ∷ [])
+    uncounted n (inl h) = absurd (omega (arith, h.0))
+    uncounted n (inr h) = absurd h
 
 -- the count of one item is 1
 counts_one : (n : ℕ) (rest : List ℕ) → Counts n (1 ∷ rest) → n ≡ 1
 counts_one n rest h = (decided u32 (IsUnsigned 32) decides-u32 n 1 (1 ∷ rest) h.count h.items (1 ∷ []) rest h.whole h.counted refl one_is).0
 
-no_code : IsCoreModule (module_with (section 3 (1 ∷ 0 ∷ []) ∷ [])) → ⊥
+counted_spelled : SpelledModule everything (record empty { data_count = Some 1; data_segments = passive_data ∷ [] }) (header ++ count_section ++ data_section)
+counted_spelled = record {
+  outer = module_with (count_part 1 ∷ data_part ∷ []);
+  framed = counted_framed 1;
+  core = record {
+    version = refl;
+    layer = refl;
+    known = (inr (11, refl), (inr (13, refl), tt));
+    ordered = (omega arith, (omega arith, tt));
+    counts = record { functions = 0; declared = inr (refl, (λ e. omega (arith, e), (λ e. omega (arith, e), tt))); defined = refl; segments = agree };
+  };
+  sections = record {
+    types = refl;
+    imports = refl;
+    functions = refl;
+    tables = refl;
+    memories = refl;
+    tags = refl;
+    tags_allowed = tt;
+    globals = refl;
+    exports = refl;
+    start = tt;
+    element_segments = refl;
+    data_count = one_is;
+    code = tt;
+    data_segments = single_of _ passive_data 1 (0 ∷ []) segment_spelled;
+  };
+}
+  where
+    agree : (n : ℕ) → Declares 12 n (count_part 1 ∷ data_part ∷ []) → DeclaresOrAbsent 11 n (count_part 1 ∷ data_part ∷ [])
+    agree n (inl h) = inl (inr (inl (refl, record { count = 1 ∷ []; items = 1 ∷ 0 ∷ []; counted = subst (λ k. IsUnsigned 32 k (1 ∷ [])) (sym (counts_one n [] h.1)) one_is; whole = refl })))
+    agree n (inr (inl h)) = absurd (omega (arith, h.0))
+    agree n (inr (inr h)) = absurd h
+
+tags_spelled : SpelledModule everything empty (header ++ tag_section)
+unfolding has
+tags_spelled = record {
+  outer = module_with (section 13 (0 ∷ []) ∷ []);
+  framed = tags_framed everything;
+  core = record {
+    version = refl;
+    layer = refl;
+    known = (inr (6, refl), tt);
+    ordered = (omega arith, tt);
+    counts = record { functions = 0; declared = inr (refl, (λ e. omega (arith, e), tt)); defined = refl; segments = uncounted };
+  };
+  sections = record {
+    types = refl;
+    imports = refl;
+    functions = refl;
+    tables = refl;
+    memories = refl;
+    tags = none _;
+    tags_allowed = refl;
+    globals = refl;
+    exports = refl;
+    start = tt;
+    element_segments = refl;
+    data_count = tt;
+    code = tt;
+    data_segments = refl;
+  };
+}
+  where
+    uncounted : (n : ℕ) → Declares 12 n (section 13 (0 ∷ []) ∷ []) → DeclaresOrAbsent 11 n (section 13 (0 ∷ []) ∷ [])
+    uncounted n (inl h) = absurd (omega (arith, h.0))
+    uncounted n (inr h) = absurd h
+
+-- ---- frames that are no module
+
+no_exceptions : Has (all_but Exceptions) Exceptions → ⊥
+unfolding has
+no_exceptions h = absurd cc
+
+no_code : IsCoreModule (module_with (procedure_part ∷ function_part ∷ [])) → ⊥
 no_code h = go h.counts.functions h.counts.declared h.counts.defined
   where
-    go : (n : ℕ) → DeclaresOrAbsent 3 n (section 3 (1 ∷ 0 ∷ []) ∷ []) → n ≡ 0 → ⊥
-    go n (inl (inl d)) e = let f = counts_one n (0 ∷ []) d.1 in omega (arith, e, f)
-    go n (inl (inr d)) e = absurd d
-    go n (inr a) e = a.1.0 refl
+    go : (n : ℕ) → DeclaresOrAbsent 3 n (procedure_part ∷ function_part ∷ []) → n ≡ 0 → ⊥
+    go n (inl (inl d)) e = omega (arith, d.0)
+    go n (inl (inr (inl d))) e = let f = counts_one n (0 ∷ []) d.1 in omega (arith, e, f)
+    go n (inl (inr (inr d))) e = absurd d
+    go n (inr a) e = a.1.1.0 refl
 
-no_segment : IsCoreModule (module_with (section 12 (1 ∷ []) ∷ [])) → ⊥
+one_body : IsCoreModule (module_with (procedure_part ∷ function_part ∷ code (idle_body ∷ idle_body ∷ []) ∷ [])) → ⊥
+one_body h = go h.counts.functions h.counts.declared h.counts.defined
+  where
+    go : (n : ℕ) → DeclaresOrAbsent 3 n (procedure_part ∷ function_part ∷ code (idle_body ∷ idle_body ∷ []) ∷ []) → n ≡ 2 → ⊥
+    go n (inl (inl d)) e = omega (arith, d.0)
+    go n (inl (inr (inl d))) e = let f = counts_one n (0 ∷ []) d.1 in omega (arith, e, f)
+    go n (inl (inr (inr d))) e = absurd d
+    go n (inr a) e = a.1.1.0 refl
+
+no_segment : IsCoreModule (module_with (count_part 1 ∷ [])) → ⊥
 no_segment h = go (h.counts.segments 1 (inl (refl, record { count = 1 ∷ []; items = []; counted = one_is; whole = refl })))
   where
-    go : DeclaresOrAbsent 11 1 (section 12 (1 ∷ []) ∷ []) → ⊥
+    go : DeclaresOrAbsent 11 1 (count_part 1 ∷ []) → ⊥
     go (inl (inl d)) = omega (arith, d.0)
     go (inl (inr d)) = d
+    go (inr a) = omega (arith, a.0)
+
+one_segment : IsCoreModule (module_with (count_part 2 ∷ data_part ∷ [])) → ⊥
+one_segment h = go (h.counts.segments 2 (inl (refl, record { count = 2 ∷ []; items = []; counted = two_is; whole = refl })))
+  where
+    go : DeclaresOrAbsent 11 2 (count_part 2 ∷ data_part ∷ []) → ⊥
+    go (inl (inl d)) = omega (arith, d.0)
+    go (inl (inr (inl d))) = let f = counts_one 2 (1 ∷ 0 ∷ []) d.1 in omega (arith, f)
+    go (inl (inr (inr d))) = d
     go (inr a) = omega (arith, a.0)
 
 -- ---- the rows
@@ -290,10 +515,19 @@ bytes_worked = record {
     record { spelled = started procedure (0x00 ∷ 0x00 ∷ []) (last 32 4 4 (omega arith) (lit< tt) refl) procedure_group; valid = (functions_worked (pos 0)).start },
   );
   start_takes = λ a. (functions_worked (pos 0)).start_takes (subst (IsValid everything) (one_module everything a.0 _ _ a.1.spelled takes_started) a.1.valid);
-  code_missing = λ a. no_code (subst IsCoreModule (one_outer everything _ _ _ a.1.spelled.framed function_framed) a.1.spelled.core);
-  count_differs = λ a. no_segment (subst IsCoreModule (one_outer everything _ _ _ a.1.spelled.framed count_framed) a.1.spelled.core);
-  tag_section_needs = λ a. no_exceptions (tags_allowed a.0 a.1.spelled.outer (one_outer (without Exceptions) _ _ _ (tags_framed (without Exceptions)) a.1.spelled.framed) a.1.spelled.sections);
+  function = (one_function procedure end, record { spelled = function_spelled; valid = (functions_worked (pos 0)).function });
+  code_missing = λ a. no_code (subst IsCoreModule (one_outer everything _ _ _ a.1.spelled.framed (typed_functions [] [] refl)) a.1.spelled.core);
+  body_too_many = λ a. one_body (subst IsCoreModule (one_outer everything _ _ _ a.1.spelled.framed two_bodies_framed) a.1.spelled.core);
+  uncounted = (record empty { data_segments = passive_data ∷ [] }, record { spelled = uncounted_spelled; valid = (segments_worked (pos 0)).passive_needs.0 });
+  counted = (record empty { data_count = Some 1; data_segments = passive_data ∷ [] }, record { spelled = counted_spelled; valid = (segments_worked (pos 0)).counted });
+  segments_missing = λ a. no_segment (subst IsCoreModule (one_outer everything _ _ _ a.1.spelled.framed count_framed) a.1.spelled.core);
+  count_too_large = λ a. one_segment (subst IsCoreModule (one_outer everything _ _ _ a.1.spelled.framed (counted_framed 2)) a.1.spelled.core);
+  tags = (empty, record { spelled = tags_spelled; valid = (functions_worked (pos 0)).nothing });
+  tags_need = λ a. no_exceptions (tags_allowed a.0 a.1.spelled.outer (one_outer (without Exceptions) _ _ _ (tags_framed (without Exceptions)) a.1.spelled.framed) a.1.spelled.sections);
 }
   where
+    two_bodies_framed : SpelledOuter everything (module_with (procedure_part ∷ function_part ∷ code (idle_body ∷ idle_body ∷ []) ∷ [])) (header ++ procedure_section ++ function_section ++ two_bodies_section)
+    two_bodies_framed = typed_functions (code (idle_body ∷ idle_body ∷ []) ∷ []) two_bodies_section (two_bodies_section, [], two_bodies_part, refl, refl)
+
     tags_allowed : (m : ModuleTree) (o : Outer) → module_with (section 13 (0 ∷ []) ∷ []) ≡ o → SpelledSections (without Exceptions) m o.parts → Has (all_but Exceptions) Exceptions
     tags_allowed m o e h = (subst (λ (k : Outer). SpelledSections (without Exceptions) m k.parts) (sym e) h).tags_allowed

@@ -1,4 +1,5 @@
 -- What a validator of modules accepts: bytes that spell a valid module, all of them (WebAssembly 3.0, binary format and validation).
+-- Bytes are a list of numbers below 256: a slice has no others.
 use Rattle.std.specs.Prelude.{ℕ, List}
 use Rattle.wasm_types.specs.limits.Settings.{Settings}
 use Rattle.wasm_module_validator_rules.specs.Syntax.{ModuleTree}

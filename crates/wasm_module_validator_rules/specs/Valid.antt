@@ -146,20 +146,20 @@ HaveOwnNames (e ∷ es) = Each (λ (f : ExportTree). e.name ≡ f.name → ⊥) 
 
 -- a table: without an expression its elements are null at first
 abbrev pub IsInitialised : Settings → Module → ℕ → TableType → Option Code → Type 0
-IsInitialised z g count t None = IsTrue t.element_type.nullable
-IsInitialised z g count t (Some c) = Has z.features FunctionReferences × IsConstant z.features (seeing count g) count (value_in g.types (value.Ref t.element_type)) c
+IsInitialised z g imported t None = IsTrue t.element_type.nullable
+IsInitialised z g imported t (Some c) = Has z.features FunctionReferences × IsConstant z.features (seeing imported g) imported (value_in g.types (value.Ref t.element_type)) c
 
 abbrev pub IsValidTable : Settings → Module → ℕ → TableTree Code → Type 0
-IsValidTable z g count x = IsValidTableType z g x.ty × IsInitialised z g count x.ty x.init
+IsValidTable z g imported x = IsValidTableType z g x.ty × IsInitialised z g imported x.ty x.init
 
 -- a global, whose value sees so many globals
 abbrev pub IsValidGlobal : Settings → Module → ℕ → ℕ → GlobalTree Code → Type 0
-IsValidGlobal z g count seen x = IsValidGlobalType z g x.ty × IsConstant z.features (seeing seen g) count (value_in g.types x.ty.content_type) x.init
+IsValidGlobal z g imported seen x = IsValidGlobalType z g x.ty × IsConstant z.features (seeing seen g) imported (value_in g.types x.ty.content_type) x.init
 
 -- globals one after the other, each seeing those before it
 abbrev pub AreValidGlobals : Settings → Module → ℕ → ℕ → List (GlobalTree Code) → Type 0
-AreValidGlobals z g count seen [] = Unit {0}
-AreValidGlobals z g count seen (x ∷ xs) = IsValidGlobal z g count seen x × AreValidGlobals z g count (suc seen) xs
+AreValidGlobals z g imported seen [] = Unit {0}
+AreValidGlobals z g imported seen (x ∷ xs) = IsValidGlobal z g imported seen x × AreValidGlobals z g imported (suc seen) xs
 
 -- the start function takes and gives nothing
 abbrev pub IsValidStart : Module → ℕ → Type 0
@@ -169,7 +169,7 @@ IsValidStart g x = (t : TypeTree) × (slice_get g.functions x ≡ Some t) × IsF
 
 -- a constant offset into a table or a memory, by whether it is of 64 bits
 abbrev pub IsOffset : Settings → Module → ℕ → Bool → Code → Type 0
-IsOffset z g count wide c = IsConstant z.features g count (address_type wide) c
+IsOffset z g imported wide c = IsConstant z.features g imported (address_type wide) c
 
 -- the table that an element segment names, 0 where it names none
 abbrev pub table_index : Option ℕ → ℕ
@@ -178,29 +178,29 @@ table_index (Some x) = x
 
 -- how elements of type t are used: an active segment has a table that they fit, and an offset
 abbrev pub IsValidMode : Settings → Module → ℕ → ValueType → ElementMode Code → Type 0
-IsValidMode z g count t passive = Has z.features BulkMemory
-IsValidMode z g count t declared = Has z.features BulkMemory
-IsValidMode z g count t (active x c) = (v : Table) × (slice_get g.tables (table_index x) ≡ Some v) × Below t v.element × IsOffset z g count v.table64 c
+IsValidMode z g imported t passive = Has z.features BulkMemory
+IsValidMode z g imported t declared = Has z.features BulkMemory
+IsValidMode z g imported t (active x c) = (v : Table) × (slice_get g.tables (table_index x) ≡ Some v) × Below t v.element × IsOffset z g imported v.table64 c
 
 -- the elements: functions of the module, or constants of the type that is written
 abbrev pub AreValidItems : Settings → Module → ℕ → ElementItems Code → Type 0
-AreValidItems z g count (functions xs) = Each (λ x. x < length g.functions) xs
-AreValidItems z g count (expressions r cs) = IsValidValueType z g (value.Ref r) × Each (IsConstant z.features g count (value_in g.types (value.Ref r))) cs
+AreValidItems z g imported (functions xs) = Each (λ x. x < length g.functions) xs
+AreValidItems z g imported (expressions r cs) = IsValidValueType z g (value.Ref r) × Each (IsConstant z.features g imported (value_in g.types (value.Ref r))) cs
 
 -- how many elements there are
 abbrev pub item_count : ElementItems Code → ℕ
 item_count (functions xs) = length xs
 item_count (expressions r cs) = length cs
 
-pub record IsValidElement (z : Settings) (g : Module) (count : ℕ) (x : ElementTree Code) : Type 0 where
-  pub mode : IsValidMode z g count (element_type g.types x.items) x.mode
-  pub items : AreValidItems z g count x.items
+pub record IsValidElement (z : Settings) (g : Module) (imported : ℕ) (x : ElementTree Code) : Type 0 where
+  pub mode : IsValidMode z g imported (element_type g.types x.items) x.mode
+  pub items : AreValidItems z g imported x.items
   pub within : item_count x.items ≤ z.limits.segment_items
 
 -- how a data segment is used: an active one has a memory, and an offset
 abbrev pub IsValidData : Settings → Module → ℕ → DataMode Code → Type 0
-IsValidData z g count data_mode.passive = Has z.features BulkMemory
-IsValidData z g count (data_mode.active x c) = (m : MemoryType) × (slice_get g.memories x ≡ Some m) × IsOffset z g count m.memory64 c
+IsValidData z g imported data_mode.passive = Has z.features BulkMemory
+IsValidData z g imported (data_mode.active x c) = (m : MemoryType) × (slice_get g.memories x ≡ Some m) × IsOffset z g imported m.memory64 c
 
 -- ---- functions (validation, modules, functions and locals)
 
@@ -215,6 +215,7 @@ body_context z g t b gs = record {
   «module» = g;
   locals = b.params ++ locals_in g.types gs;
   labels = [];
+  catches = [];
   results = b.results;
   shared = is_shared t;
 }
@@ -289,21 +290,21 @@ pub record IsWithinLimits (z : Settings) (g : Module) (m : ModuleTree) : Type 0 
 -- ---- modules
 
 -- the module is valid in the context g, where the first so many globals are imported
-pub record IsValidIn (z : Settings) (g : Module) (count : ℕ) (m : ModuleTree) : Type 0 where
+pub record IsValidIn (z : Settings) (g : Module) (imported : ℕ) (m : ModuleTree) : Type 0 where
   pub types : AreValidGroups z [] m.types g.types
   pub imports : Each (λ (i : ImportTree). IsValidImport z g i.ty) m.imports
   pub functions : Each (IsFunctionIndex g) m.functions
-  pub tables : Each (IsValidTable z g count) m.tables
+  pub tables : Each (IsValidTable z g imported) m.tables
   pub memories : Each (IsValidMemoryType z) m.memories
   pub tags : Each (IsValidTagType z g) m.tags
-  pub globals : AreValidGlobals z g count count m.globals
+  pub globals : AreValidGlobals z g imported imported m.globals
   pub exports : Each (λ (e : ExportTree). IsValidExport z g e.kind e.index) m.exports
   pub names : HaveOwnNames m.exports
   pub start : IfThere (IsValidStart g) m.start
-  pub element_segments : Each (IsValidElement z g count) m.element_segments
+  pub element_segments : Each (IsValidElement z g imported) m.element_segments
   pub data_count : IfThere (λ n. Has z.features BulkMemory) m.data_count
   pub code : AllZip (HasValidBody z g) m.functions m.code
-  pub data_segments : Each (λ (x : DataTree Code). IsValidData z g count x.mode) m.data_segments
+  pub data_segments : Each (λ (x : DataTree Code). IsValidData z g imported x.mode) m.data_segments
   pub limits : IsWithinLimits z g m
 
 -- a valid module (validation, modules)

@@ -1,3 +1,7 @@
 pub mod Trees
 pub mod Modules
+pub mod Releases
+pub mod Bounds
+pub mod Items
+pub mod Functions
 pub mod Bytes

@@ -10,4 +10,7 @@ mod laws;
 mod worked;
 
 pub use laws::modules_are_spelled_once;
-pub use worked::{bytes_are_worked, modules_are_worked};
+pub use worked::{
+    bounds_are_worked, bytes_are_worked, functions_are_worked, items_are_worked,
+    modules_are_worked, releases_are_worked,
+};

@@ -67,12 +67,12 @@ module _ (z : Settings) where
 -- one operator that gives what the result is taken from
 module _ (bits : ℕ) (g : Module) (t : ValueType) (o : Op) where
   abbrev here : Context
-  here = inside (t ∷ []) (constant_context bits g t)
+  here = inside Block (t ∷ []) (constant_context bits g t)
 
   gives : effect (role_of o) Block ≡ Some Stays → ((set : Initialised) → Row here set o [] (known t ∷ [])) → Below t t → IsBody (constant_context bits g t) 0 (only o)
   gives stays row below = record {
     expression = (stays, refl);
-    typed = (known t ∷ [], ([], known t ∷ [], [], row _, tt, refl), ((below, tt), tt));
+    typed = (known t ∷ [], ([], known t ∷ [], [], row _, tt, refl), ((below, tt), tt, tt));
   }
 
 pub is_short : (g : Module) → IsConstant 0xfff_ffff g 0 (number i32) five

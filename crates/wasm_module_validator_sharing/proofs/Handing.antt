@@ -5,9 +5,10 @@ use Rattle.std.proofs.lemmas.List.{length_push}
 use Rattle.wasm_types.specs.decoding.Decoder.{State}
 use Rattle.wasm_types.specs.error.Denials.{Denies}
 use Rattle.wasm_types.specs.error.declared.error.ErrorKind.{ErrorKind}
+use Rattle.wasm_types.specs.limits.Limits.{IsWithinCeilings}
 use Rattle.wasm_types.specs.limits.Settings.{Settings}
 use Rattle.wasm_module_validator_module.specs.declared.module.Function.{Function}
-use Rattle.wasm_module_validator_reading.specs.progress.functions.declared.code.bodies.Body.{Body}
+use Rattle.wasm_module_validator_reading.specs.progress.adding.declared.bodies.Body.{Body}
 use Rattle.wasm_module_validator_reading.specs.progress.standing.steps.Steps.{SoFar, JudgesBody}
 use Rattle.wasm_module_validator_reading.specs.progress.Progress.{Kept, Progress, IsAt}
 use Rattle.wasm_module_validator_reading.specs.progress.laws.Bodies.{FitsBehind, fits, not_fitting, function_is, judges, body_behind, no_function}
@@ -18,15 +19,18 @@ abbrev pub type_at : Kept → ℕ → Option ℕ
 type_at k i = option_map (λ (f : Function). f.type_index) (slice_get k.items.spaces.functions i)
 
 -- what is handed out
-pub is_handed_out : (r : Reached) (shared : Kept) (last n bits : ℕ) (f : Handed) → r.progress ≡ record { kept = shared; last = last } → body_count r.code ≡ n
+pub is_handed_out : (r : Reached) (shared : Kept) (last n : ℕ) (z : Settings) (f : Handed) → r.progress ≡ record { kept = shared; last = last } → body_count r.code ≡ n
     → f.resources.shared.value ≡ shared → f.index ≡ shared.items.spaces.imported_functions + n
-    → type_at shared (shared.items.spaces.imported_functions + n) ≡ Some f.ty → f.features.0 ≡ bits → IsHandedOut r bits f
-is_handed_out r shared last n bits f same code res index type features = record {
+    → type_at shared (shared.items.spaces.imported_functions + n) ≡ Some f.ty → f.features.0 ≡ z.features → f.limits ≡ z.limits
+    → IsWithinCeilings f.limits → IsHandedOut r z f
+is_handed_out r shared last n z f same code res index type features limits within = record {
   resources = res ∙ sym (ap (λ (s : Progress). s.kept) same);
   index = index ∙ ap (λ (m : ℕ). shared.items.spaces.imported_functions + m) (sym code)
       ∙ ap (λ (s : Progress). s.kept.items.spaces.imported_functions + body_count r.code) (sym same);
   type = subst (λ (s : Progress). type_at s.kept f.index ≡ Some f.ty) (sym same) (ap (type_at shared) index ∙ type);
   features = features;
+  limits = limits;
+  within = within;
 }
 
 -- where there is no type there is no function

@@ -11,7 +11,7 @@ use Rattle.wasm_sections_parser.specs.Parsing.{shape_of}
 use Rattle.wasm_sections_payloads.specs.declared.payload.Payload.{Payload}
 use Rattle.wasm_sections_payloads.specs.declared.payload.Payload.TheVariants as payloads
 use Rattle.wasm_sections_payloads.specs.Payloads.{IsSectionOf, IsPayloadOf}
-use Rattle.wasm_module_validator_reading.specs.progress.functions.declared.code.bodies.Body.{Body}
+use Rattle.wasm_module_validator_reading.specs.progress.adding.declared.bodies.Body.{Body}
 use Rattle.wasm_module_validator_reading.specs.progress.fronts.Walks.{HasSettings}
 use Rattle.wasm_module_validator_reading.specs.progress.standing.steps.Sections.{code_place, number}
 use Rattle.wasm_module_validator_reading.specs.progress.standing.steps.Sections as section
@@ -121,7 +121,6 @@ module _ (r : Reached) (own : Progress) (same : r.progress ≡ own) (none : r.co
         bodies,
         count ∙ ap body_count none,
         subst (λ (k : Kept). IsAt z (record { kept = k; last = 12 }) bodies (record p { last = code_place })) (sym is) (record {
-          locals = there.locals;
           stands = there.stands;
           judged = there.judged;
           counted = there.counted;

@@ -3,6 +3,7 @@ use Rattle.std.specs.Prelude.{◌≡◌, ◌+◌, ◌≤◌, ℕ, Bool, true, fa
 use Rattle.wasm_types.specs.decoding.Decoder.{State}
 use Rattle.wasm_types.specs.error.Denials.{Denies, Tells}
 use Rattle.wasm_types.specs.error.ErrorValue.{ErrorValue}
+use Rattle.wasm_types.specs.limits.Limits.{IsWithinCeilings}
 use Rattle.wasm_types.specs.limits.Settings.{Settings}
 use Rattle.wasm_sections_parser.specs.declared.frame.Frame.{Frame}
 use Rattle.wasm_sections_parser.specs.Parsing.{shape_of}
@@ -10,8 +11,8 @@ use Rattle.wasm_sections_payloads.specs.declared.payload.Payload.{Payload}
 use Rattle.wasm_sections_payloads.specs.declared.payload.Payload.TheVariants as payloads
 use Rattle.wasm_sections_payloads.specs.Payloads.{IsPayloadOf}
 use Rattle.wasm_module_validator_module.specs.declared.module.Function.{Function}
-use Rattle.wasm_module_validator_reading.specs.progress.functions.declared.beginning.FuncToValidate.{FuncToValidate}
-use Rattle.wasm_module_validator_reading.specs.progress.functions.declared.code.bodies.Body.{Body}
+use Rattle.wasm_module_validator_reading.specs.judging.functions.declared.beginning.FuncToValidate.{FuncToValidate}
+use Rattle.wasm_module_validator_reading.specs.progress.adding.declared.bodies.Body.{Body}
 use Rattle.wasm_module_validator_reading.specs.progress.fronts.Walks.{HasSettings}
 use Rattle.wasm_module_validator_reading.specs.progress.standing.steps.Sections.{code_place}
 use Rattle.wasm_module_validator_reading.specs.progress.standing.steps.Steps.{SoFar, JudgesShape, JudgesBody}
@@ -39,9 +40,9 @@ abbrev pub IsNext : Progress → Option Kept → Type 0
 IsNext own None = Unit {0}
 IsNext own (Some shared) = own ≡ next_over shared
 
--- nothing was read of a module by these features, behind another
-abbrev pub renewed_behind : ℕ → Reached → Reached
-renewed_behind bits r = record { progress = renewed bits r.progress.kept; code = None }
+-- nothing was read of a module by these settings, after another
+abbrev pub renewed_behind : Settings → Reached → Reached
+renewed_behind z r = record { progress = renewed z r.progress.kept; code = None }
 
 -- nothing was read of a module by the same settings, behind another
 abbrev pub next_behind : Reached → Reached
@@ -106,13 +107,15 @@ TellsBody z p text (Ok (Some f)) = (q : SoFar) × JudgesBody z p text q
 TellsBody z p text (Ok None) = ((q : SoFar) × JudgesBody z p text q) → ⊥
 TellsBody z p text (Err e) = Denies e.kind ((q : SoFar) × JudgesBody z p text q)
 
--- Of the function behind so many others this is handed out: the module as it is kept, the function's index and that of its type, and these
--- features.
-pub record IsHandedOut (r : Reached) (bits : ℕ) (f : Handed) : Type 0 where
+-- Of the function after so many others this is handed out: the module as it is kept, the function's index and that of its type, and these
+-- features and limits, of which none is above its ceiling.
+pub record IsHandedOut (r : Reached) (z : Settings) (f : Handed) : Type 0 where
   pub resources : f.resources.shared.value ≡ r.progress.kept
   pub index : f.index ≡ r.progress.kept.items.spaces.imported_functions + body_count r.code
   pub type : option_map (λ (g : Function). g.type_index) (slice_get r.progress.kept.items.spaces.functions f.index) ≡ Some f.ty
-  pub features : f.features.0 ≡ bits
+  pub features : f.features.0 ≡ z.features
+  pub limits : f.limits ≡ z.limits
+  pub within : IsWithinCeilings f.limits
 
 -- a body may come here: behind the start of the code, and no longer than a body may be
 abbrev pub FitsNext : Reached → State → Type 0
@@ -123,14 +126,14 @@ abbrev pub NoneLeft : Reached → Type 0
 NoneLeft r = slice_get r.progress.kept.items.spaces.functions (r.progress.kept.items.spaces.imported_functions + body_count r.code) ≡ None
 
 -- What is kept then: one body more, where a function was handed out. It is refused only where it may not come here, memory aside.
-abbrev pub BodyFollows : Reached → ℕ → State → Result (Option Handed) ErrorValue → Reached → Type 0
-BodyFollows r bits body (Ok (Some f)) s = IsHandedOut r bits f × (s.code ≡ Some (body_count r.code + 1)) × (s.progress.kept ≡ r.progress.kept)
+abbrev pub BodyFollows : Reached → Settings → State → Result (Option Handed) ErrorValue → Reached → Type 0
+BodyFollows r y body (Ok (Some f)) s = IsHandedOut r y f × (s.code ≡ Some (body_count r.code + 1)) × (s.progress.kept ≡ r.progress.kept)
     × ((z : Settings) (p q : SoFar) → IsReached z r p → body.settings ≡ z → JudgesBody z p body.rest q → IsReached z s q)
-BodyFollows r bits body (Ok None) s = (s ≡ r) × NoneLeft r
-BodyFollows r bits body (Err e) s = (s ≡ r) × Denies e.kind (FitsNext r body)
+BodyFollows r y body (Ok None) s = (s ≡ r) × NoneLeft r
+BodyFollows r y body (Err e) s = (s ≡ r) × Denies e.kind (FitsNext r body)
 
 -- What a body is answered: where what is kept stands for what was judged, a function is handed out exactly where the body may come next,
 -- memory aside.
-pub record IsNextFunction (r : Reached) (bits : ℕ) (body : State) (answer : Result (Option Handed) ErrorValue) (s : Reached) : Type 0 where
+pub record IsNextFunction (r : Reached) (y : Settings) (body : State) (answer : Result (Option Handed) ErrorValue) (s : Reached) : Type 0 where
   pub told : (z : Settings) (p : SoFar) → IsReached z r p → body.settings ≡ z → TellsBody z p body.rest answer
-  pub follows : BodyFollows r bits body answer s
+  pub follows : BodyFollows r y body answer s

@@ -5,7 +5,7 @@ ghost use Rattle.wasm_types.specs.decoding.Decoder.{State};
 ghost use Rattle.wasm_types.specs.error.Denials.{Tells};
 ghost use Rattle.wasm_types.specs.limits.Settings.{Settings};
 ghost use Rattle.wasm_sections_payloads.specs.Payloads.{Counts};
-ghost use Rattle.wasm_module_validator_reading.specs.progress.functions.declared.code.bodies.Body.{Body};
+ghost use Rattle.wasm_module_validator_reading.specs.progress.adding.declared.bodies.Body.{Body};
 ghost use Rattle.wasm_module_validator_reading.specs.progress.standing.steps.Sections as section;
 ghost use Rattle.wasm_module_validator_reading.specs.progress.standing.steps.Steps.{SoFar, JudgesSection};
 ghost use Rattle.wasm_module_validator_reading.specs.progress.Progress.{IsAt};

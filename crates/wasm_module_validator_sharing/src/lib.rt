@@ -14,6 +14,6 @@ mod sharing;
 pub use resources::ValidatorResources;
 pub use sharing::SharedProgress;
 pub use wasm_module_validator_reading::{
-    Body, FuncToValidate, FuncValidator, FuncValidatorAllocations, ModuleState, SharedModule,
-    TypeList, check_header,
+    Body, FuncToValidate, FuncValidator, FuncValidatorAllocations, HeldSettings, ModuleState,
+    SharedModule, TypeList, check_header,
 };

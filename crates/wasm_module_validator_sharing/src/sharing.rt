@@ -3,14 +3,12 @@
 ghost use Rattle.std.specs.Prelude.{◌≡◌, ◌<◌, IfErr, IfOk, OnOk, Some, None, is_some, length, true};
 ghost use Rattle.wasm_types.specs.error.Denials.{Tells};
 ghost use Rattle.wasm_types.specs.error.declared.error.ErrorKind.TheVariants.{OutOfMemory};
-ghost use Rattle.wasm_types.specs.limits.Limits.{default_limits};
 ghost use Rattle.wasm_types.specs.limits.Settings.{Settings};
 ghost use Rattle.wasm_sections_payloads.specs.declared.payload.Payload.TheVariants as payloads;
-ghost use Rattle.wasm_module_validator_reading.specs.progress.standing.interning.Modules.{settings_of};
 ghost use Rattle.wasm_module_validator_reading.specs.progress.standing.steps.Sections.{code_place};
 ghost use Rattle.wasm_module_validator_reading.specs.progress.standing.steps.Steps.{SoFar};
 ghost use Rattle.wasm_module_validator_reading.specs.progress.Progress.{Grows, IsAt, renewed};
-ghost use Rattle.wasm_module_validator_reading.specs.judging.Bodies.{under, AreBodies};
+ghost use Rattle.wasm_module_validator_reading.specs.judging.Bodies.{AreBodies};
 ghost use Rattle.wasm_module_validator_reading.specs.Reading.{IsReadAs};
 ghost use Rattle.wasm_module_validator_sharing.specs.Sharing.{nothing_reached, renewed_behind, next_behind, has_no_code, IsReached, IsWhole, TellsNext, Follows, IsNextFunction};
 
@@ -21,10 +19,11 @@ use std::marker::Model;
 use std::mem;
 use std::rc::Rc;
 use wasm_module_validator_reading::{
-    Body, FuncToValidate, InProgress, ModuleState, SharedModule, TypeList, judge, read_module,
+    Body, FuncToValidate, HeldSettings, InProgress, ModuleState, SharedModule, TypeList, judge,
+    read_module,
 };
 use wasm_sections_payloads::{DataSectionReader, FunctionBody, Payload};
-use wasm_types::{Result, WasmFeatures};
+use wasm_types::Result;
 
 /// A module that is being read; once its code has begun it is shared. A contract sees what is kept, and how many bodies came
 /// (`specs/Sharing.antt`).
@@ -52,12 +51,12 @@ impl Model for SharedProgress {
 }
 
 impl SharedProgress {
-    /// A module of which nothing was read, by these features and the limits that hold where none are chosen. It takes no memory.
-    pub fn new(alloc: Global, features: WasmFeatures) -> SharedProgress
-        ensures { result ≡ nothing_reached (settings_of features.0 default_limits) }
+    /// A module of which nothing was read, by these settings. It takes no memory.
+    pub fn new(alloc: Global, settings: &HeldSettings) -> SharedProgress
+        ensures { result ≡ nothing_reached settings.now }
     {
         SharedProgress {
-            own: InProgress::new(alloc, features),
+            own: InProgress::new(alloc, settings),
             shared: None,
             last: 0,
             bodies: 0,
@@ -65,13 +64,13 @@ impl SharedProgress {
         }
     }
 
-    /// Begins with another module by these features, of which nothing was read: over the same list of types, where this one was read by the
-    /// same features, and else over a list with none. It takes no memory.
-    pub fn renew(&mut self, features: WasmFeatures)
-        ensures { self.new ≡ renewed_behind features.0 self.old }
+    /// Begins with another module by these settings, of which nothing was read: over the same list of types, if this one was read by the
+    /// same settings, and else over a list with none. It takes no memory.
+    pub fn renew(&mut self, settings: &HeldSettings)
+        ensures { self.new ≡ renewed_behind settings.now self.old }
     {
         self.shared = None;
-        self.own.renew(features);
+        self.own.renew(settings);
     }
 
     /// Whether its code has begun.
@@ -108,32 +107,32 @@ impl SharedProgress {
         }
     }
 
-    /// Reads a module that is all of these bytes, by these features, over the list of types of what was read before, and gives its bodies.
+    /// Reads a module that is all of these bytes, by these settings, over the list of types of what was read before, and gives its bodies.
     ///
     /// # Errors
     ///
     /// As `read_module`. What is kept then stands for nothing.
-    pub fn read<'a>(&mut self, features: WasmFeatures, bytes: &'a [u8]) -> Result<Vec<Body<'a>>>
-        ensures answer { Tells result ((q : SoFar) × IsReadAs (under features.0) bytes.now q) }
-        ensures stands { IfOk result (λ bodies. (q : SoFar) → IsReadAs (under features.0) bytes.now q → IsAt (under features.0) self.new.progress bodies.items q) }
-        ensures grown { OnOk result (Grows (renewed features.0 self.old.progress.kept).kept self.new.progress.kept) }
+    pub fn read<'a>(&mut self, settings: &HeldSettings, bytes: &'a [u8]) -> Result<Vec<Body<'a>>>
+        ensures answer { Tells result ((q : SoFar) × IsReadAs settings.now bytes.now q) }
+        ensures stands { IfOk result (λ bodies. (q : SoFar) → IsReadAs settings.now bytes.now q → IsAt settings.now self.new.progress bodies.items q) }
+        ensures grown { OnOk result (Grows (renewed settings.now self.old.progress.kept).kept self.new.progress.kept) }
         ensures own { self.new.code ≡ None }
     {
-        self.renew(features);
-        read_module(self.alloc, features, &mut self.own, bytes)
+        self.renew(settings);
+        read_module(self.alloc, settings, &mut self.own, bytes)
     }
 
-    /// Judges the bodies of a module whose sections were read, by these features.
+    /// Judges the bodies of a module whose sections were read, by the settings that they were read by.
     ///
     /// # Errors
     ///
     /// As `judge`.
-    pub fn judge(&self, features: WasmFeatures, bodies: &[Body<'_>]) -> Result<()>
+    pub fn judge(&self, bodies: &[Body<'_>]) -> Result<()>
         requires own { self.now.code ≡ None }
-        ensures { (q : SoFar) → IsAt (under features.0) self.now.progress bodies.now q → length q.bodies ≡ length q.tree.functions
-            → Tells result (AreBodies (under features.0) q) }
+        ensures { (z : Settings) (q : SoFar) → IsAt z self.now.progress bodies.now q → length q.bodies ≡ length q.tree.functions
+            → Tells result (AreBodies z q) }
     {
-        judge(self.alloc, features, &self.own, bodies)
+        judge(self.alloc, &self.own, bodies)
     }
 
     /// Gives the module as it was read, so that it may be shared, and begins with another over the same list of types.
@@ -219,8 +218,8 @@ impl SharedProgress {
         Ok(())
     }
 
-    /// Takes a body of a module whose code has begun: the function that it is that of, or none where each has its body. The body itself is
-    /// not looked into.
+    /// Takes a body of a module whose code has begun: the function that it is that of, to be judged by these settings, or none if each has its
+    /// body. The body itself is not looked into.
     ///
     /// # Errors
     ///
@@ -228,11 +227,11 @@ impl SharedProgress {
     /// kept stays.
     pub fn take_body(
         &mut self,
-        features: WasmFeatures,
+        settings: &HeldSettings,
         body: &FunctionBody<'_>,
     ) -> Result<Option<FuncToValidate<ValidatorResources>>>
         requires { is_some self.old.code ≡ true }
-        ensures { IsNextFunction self.old features.0 body.now result self.new }
+        ensures { IsNextFunction self.old settings.now body.now result self.new }
     {
         let Some(shared) = &self.shared else {
             unreachable!()
@@ -251,7 +250,8 @@ impl SharedProgress {
             resources,
             index: next.0,
             ty: next.1,
-            features,
+            features: settings.features(),
+            limits: settings.limits(),
         }))
     }
 }

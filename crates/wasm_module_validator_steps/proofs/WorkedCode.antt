@@ -23,12 +23,12 @@ number_global g = record { content = (_, record { allowed = search rules; known 
 -- one operator that gives the result
 module _ (g : Module) (o : Op) where
   abbrev here : Context
-  here = inside (number i32 ∷ []) (constant_context 0xfff_ffff g (number i32))
+  here = inside Block (number i32 ∷ []) (constant_context 0xfff_ffff g (number i32))
 
   gives : effect (role_of o) Block ≡ Some Stays → ((set : Initialised) → Row here set o [] (known (number i32) ∷ [])) → IsBody (constant_context 0xfff_ffff g (number i32)) 0 (only o)
   gives stays row = record {
     expression = (stays, refl);
-    typed = (known (number i32) ∷ [], ([], known (number i32) ∷ [], [], row _, tt, refl), ((refl, tt), tt));
+    typed = (known (number i32) ∷ [], ([], known (number i32) ∷ [], [], row _, tt, refl), ((refl, tt), tt, tt));
   }
 
 pub is_constant : (g : Module) (count : ℕ) (x : ℤ) → IsConstant 0xfff_ffff g count (number i32) (only (constant x))

@@ -7,6 +7,7 @@ use Rattle.wasm_types.specs.error.ErrorValue.{ErrorValue}
 use Rattle.wasm_types.specs.error.declared.error.ErrorKind.{ErrorKind}
 use Rattle.wasm_types.specs.error.declared.error.ErrorKind.TheVariants.{Failed, Other}
 use Rattle.wasm_types.specs.limits.Limits.{default_limits}
+use Rattle.wasm_types.specs.limits.declared.Limits.{Limits}
 use Rattle.wasm_types.specs.limits.Settings.{Settings, no_features}
 use Rattle.wasm_types.specs.trees.Trees.{TypeTree}
 use Rattle.wasm_types.specs.values.declared.value.ValType.TheVariants.{I32}
@@ -31,15 +32,15 @@ fault_at s = record { kind = Other; offset = s.place; message = [] }
 abbrev pub Answer : Type 0
 Answer = Result (Unit {0}) ErrorValue
 
-pub record LocalsRead (m : Meaning) (s : Bytes) (σ : State) : Type 0 where
-  pub refused : ReadsLocals m s σ (Err (failed_at s)) s σ
-  pub read : ReadsLocals m s σ (Ok tt) s σ → ⊥
-  pub refused_otherwise : ReadsLocals m s σ (Err (fault_at s)) s σ → ⊥
-  pub refused_further : (t : Bytes) → (t ≡ s → ⊥) → ReadsLocals m s σ (Err (failed_at s)) t σ → ⊥
-  pub recovered : ReadsLocals m s σ (Err (failed_at s)) s (record σ { failed = false }) → ⊥
-  pub defined : DefinesMore m σ 1 I32 (Ok tt) σ → ⊥
-  pub undefined : DefinesMore m σ 1 I32 (Err (failed_at s)) σ
-  pub undefined_otherwise : DefinesMore m σ 1 I32 (Err (fault_at s)) σ → ⊥
+pub record LocalsRead (m : Meaning) (l : Limits) (s : Bytes) (σ : State) : Type 0 where
+  pub refused : ReadsLocals m l s σ (Err (failed_at s)) s σ
+  pub read : ReadsLocals m l s σ (Ok tt) s σ → ⊥
+  pub refused_otherwise : ReadsLocals m l s σ (Err (fault_at s)) s σ → ⊥
+  pub refused_further : (t : Bytes) → (t ≡ s → ⊥) → ReadsLocals m l s σ (Err (failed_at s)) t σ → ⊥
+  pub recovered : ReadsLocals m l s σ (Err (failed_at s)) s (record σ { failed = false }) → ⊥
+  pub defined : DefinesMore m l.locals σ 1 I32 (Ok tt) σ → ⊥
+  pub undefined : DefinesMore m l.locals σ 1 I32 (Err (failed_at s)) σ
+  pub undefined_otherwise : DefinesMore m l.locals σ 1 I32 (Err (fault_at s)) σ → ⊥
 
 pub record ExpressionsValidated (m : Meaning) (s : Bytes) (σ : State) : Type 0 where
   pub refused : Validates m σ s (Err (failed_at s)) σ
@@ -48,12 +49,12 @@ pub record ExpressionsValidated (m : Meaning) (s : Bytes) (σ : State) : Type 0 
   pub recovered : Validates m σ s (Err (failed_at s)) (record σ { failed = false }) → ⊥
   pub of_other_features : (τ : State) → τ.given.bits ≡ σ.given.bits + 1 → Validates m σ s (Err (failed_at s)) τ → ⊥
 
-pub record FunctionsValidated (m : Meaning) (s : Bytes) (σ : State) : Type 0 where
-  pub refused : ValidatesFunction m s σ (Err (failed_at s)) σ
-  pub accepted : ValidatesFunction m s σ (Ok tt) σ → ⊥
-  pub refused_otherwise : ValidatesFunction m s σ (Err (fault_at s)) σ → ⊥
-  pub recovered : ValidatesFunction m s σ (Err (failed_at s)) (record σ { failed = false }) → ⊥
-  pub of_other_features : (τ : State) → τ.given.bits ≡ σ.given.bits + 1 → ValidatesFunction m s σ (Err (failed_at s)) τ → ⊥
+pub record FunctionsValidated (m : Meaning) (l : Limits) (s : Bytes) (σ : State) : Type 0 where
+  pub refused : ValidatesFunction m l s σ (Err (failed_at s)) σ
+  pub accepted : ValidatesFunction m l s σ (Ok tt) σ → ⊥
+  pub refused_otherwise : ValidatesFunction m l s σ (Err (fault_at s)) σ → ⊥
+  pub recovered : ValidatesFunction m l s σ (Err (failed_at s)) (record σ { failed = false }) → ⊥
+  pub of_other_features : (τ : State) → τ.given.bits ≡ σ.given.bits + 1 → ValidatesFunction m l s σ (Err (failed_at s)) τ → ⊥
 
 pub record OperatorsTried (m : Meaning) (σ : State) (o : Op) : Type 0 where
   pub refused : Tries m σ o (Some Failed) (settled σ)
@@ -64,10 +65,11 @@ pub record OperatorsTried (m : Meaning) (σ : State) (o : Op) : Type 0 where
 
 -- ---- where a frame is left open
 
--- an expression that was accepted closes every frame, and so does a body
-pub record FramesClosed (m : Meaning) (s : Bytes) (σ τ : State) : Type 0 where
+-- An expression that was accepted closes every frame, and so does a body. None is accepted after the end.
+pub record FramesClosed (m : Meaning) (l : Limits) (s : Bytes) (σ τ : State) : Type 0 where
   pub expression : (τ.opens ≡ [] → ⊥) → Validates m σ s (Ok tt) τ → ⊥
-  pub body : (τ.opens ≡ [] → ⊥) → ValidatesFunction m s σ (Ok tt) τ → ⊥
+  pub body : (τ.opens ≡ [] → ⊥) → ValidatesFunction m l s σ (Ok tt) τ → ⊥
+  pub after_the_end : σ.opens ≡ [] → ValidatesFunction m l s σ (Ok tt) τ → ⊥
 
 -- ---- which bytes
 
@@ -82,6 +84,6 @@ pub record FunctionsSpelled (g : Module) (x : ℕ) : Type 0 where
   pub empty : (t : TypeTree) → slice_get g.types x ≡ Some t → IsFunctionType t procedure → SpellsValidFunction no_features g x empty_body
   pub no_type : slice_get g.types x ≡ None → SpellsValidFunction no_features g x empty_body → ⊥
   pub nothing : SpellsValidFunction no_features g x [] → ⊥
-  pub too_many : (z : Settings) (text : List ℕ) (h : SpellsValidFunction z g x text) → default_limits.locals < length h.valid.signature.params → ⊥
-  pub features : (judged_by 5 no_features).features ≡ 5
-  pub limits : (judged_by 5 no_features).limits ≡ default_limits
+  pub too_many : (z : Settings) (text : List ℕ) (h : SpellsValidFunction z g x text) → z.limits.locals < length h.valid.signature.params → ⊥
+  pub features : (judged_by 5 default_limits).features ≡ 5
+  pub limits : (judged_by 5 default_limits).limits ≡ default_limits

@@ -4,6 +4,7 @@ use Rattle.wasm_types.specs.decoding.Decoder.{State as Bytes}
 use Rattle.wasm_types.specs.error.declared.error.ErrorKind.{ErrorKind}
 use Rattle.wasm_types.specs.error.declared.error.ErrorKind.TheVariants.{Failed, Other}
 use Rattle.wasm_types.specs.limits.Limits.{default_limits}
+use Rattle.wasm_types.specs.limits.declared.Limits.{Limits}
 use Rattle.wasm_types.specs.limits.Settings.{no_features}
 use Rattle.wasm_types.specs.values.declared.value.ValType.TheVariants.{I32}
 use Rattle.wasm_operator_validator_stacks.specs.expression.operator.Op.{Op}
@@ -31,12 +32,12 @@ no_kind e = absurd cc
 not_true : false ≡ true → ⊥
 not_true e = absurd cc
 
-not_more : (m : Meaning) (σ : State) → σ.failed ≡ true → RefusesMore m σ 1 I32 Other → ⊥
-not_more m σ e (inl h) = let f = h.1 in absurd cc
-not_more m σ e (inr h) = untrue σ.failed e h.0
+not_more : (m : Meaning) (n : ℕ) (σ : State) → σ.failed ≡ true → RefusesMore m n σ 1 I32 Other → ⊥
+not_more m n σ e (inl h) = let f = h.1 in absurd cc
+not_more m n σ e (inr h) = untrue σ.failed e h.0
 
-pub locals_read : (m : Meaning) (s : Bytes) (σ : State) → σ.failed ≡ true → LocalsRead m s σ
-locals_read m s σ f = record {
+pub locals_read : (m : Meaning) (l : Limits) (s : Bytes) (σ : State) → σ.failed ≡ true → LocalsRead m l s σ
+locals_read m l s σ f = record {
   refused = record {
     exact = λ e. absurd (untrue σ.failed f e);
     stopped = λ e. refl;
@@ -52,7 +53,7 @@ locals_read m s σ f = record {
   recovered = λ r. not_true r.failed;
   defined = λ d. untrue σ.failed f d.exact.0;
   undefined = record { exact = λ (e, w, r). untrue σ.failed f e; defined = tt; refused = inl (f, refl) };
-  undefined_otherwise = λ d. not_more m σ f d.refused;
+  undefined_otherwise = λ d. not_more m l.locals σ f d.refused;
 }
 
 pub expressions_validated : (m : Meaning) (s : Bytes) (σ : State) → σ.failed ≡ true → ExpressionsValidated m s σ
@@ -72,10 +73,12 @@ expressions_validated m s σ f = record {
   of_other_features = λ τ e v. let b = ap (λ (w : Given). w.bits) v.given in omega (arith, e, b);
 }
 
-pub functions_validated : (m : Meaning) (s : Bytes) (σ : State) → σ.failed ≡ true → FunctionsValidated m s σ
-functions_validated m s σ f = record {
+pub functions_validated : (m : Meaning) (l : Limits) (s : Bytes) (σ : State) → σ.failed ≡ true → FunctionsValidated m l s σ
+functions_validated m l s σ f = record {
   refused = record {
     exact = λ x b. absurd (untrue σ.failed f (ap (λ (t : State). t.failed) b.state));
+    accepted = tt;
+    over = λ none. tt;
     stopped = λ e. refl;
     stops = inl (inl (f, refl, refl));
     ended = tt;
@@ -105,16 +108,16 @@ operators_tried m σ o f = record {
   recovered = λ t. turned σ.failed f t.failed;
 }
 
-pub frames_closed : (m : Meaning) (s : Bytes) (σ τ : State) → FramesClosed m s σ τ
-frames_closed m s σ τ = record { expression = λ n v. n v.ended; body = λ n v. n v.ended }
+pub frames_closed : (m : Meaning) (l : Limits) (s : Bytes) (σ τ : State) → FramesClosed m l s σ τ
+frames_closed m l s σ τ = record { expression = λ n v. n v.ended; body = λ n v. n v.ended; after_the_end = λ none v. v.over none }
 
 pub functions_spelled : (g : Module) (x : ℕ) → FunctionsSpelled g x
 unfolding default_limits
 functions_spelled g x = record {
-  empty = λ t at is. (functions_are no_features g x empty_body (lit≤ tt) (lit≤ tt)).1 (body_rows.empty g x t at is);
-  no_type = λ none h. body_rows.no_type no_features g x empty_body none ((functions_are no_features g x empty_body (lit≤ tt) (lit≤ tt)).0 h);
-  nothing = λ h. body_rows.nothing no_features g x ((functions_are no_features g x [] (lit≤ tt) (lit≤ tt)).0 h);
-  too_many = λ z text h many. let held = h.held in omega (arith, held, many);
+  empty = λ t at is. (functions_are no_features g x empty_body (lit≤ tt)).1 (body_rows.empty g x t at is);
+  no_type = λ none h. body_rows.no_type no_features g x empty_body none ((functions_are no_features g x empty_body (lit≤ tt)).0 h);
+  nothing = λ h. body_rows.nothing no_features g x ((functions_are no_features g x [] (lit≤ tt)).0 h);
+  too_many = λ z text h many. let within = h.valid.within in omega (arith, within, many);
   features = refl;
   limits = refl;
 }

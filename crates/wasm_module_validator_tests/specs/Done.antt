@@ -2,12 +2,13 @@
 -- validation, modules, functions and locals). What expressions refer to (validation, modules, where the context has them as C.refs).
 use Rattle.std.specs.Prelude.{◌≡◌, ℕ, true, List, [], ◌∷◌, Some, None, slice_get, Ok}
 use Rattle.wasm_types.specs.decoding.Decoder.{State as Bytes}
+use Rattle.wasm_types.specs.limits.Limits.{default_limits}
 use Rattle.wasm_types.specs.limits.Settings.{no_features}
 use Rattle.wasm_types.specs.trees.Trees.{TypeTree}
 use Rattle.wasm_types.specs.trees.Below.{is_shared}
 use Rattle.wasm_types.specs.values.declared.value.ValType.TheVariants.{I32}
 use Rattle.wasm_operator_validator_stacks.specs.expression.immediates.declared.block.BlockType.TheVariants as block
-use Rattle.wasm_operator_validator_stacks.specs.expression.control.declared.control.ControlOperator.TheVariants as control
+use Rattle.wasm_operator_validator_stacks.specs.expression.groups.declared.control.ControlOperator.TheVariants as control
 use Rattle.wasm_operator_validator_stacks.specs.expression.operator.Op as op
 use Rattle.wasm_operator_validator_stacks.specs.expression.operator.Op.{Op}
 use Rattle.wasm_operator_validator_stacks.specs.rules.Context.{Signature, IsFunctionType}
@@ -35,13 +36,13 @@ abbrev pub no_locals : Bytes
 no_locals = bytes_at 0 (0x00 ∷ 0x0b ∷ [])
 
 pub record LocalsDone (m : Meaning) : Type 0 where
-  pub read : ReadsLocals m no_locals beginning (Ok tt) (bytes_at 1 (0x0b ∷ [])) beginning
-  pub not_passed : ReadsLocals m no_locals beginning (Ok tt) no_locals beginning → ⊥
-  pub invented : ReadsLocals m no_locals beginning (Ok tt) (bytes_at 1 (0x0b ∷ [])) (with_locals beginning 1 I32) → ⊥
-  pub failed : ReadsLocals m no_locals beginning (Ok tt) (bytes_at 1 (0x0b ∷ [])) (record beginning { failed = true }) → ⊥
-  pub declared : DefinesMore m beginning 2 I32 (Ok tt) (with_locals beginning 2 I32)
-  pub not_declared : DefinesMore m beginning 2 I32 (Ok tt) beginning → ⊥
-  pub too_many : DefinesMore m beginning 50001 I32 (Ok tt) (with_locals beginning 50001 I32) → ⊥
+  pub read : ReadsLocals m default_limits no_locals beginning (Ok tt) (bytes_at 1 (0x0b ∷ [])) beginning
+  pub not_passed : ReadsLocals m default_limits no_locals beginning (Ok tt) no_locals beginning → ⊥
+  pub invented : ReadsLocals m default_limits no_locals beginning (Ok tt) (bytes_at 1 (0x0b ∷ [])) (with_locals beginning 1 I32) → ⊥
+  pub failed : ReadsLocals m default_limits no_locals beginning (Ok tt) (bytes_at 1 (0x0b ∷ [])) (record beginning { failed = true }) → ⊥
+  pub declared : DefinesMore m 2 beginning 2 I32 (Ok tt) (with_locals beginning 2 I32)
+  pub not_declared : DefinesMore m 2 beginning 2 I32 (Ok tt) beginning → ⊥
+  pub too_many : DefinesMore m 1 beginning 2 I32 (Ok tt) (with_locals beginning 2 I32) → ⊥
 
 abbrev pub nop : Op
 nop = op.Control control.Nop
@@ -66,10 +67,10 @@ abbrev pub nothing : Signature
 nothing = record { params = []; results = [] }
 
 pub record BodiesDone (m : Meaning) (t : TypeTree) : Type 0 where
-  pub validated : slice_get m.«module».types 0 ≡ Some t → IsFunctionType t nothing → ValidatesFunction m no_locals (of_type t) (Ok tt) (ended (of_type t))
-  pub not_ended : ValidatesFunction m no_locals (of_type t) (Ok tt) (of_type t) → ⊥
-  pub failed : ValidatesFunction m no_locals (of_type t) (Ok tt) (record (ended (of_type t)) { failed = true }) → ⊥
-  pub no_body : slice_get m.«module».types 0 ≡ Some t → IsFunctionType t nothing → ValidatesFunction m (bytes_at 0 []) (of_type t) (Ok tt) (ended (of_type t)) → ⊥
+  pub validated : slice_get m.«module».types 0 ≡ Some t → IsFunctionType t nothing → ValidatesFunction m default_limits no_locals (of_type t) (Ok tt) (ended (of_type t))
+  pub not_ended : ValidatesFunction m default_limits no_locals (of_type t) (Ok tt) (of_type t) → ⊥
+  pub failed : ValidatesFunction m default_limits no_locals (of_type t) (Ok tt) (record (ended (of_type t)) { failed = true }) → ⊥
+  pub no_body : slice_get m.«module».types 0 ≡ Some t → IsFunctionType t nothing → ValidatesFunction m default_limits (bytes_at 0 []) (of_type t) (Ok tt) (ended (of_type t)) → ⊥
 
 -- `ref.func 3`, `end`
 abbrev pub reference : List ℕ

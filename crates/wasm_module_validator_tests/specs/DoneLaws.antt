@@ -8,7 +8,7 @@ use Rattle.wasm_types.specs.limits.Settings.{no_features}
 use Rattle.wasm_types.specs.trees.Trees.{TypeTree}
 use Rattle.wasm_types.specs.values.declared.value.ValType.TheVariants.{I32}
 use Rattle.wasm_operators_reader.specs.immediates.declared.frames.FrameKind.TheVariants.{Block}
-use Rattle.wasm_operators_reader.specs.operator.memory.declared.bulk.BulkOperator.TheVariants as bulk
+use Rattle.wasm_operators_reader.specs.operator.groups.declared.bulk.BulkOperator.TheVariants as bulk
 use Rattle.wasm_operators_reader.specs.decode_encoding.Opcodes.{opcode}
 use Rattle.wasm_operators_reader.specs.decode_encoding.Groups.{numeric_kinds, simd_numeric_kinds}
 use Rattle.wasm_operators_reader.specs.decode_encoding.Coded.{operator}
@@ -29,9 +29,9 @@ use Rattle.wasm_operator_validator_determined.specs.Operators.{IsPlain}
 use Rattle.wasm_operator_validator_determined.specs.laws.Determined.{by_types, unchanged}
 use Rattle.wasm_operator_validator_determined.specs.laws.Same.{stays_refl}
 use Rattle.wasm_operator_validator_functions.specs.Functions.{Begins}
-use Rattle.wasm_module_validator_functions.specs.Locals.{SpellsLocals, DefinesAll}
+use Rattle.wasm_module_validator_functions.specs.Locals.{SpellsLocals, DefinesAll, TakesLocals}
 use Rattle.wasm_module_validator_functions.specs.Functions.{SpellsValidFunction}
-use Rattle.wasm_module_validator_functions.specs.laws.Functions.{functions_are}
+use Rattle.wasm_module_validator_functions.specs.laws.Functions.{functions_are, valid_accepted}
 use Rattle.wasm_module_validator_functions.specs.code.Worked.{body_rows}
 use Rattle.wasm_module_validator_referring.specs.Naming.{NamesMore}
 use Rattle.wasm_module_validator_referring.specs.NamingLaws.{names_more}
@@ -77,7 +77,7 @@ locals_done m = record {
   not_passed = λ r. let e = state_is _ _ _ _ (sym none_read ∙ r.taken.read) in let p = ap (λ (u : Bytes). u.place) e in omega (arith, p);
   invented = λ r.
       let g : [] ≡ r.taken.groups = value_is _ _ _ _ (sym none_read ∙ r.taken.read) in
-      let d = subst (λ (gs : List LocalGroup). DefinesAll m beginning gs (with_locals beginning 1 I32)) (sym g) r.taken.defined in
+      let d = subst (λ (gs : List LocalGroup). DefinesAll m default_limits.locals beginning gs (with_locals beginning 1 I32)) (sym g) r.taken.defined in
       let e = ap (λ (σ : State). length σ.given.locals) d in
       omega (arith, e);
   failed = λ r. turned r.failed;
@@ -121,19 +121,30 @@ index_is m t x b = let e = ap (λ (σ : State). map (λ (o : Open). o.block) σ.
 
 spelled_body : (m : Meaning) (t : TypeTree) → slice_get m.«module».types 0 ≡ Some t → IsFunctionType t nothing → SpellsValidFunction no_features m.«module» 0 no_locals.rest
 unfolding default_limits
-spelled_body m t at is = (functions_are no_features m.«module» 0 no_locals.rest (lit≤ tt) (lit≤ tt)).1 (body_rows.empty m.«module» 0 t at is)
+spelled_body m t at is = (functions_are no_features m.«module» 0 no_locals.rest (lit≤ tt)).1 (body_rows.empty m.«module» 0 t at is)
 
 no_function : (m : Meaning) → SpellsValidFunction no_features m.«module» 0 [] → ⊥
 unfolding default_limits
-no_function m h = body_rows.nothing no_features m.«module» 0 ((functions_are no_features m.«module» 0 [] (lit≤ tt) (lit≤ tt)).0 h)
+no_function m h = body_rows.nothing no_features m.«module» 0 ((functions_are no_features m.«module» 0 [] (lit≤ tt)).0 h)
 
 type_begins : (m : Meaning) (t : TypeTree) → slice_get m.«module».types 0 ≡ Some t → IsFunctionType t nothing → Begins m 0 0 (of_type t)
 type_begins m t at is = record { type = t; signature = nothing; function = record { at = at; function = is }; locals = []; params = refl; state = refl }
+
+nothing_taken : (m : Meaning) (t : TypeTree) → TakesLocals m no_features no_locals (of_type t) (bytes_at 1 (0x0b ∷ [])) (of_type t)
+unfolding default_limits unsigned groups_within locals
+nothing_taken m t = record { groups = []; read = refl; defined = refl; within = lit≤ tt }
 
 pub bodies_done : (m : Meaning) (t : TypeTree) → BodiesDone m t
 bodies_done m t = record {
   validated = λ at is. record {
     exact = λ x b. subst (λ (y : ℕ). SpellsValidFunction no_features m.«module» y no_locals.rest) (index_is m t x b) (spelled_body m t at is);
+    accepted = record {
+      behind = bytes_at 1 (0x0b ∷ []);
+      known = of_type t;
+      taken = nothing_taken m t;
+      accepted = valid_accepted m 0 0 (of_type t) (type_begins m t at is) no_locals (bytes_at 1 (0x0b ∷ [])) (of_type t) refl (nothing_taken m t) (spelled_body m t at is);
+    };
+    over = λ e. absurd cc;
     stopped = λ e. absurd (untrue e);
     stops = tt;
     ended = refl;

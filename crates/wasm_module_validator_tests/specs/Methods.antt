@@ -56,7 +56,7 @@ failed_before = record { kind = kinds.Failed; offset = 7; message = [] }
 
 -- behind a header nothing was read
 abbrev pub begun : Validator → Validator
-begun v = record v { state = Module; reached = renewed_behind v.features.0 v.reached }
+begun v = record v { state = Module; reached = renewed_behind v.settings v.reached }
 
 pub record HeadersRead (v : Validator) : Type 0 where
   pub read : ReadsHeader {X = ℕ} 1 AsModule (at Unparsed v) (Ok 0) (begun v)

@@ -10,9 +10,8 @@ use Rattle.wasm_sections_parser.specs.declared.frame.Encoding.TheVariants as enc
 use Rattle.wasm_sections_payloads.specs.declared.payload.Payload.{Payload}
 use Rattle.wasm_sections_payloads.specs.declared.payload.Payload.TheVariants as payloads
 use Rattle.wasm_module_validator_module.specs.Spaces.{own_function}
-use Rattle.wasm_module_validator_sharing.specs.reading.Reading.{under}
 use Rattle.wasm_module_validator_sharing.specs.reading.judging.Bodies.{AreBodies}
-use Rattle.wasm_module_validator_sharing.specs.reading.progress.functions.declared.code.bodies.Body.{Body}
+use Rattle.wasm_module_validator_sharing.specs.reading.progress.adding.declared.bodies.Body.{Body}
 use Rattle.wasm_module_validator_sharing.specs.reading.progress.standing.type_trees.Groups.{Group}
 use Rattle.wasm_module_validator_sharing.specs.reading.progress.standing.items.Items.{no_items}
 use Rattle.wasm_module_validator_sharing.specs.reading.progress.standing.items.Adding.{adding_function}
@@ -26,6 +25,14 @@ use Rattle.wasm_module_validator_sharing.specs.Sharing.{Reached, nothing_reached
 
 -- ---- what is kept
 
+-- features with these bits, and the limits by default
+abbrev pub under : ℕ → Settings
+under bits = record { features = bits; limits = default_limits }
+
+-- the same with at most 10 locals
+abbrev pub of_ten_locals : ℕ → Settings
+of_ten_locals bits = record { features = bits; limits = record default_limits { locals = 10 } }
+
 -- what was read of a module by features with these bits, over a list with these groups: a function, of two groups of types
 abbrev pub one_function : ℕ → List Group → Kept
 one_function bits groups = record {
@@ -37,8 +44,9 @@ one_function bits groups = record {
 pub record KeptRows (z : Settings) (g h : Group) : Type 0 where
   pub nothing : nothing_kept z ≡ record { kept = record { groups = []; items = no_items z; count = 0 }; last = 0 }
   pub over : nothing_over (g ∷ []) z ≡ record { kept = record { groups = g ∷ []; items = no_items z; count = 0 }; last = 0 }
-  pub renewed_alike : renewed 5 (one_function 5 (g ∷ [])) ≡ nothing_over (g ∷ []) (under 5)
-  pub renewed_otherwise : renewed 6 (one_function 5 (g ∷ [])) ≡ nothing_kept (under 6)
+  pub renewed_alike : renewed (under 5) (one_function 5 (g ∷ [])) ≡ nothing_over (g ∷ []) (under 5)
+  pub renewed_otherwise : renewed (under 6) (one_function 5 (g ∷ [])) ≡ nothing_kept (under 6)
+  pub renewed_by_limits : renewed (of_ten_locals 5) (one_function 5 (g ∷ [])) ≡ nothing_kept (of_ten_locals 5)
   pub next : next_over (one_function 5 (g ∷ [])) ≡ nothing_over (g ∷ []) (under 5)
   pub grows : Grows (one_function 5 (g ∷ [])) (one_function 5 (h ∷ g ∷ []))
   pub grows_not : Grows (one_function 5 (g ∷ [])) (one_function 5 []) → ⊥
@@ -56,7 +64,7 @@ begun groups bits = nothing_over groups (under bits)
 pub record StandsFor (groups : List Group) (bits : ℕ) : Type 0 where
   pub at_first : IsAt (under bits) (begun groups bits) [] nothing
   pub of_other_features : IsAt (under (bits + 1)) (begun groups bits) [] nothing → ⊥
-  pub of_more_locals : (z : Settings) (r : Progress) (bs : List Body) (p : SoFar) → default_limits.locals < z.limits.locals → IsAt z r bs p → ⊥
+  pub of_other_limits : IsAt (of_ten_locals bits) (begun groups bits) [] nothing → ⊥
   pub elsewhere : IsAt (under bits) (record (begun groups bits) { last = 1 }) [] nothing → ⊥
   pub of_more_groups : IsAt (under bits) (record (begun groups bits) { kept = record (begun groups bits).kept { count = 1 } }) [] nothing → ⊥
   pub with_a_body : (b : Body) → IsAt (under bits) (begun groups bits) (b ∷ []) nothing → ⊥
@@ -85,8 +93,8 @@ pub record ReachedRows (groups : List Group) (z : Settings) (k : Kept) (r : Prog
   pub next_own : IsNext r None
   pub next_shared : IsNext (next_over k) (Some k)
   pub next_read : IsNext (record (next_over k) { last = 1 }) (Some k) → ⊥
-  pub renewed_alike : renewed_behind 5 (record { progress = record { kept = one_function 5 groups; last = 12 }; code = Some 3 }) ≡ record { progress = begun groups 5; code = None }
-  pub renewed_otherwise : renewed_behind 6 (record { progress = record { kept = one_function 5 groups; last = 12 }; code = Some 3 }) ≡ nothing_reached (under 6)
+  pub renewed_alike : renewed_behind (under 5) (record { progress = record { kept = one_function 5 groups; last = 12 }; code = Some 3 }) ≡ record { progress = begun groups 5; code = None }
+  pub renewed_otherwise : renewed_behind (under 6) (record { progress = record { kept = one_function 5 groups; last = 12 }; code = Some 3 }) ≡ nothing_reached (under 6)
   pub behind : next_behind (record { progress = record { kept = one_function 5 groups; last = 12 }; code = Some 3 }) ≡ record { progress = begun groups 5; code = None }
   pub without_code : has_no_code None ≡ true
   pub with_code : has_no_code (Some 0) ≡ false
@@ -133,19 +141,20 @@ pub record BodiesTold (f : Handed) : Type 0 where
   pub some_left : TellsBody (under 5) in_code text (Ok None) → ⊥
   pub refused : TellsBody (under 5) nothing text (Err at_seven)
   pub refused_wrongly : TellsBody (under 5) in_code text (Err at_seven) → ⊥
-  pub another_index : f.index ≡ 1 → IsHandedOut (code_of 0) 5 f → ⊥
-  pub another_type : f.index ≡ 0 → f.ty ≡ 1 → IsHandedOut (code_of 0) 5 f → ⊥
-  pub other_features : f.features.0 ≡ 6 → IsHandedOut (code_of 0) 5 f → ⊥
-  pub no_function : IsHandedOut (code_of 1) 5 f → ⊥
+  pub another_index : f.index ≡ 1 → IsHandedOut (code_of 0) (under 5) f → ⊥
+  pub another_type : f.index ≡ 0 → f.ty ≡ 1 → IsHandedOut (code_of 0) (under 5) f → ⊥
+  pub other_features : f.features.0 ≡ 6 → IsHandedOut (code_of 0) (under 5) f → ⊥
+  pub other_limits : f.limits.locals ≡ 10 → IsHandedOut (code_of 0) (under 5) f → ⊥
+  pub no_function : IsHandedOut (code_of 1) (under 5) f → ⊥
   pub left : NoneLeft (code_of 0) → ⊥
   pub all : NoneLeft (code_of 1)
   pub fits : (s : State) → s.rest ≡ text → FitsNext (code_of 0) s
   pub fits_early : (s : State) → FitsNext (fresh [] 5) s → ⊥
   pub fits_long : (s : State) → 7654321 < length s.rest → FitsNext (code_of 0) s → ⊥
-  pub follows_none : (s : State) → BodyFollows (code_of 1) 5 s (Ok None) (code_of 1)
-  pub follows_none_changed : (s : State) → BodyFollows (code_of 1) 5 s (Ok None) (code_of 2) → ⊥
-  pub follows_none_left : (s : State) → BodyFollows (code_of 0) 5 s (Ok None) (code_of 0) → ⊥
-  pub follows_uncounted : (s : State) → BodyFollows (code_of 0) 5 s (Ok (Some f)) (code_of 0) → ⊥
-  pub follows_refused : (s : State) → BodyFollows (fresh [] 5) 5 s (Err at_seven) (fresh [] 5)
-  pub follows_refused_wrongly : (s : State) → s.rest ≡ text → BodyFollows (code_of 0) 5 s (Err at_seven) (code_of 0) → ⊥
-  pub follows_refused_changed : (s : State) → BodyFollows (code_of 0) 5 s (Err at_seven) (code_of 1) → ⊥
+  pub follows_none : (s : State) → BodyFollows (code_of 1) (under 5) s (Ok None) (code_of 1)
+  pub follows_none_changed : (s : State) → BodyFollows (code_of 1) (under 5) s (Ok None) (code_of 2) → ⊥
+  pub follows_none_left : (s : State) → BodyFollows (code_of 0) (under 5) s (Ok None) (code_of 0) → ⊥
+  pub follows_uncounted : (s : State) → BodyFollows (code_of 0) (under 5) s (Ok (Some f)) (code_of 0) → ⊥
+  pub follows_refused : (s : State) → BodyFollows (fresh [] 5) (under 5) s (Err at_seven) (fresh [] 5)
+  pub follows_refused_wrongly : (s : State) → s.rest ≡ text → BodyFollows (code_of 0) (under 5) s (Err at_seven) (code_of 0) → ⊥
+  pub follows_refused_changed : (s : State) → BodyFollows (code_of 0) (under 5) s (Err at_seven) (code_of 1) → ⊥

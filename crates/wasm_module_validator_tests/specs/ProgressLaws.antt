@@ -1,6 +1,7 @@
 -- The rows of `Progress`.
 use Rattle.std.proofs.Common.{◌≡◌, ◌∙◌, ◌+◌, ◌++◌, ◌<◌, ◌≤◌, ℕ, Bool, true, false, List, [], ◌∷◌, length, map, take, Option, Some, None, option_map, slice_get, refl, sym, ap, subst, arith, lit<, lit≤, rules}
 use Rattle.wasm_types.specs.decoding.Decoder.{State}
+use Rattle.wasm_types.specs.limits.declared.Limits.{Limits}
 use Rattle.wasm_types.specs.limits.Limits.{default_limits}
 use Rattle.wasm_types.specs.limits.Settings.{Settings}
 use Rattle.wasm_sections_parser.specs.declared.frame.Encoding.TheVariants as encodings
@@ -11,9 +12,8 @@ use Rattle.wasm_sections_payloads.specs.declared.payload.Payload.TheVariants as 
 use Rattle.wasm_sections_payloads.specs.Payloads.{IsPayloadOf}
 use Rattle.wasm_module_validator_module.specs.Spaces.{own_function}
 use Rattle.wasm_module_validator_module.specs.declared.module.Function.{Function}
-use Rattle.wasm_module_validator_sharing.specs.reading.Reading.{under}
 use Rattle.wasm_module_validator_sharing.specs.reading.laws.Walking.{nothing_is_at}
-use Rattle.wasm_module_validator_sharing.specs.reading.progress.functions.declared.code.bodies.Body.{Body}
+use Rattle.wasm_module_validator_sharing.specs.reading.progress.adding.declared.bodies.Body.{Body}
 use Rattle.wasm_module_validator_sharing.specs.reading.progress.standing.type_trees.Groups.{Group}
 use Rattle.wasm_module_validator_sharing.specs.reading.progress.standing.laws.Worked.{worked_nothing}
 use Rattle.wasm_module_validator_sharing.specs.reading.progress.standing.steps.contexts.rules.Syntax.{ModuleTree}
@@ -21,7 +21,7 @@ use Rattle.wasm_module_validator_sharing.specs.reading.progress.standing.steps.S
 use Rattle.wasm_module_validator_sharing.specs.reading.progress.standing.steps.Worked.{in_code}
 use Rattle.wasm_module_validator_sharing.specs.reading.progress.Progress.{Kept, Progress, IsAt, text_of, type_of, next_over}
 use Rattle.wasm_module_validator_sharing.specs.Sharing.{Reached, body_count, IsReached, Handed, FitsNext}
-use Rattle.wasm_module_validator_tests.specs.Progress.{KeptRows, StandsFor, BodiesStand, BodiesJudged, ReachedRows, begun, fresh, ReachedStands, NextTold, text, code_of, BodiesTold}
+use Rattle.wasm_module_validator_tests.specs.Progress.{under, KeptRows, StandsFor, BodiesStand, BodiesJudged, ReachedRows, begun, fresh, ReachedStands, NextTold, text, code_of, BodiesTold}
 
 -- ---- what is kept
 
@@ -30,11 +30,13 @@ no_list [] x e = absurd cc
 no_list (y ∷ xs) x e = absurd cc
 
 pub kept_rows : (z : Settings) (g h : Group) → KeptRows z g h
+unfolding default_limits
 kept_rows z g h = record {
   nothing = refl;
   over = refl;
   renewed_alike = refl;
   renewed_otherwise = refl;
+  renewed_by_limits = refl;
   next = refl;
   grows = record { groups = (h ∷ [], refl); settings = refl };
   grows_not = λ x. no_list x.groups.0 g x.groups.1;
@@ -47,10 +49,11 @@ kept_rows z g h = record {
 -- ---- what it stands for
 
 pub stands_for : (groups : List Group) (bits : ℕ) → StandsFor groups bits
+unfolding default_limits
 stands_for groups bits = record {
-  at_first = nothing_is_at groups bits;
+  at_first = nothing_is_at groups (under bits);
   of_other_features = λ a. let e = ap (λ (y : Settings). y.features) a.stands.settings in omega (arith, e);
-  of_more_locals = λ z r bs p more a. let few = a.locals in omega (arith, few, more);
+  of_other_limits = λ a. let e = ap (λ (y : Settings). y.limits.locals) a.stands.settings in omega (arith, e);
   elsewhere = λ a. let e = a.placed in omega (arith, e);
   of_more_groups = λ a. let e = a.counted in omega (arith, e);
   with_a_body = λ b a. let e = a.bodies in absurd cc;
@@ -80,6 +83,7 @@ bodies_judged z = record { none = tt; missing = λ h. h; further = λ h. h; of_n
 -- ---- once it is shared
 
 pub reached_rows : (groups : List Group) (z : Settings) (k : Kept) (r : Progress) → ReachedRows groups z k r
+unfolding default_limits
 reached_rows groups z k r = record {
   nothing = refl;
   own = refl;
@@ -102,14 +106,14 @@ no_bodies (b ∷ bs) e n = absurd cc
 
 pub reached_stands : (groups : List Group) (bits : ℕ) → ReachedStands groups bits
 reached_stands groups bits = record {
-  at_first = ([], refl, nothing_is_at groups bits);
-  no_bodies = ([], refl, nothing_is_at groups bits);
+  at_first = ([], refl, nothing_is_at groups (under bits));
+  no_bodies = ([], refl, nothing_is_at groups (under bits));
   a_body = λ (bs, n, a). no_bodies bs a.bodies n;
   elsewhere = λ (bs, n, a). let e = a.placed in omega (arith, e);
 }
 
 at_nothing : (groups : List Group) (bits : ℕ) → IsReached (under bits) (fresh groups bits) nothing
-at_nothing groups bits = ([], refl, nothing_is_at groups bits)
+at_nothing groups bits = ([], refl, nothing_is_at groups (under bits))
 
 -- ---- frames of a payload
 
@@ -173,6 +177,7 @@ bodies_told f = record {
       let n : 0 ≡ f.ty = cc in
       omega (arith, n, k);
   other_features = λ e h. let i = h.features in omega (arith, e, i);
+  other_limits = λ e h. let i = ap (λ (l : Limits). l.locals) h.limits in omega (arith, e, i);
   no_function = λ h.
       let t = subst (λ (i : ℕ). option_map (λ (g : Function). g.type_index) (slice_get (own_function 0 ∷ []) i) ≡ Some f.ty) h.index h.type in
       absurd cc;

@@ -2,6 +2,7 @@
 
 ghost use Rattle.std.specs.Prelude.{◌≡◌, ℕ, true, List};
 ghost use Rattle.std.specs.declared.ops.Range.{Range};
+ghost use Rattle.wasm_types.specs.limits.declared.Limits.{Limits};
 ghost use Rattle.wasm_types.specs.decoding.Decoder.{State as Bytes};
 ghost use Rattle.wasm_types.specs.features.declared.WasmFeatures.{WasmFeatures};
 ghost use Rattle.wasm_types.specs.limits.Settings.{Settings};
@@ -17,7 +18,7 @@ ghost use Rattle.wasm_module_validator_exports.specs.declared.names.exports.Name
 ghost use Rattle.wasm_module_validator_exports.specs.declared.names.imports.NamedImports.{NamedImports};
 ghost use Rattle.wasm_module_validator_sharing.specs.Sharing.{Handed};
 ghost use Rattle.wasm_module_validator_sharing.specs.reading.progress.Progress.{Kept, Progress};
-ghost use Rattle.wasm_module_validator_sharing.specs.reading.progress.functions.declared.code.bodies.Body.{Body};
+ghost use Rattle.wasm_module_validator_sharing.specs.reading.progress.adding.declared.bodies.Body.{Body};
 ghost use Rattle.wasm_module_validator_sharing.specs.reading.progress.standing.steps.Steps.{SoFar};
 ghost use Rattle.wasm_module_validator_standing.specs.type_trees.Groups.{Group};
 ghost use Rattle.wasm_module_validator_standing.specs.steps.contexts.items.declared.elements.element.ElementOf.{ElementOf};
@@ -79,11 +80,11 @@ pub const fn standing_is_worked()
 
 /// What the validation of a body promises, and which bytes spell a valid function (WebAssembly 3.0, validation, modules, functions and locals).
 pub const fn functions_are_worked()
-    ensures locals { (m : Meaning) (s : Bytes) (σ : State) → σ.failed ≡ true → LocalsRead m s σ }
+    ensures locals { (m : Meaning) (l : Limits) (s : Bytes) (σ : State) → σ.failed ≡ true → LocalsRead m l s σ }
     ensures expressions { (m : Meaning) (s : Bytes) (σ : State) → σ.failed ≡ true → ExpressionsValidated m s σ }
-    ensures bodies { (m : Meaning) (s : Bytes) (σ : State) → σ.failed ≡ true → FunctionsValidated m s σ }
+    ensures bodies { (m : Meaning) (l : Limits) (s : Bytes) (σ : State) → σ.failed ≡ true → FunctionsValidated m l s σ }
     ensures operators { (m : Meaning) (σ : State) (o : Op) → σ.failed ≡ true → OperatorsTried m σ o }
-    ensures frames { (m : Meaning) (s : Bytes) (σ τ : State) → FramesClosed m s σ τ }
+    ensures frames { (m : Meaning) (l : Limits) (s : Bytes) (σ τ : State) → FramesClosed m l s σ τ }
     ensures spelled { (g : Module) (x : ℕ) → FunctionsSpelled g x }
 {}
 

@@ -6,6 +6,7 @@ use crate::TypeIdentifier;
 use std::alloc::Global;
 use std::ops::{Deref, DerefMut, Index};
 use wasm_module_validator_types::TypeList;
+use wasm_types::Limits;
 
 /// A list of types that takes more, until it is committed.
 #[derive(Drop)]
@@ -14,14 +15,15 @@ pub struct TypeAlloc {
 }
 
 impl TypeAlloc {
-    /// A list with no types, which takes no memory.
-    pub fn new(alloc: Global) -> TypeAlloc
+    /// A list with no types, of a validator that judges by these limits. It takes no memory.
+    pub fn new(alloc: Global, limits: Limits) -> TypeAlloc
         ensures groups { result.list.groups ≡ [] }
         ensures can_intern { result.list.can_intern ≡ true }
         ensures depths { result.list.depths ≡ [] }
+        ensures limits { result.list.limits ≡ limits }
     {
         TypeAlloc {
-            list: TypeList::new(alloc),
+            list: TypeList::new(alloc, limits),
         }
     }
 }

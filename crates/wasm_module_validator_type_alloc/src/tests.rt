@@ -5,7 +5,7 @@ ghost use Rattle.std.specs.Prelude.{◌≡◌, ◌<◌};
 use crate::{MaybeOwned, TypeAlloc, TypeData, TypeIdentifier};
 use std::process::Abort;
 use wasm_module_validator_types::{RecGroupId, TypeList};
-use wasm_types::CoreTypeId;
+use wasm_types::{CoreTypeId, Limits};
 
 #[test]
 fn a_value_is_shared(rt: HostRuntime) {
@@ -26,7 +26,7 @@ fn count_of<T: TypeIdentifier>(types: &TypeList) -> usize
 
 #[test]
 fn an_empty_list_has_nothing(rt: HostRuntime) {
-    let types = TypeAlloc::new(rt.alloc());
+    let types = TypeAlloc::new(rt.alloc(), Limits::default());
     let holds = count_of::<CoreTypeId>(&types) == 0 && count_of::<RecGroupId>(&types) == 0;
     assert!(rt; holds);
 }

@@ -8,7 +8,7 @@ use Rattle.wasm_types.specs.indices.Indices.{number_of}
 use Rattle.wasm_types.specs.trees.Types.{Abstract, HeapOf, abstract, concrete, exact, ValueOf, number, ref, EntryOf}
 use Rattle.wasm_types.specs.trees.Trees.{past_the_end}
 use Rattle.wasm_types.specs.trees.AbstractOrder.{AbstractBelow, top_of}
-use Rattle.wasm_types.specs.trees.Below.{abstract_of, bottom_of, NullBelow}
+use Rattle.wasm_types.specs.trees.Below.{abstract_above, bottom_of, NullBelow}
 use Rattle.wasm_types.specs.groups.Entries.{Declared}
 use Rattle.wasm_module_validator_type_trees.specs.Groups.{Group, declared_by_id}
 use Rattle.wasm_module_validator_type_trees.specs.ByIds.{IdBelow}
@@ -45,15 +45,15 @@ module _ (groups : List Group) where
   -- the top of the hierarchy of a heap type, of the same sharedness
   abbrev pub top_by_id : HeapOf UnpackedIndex → Abstract
   top_by_id (abstract s a) = top_of a
-  top_by_id (concrete i) = top_of (abstract_of (entry_by_id (id_named i)).inner)
-  top_by_id (exact i) = top_of (abstract_of (entry_by_id (id_named i)).inner)
+  top_by_id (concrete i) = top_of (abstract_above (entry_by_id (id_named i)).inner)
+  top_by_id (exact i) = top_of (abstract_above (entry_by_id (id_named i)).inner)
 
   abbrev pub top_heap_by_id : HeapOf UnpackedIndex → HeapOf UnpackedIndex
   top_heap_by_id h = abstract (heap_is_shared_by_id h) (top_by_id h)
 
   -- the type of an id is of this sharedness, and of a constructor below the abstract type
   abbrev pub IsUnder : Bool → Abstract → CoreTypeId → Type 0
-  IsUnder s a i = ((entry_by_id i).shared ≡ s) × AbstractBelow (abstract_of (entry_by_id i).inner) a
+  IsUnder s a i = ((entry_by_id i).shared ≡ s) × AbstractBelow (abstract_above (entry_by_id i).inner) a
 
   -- the abstract type is the bottom type of this id's type, of the same sharedness
   abbrev pub IsOver : Bool → Abstract → CoreTypeId → Type 0

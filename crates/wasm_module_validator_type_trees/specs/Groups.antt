@@ -10,7 +10,7 @@ use Rattle.wasm_types.specs.indices.declared.index.UnpackedIndex.{UnpackedIndex}
 use Rattle.wasm_types.specs.indices.declared.index.UnpackedIndex.TheVariants.{Module, RecGroup, Id}
 use Rattle.wasm_types.specs.trees.Types.{entry_map}
 use Rattle.wasm_types.specs.trees.Trees.{GroupTree, TypeTree}
-use Rattle.wasm_types.specs.trees.Unfold.{Reference, Local, Earlier, Entry, unfolded, type_count, type_tree}
+use Rattle.wasm_types.specs.trees.Unfold.{GroupReference, Local, Earlier, Entry, unfolded, type_count, type_tree}
 use Rattle.wasm_types.specs.groups.Entries.{Declared}
 use Rattle.wasm_types.specs.groups.Remap.{declared_map}
 
@@ -24,7 +24,7 @@ pub record Group : Type 0 where
 
 -- what an index names: a place of its own group, or the type of an id. A module's index names nothing outside its module;
 -- no group in canonical form has one, and here it stands as a place
-abbrev pub reference_of : UnpackedIndex → Reference
+abbrev pub reference_of : UnpackedIndex → GroupReference
 reference_of (Module n) = Local n
 reference_of (RecGroup p) = Local p
 reference_of (Id i) = Earlier i.0

@@ -1,5 +1,6 @@
 -- Lists that hold no groups, the same groups, and one more.
 use Rattle.std.proofs.Common.{◌≡◌, ◌∙◌, ℕ, Bool, List, [], ◌++◌, map, reverse, replicate, set, ap, sym, subst, Option, Some, None, is_some, Result, Ok, Err, OnErr, arith}
+use Rattle.wasm_types.specs.limits.declared.Limits.{Limits}
 use Rattle.wasm_types.specs.trees.Unfold.{type_count}
 use Rattle.wasm_types.specs.groups.declared.sub_type.SubType.{SubType}
 use Rattle.wasm_types.specs.groups.Entries.{declared_of}
@@ -90,10 +91,11 @@ lists_set known old new id depth same e is =
     lists_same known known old new same is is.knows (places_set (count (groups_in old)) known old.depths.items new.depths.items id depth is.depths e)
 
 -- further places came behind those that there were
-pub depths_kept : (known : Option Known) (before mid after : Lists) (now : Types) (n : ℕ) → record { groups = groups_in before; can_intern = is_some known; depths = before.depths.items } ≡ now
+pub depths_kept : (known : Option Known) (limits : Limits) (before mid after : Lists) (now : Types) (n : ℕ)
+    → record { groups = groups_in before; can_intern = is_some known; depths = before.depths.items; limits = limits } ≡ now
     → IsTypeList (groups_in before) before known → mid.depths.items ≡ before.depths.items → after.depths.items ≡ mid.depths.items ++ replicate n None
     → KeepsDepths now.groups now.depths after.depths.items
-depths_kept known before mid after now n view is a b =
+depths_kept known limits before mid after now n view is a b =
     subst (λ (t : Types). KeepsDepths t.groups t.depths after.depths.items) view
     (more_places_keep (groups_in before) known before.depths.items after.depths.items n is.depths (b ∙ ap (λ l. l ++ replicate n None) a))
 

@@ -1,5 +1,6 @@
 -- A list of types: what a contract sees of it, and what each of its parts says of its groups.
 use Rattle.std.specs.Prelude.{◌≡◌, ◌↔◌, ℕ, ◌+◌, ◌≤◌, ◌<◌, ◌^◌, Bool, true, false, IsTrue, List, [], ◌∷◌, length, map, reverse, Option, Some, None, if◌then◌else◌}
+use Rattle.wasm_types.specs.limits.declared.Limits.{Limits}
 use Rattle.wasm_types.specs.indices.declared.index.CoreTypeId.{CoreTypeId}
 use Rattle.wasm_types.specs.fields.declared.func.FuncType.{FuncType}
 use Rattle.wasm_types.specs.fields.Fields.{function_tree}
@@ -13,11 +14,12 @@ use Rattle.wasm_module_validator_types.specs.Known.{Knows}
 use Rattle.wasm_module_validator_types.specs.Depths.{HasPlaces}
 use Rattle.wasm_module_validator_types.specs.Lookups.{IsAtPlace}
 
--- the groups, the newest first, whether further ones may be added, and the depths that were set
+-- the groups, the newest first, whether further ones may be added, the depths that were set, and the limits that hold
 pub record Types : Type 0 where
   pub groups : List Group
   pub can_intern : Bool
   pub depths : List (Option ℕ)
+  pub limits : Limits
 
 -- the most types that a list has: each id fits the 20 bits of an index
 abbrev pub max_types : ℕ

@@ -24,6 +24,7 @@ impl TypeList {
         ensures at { RefusedAt offset result }
         ensures can_intern { self.new.can_intern ≡ true }
         ensures depths { KeepsDepths self.old.groups self.old.depths self.new.depths }
+        ensures limits { self.new.limits ≡ self.old.limits }
     {
         let group = RecGroup::implicit(self.alloc, offset, sub_ty)?;
         let (_, number) = self.intern_canonical_rec_group(true, group, offset)?;
@@ -40,6 +41,7 @@ impl TypeList {
         ensures at { RefusedAt offset result }
         ensures can_intern { self.new.can_intern ≡ true }
         ensures depths { KeepsDepths self.old.groups self.old.depths self.new.depths }
+        ensures limits { self.new.limits ≡ self.old.limits }
     {
         self.intern_sub_type(SubType::func(self.alloc, ty, false), offset)
     }

@@ -20,7 +20,7 @@ use std::alloc::{AllocError, Global};
 use std::marker::Model;
 use std::ops::Range;
 use wasm_module_validator_lists::snapshots::SnapshotList;
-use wasm_types::{CoreTypeId, Error, RecGroup, Result as Reading, SubType};
+use wasm_types::{CoreTypeId, Error, Limits, RecGroup, Result as Reading, SubType};
 use wasm_types_groups::laws::order_is_of_types;
 
 /// The most types that a list has: each id fits the 20 bits of an index.
@@ -30,6 +30,7 @@ pub const MAX_TYPES: usize = 1 << 20;
 #[derive(Drop)]
 pub struct TypeList {
     pub(crate) alloc: Global,
+    limits: Limits,
     lists: Lists,
     known: Option<Known>,
 }
@@ -40,7 +41,7 @@ impl Model for TypeList {
 
     ghost Value = { Types };
 
-    ghost view = { λ l. record { groups = groups_in l.lists; can_intern = is_some l.known; depths = l.lists.depths.items } };
+    ghost view = { λ l. record { groups = groups_in l.lists; can_intern = is_some l.known; depths = l.lists.depths.items; limits = l.limits } };
 
     ghost invariant = { λ l. IsTypeList (groups_in l.lists) l.lists l.known };
 }
@@ -58,17 +59,26 @@ fn unknown_place(index: u32, offset: u64) -> Error
 }
 
 impl TypeList {
-    /// A list with no types, which takes no memory.
-    pub fn new(alloc: Global) -> TypeList
+    /// A list with no types, of a validator that judges by these limits. It takes no memory.
+    pub fn new(alloc: Global, limits: Limits) -> TypeList
         ensures groups { result.groups ≡ [] }
         ensures can_intern { result.can_intern ≡ true }
         ensures depths { result.depths ≡ [] }
+        ensures limits { result.limits ≡ limits }
     {
         TypeList {
             alloc,
+            limits,
             lists: Lists::new(alloc),
             known: Some(Known::new(alloc)),
         }
+    }
+
+    /// The limits that its validator judges by.
+    pub fn limits(&self) -> Limits
+        ensures { result ≡ self.now.limits }
+    {
+        self.limits
     }
 
     /// Whether groups may be added: a committed list takes none.
@@ -136,6 +146,7 @@ impl TypeList {
         ensures err { OnErr result (self.new.groups ≡ self.old.groups) }
         ensures can_intern { self.new.can_intern ≡ self.old.can_intern }
         ensures depths { KeepsDepths self.old.groups self.old.depths self.new.depths }
+        ensures limits { self.new.limits ≡ self.old.limits }
     {
         order_is_of_types();
         let start = self.type_count() as u32;
@@ -181,6 +192,7 @@ impl TypeList {
         ensures memory { IfErr result (λ e. e.kind ≡ OutOfMemory → IsAdded self.old.groups (group_in needs_type_canonicalization rec_group)) }
         ensures can_intern { self.new.can_intern ≡ true }
         ensures depths { KeepsDepths self.old.groups self.old.depths self.new.depths }
+        ensures limits { self.new.limits ≡ self.old.limits }
     {
         let id = self.next_id(rec_group.types().len(), offset)?;
         if needs_type_canonicalization {
@@ -280,12 +292,13 @@ impl TypeList {
         ensures groups { self.new.groups ≡ self.old.groups }
         ensures depth { SetsDepth self.old.depths self.new.depths id.0 depth }
         ensures can_intern { self.new.can_intern ≡ true }
+        ensures limits { self.new.limits ≡ self.old.limits }
     {
         set_depth(&mut self.lists.depths, id, depth);
     }
 
-    /// A list of the same types, which are shared from now on, and which takes no more and holds no depths. This list keeps
-    /// its types and their depths, whether there is memory for the other or not.
+    /// A list of the same types, by the same limits, which are shared from now on, and which takes no more and holds no depths.
+    /// This list keeps its types, their depths and its limits, whether there is memory for the other or not.
     pub fn commit(&mut self) -> Result<TypeList, AllocError>
         ensures stays { self.new.groups ≡ self.old.groups }
         ensures still { self.new.can_intern ≡ self.old.can_intern }
@@ -293,10 +306,13 @@ impl TypeList {
         ensures closed { IfOk result (λ list. list.can_intern ≡ false) }
         ensures depths_stay { self.new.depths ≡ self.old.depths }
         ensures no_depths { IfOk result (λ list. list.depths ≡ []) }
+        ensures limits_stay { self.new.limits ≡ self.old.limits }
+        ensures same_limits { IfOk result (λ list. list.limits ≡ self.old.limits) }
     {
         let lists = self.lists.commit()?;
         Ok(TypeList {
             alloc: self.alloc,
+            limits: self.limits,
             lists,
             known: None,
         })

@@ -4,7 +4,7 @@
 
 ghost use Rattle.std.specs.Prelude.{◌≡◌, ◌↔◌, ◌<◌, IsTrue};
 ghost use Rattle.wasm_types.specs.trees.AbstractOrder.{AbstractBelow, top_of};
-ghost use Rattle.wasm_types.specs.trees.Below.{abstract_of, bottom_of, NullBelow};
+ghost use Rattle.wasm_types.specs.trees.Below.{abstract_above, bottom_of, NullBelow};
 ghost use Rattle.wasm_types.specs.trees.Types.{abstract, concrete, exact, ref};
 ghost use Rattle.wasm_types.specs.trees.Each.{EachHeap, EachValue};
 ghost use Rattle.wasm_types.specs.values.Trees.{heap_of, abstract_of as abstract_in};
@@ -22,7 +22,7 @@ use wasm_types::{
 
 // The abstract type of a constructor.
 fn abstract_type_of(inner: &CompositeInnerType) -> AbstractHeapType
-    ensures { abstract_in result ≡ abstract_of (inner_of inner.now) }
+    ensures { abstract_in result ≡ abstract_above (inner_of inner.now) }
 {
     match inner {
         CompositeInnerType::Func(_) => AbstractHeapType::Func,
@@ -275,7 +275,7 @@ impl TypeList {
     // The top of the hierarchy that the type of an id stands in.
     fn top_of_id(&self, id: CoreTypeId) -> HeapType
         requires { id.0 < count self.now.groups }
-        ensures { heap_of result ≡ abstract (entry_by_id self.now.groups id).shared (top_of (abstract_of (entry_by_id self.now.groups id).inner)) }
+        ensures { heap_of result ≡ abstract (entry_by_id self.now.groups id).shared (top_of (abstract_above (entry_by_id self.now.groups id).inner)) }
     {
         let stored = self.stored(id);
         HeapType::Abstract {

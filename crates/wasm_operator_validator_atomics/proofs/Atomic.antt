@@ -6,9 +6,9 @@ use Rattle.wasm_types.specs.values.declared.value.ValType.{ValType}
 use Rattle.wasm_types.specs.values.declared.value.ValType.TheVariants as vals
 use Rattle.wasm_operator_validator_memory.specs.expression.immediates.declared.memory.MemArg.{MemArg}
 use Rattle.wasm_operator_validator_memory.specs.expression.info.declared.proposal.Proposal.TheVariants.{Threads}
-use Rattle.wasm_operator_validator_memory.specs.expression.threads.declared.atomic.AtomicOperator.{AtomicOperator}
-use Rattle.wasm_operator_validator_memory.specs.expression.threads.declared.atomic.AtomicOperator.TheVariants as atomic
-use Rattle.wasm_operator_validator_memory.specs.expression.threads.Table.{atomic_info}
+use Rattle.wasm_operator_validator_memory.specs.expression.groups.declared.atomic.AtomicOperator.{AtomicOperator}
+use Rattle.wasm_operator_validator_memory.specs.expression.groups.declared.atomic.AtomicOperator.TheVariants as atomic
+use Rattle.wasm_operator_validator_memory.specs.expression.groups.threads.Table.{atomic_info}
 use Rattle.wasm_operator_validator_memory.specs.expression.operator.Op as op
 use Rattle.wasm_operator_validator_memory.specs.rules.Operands.{ValueType}
 use Rattle.wasm_operator_validator_memory.specs.rules.Context.{Context, address_type}

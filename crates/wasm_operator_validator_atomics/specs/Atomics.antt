@@ -4,7 +4,7 @@ use Rattle.wasm_types.specs.trees.Types.{Number, number}
 use Rattle.wasm_types.specs.values.declared.value.ValType.{ValType}
 use Rattle.wasm_types.specs.values.Values.{value_of}
 use Rattle.wasm_operator_validator_memory.specs.expression.immediates.declared.memory.MemArg.{MemArg}
-use Rattle.wasm_operator_validator_memory.specs.expression.threads.declared.atomic.AtomicOperator.{AtomicOperator}
+use Rattle.wasm_operator_validator_memory.specs.expression.groups.declared.atomic.AtomicOperator.{AtomicOperator}
 use Rattle.wasm_operator_validator_memory.specs.rules.Accesses.{Access, atomic_access_of}
 use Rattle.wasm_operator_validator_memory.specs.Reaching.{number_of}
 

@@ -53,7 +53,7 @@ top_if [] bt k t = absurd t
 top_if (o ∷ outer) bt k t = (λ e. sym t.1 ∙ e, λ e. t.1 ∙ e)
 
 -- the frame that was left has the type of the innermost
-frames_type : (os ps : List Open) (σ : State) (f : OpenFrame) (τ : State) (bt : BlockType) (k : FrameKind) → IsTop bt k os → SameFrames os ps → LeavesTo ps σ f τ → f.block_type ≡ bt
+pub frames_type : (os ps : List Open) (σ : State) (f : OpenFrame) (τ : State) (bt : BlockType) (k : FrameKind) → IsTop bt k os → SameFrames os ps → LeavesTo ps σ f τ → f.block_type ≡ bt
 frames_type [] ps σ f τ bt k t s l = absurd t
 frames_type (o ∷ outer) [] σ f τ bt k t s l = absurd s
 frames_type (o ∷ outer) (p ∷ others) σ f τ bt k t s l = l.2 ∙ s.1 ∙ sym t.0
@@ -72,7 +72,7 @@ not_popped h m σ bt =
     denies_from h _ _ (λ c. ([], subst (λ (v : List Operand). Stacks m σ v) (sym (append-nil (stack (signature_of m bt).results))) c))
 
 -- what was taken off, by the innermost frame's results
-top_popped : (m : Meaning) (σ κ : State) (bt : BlockType) (k : FrameKind) → IsTop bt k σ.opens → (x : Finishes m σ bt κ) → Popped m σ (results_of m σ.opens) x.bare
+pub top_popped : (m : Meaning) (σ κ : State) (bt : BlockType) (k : FrameKind) → IsTop bt k σ.opens → (x : Finishes m σ bt κ) → Popped m σ (results_of m σ.opens) x.bare
 top_popped m σ κ bt k t x = subst (λ (v : List Operand). Popped m σ v x.bare) (top_results m σ.opens bt k t) x.popped
 
 -- ---- end

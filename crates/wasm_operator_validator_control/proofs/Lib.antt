@@ -6,3 +6,9 @@ pub mod Fits
 pub mod TableRow
 pub mod Naming
 pub mod CallRows
+pub mod NullRows
+pub mod RefCalls
+pub mod Tags
+pub mod ThrowRows
+pub mod Catching
+pub mod TryClauses

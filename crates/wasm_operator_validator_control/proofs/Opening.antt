@@ -10,15 +10,16 @@ use Rattle.wasm_operator_validator_determined.specs.expression.immediates.declar
 use Rattle.wasm_operator_validator_determined.specs.expression.immediates.declared.block.BlockType.TheVariants as block
 use Rattle.wasm_operator_validator_determined.specs.expression.immediates.declared.frames.FrameKind.{FrameKind}
 use Rattle.wasm_operator_validator_determined.specs.expression.immediates.declared.frames.FrameKind.TheVariants as frames
+use Rattle.wasm_operator_validator_determined.specs.expression.info.declared.proposal.Proposal.{Proposal}
 use Rattle.wasm_operator_validator_determined.specs.expression.info.declared.proposal.Proposal.TheVariants.{Mvp}
-use Rattle.wasm_operator_validator_determined.specs.expression.control.declared.control.ControlOperator.TheVariants as control
+use Rattle.wasm_operator_validator_determined.specs.expression.groups.declared.control.ControlOperator.TheVariants as control
 use Rattle.wasm_operator_validator_determined.specs.expression.operator.Op as op
 use Rattle.wasm_operator_validator_determined.specs.expression.operator.Op.{Op}
 use Rattle.wasm_operator_validator_determined.specs.expression.operator.declared.role.Role.TheVariants as role
 use Rattle.wasm_operator_validator_determined.specs.expression.operator.Roles.{role_of}
 use Rattle.wasm_operator_validator_determined.specs.rules.Operands.{ValueType, known, stack}
 use Rattle.wasm_operator_validator_determined.specs.rules.Context.{Context, Signature, IsBlockType}
-use Rattle.wasm_operator_validator_determined.specs.rules.Typed.{HasType, block_type_of, entry_of}
+use Rattle.wasm_operator_validator_determined.specs.rules.Typed.{HasType, MayNest, block_type_of, entry_of}
 use Rattle.wasm_operator_validator_determined.specs.rules.InstructionTypes.{i32_type}
 use Rattle.wasm_operator_validator_determined.specs.resources.Meaning.{Meaning}
 use Rattle.wasm_operator_validator_determined.specs.state.Refusals.{Does}
@@ -53,42 +54,49 @@ one_block g (block.FuncType x) b c (h, t, s, p) (h', u, s', q) =
     let r : ◌≡◌ {A = InnerOf TypeTree} (function b.params b.results) (function c.params c.results) = sym p ∙ ap expanded k' ∙ q in
     same_signature b c (cc) (cc)
 
-pub block_means : (m : Meaning) (w : Given) (o : Op) (k : FrameKind) (bt named : BlockType) → role_of o ≡ role.Opens k → block_type_of o ≡ Some bt
-    → IsBlock m w bt (signature_of m named) → Means m w o k (signature_of m named)
-block_means m w o k bt named r e i opens c = (
-  λ (p, h). (let h' : HasType (context m w opens) (Some bt) c = subst (λ (x : Option BlockType). HasType (context m w opens) x c) e h in
+pub block_means : (m : Meaning) (w : Given) (opens : List Open) (o : Op) (k : FrameKind) (bt named : BlockType) → role_of o ≡ role.Opens k → block_type_of o ≡ Some bt
+    → MayNest (context m w opens) o
+    → IsBlock m w bt (signature_of m named) → Means m w opens o k (signature_of m named)
+block_means m w opens o k bt named r e asked i c = (
+  λ (p, h, n). (let h' : HasType (context m w opens) (Some bt) c = subst (λ (x : Option BlockType). HasType (context m w opens) x c) e h in
       one_block (context m w opens) bt c (signature_of m named) h' ((anywhere m w opens bt (signature_of m named)).0 i)),
   λ f. (
     r,
     (let h : HasType (context m w opens) (Some bt) c = subst (λ (x : Signature). IsBlockType (context m w opens) bt x) (sym f) ((anywhere m w opens bt (signature_of m named)).0 i) in
         subst (λ (x : Option BlockType). HasType (context m w opens) x c) (sym e) h),
+    asked,
   ),
 )
 
 -- ---- an opener that takes its parameters
 
 pub opener : (r : Option ErrorKind) (m : Meaning) (σ τ : State) (o : Op) (k : FrameKind) (bt named : BlockType) → role_of o ≡ role.Opens k → block_type_of o ≡ Some bt
+    → MayNest (context m σ.given σ.opens) o
     → IsOpen σ.opens → IsBlock m σ.given bt (signature_of m named) → ((b : Signature) → entry_of k b ≡ b.params)
     → Does r (Opened m σ k named τ) (MayPop m σ (stack (signature_of m named).params)) → Decides m σ o r τ
-opener None m σ τ o k bt named r e i b entry x =
+opener None m σ τ o k bt named r e asked i b entry x =
     let p : Popped m σ (stack (entry_of k (signature_of m named))) x.left = subst (λ (v : List ValueType). Popped m σ (stack v) x.left) (sym (entry (signature_of m named))) x.popped in
-    λ os. let y = opened m σ x.left o k named r (block_means m σ.given o k bt named r e b) p os in
+    λ os. let y = opened m σ x.left o k named r (block_means m σ.given σ.opens o k bt named r e asked b) p os in
     let z = x.begins os in (λ a. z.0 (y.0 a), λ a. y.1 (z.1 a))
-opener (Some h) m σ τ o k bt named r e i b entry x =
+opener (Some h) m σ τ o k bt named r e asked i b entry x =
     denies_from h _ _ (λ (os, a). let (c, rest, f, d) = may_open m σ o k os r i a in
-    let g = ((block_means m σ.given o k bt named r e b) σ.opens c).0 f in
+    let g = ((block_means m σ.given σ.opens o k bt named r e asked b) c).0 f in
     let d' : Stacks m σ (stack c.params ++ rest) = subst (λ (v : List ValueType). Stacks m σ (stack v ++ rest)) (entry c) d in
     (rest, subst (λ (v : Signature). Stacks m σ (stack v.params ++ rest)) g d')) x
 
 -- the block type is none that code may write
-pub no_opener : (h : ErrorKind) (m : Meaning) (σ : State) (o : Op) (k : FrameKind) (bt : BlockType) → role_of o ≡ role.Opens k → block_type_of o ≡ Some bt → MayBegin σ Mvp false
+pub not_opened : (h : ErrorKind) (m : Meaning) (σ : State) (o : Op) (k : FrameKind) (bt : BlockType) (p : Proposal) → role_of o ≡ role.Opens k → block_type_of o ≡ Some bt → MayBegin σ p false
     → Denies h ((b : Signature) × IsBlock m σ.given bt b) → Checks m σ o (Some h) σ
-no_opener h m σ o k bt r e b d =
-    checks_going (Some h) m σ σ o Mvp false b
+not_opened h m σ o k bt p r e b d =
+    checks_going (Some h) m σ σ o p false b
     (denies_from h _ _ (λ (os, a). let (c, rest, f, d) = may_open m σ o k os r b.framed a in
     let f' : HasType (context m σ.given σ.opens) (Some bt) c = subst (λ (x : Option BlockType). HasType (context m σ.given σ.opens) x c) e f.1 in
     (c, (anywhere m σ.given σ.opens bt c).1 f')) d)
     refl refl refl
+
+pub no_opener : (h : ErrorKind) (m : Meaning) (σ : State) (o : Op) (k : FrameKind) (bt : BlockType) → role_of o ≡ role.Opens k → block_type_of o ≡ Some bt → MayBegin σ Mvp false
+    → Denies h ((b : Signature) × IsBlock m σ.given bt b) → Checks m σ o (Some h) σ
+no_opener h m σ o k bt = not_opened h m σ o k bt Mvp
 
 -- ---- an `if`
 
@@ -107,12 +115,12 @@ if_op bt = op.Control (control.If bt)
 pub if_opener : (r : Option ErrorKind) (m : Meaning) (σ ρ τ : State) (bt named : BlockType) → IsBlock m σ.given bt (signature_of m named)
     → Popped m σ (known i32_type ∷ []) ρ → IsOpen σ.opens → Does r (Opened m ρ frames.If named τ) (MayPop m ρ (stack (signature_of m named).params)) → Decides m σ (if_op bt) r τ
 if_opener None m σ ρ τ bt named b p i x =
-    λ os. let y = opened m σ x.left (if_op bt) frames.If named refl (block_means m σ.given (if_op bt) frames.If bt named refl refl b)
+    λ os. let y = opened m σ x.left (if_op bt) frames.If named refl (block_means m σ.given σ.opens (if_op bt) frames.If bt named refl refl tt b)
     (if_takes m σ ρ x.left (signature_of m named) p x.popped) os in
     let z = x.begins os in (λ a. z.0 (y.0 a), λ a. y.1 (z.1 a))
 if_opener (Some h) m σ ρ τ bt named b p i x =
     denies_from h _ _ (λ (os, a). let (c, rest, f, d) = may_open m σ (if_op bt) frames.If os refl i a in
-    let g = ((block_means m σ.given (if_op bt) frames.If bt named refl refl b) σ.opens c).0 f in
+    let g = ((block_means m σ.given σ.opens (if_op bt) frames.If bt named refl refl tt b) c).0 f in
     let d' : Stacks m σ (known i32_type ∷ (stack c.params ++ rest)) = rw (stack_last c.params i32_type) at d in
     let d'' = (p.stacks (stack c.params ++ rest)).0 d' in
     (rest, subst (λ (v : Signature). Stacks m ρ (stack v.params ++ rest)) g d'')) x

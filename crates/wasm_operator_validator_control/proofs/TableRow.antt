@@ -6,7 +6,7 @@ use Rattle.wasm_types.specs.error.Denials.{Denies}
 use Rattle.wasm_types.specs.error.DenialLaws.{denies, denies_from}
 use Rattle.wasm_operator_validator_determined.specs.expression.immediates.Tables.{Labels}
 use Rattle.wasm_operator_validator_determined.specs.expression.info.declared.proposal.Proposal.TheVariants.{Mvp}
-use Rattle.wasm_operator_validator_determined.specs.expression.control.declared.control.ControlOperator.TheVariants as control
+use Rattle.wasm_operator_validator_determined.specs.expression.groups.declared.control.ControlOperator.TheVariants as control
 use Rattle.wasm_operator_validator_determined.specs.expression.operator.Op as op
 use Rattle.wasm_operator_validator_determined.specs.expression.operator.Op.{Op}
 use Rattle.wasm_operator_validator_determined.specs.rules.Operands.{ValueType, Operand, known}

@@ -5,6 +5,8 @@ pub mod Ending
 -- Definitions: how operands fit several labels, and what a call may name.
 pub mod Fitting
 pub mod Callees
+pub mod Nulls
+pub mod Clauses
 -- Laws, with the proofs: how a check's promise follows from its steps.
 pub mod laws
 -- The rules and laws of the crates below, under their names: crates above cite them here.

@@ -1,6 +1,6 @@
 //! The check.
 
-ghost use Rattle.wasm_operator_validator_determined.specs.expression.control.declared.control.ControlOperator.{ControlOperator};
+ghost use Rattle.wasm_operator_validator_determined.specs.expression.groups.declared.control.ControlOperator.{ControlOperator};
 ghost use Rattle.wasm_operator_validator_determined.specs.expression.operator.Op.{Op};
 ghost use Rattle.wasm_operator_validator_determined.specs.state.Refusals.{refused};
 ghost use Rattle.wasm_operator_validator_determined.specs.state.State.{Checks};

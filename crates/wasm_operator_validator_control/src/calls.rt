@@ -1,11 +1,11 @@
 //! Calls.
 
-ghost use Rattle.wasm_operator_validator_determined.specs.expression.control.declared.control.ControlOperator.{ControlOperator};
+ghost use Rattle.wasm_operator_validator_determined.specs.expression.groups.declared.control.ControlOperator.{ControlOperator};
 ghost use Rattle.wasm_operator_validator_determined.specs.expression.operator.Op.{Op};
 ghost use Rattle.wasm_operator_validator_determined.specs.state.Refusals.{refused};
 ghost use Rattle.wasm_operator_validator_determined.specs.state.State.{Checks};
 
-use crate::callees::{callee, callee_type};
+use crate::callees::{callee, callee_type, reference_at};
 use crate::tables::function_table;
 use crate::{OperatorValidator, Proposal, Refusal, WasmModuleResources};
 
@@ -54,5 +54,32 @@ pub fn check_call_indirect<R: WasmModuleResources>(
         Ok(function) => function,
         Err(refusal) => return Err(refusal),
     };
+    validator.exchange(resources, function.params(), function.results())
+}
+
+/// Checks `call_ref` (WebAssembly 3.0, validation, control instructions).
+pub fn check_call_ref<R: WasmModuleResources>(
+    validator: &mut OperatorValidator,
+    resources: &R,
+    type_index: u32,
+) -> Result<(), Refusal>
+    ensures { Checks (R.meaning resources.now) validator.old (Op.Control (ControlOperator.CallRef type_index)) (refused result) validator.new }
+{
+    match validator.begin(Proposal::FunctionReferences, false) {
+        Ok(()) => {}
+        Err(refusal) => return Err(refusal),
+    }
+    let function = match callee_type(validator, resources, type_index) {
+        Ok(function) => function,
+        Err(refusal) => return Err(refusal),
+    };
+    let reference = match reference_at(resources, type_index) {
+        Ok(reference) => reference,
+        Err(refusal) => return Err(refusal),
+    };
+    match validator.pop_operand(resources, &reference) {
+        Ok(()) => {}
+        Err(refusal) => return Err(refusal),
+    }
     validator.exchange(resources, function.params(), function.results())
 }

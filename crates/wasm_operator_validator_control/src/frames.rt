@@ -4,7 +4,7 @@ ghost use Rattle.std.specs.Prelude.{◌≡◌, ◌↔◌, IsTrue};
 ghost use Rattle.wasm_operator_validator_determined.specs.expression.immediates.declared.frames.FrameKind.TheVariants.{If};
 ghost use Rattle.wasm_operator_validator_determined.specs.rules.Operands.{stack};
 ghost use Rattle.wasm_operator_validator_determined.specs.rules.Typed.{MayClose};
-ghost use Rattle.wasm_operator_validator_determined.specs.expression.control.declared.control.ControlOperator.{ControlOperator};
+ghost use Rattle.wasm_operator_validator_determined.specs.expression.groups.declared.control.ControlOperator.{ControlOperator};
 ghost use Rattle.wasm_operator_validator_determined.specs.expression.operator.Op.{Op};
 ghost use Rattle.wasm_operator_validator_determined.specs.state.Refusals.{Does, refused};
 ghost use Rattle.wasm_operator_validator_determined.specs.state.State.{Checks, signature_of};
@@ -81,7 +81,7 @@ pub fn check_if<R: WasmModuleResources>(
 
 /// Takes the parameters of a block off, and opens its frame with them on it.
 #[inline(always)]
-fn open_frame<R: WasmModuleResources>(
+pub(crate) fn open_frame<R: WasmModuleResources>(
     validator: &mut OperatorValidator,
     resources: &R,
     kind: FrameKind,
@@ -163,7 +163,7 @@ pub fn check_end<R: WasmModuleResources>(
 
 /// Takes the results of the innermost frame off, which must be all that it has, and leaves it.
 #[inline(always)]
-fn finish_frame<R: WasmModuleResources>(
+pub(crate) fn finish_frame<R: WasmModuleResources>(
     validator: &mut OperatorValidator,
     resources: &R,
     block_type: &BlockType,

@@ -3,10 +3,10 @@ use Rattle.std.proofs.Common.{◌≡◌, List, [], ◌∷◌, Bool, Some, refl}
 use Rattle.wasm_types.specs.values.declared.value.ValType.{ValType}
 use Rattle.wasm_operator_validator_determined.specs.expression.info.declared.proposal.Proposal.{Proposal}
 use Rattle.wasm_operator_validator_determined.specs.expression.info.declared.proposal.Proposal.TheVariants.{Mvp}
-use Rattle.wasm_operator_validator_determined.specs.expression.memory.declared.constant.ConstOperator.{ConstOperator}
-use Rattle.wasm_operator_validator_determined.specs.expression.memory.declared.constant.ConstOperator.TheVariants as const
-use Rattle.wasm_operator_validator_determined.specs.expression.memory.Table.{const_info}
-use Rattle.wasm_operator_validator_determined.specs.expression.numbers.declared.numeric.NumericOperator.{NumericOperator}
+use Rattle.wasm_operator_validator_determined.specs.expression.groups.declared.constant.ConstOperator.{ConstOperator}
+use Rattle.wasm_operator_validator_determined.specs.expression.groups.declared.constant.ConstOperator.TheVariants as const
+use Rattle.wasm_operator_validator_determined.specs.expression.groups.memory.Table.{const_info}
+use Rattle.wasm_operator_validator_determined.specs.expression.groups.declared.numeric.NumericOperator.{NumericOperator}
 use Rattle.wasm_operator_validator_determined.specs.expression.operator.Op as op
 use Rattle.wasm_operator_validator_determined.specs.rules.Numbers.{class_of, taken_by, given_by, constant_type}
 use Rattle.wasm_operator_validator_determined.specs.rules.InstructionTypes.{◌⟶◌, instruction_type}

@@ -1,7 +1,6 @@
 -- The parameters of a function as its locals.
 use Rattle.std.proofs.Common.{◌≡◌, ◌≤◌, ◌∙◌, ℕ, List, [], ◌∷◌, Bool, true, false, Option, Some, None, length, replicate, option_map, slice_get, refl, sym, ap, subst, arith}
 use Rattle.std.proofs.lemmas.List.{length-map}
-use Rattle.wasm_types.specs.limits.Limits.{default_limits}
 use Rattle.wasm_types.specs.error.Denials.{Denies}
 use Rattle.wasm_types.specs.error.DenialLaws.{denies_from}
 use Rattle.wasm_types.specs.error.declared.error.ErrorKind.{ErrorKind}
@@ -66,10 +65,15 @@ module _ (m : Meaning) (x : ℕ) (s : SubType) (f : FuncType) (e : Some (entry_i
       let p : b.params ≡ types_in m f.params = cc in
       ap length p ∙ length-map f.params (type_in m)
 
-  pub too_many : (k : ErrorKind) → Denies k (length f.params ≤ default_limits.locals) → Denies k (MayBegin m x)
-  too_many k d =
-      denies_from k (length f.params ≤ default_limits.locals) (MayBegin m x)
-      (λ (t, b, h, l). subst (λ (n : ℕ). n ≤ default_limits.locals) (fewer t b h) l) d
+  pub too_many : (most : ℕ) (k : ErrorKind) → Denies k (length f.params ≤ most) → Denies k (MayBegin m most x)
+  too_many most k d =
+      denies_from k (length f.params ≤ most) (MayBegin m most x)
+      (λ (t, b, h, l). subst (λ (n : ℕ). n ≤ most) (fewer t b h) l) d
+
+  pub few_enough : (most : ℕ) → length f.params ≤ most → MayBegin m most x
+  few_enough most l =
+      let h : HasFunctionType m x at.0 (signature_in m f) = record { at = at.1; function = at.2 } in
+      (at.0, signature_in m f, h, subst (λ (n : ℕ). n ≤ most) (sym (fewer at.0 (signature_in m f) h)) l)
 
 -- ---- the frame of the body
 

@@ -1,6 +1,5 @@
 -- Where the body of a function begins (WebAssembly 3.0, validation, functions).
 use Rattle.std.specs.Prelude.{◌≡◌, ◌≤◌, ℕ, List, Some, length, slice_get}
-use Rattle.wasm_types.specs.limits.Limits.{default_limits}
 use Rattle.wasm_types.specs.trees.Trees.{TypeTree}
 use Rattle.wasm_types.specs.trees.Below.{is_shared}
 use Rattle.wasm_types.specs.values.declared.value.ValType.{ValType}
@@ -16,9 +15,9 @@ pub record HasFunctionType (m : Meaning) (x : ℕ) (t : TypeTree) (b : Signature
   pub at : slice_get m.«module».types x ≡ Some t
   pub function : IsFunctionType t b
 
--- a function may have the type at an index: it has no more parameters than a function may have locals
-abbrev pub MayBegin : Meaning → ℕ → Type 0
-MayBegin m x = (t : TypeTree) × (b : Signature) × HasFunctionType m x t b × (length b.params ≤ default_limits.locals)
+-- a function that has at most so many locals may have the type at an index
+abbrev pub MayBegin : Meaning → ℕ → ℕ → Type 0
+MayBegin m most x = (t : TypeTree) × (b : Signature) × HasFunctionType m x t b × (length b.params ≤ most)
 
 -- a body of the function type at an index begins: the parameters are the locals, and the frame of the body is open
 pub record Begins (m : Meaning) (bits x : ℕ) (σ : State) : Type 0 where

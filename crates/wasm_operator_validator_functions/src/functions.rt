@@ -1,9 +1,10 @@
 //! The validator of a function, as its body begins.
 
 ghost use Rattle.std.specs.Prelude.{◌≡◌, ◌≤◌, IfOk, IfErr, None, [], true, length, replicate};
-ghost use Rattle.wasm_types.specs.limits.Limits.{default_limits};
-ghost use Rattle.wasm_types.specs.error.Denials.{Denies, RefusedAt};
+ghost use Rattle.wasm_types.specs.limits.Limits.{IsWithinCeilings};
+ghost use Rattle.wasm_types.specs.error.Denials.{Denies, Tells};
 ghost use Rattle.wasm_types.specs.error.declared.error.ErrorKind.TheVariants.{OutOfMemory, Other};
+ghost use Rattle.wasm_operator_validator_stacks.specs.locals.Locals.{RefusedAt};
 ghost use Rattle.wasm_operator_validator_functions.specs.Functions.{Begins, MayBegin};
 
 use wasm_operator_validator_blocks::function_of;
@@ -11,7 +12,7 @@ use wasm_operator_validator_stacks::{
     BlockType, FrameKind, LocalInits, Locals, OperatorValidator, OperatorValidatorAllocations,
     Refusal, Space, WasmModuleResources,
 };
-use wasm_types::{Error, Result, ValType, WasmFeatures};
+use wasm_types::{Error, Limits, Result, ValType, WasmFeatures};
 
 /// The validator of a function whose type stands at an index of the module's types: its parameters are its locals, and the frame of
 /// its body is open (WebAssembly 3.0, validation, functions). The memory of a validator that is done may be used again: nothing of it
@@ -19,16 +20,19 @@ use wasm_types::{Error, Result, ValType, WasmFeatures};
 ///
 /// # Errors
 ///
-/// The module has no function type there, or one with more parameters than a function may have locals; or there is no memory.
+/// The module has no function type there, or one with more parameters than a function may have locals by these limits; or there is no
+/// memory.
 pub fn new_func<R: WasmModuleResources>(
     ty: u32,
     offset: u64,
     features: &WasmFeatures,
+    limits: Limits,
     resources: &R,
     allocs: OperatorValidatorAllocations,
 ) -> Result<OperatorValidator>
+    requires within { IsWithinCeilings limits }
+    ensures exact { Tells result (MayBegin (R.meaning resources.now) limits.locals ty) }
     ensures begins { IfOk result (λ v. Begins (R.meaning resources.now) features.now.0 ty v) }
-    ensures refused { IfErr result (λ e. Denies e.kind (MayBegin (R.meaning resources.now) ty)) }
     ensures at { RefusedAt offset result }
 {
     let Some(sub_type) = resources.sub_type_at(ty) else {
@@ -43,7 +47,7 @@ pub fn new_func<R: WasmModuleResources>(
         locals,
         inits,
     } = allocs;
-    let locals = match params_as_locals(locals, offset, function.params()) {
+    let locals = match params_as_locals(locals, limits.locals, offset, function.params()) {
         Ok(locals) => locals,
         Err(error) => return Err(error),
     };
@@ -67,8 +71,10 @@ pub fn begin_func<R: WasmModuleResources>(
     validator: &mut OperatorValidator,
     ty: u32,
     features: WasmFeatures,
+    limits: Limits,
     resources: &R,
 ) -> bool
+    requires within { IsWithinCeilings limits }
     ensures { result ≡ true → Begins (R.meaning resources.now) features.0 ty validator.new }
 {
     let Some(sub_type) = resources.sub_type_at(ty) else {
@@ -78,7 +84,7 @@ pub fn begin_func<R: WasmModuleResources>(
         return false;
     };
     let shared = sub_type.composite_type.shared;
-    if !validator.restart(features, function.params(), shared) {
+    if !validator.restart(features, limits.locals, function.params(), shared) {
         return false;
     }
     let Ok(()) = validator.enter(FrameKind::Block, BlockType::FuncType(ty)) else {
@@ -96,16 +102,16 @@ fn refused(space: Space, offset: u64, index: u32) -> Error
     Refusal::Unknown { space, index }.error(offset)
 }
 
-/// The parameters as the first locals, in place of those that there are.
-fn params_as_locals(locals: Locals, offset: u64, params: &[ValType]) -> Result<Locals>
+/// The parameters as the first locals, in place of those that there are, where a function has at most `most`.
+fn params_as_locals(locals: Locals, most: u32, offset: u64, params: &[ValType]) -> Result<Locals>
+    ensures exact { Tells result (length params.now ≤ most) }
     ensures locals { IfOk result (λ l. l ≡ params.now) }
-    ensures refused { IfErr result (λ e. Denies e.kind (length params.now ≤ default_limits.locals)) }
     ensures at { RefusedAt offset result }
 {
     let mut locals = locals;
     locals.clear();
     for one in params {
-        match locals.define(offset, 1, one) {
+        match locals.define(most, offset, 1, one) {
             Ok(()) => (),
             Err(error) => return Err(error),
         }

@@ -1,5 +1,4 @@
 -- Runs of locals: one more at the end, and the run that has a local.
-use Rattle.wasm_types_limits.specs.Limits.{default_limits}
 use Rattle.std.proofs.Common.{
   ◌≡◌,
   ℕ,
@@ -9,6 +8,7 @@ use Rattle.std.proofs.Common.{
   ◌-◌,
   ◌<◌,
   ◌≤◌,
+  ◌^◌,
   List,
   [],
   ◌∷◌,
@@ -46,7 +46,7 @@ abbrev pub end_from : ℕ → List Run → ℕ
 end_from start [] = start
 end_from start (r ∷ rs) = end_from r.end rs
 
-pub end_above : (start : ℕ) (rs : List Run) → AreRunsFrom start rs → (start ≤ end_from start rs) × (end_from start rs ≤ default_limits.locals)
+pub end_above : (start : ℕ) (rs : List Run) → AreRunsFrom start rs → (start ≤ end_from start rs) × (end_from start rs < 2 ^ 32)
 end_above start [] a = (omega arith, a)
 end_above start (r ∷ rs) a = let e = end_above r.end rs a.1 in (omega (arith, a.0, e.0), e.1)
 
@@ -64,7 +64,7 @@ end_from-last start (q ∷ p ∷ rs) r e =
     end_from-last q.end (p ∷ rs) r e'
 
 -- one more run
-pub runs_more : (start : ℕ) (rs : List Run) (r : Run) → AreRunsFrom start rs → end_from start rs ≤ r.end → r.end ≤ default_limits.locals → AreRunsFrom start (rs ++ r ∷ [])
+pub runs_more : (start : ℕ) (rs : List Run) (r : Run) → AreRunsFrom start rs → end_from start rs ≤ r.end → r.end < 2 ^ 32 → AreRunsFrom start (rs ++ r ∷ [])
 runs_more start [] r a le within = (le, within)
 runs_more start (q ∷ rs) r a le within = (a.0, runs_more q.end rs r a.1 le within)
 
@@ -131,18 +131,18 @@ local_at rs index i a bound p =
 -- ---- what the code knows
 
 pub last_end : (rs items : List Run) (r : Run) (ts : List ValType) → rs ≡ items → Some r ≡ slice_get rs (length rs - 1)
-    → AreRunsFrom 0 items → locals_from 0 items ≡ ts → (r.end ≡ length ts) × (r.end ≤ default_limits.locals)
+    → AreRunsFrom 0 items → locals_from 0 items ≡ ts → r.end ≡ length ts
 last_end rs items r ts same e a is =
     let last : slice_get items (length items - 1) ≡ Some r = rw same at (sym e) in
     let end = end_from-last 0 items r last in
     let count = length-locals_from 0 items a in
-    (omega (arith, ap (λ (x : List ValType). length x) is), omega (arith, (end_above 0 items a).1))
+    omega (arith, ap (λ (x : List ValType). length x) is)
 
 -- one more run at the end of all
 pub run_fits : (items : List Run) (ts : List ValType) (n count : ℕ) (t : ValType) → AreRunsFrom 0 items → locals_from 0 items ≡ ts
-    → n ≡ length ts → count ≤ default_limits.locals - n → n ≤ default_limits.locals
+    → n ≡ length ts → n + count < 2 ^ 32
     → AreRunsFrom 0 (items ++ record { end = n + count; ty = t } ∷ []) × (locals_from 0 (items ++ record { end = n + count; ty = t } ∷ []) ≡ ts ++ replicate count t)
-run_fits items ts n count t a is e fits within =
+run_fits items ts n count t a is e fits =
     let k : end_from 0 items ≡ n = omega (arith, length-locals_from 0 items a, ap (λ (x : List ValType). length x) is) in
     let more : (n + count) - end_from 0 items ≡ count = omega arith in
     (runs_more 0 items (record { end = n + count; ty = t }) a (omega arith) (omega arith), locals_more 0 items (record { end = n + count; ty = t }) ∙ rw (more, is) refl)

@@ -1,6 +1,5 @@
 -- Locals as runs of one type.
-use Rattle.wasm_types_limits.specs.Limits.{default_limits}
-use Rattle.std.specs.Prelude.{◌≡◌, ℕ, ◌-◌, ◌≤◌, List, [], ◌∷◌, ◌++◌, replicate, Result, Ok, Err}
+use Rattle.std.specs.Prelude.{◌≡◌, ℕ, ◌-◌, ◌<◌, ◌≤◌, ◌^◌, List, [], ◌∷◌, ◌++◌, replicate, Result, Ok, Err}
 use Rattle.wasm_types.specs.error.ErrorValue.{ErrorValue}
 use Rattle.wasm_types.specs.error.Denials.{Denies}
 use Rattle.wasm_types.specs.error.declared.error.ErrorKind.{ErrorKind}
@@ -13,9 +12,9 @@ abbrev pub locals_from : ℕ → List Run → List ValType
 locals_from start [] = []
 locals_from start (r ∷ rs) = replicate (r.end - start) r.ty ++ locals_from r.end rs
 
--- from this index on each run ends where it begins or later, and the last within the limit
+-- from this index on each run ends where it begins or later, and the last at a number of 32 bits
 abbrev pub AreRunsFrom : ℕ → List Run → Type 0
-AreRunsFrom start [] = start ≤ default_limits.locals
+AreRunsFrom start [] = start < 2 ^ 32
 AreRunsFrom start (r ∷ rs) = (start ≤ r.end) × AreRunsFrom r.end rs
 
 -- these are the first of all

@@ -1,6 +1,5 @@
 //! The locals of a function.
 
-ghost use Rattle.wasm_types_limits.specs.Limits.{default_limits};
 ghost use Rattle.std.specs.Prelude.{◌≡◌, ◌↔◌, IsTrue, true, false, ◌+◌, ◌≤◌, ◌<◌, List, [], ◌++◌, length, replicate, slice_get, IfErr, IfSome, Some};
 ghost use Rattle.wasm_types.specs.error.declared.error.ErrorKind.TheVariants.{Other, OutOfMemory};
 ghost use Rattle.wasm_types.specs.values.declared.value.ValType.{ValType as TheValType};
@@ -10,9 +9,6 @@ use std::alloc::Global;
 use std::cmp::min;
 use std::marker::Model;
 use wasm_types::{Error, Result, ValType};
-
-/// How many locals a function may have, with its parameters.
-const MAX_WASM_FUNCTION_LOCALS: u32 = 50_000;
 
 /// How many of the first locals are found by their index alone.
 const FIRST: usize = 64;
@@ -65,10 +61,9 @@ impl Locals {
         self.runs.clear();
     }
 
-    /// How many there are, which is at most 50,000.
+    /// How many there are.
     pub fn len_locals(&self) -> u32
-        ensures value { result ≡ length self.now }
-        ensures within { result ≤ default_limits.locals }
+        ensures { result ≡ length self.now }
     {
         match self.runs.last() {
             None => 0,
@@ -76,22 +71,22 @@ impl Locals {
         }
     }
 
-    /// Puts `count` locals of a type at the end.
+    /// Puts `count` locals of a type at the end, where a function has at most `most`.
     ///
     /// # Errors
     ///
-    /// There would be more than 50,000 in all: that is refused at this offset. Or there is no memory for a count above 0 within
+    /// There would be more than that in all: that is refused at this offset. Or there is no memory for a count above 0 within
     /// that limit. Nothing changes then.
-    pub fn define(&mut self, offset: u64, count: u32, ty: &ValType) -> Result<()>
-        ensures does { Does result ((self.new ≡ self.old ++ replicate count ty.now) × (length self.new ≤ default_limits.locals)) (length self.old + count ≤ default_limits.locals) }
+    pub fn define(&mut self, most: u32, offset: u64, count: u32, ty: &ValType) -> Result<()>
+        ensures does { Does result ((self.new ≡ self.old ++ replicate count ty.now) × (length self.new ≤ most)) (length self.old + count ≤ most) }
         ensures at { RefusedAt offset result }
         ensures stays { IfErr result (λ _. self.new ≡ self.old) }
-        ensures memory { IfErr result (λ e. e.kind ≡ OutOfMemory → (0 < count) × (length self.old + count ≤ default_limits.locals)) }
+        ensures memory { IfErr result (λ e. e.kind ≡ OutOfMemory → (0 < count) × (length self.old + count ≤ most)) }
     {
-        if !self.may_define(count) {
+        if !self.may_define(most, count) {
             return Err(too_many_locals(offset));
         }
-        if self.put(count, ty) {
+        if self.put(most, count, ty) {
             return Ok(());
         }
         Err(Error::out_of_memory(offset))
@@ -99,18 +94,18 @@ impl Locals {
 
     /// Puts `count` locals of a type at the end, as `define` does, and says whether it did. Else nothing changes: there would be too many,
     /// or there is no memory.
-    pub fn put(&mut self, count: u32, ty: &ValType) -> bool
-        ensures put { result ≡ true → (self.new ≡ self.old ++ replicate count ty.now) × (length self.old + count ≤ default_limits.locals) }
+    pub fn put(&mut self, most: u32, count: u32, ty: &ValType) -> bool
+        ensures put { result ≡ true → (self.new ≡ self.old ++ replicate count ty.now) × (length self.old + count ≤ most) }
         ensures stays { result ≡ false → self.new ≡ self.old }
-        ensures some { result ≡ false → length self.old + count ≤ default_limits.locals → 0 < count }
+        ensures some { result ≡ false → length self.old + count ≤ most → 0 < count }
     {
-        let defined = self.len_locals();
-        if count > MAX_WASM_FUNCTION_LOCALS - defined {
+        if !self.may_define(most, count) {
             return false;
         }
         if count == 0 {
             return true;
         }
+        let defined = self.len_locals();
         let end = defined + count;
         let held = self.runs.as_slice().len();
         let Ok(()) = self.runs.push(Run { end, ty: *ty }) else {
@@ -123,11 +118,11 @@ impl Locals {
         true
     }
 
-    /// Whether so many more may be put at the end, by the limit.
-    pub fn may_define(&self, count: u32) -> bool
-        ensures { IsTrue result ↔ (length self.now + count ≤ default_limits.locals) }
+    /// Whether so many more may be put at the end, where a function has at most `most`.
+    pub fn may_define(&self, most: u32, count: u32) -> bool
+        ensures { IsTrue result ↔ (length self.now + count ≤ most) }
     {
-        count <= MAX_WASM_FUNCTION_LOCALS - self.len_locals()
+        u64::from(self.len_locals()) + u64::from(count) <= u64::from(most)
     }
 
     /// The type of a local, by its index, if it is one of the first.

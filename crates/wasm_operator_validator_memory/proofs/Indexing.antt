@@ -4,9 +4,9 @@ use Rattle.wasm_types.specs.externs.Addresses as addresses
 use Rattle.wasm_types.specs.externs.declared.table.TableType.{TableType}
 use Rattle.wasm_types.specs.values.declared.value.ValType.{ValType}
 use Rattle.wasm_types.specs.values.declared.value.ValType.TheVariants as vals
-use Rattle.wasm_operator_validator_determined.specs.expression.memory.declared.bulk.BulkOperator.{BulkOperator}
-use Rattle.wasm_operator_validator_determined.specs.expression.memory.declared.bulk.BulkOperator.TheVariants as bulk
-use Rattle.wasm_operator_validator_determined.specs.expression.memory.Table.{bulk_info}
+use Rattle.wasm_operator_validator_determined.specs.expression.groups.declared.bulk.BulkOperator.{BulkOperator}
+use Rattle.wasm_operator_validator_determined.specs.expression.groups.declared.bulk.BulkOperator.TheVariants as bulk
+use Rattle.wasm_operator_validator_determined.specs.expression.groups.memory.Table.{bulk_info}
 use Rattle.wasm_operator_validator_determined.specs.expression.operator.Op as op
 use Rattle.wasm_operator_validator_determined.specs.rules.Operands.{Operand}
 use Rattle.wasm_operator_validator_determined.specs.rules.Context.{Context, Table, address_type}

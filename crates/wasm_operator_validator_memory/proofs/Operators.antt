@@ -5,7 +5,7 @@ use Rattle.wasm_types.specs.externs.declared.global.GlobalType.{GlobalType}
 use Rattle.wasm_types.specs.trees.Below.{value_is_shared}
 use Rattle.wasm_types.specs.values.declared.value.ValType.{ValType}
 use Rattle.wasm_operator_validator_determined.specs.expression.info.declared.proposal.Proposal.TheVariants.{Mvp}
-use Rattle.wasm_operator_validator_determined.specs.expression.memory.declared.memory.MemoryOperator.TheVariants as memory
+use Rattle.wasm_operator_validator_determined.specs.expression.groups.declared.memory.MemoryOperator.TheVariants as memory
 use Rattle.wasm_operator_validator_determined.specs.expression.operator.Op as op
 use Rattle.wasm_operator_validator_determined.specs.rules.Operands.{ValueType, Operand}
 use Rattle.wasm_operator_validator_determined.specs.rules.Context.{Global}

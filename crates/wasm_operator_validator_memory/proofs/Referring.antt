@@ -7,7 +7,7 @@ use Rattle.wasm_types.specs.trees.Types.{number, ref, abstract}
 use Rattle.wasm_types.specs.values.declared.value.ValType.TheVariants as vals
 use Rattle.wasm_types.specs.values.Trees.{abstract_of}
 use Rattle.wasm_operator_validator_determined.specs.expression.info.declared.proposal.Proposal.TheVariants.{ReferenceTypes}
-use Rattle.wasm_operator_validator_determined.specs.expression.memory.declared.bulk.BulkOperator.TheVariants as bulk
+use Rattle.wasm_operator_validator_determined.specs.expression.groups.declared.bulk.BulkOperator.TheVariants as bulk
 use Rattle.wasm_operator_validator_determined.specs.expression.operator.Op as op
 use Rattle.wasm_operator_validator_determined.specs.expression.operator.Op.{Op}
 use Rattle.wasm_operator_validator_determined.specs.rules.Operands.{ValueType, Operand, bottom, some_reference, known, IsReference, stack}

@@ -5,10 +5,10 @@ use Rattle.wasm_types.specs.externs.declared.memory.MemoryType.{MemoryType}
 use Rattle.wasm_types.specs.values.declared.value.ValType.{ValType}
 use Rattle.wasm_types.specs.values.declared.value.ValType.TheVariants as vals
 use Rattle.wasm_operator_validator_determined.specs.expression.info.declared.proposal.Proposal.TheVariants.{Mvp, BulkMemory}
-use Rattle.wasm_operator_validator_determined.specs.expression.memory.declared.memory.MemoryOperator.TheVariants as memory
-use Rattle.wasm_operator_validator_determined.specs.expression.memory.declared.bulk.BulkOperator.{BulkOperator}
-use Rattle.wasm_operator_validator_determined.specs.expression.memory.declared.bulk.BulkOperator.TheVariants as bulk
-use Rattle.wasm_operator_validator_determined.specs.expression.memory.Table.{bulk_info}
+use Rattle.wasm_operator_validator_determined.specs.expression.groups.declared.memory.MemoryOperator.TheVariants as memory
+use Rattle.wasm_operator_validator_determined.specs.expression.groups.declared.bulk.BulkOperator.{BulkOperator}
+use Rattle.wasm_operator_validator_determined.specs.expression.groups.declared.bulk.BulkOperator.TheVariants as bulk
+use Rattle.wasm_operator_validator_determined.specs.expression.groups.memory.Table.{bulk_info}
 use Rattle.wasm_operator_validator_determined.specs.expression.operator.Op as op
 use Rattle.wasm_operator_validator_determined.specs.rules.Operands.{Operand}
 use Rattle.wasm_operator_validator_determined.specs.rules.Context.{Context, address_type}

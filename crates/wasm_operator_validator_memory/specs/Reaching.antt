@@ -6,7 +6,7 @@ use Rattle.wasm_types.specs.values.declared.value.ValType.{ValType}
 use Rattle.wasm_types.specs.values.declared.value.ValType.TheVariants as vals
 use Rattle.wasm_types.specs.values.Values.{value_of}
 use Rattle.wasm_operator_validator_determined.specs.expression.immediates.declared.memory.MemArg.{MemArg}
-use Rattle.wasm_operator_validator_determined.specs.expression.memory.declared.memory.MemoryOperator.{MemoryOperator}
+use Rattle.wasm_operator_validator_determined.specs.expression.groups.declared.memory.MemoryOperator.{MemoryOperator}
 use Rattle.wasm_operator_validator_determined.specs.rules.Numbers.{is_float}
 use Rattle.wasm_operator_validator_determined.specs.rules.Operands.{ValueType}
 use Rattle.wasm_operator_validator_determined.specs.rules.Context.{address_type}

@@ -7,7 +7,7 @@ use Rattle.wasm_types.specs.trees.Types as tree
 use Rattle.wasm_types.specs.trees.Types.{Abstract, HeapOf, abstract, concrete, exact, heap_map, value_map, InnerOf, inner_map, EntryOf, entry_map}
 use Rattle.wasm_types.specs.trees.Trees.{TypeTree}
 use Rattle.wasm_types.specs.trees.AbstractOrder.{top_of}
-use Rattle.wasm_types.specs.trees.Below.{abstract_of, expanded, heap_is_shared}
+use Rattle.wasm_types.specs.trees.Below.{abstract_above, expanded, heap_is_shared}
 use Rattle.wasm_types.specs.trees.ValidGroup.{type_at}
 use Rattle.wasm_types.specs.values.declared.heap.HeapType.{HeapType}
 use Rattle.wasm_types.specs.values.declared.value.ValType.{ValType}
@@ -74,8 +74,8 @@ table_in m t = record { element = reference_in m t.element_type; table64 = t.tab
 
 abbrev pub top_above : HeapOf TypeTree → Abstract
 top_above (abstract s a) = top_of a
-top_above (concrete t) = top_of (abstract_of (expanded t))
-top_above (exact t) = top_of (abstract_of (expanded t))
+top_above (concrete t) = top_of (abstract_above (expanded t))
+top_above (exact t) = top_of (abstract_above (expanded t))
 
 -- the type above all types of its hierarchy, and as shared
 abbrev pub top_heap : HeapOf TypeTree → HeapOf TypeTree

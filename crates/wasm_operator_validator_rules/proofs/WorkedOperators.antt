@@ -94,7 +94,7 @@ control_worked = record {
   );
   call_indirect_no_functions = search rules;
   return_call = search rules;
-  not_supported_yet = search rules;
+  frame_end = search rules;
 }
 
 pub operands_worked : OperandsWorked
@@ -148,6 +148,9 @@ pub features_worked : FeaturesWorked
 unfolding has opened
 features_worked = record {
   sum = (record { proposal = refl; floats = λ h. absurd cc }, (_, refl, (refl, refl)));
+  call_ref = search rules;
+  return_call_ref = search rules;
+  as_non_null = search rules;
   float_sum = search rules;
   float_load = search rules;
   load = (record { proposal = refl; floats = λ h. absurd cc }, (_, refl, (refl, refl)));

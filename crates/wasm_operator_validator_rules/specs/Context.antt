@@ -49,19 +49,24 @@ pub record Module : Type 0 where
 
 -- ---- the context of an instruction
 
--- the features, the module, the locals, what a branch to each open frame takes, the innermost first, the function's results,
--- and whether the function is shared
+-- the features, the module, the locals, what a branch to each open frame takes, the innermost first, which of these frames are
+-- clauses of an older `try`, the function's results, and whether the function is shared
 pub record Context : Type 0 where
   pub bits : ℕ
   pub «module» : Module
   pub locals : List ValueType
   pub labels : List (List ValueType)
+  pub catches : List Bool
   pub results : List ValueType
   pub shared : Bool
 
 -- a shared function may use what is shared alone (the proposal on shared everything)
 abbrev pub MayUse : Context → Bool → Type 0
 MayUse g shared = IsTrue g.shared → IsTrue shared
+
+abbrev pub may_use : Context → Bool → Bool
+may_use g true = true
+may_use g false = if g.shared then false else true
 
 -- which locals are initialised
 abbrev pub Initialised : Type 0
@@ -115,8 +120,23 @@ abbrev pub label_of : FrameKind → Signature → List ValueType
 label_of frames.Loop b = b.params
 label_of _ b = b.results
 
-abbrev pub inside : List ValueType → Context → Context
-inside label g = record g { labels = label ∷ g.labels }
+-- a clause of an older `try`, in which an exception may be thrown again (the proposal on exceptions, its older form)
+abbrev pub is_catch : FrameKind → Bool
+is_catch frames.LegacyCatch = true
+is_catch frames.LegacyCatchAll = true
+is_catch k = false
+
+-- within a frame of this kind
+abbrev pub inside : FrameKind → List ValueType → Context → Context
+inside k label g = record g { labels = label ∷ g.labels; catches = is_catch k ∷ g.catches }
+
+-- the innermost frame is a clause from here on
+abbrev pub marked : List Bool → List Bool
+marked [] = []
+marked (c ∷ cs) = true ∷ cs
+
+abbrev pub in_clause : Context → Context
+in_clause g = record g { catches = marked g.catches }
 
 -- ---- locals
 

@@ -1,19 +1,24 @@
 -- The instruction types that the module alone determines, as one table (WebAssembly 3.0, validation, instructions): numbers,
--- constants, globals, memories, tables and atomic accesses. An operator whose type is free in something has a row of its own
+-- constants, globals, memories, tables, atomic accesses and calls of references. An operator whose type is free in something has a row of its own
 -- (`Row.antt`), and none here.
-use Rattle.std.specs.Prelude.{ℕ, Bool, true, false, List, [], ◌∷◌, ◌&&◌, Option, Some, None, slice_get, nat_lt, if◌then◌else◌}
-use Rattle.wasm_operators_expression.specs.types.trees.Types.{i32, number}
+use Rattle.std.specs.Prelude.{ℕ, Bool, true, false, List, [], ◌∷◌, ◌++◌, ◌&&◌, Option, Some, None, slice_get, nat_lt, if◌then◌else◌}
+use Rattle.wasm_operators_expression.specs.types.trees.Types.{i32, number, ref, concrete}
+use Rattle.wasm_operators_expression.specs.types.trees.Trees.{TypeTree}
+use Rattle.wasm_operators_expression.specs.types.trees.Below.{expanded}
 use Rattle.wasm_operators_expression.specs.types.externs.declared.memory.MemoryType.{MemoryType}
-use Rattle.wasm_operators_expression.specs.memory.declared.memory.MemoryOperator.{MemoryOperator}
-use Rattle.wasm_operators_expression.specs.memory.declared.memory.MemoryOperator.TheVariants as memory
-use Rattle.wasm_operators_expression.specs.memory.declared.bulk.BulkOperator.{BulkOperator}
-use Rattle.wasm_operators_expression.specs.memory.declared.bulk.BulkOperator.TheVariants as bulk
-use Rattle.wasm_operators_expression.specs.threads.declared.atomic.AtomicOperator.{AtomicOperator}
-use Rattle.wasm_operators_expression.specs.threads.declared.atomic.AtomicOperator.TheVariants as atomic
+use Rattle.wasm_operators_expression.specs.groups.declared.control.ControlOperator.{ControlOperator}
+use Rattle.wasm_operators_expression.specs.groups.declared.control.ControlOperator.TheVariants as control
+use Rattle.wasm_operators_expression.specs.groups.declared.memory.MemoryOperator.{MemoryOperator}
+use Rattle.wasm_operators_expression.specs.groups.declared.memory.MemoryOperator.TheVariants as memory
+use Rattle.wasm_operators_expression.specs.groups.declared.bulk.BulkOperator.{BulkOperator}
+use Rattle.wasm_operators_expression.specs.groups.declared.bulk.BulkOperator.TheVariants as bulk
+use Rattle.wasm_operators_expression.specs.groups.declared.atomic.AtomicOperator.{AtomicOperator}
+use Rattle.wasm_operators_expression.specs.groups.declared.atomic.AtomicOperator.TheVariants as atomic
 use Rattle.wasm_operators_expression.specs.operator.Op as op
 use Rattle.wasm_operators_expression.specs.operator.Op.{Op}
 use Rattle.wasm_operator_validator_rules.specs.Operands.{ValueType}
-use Rattle.wasm_operator_validator_rules.specs.Context.{Context, Table, Global, address_type}
+use Rattle.wasm_operator_validator_rules.specs.Context.{Context, Table, Global, Signature, may_use, address_type}
+use Rattle.wasm_operator_validator_rules.specs.Named.{used_type, as_function}
 use Rattle.wasm_operator_validator_rules.specs.Numbers.{numbers, class_of, taken_by, given_by, constant_type}
 use Rattle.wasm_operator_validator_rules.specs.Accesses.{AccessOf, access_of, atomic_access_of, operands_of, results_of, may_access}
 
@@ -61,17 +66,27 @@ shorter m n = address_type (m && n)
 
 -- ---- globals and tables; a shared function may use what is shared alone (the proposal on shared everything)
 
-abbrev pub may_use : Context → Bool → Bool
-may_use g true = true
-may_use g false = if g.shared then false else true
-
 abbrev pub global_at : Context → ℕ → (Global → Option InstructionType) → Option InstructionType
 global_at g x f = named (slice_get g.«module».globals x) (λ v. if may_use g v.shared then f v else None)
 
 abbrev pub table_at : Context → ℕ → (Table → Option InstructionType) → Option InstructionType
 table_at g x f = named (slice_get g.«module».tables x) (λ t. if may_use g t.shared then f t else None)
 
+-- ---- functions by reference (validation, control instructions)
+
+-- a function type that is named
+abbrev pub function_at : Context → ℕ → (TypeTree → Signature → Option InstructionType) → Option InstructionType
+function_at g y f = named (used_type g y) (λ t. named (as_function (expanded t)) (f t))
+
+-- a reference to a type, that may be null
+abbrev pub reference_to : TypeTree → ValueType
+reference_to t = ref true (concrete t)
+
 -- ---- the tables of the groups
+
+abbrev pub control_type_of : Context → ControlOperator → Option InstructionType
+control_type_of g (control.CallRef y) = function_at g y (λ t b. Some ((b.params ++ reference_to t ∷ []) ⟶ b.results))
+control_type_of g o = None
 
 abbrev pub memory_type_of : Context → MemoryOperator → Option InstructionType
 memory_type_of g (memory.GlobalGet x) = global_at g x (λ v. Some ([] ⟶ v.content ∷ []))
@@ -100,6 +115,7 @@ atomic_type_of g o = accesses g true (atomic_access_of o)
 
 -- what an operator takes and gives, where the module determines it
 abbrev pub instruction_type : Context → Op → Option InstructionType
+instruction_type g (op.Control o) = control_type_of g o
 instruction_type g (op.Memory o) = memory_type_of g o
 instruction_type g (op.Const o) = Some ([] ⟶ number (constant_type o) ∷ [])
 instruction_type g (op.Numeric o) = Some (numbers (taken_by (class_of o)) ⟶ numbers (given_by (class_of o)))

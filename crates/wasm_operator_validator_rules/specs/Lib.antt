@@ -1,9 +1,12 @@
 -- The rules of operators: definitions, in the order in which they are read.
 pub mod Operands
 pub mod Context
+pub mod Named
 pub mod Numbers
 pub mod Accesses
 pub mod InstructionTypes
+pub mod Taken
+pub mod Exceptions
 pub mod Row
 pub mod Typed
 -- Worked operators: rows that hold and rows that do not, a pair at least for each kind.

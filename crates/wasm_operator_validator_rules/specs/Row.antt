@@ -9,12 +9,12 @@ use Rattle.wasm_operators_expression.specs.types.trees.Below.{Below, is_shared, 
 use Rattle.wasm_operators_expression.specs.types.trees.Gates.{Has}
 use Rattle.wasm_operators_expression.specs.types.values.declared.value.ValType.TheVariants as value
 use Rattle.wasm_operators_expression.specs.info.Info.{features_of}
-use Rattle.wasm_operators_expression.specs.control.declared.control.ControlOperator.{ControlOperator}
-use Rattle.wasm_operators_expression.specs.control.declared.control.ControlOperator.TheVariants as control
-use Rattle.wasm_operators_expression.specs.memory.declared.memory.MemoryOperator.{MemoryOperator}
-use Rattle.wasm_operators_expression.specs.memory.declared.memory.MemoryOperator.TheVariants as memory
-use Rattle.wasm_operators_expression.specs.memory.declared.bulk.BulkOperator.{BulkOperator}
-use Rattle.wasm_operators_expression.specs.memory.declared.bulk.BulkOperator.TheVariants as bulk
+use Rattle.wasm_operators_expression.specs.groups.declared.control.ControlOperator.{ControlOperator}
+use Rattle.wasm_operators_expression.specs.groups.declared.control.ControlOperator.TheVariants as control
+use Rattle.wasm_operators_expression.specs.groups.declared.memory.MemoryOperator.{MemoryOperator}
+use Rattle.wasm_operators_expression.specs.groups.declared.memory.MemoryOperator.TheVariants as memory
+use Rattle.wasm_operators_expression.specs.groups.declared.bulk.BulkOperator.{BulkOperator}
+use Rattle.wasm_operators_expression.specs.groups.declared.bulk.BulkOperator.TheVariants as bulk
 use Rattle.wasm_operators_expression.specs.operator.Op as op
 use Rattle.wasm_operators_expression.specs.operator.Op.{Op, ParametricTree}
 use Rattle.wasm_operators_expression.specs.operator.Table.{info_of}
@@ -22,21 +22,12 @@ use Rattle.wasm_operator_validator_rules.specs.Operands.{ValueType, Operand, bot
 use Rattle.wasm_operator_validator_rules.specs.Context.{Context, Table, Initialised, Signature, IsFunctionType, IsType, MayUse, address_type}
 use Rattle.wasm_operator_validator_rules.specs.Numbers.{class_of, has_float, constant_type, is_float}
 use Rattle.wasm_operator_validator_rules.specs.Accesses.{AccessOf, access_of, moves_float}
-use Rattle.wasm_operator_validator_rules.specs.InstructionTypes.{InstructionType, instruction_type, i32_type, shorter}
-
--- operands of these types are taken, and of those are given
-abbrev pub Takes : List ValueType → List ValueType → List Operand → List Operand → Type 0
-Takes ts us popped pushed = (popped ≡ all_known ts) × (pushed ≡ all_known us)
-
--- what the table says, if it says something
-abbrev pub TableRow : Context → Op → List Operand → List Operand → Type 0
-TableRow g o popped pushed = (t : InstructionType) × (instruction_type g o ≡ Some t) × Takes t.takes t.gives popped pushed
+use Rattle.wasm_operator_validator_rules.specs.Named.{used_type}
+use Rattle.wasm_operator_validator_rules.specs.InstructionTypes.{i32_type, shorter, reference_to}
+pub use Rattle.wasm_operator_validator_rules.specs.Taken.{Takes, TableRow, IsLabel}
+use Rattle.wasm_operator_validator_rules.specs.Exceptions.{ExceptionRow}
 
 -- ---- control (validation, control instructions); where the next place is not reached, what is given is free
-
--- what a branch to a label takes
-abbrev pub IsLabel : Context → ℕ → List ValueType → Type 0
-IsLabel g l ts = slice_get g.labels l ≡ Some ts
 
 -- the operands may be taken for what each of these labels takes
 abbrev pub FitEach : Context → List Operand → List ℕ → Type 0
@@ -61,6 +52,11 @@ pub record IsIndirect (g : Context) (y x : ℕ) (t : Table) (b : Signature) : Ty
 abbrev pub IsReturned : Context → Signature → Type 0
 IsReturned g b = AllBelow (all_known b.results) (all_known g.results)
 
+-- a reference where it is not null; one to the bottom heap type stays one
+abbrev pub not_null : Operand → Operand
+not_null (known (ref n h)) = known (ref false h)
+not_null t = t
+
 abbrev pub ControlRow : Context → ControlOperator → List Operand → List Operand → Type 0
 ControlRow g control.Unreachable popped pushed = Unit {0}
 ControlRow g control.Nop popped pushed = Takes [] [] popped pushed
@@ -74,7 +70,14 @@ ControlRow g (control.CallIndirect y x) popped pushed = (t : Table) × (b : Sign
 ControlRow g (control.ReturnCall x) popped pushed = (b : Signature) × (any : List Operand) × IsCallee g x b × IsReturned g b × (popped ≡ any ++ all_known b.params)
 ControlRow g (control.ReturnCallIndirect y x) popped pushed = (t : Table) × (b : Signature) × (any : List Operand) × IsIndirect g y x t b
     × IsReturned g b × (popped ≡ any ++ all_known (b.params ++ address_type t.table64 ∷ []))
-ControlRow g o popped pushed = ⊥
+ControlRow g (control.ReturnCallRef y) popped pushed = (t : TypeTree) × (b : Signature) × (any : List Operand) × (used_type g y ≡ Some t)
+    × IsFunctionType t b × IsReturned g b × (popped ≡ any ++ all_known (b.params ++ reference_to t ∷ []))
+ControlRow g control.RefAsNonNull popped pushed = (t : Operand) × IsReference t × (popped ≡ t ∷ []) × (pushed ≡ not_null t ∷ [])
+ControlRow g (control.BrOnNull l) popped pushed = (ts : List ValueType) × (t : Operand) × IsLabel g l ts × IsReference t
+    × (popped ≡ all_known ts ++ t ∷ []) × (pushed ≡ all_known ts ++ not_null t ∷ [])
+ControlRow g (control.BrOnNonNull l) popped pushed = (ts : List ValueType) × (n : Bool) × (h : HeapOf TypeTree)
+    × IsLabel g l (ts ++ ref n h ∷ []) × Takes (ts ++ ref true h ∷ []) ts popped pushed
+ControlRow g o popped pushed = TableRow g (op.Control o) popped pushed
 
 -- ---- operands of any type (validation, parametric instructions)
 
@@ -156,6 +159,7 @@ GroupRow g set (op.Control o) popped pushed = ControlRow g o popped pushed
 GroupRow g set (op.Parametric o) popped pushed = ParametricRow g o popped pushed
 GroupRow g set (op.Memory o) popped pushed = MemoryRow g set o popped pushed
 GroupRow g set (op.Bulk o) popped pushed = BulkRow g o popped pushed
+GroupRow g set (op.Exception o) popped pushed = ExceptionRow g o popped pushed
 GroupRow g set o popped pushed = TableRow g o popped pushed
 
 -- what an operator takes off the operands and puts on, the last on top

@@ -15,4 +15,7 @@ pub use wasm_operators_expression::{
     BlockType, BrTable, BrTableTargets, BulkOperator, ConstOperator, FrameKind, MemArg,
     MemArgTarget, MemoryOperator, Proposal,
 };
-pub use worked::{code_is_worked, instruction_types_are_worked, rows_are_worked};
+pub use worked::{
+    clauses_are_worked, code_is_worked, exceptions_are_worked, instruction_types_are_worked,
+    references_are_worked, rows_are_worked,
+};

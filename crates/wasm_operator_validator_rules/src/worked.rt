@@ -3,7 +3,10 @@
 ghost use Rattle.std.specs.Prelude.{ℤ};
 ghost use Rattle.wasm_operator_validator_rules.specs.worked.InstructionTypes.{NumbersWorked, AccessesWorked, SpacesWorked};
 ghost use Rattle.wasm_operator_validator_rules.specs.worked.Operators.{ControlWorked, OperandsWorked, VariablesWorked, ReferencesWorked, FeaturesWorked};
-ghost use Rattle.wasm_operator_validator_rules.specs.worked.Codes.{CodesWorked};
+ghost use Rattle.wasm_operator_validator_rules.specs.worked.References.{CallsWorked, NullsWorked};
+ghost use Rattle.wasm_operator_validator_rules.specs.worked.Codes.{CodesWorked, PartsWorked};
+ghost use Rattle.wasm_operator_validator_rules.specs.worked.Exceptions.{ExceptionsWorked, CatchesWorked};
+ghost use Rattle.wasm_operator_validator_rules.specs.worked.Clauses.{ClausesWorked};
 
 /// Instruction types by the table, and operators for which it has none.
 #[tactic(auto, using(crate::proofs::WorkedTypes::numbers_worked, crate::proofs::WorkedTypes::accesses_worked, crate::proofs::WorkedTypes::spaces_worked))]
@@ -23,7 +26,28 @@ pub fn rows_are_worked()
     ensures features { FeaturesWorked }
 {}
 
-/// Code that is typed and code that is not.
+/// Operators on references to functions and on null: rows that hold and rows that do not.
+#[tactic(auto, using(crate::proofs::WorkedReferences::calls_worked, crate::proofs::WorkedReferences::nulls_worked))]
+pub fn references_are_worked()
+    ensures calls { CallsWorked }
+    ensures nulls { NullsWorked }
+{}
+
+/// Code that is typed and code that is not; what the parts of frames are.
+#[tactic(auto, using(crate::proofs::WorkedCodes::parts_worked))]
 pub fn code_is_worked()
-    ensures { (x : ℤ) → CodesWorked x }
+    ensures codes { (x : ℤ) → CodesWorked x }
+    ensures parts { PartsWorked }
+{}
+
+/// Operators on exceptions: rows that hold and rows that do not, and clauses of `try_table`.
+#[tactic(auto, using(crate::proofs::WorkedExceptions::exceptions_worked, crate::proofs::WorkedExceptions::catches_worked))]
+pub fn exceptions_are_worked()
+    ensures rows { ExceptionsWorked }
+    ensures catches { CatchesWorked }
+{}
+
+/// Code with clauses that catch exceptions.
+pub fn clauses_are_worked()
+    ensures { (x : ℤ) → ClausesWorked x }
 {}

@@ -10,9 +10,9 @@ use Rattle.wasm_operators_visit_operator.specs.operator.Immediates.{immediates_o
 use Rattle.wasm_operators_visit_operator.specs.operator.Table.{info_of}
 use Rattle.wasm_operator_validator_determined.specs.expression.info.declared.proposal.Proposal.TheVariants.{Mvp}
 use Rattle.wasm_operator_validator_determined.specs.expression.immediates.declared.memory.MemArg.{MemArg}
-use Rattle.wasm_operator_validator_determined.specs.expression.memory.declared.memory.MemoryOperator.{MemoryOperator}
-use Rattle.wasm_operator_validator_determined.specs.expression.numbers.declared.numeric.NumericOperator.{NumericOperator}
-use Rattle.wasm_operator_validator_determined.specs.expression.numbers.Table.{numeric_info}
+use Rattle.wasm_operator_validator_determined.specs.expression.groups.declared.memory.MemoryOperator.{MemoryOperator}
+use Rattle.wasm_operator_validator_determined.specs.expression.groups.declared.numeric.NumericOperator.{NumericOperator}
+use Rattle.wasm_operator_validator_determined.specs.expression.groups.numbers.Table.{numeric_info}
 use Rattle.wasm_operator_validator_determined.specs.rules.Accesses.{Access, access_of}
 use Rattle.wasm_operator_validator_determined.specs.rules.Numbers.{class_of, taken_by, given_by, has_float, is_float}
 use Rattle.wasm_operator_validator_memory.specs.Reaching.{number_of}

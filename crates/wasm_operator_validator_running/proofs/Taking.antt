@@ -15,18 +15,18 @@ use Rattle.wasm_operators_decode_immediates.specs.immediates.Immediates.{Index, 
 use Rattle.wasm_operators_decode_immediates.specs.MemoryArguments.{memory_argument}
 use Rattle.wasm_operators_visit_operator.specs.operator.Op as op
 use Rattle.wasm_operators_visit_operator.specs.operator.Table.{info_of}
-use Rattle.wasm_operators_visit_operator.specs.control.declared.control.ControlOperator.TheVariants as control
-use Rattle.wasm_operators_visit_operator.specs.memory.declared.constant.ConstOperator.{ConstOperator}
-use Rattle.wasm_operators_visit_operator.specs.memory.declared.constant.ConstOperator.TheVariants as constant
-use Rattle.wasm_operators_visit_operator.specs.memory.declared.memory.MemoryOperator.TheVariants as memory
-use Rattle.wasm_operators_visit_operator.specs.memory.declared.memory.MemoryOperator.{MemoryOperator}
+use Rattle.wasm_operators_visit_operator.specs.groups.declared.control.ControlOperator.TheVariants as control
+use Rattle.wasm_operators_visit_operator.specs.groups.declared.constant.ConstOperator.{ConstOperator}
+use Rattle.wasm_operators_visit_operator.specs.groups.declared.constant.ConstOperator.TheVariants as constant
+use Rattle.wasm_operators_visit_operator.specs.groups.declared.memory.MemoryOperator.TheVariants as memory
+use Rattle.wasm_operators_visit_operator.specs.groups.declared.memory.MemoryOperator.{MemoryOperator}
 use Rattle.wasm_operators_visit_short.specs.Short.{Begins}
 use Rattle.wasm_operators_visit_short.proofs.Reading.{told_with, told_alone, opcode_is, low_is_no_prefix}
 use Rattle.wasm_operators_visit_short.proofs.Carried.{index_of, label_of, i32_of, i64_of, f32_of, f64_of, access_of}
 use Rattle.wasm_operator_validator_determined.specs.expression.immediates.declared.memory.MemArg.{MemArg}
-use Rattle.wasm_operator_validator_determined.specs.expression.numbers.declared.numeric.NumericOperator.{NumericOperator}
-use Rattle.wasm_operator_validator_determined.specs.expression.numbers.declared.numeric.NumericOperator.TheVariants as numeric
-use Rattle.wasm_operator_validator_determined.specs.expression.numbers.Table.{numeric_info}
+use Rattle.wasm_operator_validator_determined.specs.expression.groups.declared.numeric.NumericOperator.{NumericOperator}
+use Rattle.wasm_operator_validator_determined.specs.expression.groups.declared.numeric.NumericOperator.TheVariants as numeric
+use Rattle.wasm_operator_validator_determined.specs.expression.groups.numbers.Table.{numeric_info}
 use Rattle.wasm_operator_validator_determined.specs.rules.Accesses.{load, store}
 use Rattle.wasm_operator_validator_determined.specs.resources.Meaning.{Meaning, type_in}
 use Rattle.wasm_operator_validator_determined.specs.state.declared.frame.Frame.{Frame}

@@ -1,5 +1,5 @@
 -- Some answer fits at each configuration that typed code reaches: a trap, or the null of a type.
-use Rattle.std.proofs.Common.{ℕ, true, false, List, [], ◌∷◌, get_or, Option, Some, None, slice_get}
+use Rattle.std.proofs.Common.{ℕ, false, List, [], ◌∷◌, get_or, Option, Some, None, slice_get}
 use Rattle.std.specs.Prelude.{All}
 use Rattle.wasm_types.specs.indices.declared.index.UnpackedIndex.{UnpackedIndex}
 use Rattle.wasm_types.specs.indices.declared.index.UnpackedIndex.TheVariants as index
@@ -8,23 +8,28 @@ use Rattle.wasm_types.specs.trees.Trees.{TypeTree}
 use Rattle.wasm_types.specs.trees.Each.{EachHeap}
 use Rattle.wasm_types.specs.trees.Chains.{IsSound}
 use Rattle.wasm_types.specs.values.Trees.{heap_of}
-use Rattle.wasm_operator_validator_rules.specs.expression.control.declared.control.ControlOperator.{ControlOperator}
-use Rattle.wasm_operator_validator_rules.specs.expression.control.declared.control.ControlOperator.TheVariants as control
-use Rattle.wasm_operator_validator_rules.specs.expression.memory.declared.memory.MemoryOperator.{MemoryOperator}
-use Rattle.wasm_operator_validator_rules.specs.expression.memory.declared.memory.MemoryOperator.TheVariants as memory
-use Rattle.wasm_operator_validator_rules.specs.expression.memory.declared.bulk.BulkOperator.{BulkOperator}
-use Rattle.wasm_operator_validator_rules.specs.expression.memory.declared.bulk.BulkOperator.TheVariants as bulk
+use Rattle.wasm_operator_validator_rules.specs.expression.groups.declared.control.ControlOperator.{ControlOperator}
+use Rattle.wasm_operator_validator_rules.specs.expression.groups.declared.control.ControlOperator.TheVariants as control
+use Rattle.wasm_operator_validator_rules.specs.expression.groups.declared.memory.MemoryOperator.{MemoryOperator}
+use Rattle.wasm_operator_validator_rules.specs.expression.groups.declared.memory.MemoryOperator.TheVariants as memory
+use Rattle.wasm_operator_validator_rules.specs.expression.groups.declared.bulk.BulkOperator.{BulkOperator}
+use Rattle.wasm_operator_validator_rules.specs.expression.groups.declared.bulk.BulkOperator.TheVariants as bulk
+use Rattle.wasm_operator_validator_rules.specs.expression.immediates.declared.frames.FrameKind.{FrameKind}
+use Rattle.wasm_operator_validator_rules.specs.expression.immediates.declared.frames.FrameKind.TheVariants as frames
+use Rattle.wasm_operator_validator_rules.specs.expression.operator.declared.role.Role.{Role}
+use Rattle.wasm_operator_validator_rules.specs.expression.operator.declared.role.Role.TheVariants.{Opens}
+use Rattle.wasm_operator_validator_rules.specs.expression.operator.Roles.{role_of}
 use Rattle.wasm_operator_validator_rules.specs.expression.operator.Op as op
 use Rattle.wasm_operator_validator_rules.specs.expression.operator.Op.{Op, ParametricTree}
 use Rattle.wasm_operator_validator_rules.specs.expression.Code.{Code, close, plain, nested, turn}
 use Rattle.wasm_operator_validator_rules.specs.Operands.{ValueType, Operand}
 use Rattle.wasm_operator_validator_rules.specs.Context.{Context, Module, Table, Initialised, Signature, Frame, written_type, IsTypeIndex}
-use Rattle.wasm_operator_validator_rules.specs.InstructionTypes.{InstructionType, instruction_type}
 use Rattle.wasm_operator_validator_rules.specs.Row.{BulkRow}
-use Rattle.wasm_operator_validator_rules.specs.Typed.{Typed}
+use Rattle.wasm_operator_validator_rules.specs.Typed.{block_type_of, Typed}
 use Rattle.wasm_operator_validator_soundness.specs.Values.{Value}
-use Rattle.wasm_operator_validator_soundness.specs.Machine.{Continuation, behind, again, Configuration, Answer, function_type, block_signature, context_at}
-use Rattle.wasm_operator_validator_soundness.specs.Machine.{by_table, open_block, open_if, enter, label_at, branch}
+use Rattle.wasm_operator_validator_soundness.specs.States.{Configuration, traps, Answer}
+use Rattle.wasm_operator_validator_soundness.specs.Machine.{function_type, signature_for, context_at}
+use Rattle.wasm_operator_validator_soundness.specs.Machine.{open_if, opens, enter, label_at, branch}
 use Rattle.wasm_operator_validator_soundness.specs.Machine.{branch_if, branch_by, call, return_call, call_indirect, return_call_indirect, operate_control}
 use Rattle.wasm_operator_validator_soundness.specs.Machine.{drop_from, select_from, operate_parametric, get_local, set_local, set_from, tee_from, operate_memory}
 use Rattle.wasm_operator_validator_soundness.specs.Machine.{is_null, function_at, init_table, copy_table, operate_bulk, operate, execute, reduce}
@@ -35,7 +40,7 @@ use Rattle.wasm_operator_validator_soundness.proofs.Steps.{begins_fine, runs_fin
 
 -- a trap, with these values
 abbrev trap : List Value → Answer
-trap vs = record { values = vs; condition = false; index = 0; traps = true }
+trap vs = record { values = vs; taken = 0; condition = false; index = 0; way = traps }
 
 -- a type that a module may write is one of its own
 written_sound : (m : Module) (h : HeapOf UnpackedIndex) → All IsSound m.types → EachHeap (IsTypeIndex m) h → EachHeap IsSound (heap_map (written_type m) h)
@@ -51,26 +56,20 @@ module _ (g : Context) (k : Configuration) where
   abbrev a : Answer
   a = trap []
 
-  by_table_free : (o : Option InstructionType) (more : Code) → (by_table g a k o more).answered
-  by_table_free None more = tt
-  by_table_free (Some t) more = tt
-
   -- ---- blocks
 
-  open_free : (o : Option Signature) (body : Code) (c : Continuation) (more : Code) → (open_block g a k o body c more).answered
-  open_free None body c more = tt
-  open_free (Some b) body c more = tt
+  if_free : (o : Op) (b : Signature) (body : Code) (ws : List Value) (more : Code) → (open_if g a k o b body ws more).answered
+  if_free o b body [] more = tt
+  if_free o b body (c ∷ ws) more = tt
 
-  if_free : (o : Option Signature) (body : Code) (ws : List Value) (more : Code) → (open_if g a k o body ws more).answered
-  if_free None body ws more = tt
-  if_free (Some b) body [] more = tt
-  if_free (Some b) body (c ∷ ws) more = tt
+  opens_free : (j : FrameKind) (b : Option Signature) (o : Op) (body more : Code) → (opens g a k j b o body more).answered
+  opens_free j None o body more = tt
+  opens_free frames.If (Some b) o body more = if_free o b body k.innermost.values more
+  opens_free j (Some b) o body more = tt
 
-  enter_free : (o : Op) (body more : Code) → (enter g a k o body more).answered
-  enter_free (op.Control (control.Block bt)) body more = open_free (block_signature g bt) body behind more
-  enter_free (op.Control (control.Loop bt)) body more = open_free (block_signature g bt) body (again body) more
-  enter_free (op.Control (control.If bt)) body more = if_free (block_signature g bt) body k.innermost.values more
-  enter_free o body more = tt
+  enter_free : (r : Role) (o : Op) (body more : Code) → (enter g a k r o body more).answered
+  enter_free (Opens j) o body more = opens_free j (signature_for g (block_type_of o)) o body more
+  enter_free r o body more = tt
 
   -- ---- branches, returns and calls
 
@@ -133,7 +132,7 @@ module _ (g : Context) (k : Configuration) where
   parametric_free op.Drop more = drop_free k.innermost.values more
   parametric_free op.Select more = select_free _ k.innermost.values more
   parametric_free (op.TypedSelect written) more = select_free _ k.innermost.values more
-  parametric_free (op.TypedSelectMulti written) more = tt
+  parametric_free o more = tt
 
   get_free : (o : Option (Option Value)) (more : Code) → (get_local g a k o more).answered
   get_free None more = tt
@@ -156,7 +155,7 @@ module _ (g : Context) (k : Configuration) where
   memory_free (memory.LocalGet x) more = get_free (slice_get k.locals x) more
   memory_free (memory.LocalSet x) more = set_from_free x k.innermost.values more
   memory_free (memory.LocalTee x) more = tee_from_free x k.innermost.values more
-  memory_free o more = by_table_free (instruction_type (context_at g k) (op.Memory o)) more
+  memory_free o more = tt
 
   -- ---- references, and copies into tables
 
@@ -186,7 +185,7 @@ module _ (g : Context) (k : Configuration) where
   bulk_answer (bulk.RefFunc x) more popped pushed i r = (a, function_free (slice_get g.«module».functions x) more)
   bulk_answer (bulk.TableInit e x) more popped pushed i r = (a, init_free (slice_get g.«module».elements e) (slice_get g.«module».tables x) more)
   bulk_answer (bulk.TableCopy x y) more popped pushed i r = (a, copy_free (slice_get g.«module».tables x) (slice_get g.«module».tables y) more)
-  bulk_answer o more popped pushed i r = (a, by_table_free (instruction_type (context_at g k) (op.Bulk o)) more)
+  bulk_answer o more popped pushed i r = (a, tt)
 
   -- ---- all instructions
 
@@ -196,17 +195,17 @@ module _ (g : Context) (k : Configuration) where
   operate_answer (op.Parametric o) more f set s i t = (a, parametric_free o more)
   operate_answer (op.Memory o) more f set s i t = (a, memory_free o more)
   operate_answer (op.Bulk o) more f set s i t = bulk_answer o more t.1.0 t.1.1 i t.1.3.1
-  operate_answer o more f set s i t = (a, by_table_free (instruction_type (context_at g k) o) more)
+  operate_answer o more f set s i t = (a, tt)
 
   execute_answer : (c : Code) (f : Frame) (set : Initialised) (s : List Operand) → All IsSound g.«module».types → Typed (context_at g k) f set c s
       → (b : Answer) × (execute g b k c).answered
   execute_answer (close o) f set s i t = (a, tt)
   execute_answer (plain o more) f set s i t = operate_answer o more f set s i t
-  execute_answer (nested o body more) f set s i t = (a, enter_free o body more)
+  execute_answer (nested o body more) f set s i t = (a, enter_free (role_of o) o body more)
   execute_answer (turn o more) f set s i t = (a, tt)
 
 fine_answer : (g : Context) (k : Configuration) → All IsSound g.«module».types → IsFine g k → (b : Answer) × (reduce g k b).answered
 fine_answer g k i w = let l = w.labels.0 in execute_answer g k k.innermost.code (record { kind = l.kind; block = k.innermost.block; before = l.before }) l.set l.operands i l.typed
 
 pub answers_exist : AnswersExist
-answers_exist g params c locals answers k e b l r i = fine_answer g k i (runs_fine g _ answers k (begins_fine g params c locals e b l) r)
+answers_exist g params c locals answers k e h b l r i = fine_answer g k i (runs_fine g _ answers k (begins_fine g params c locals e h b l) r)

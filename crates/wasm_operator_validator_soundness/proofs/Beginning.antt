@@ -9,7 +9,7 @@ use Rattle.wasm_types.specs.trees.Trees.{TypeTree}
 use Rattle.wasm_types.specs.trees.Each.{EachHeap, EachValue}
 use Rattle.wasm_types.specs.trees.AbstractOrder.{AbstractBelow, same, eq_any, i31_any, struct_any, array_any, none_any, i31_eq, struct_eq}
 use Rattle.wasm_types.specs.trees.AbstractOrder.{array_eq, none_eq, none_i31, none_struct, none_array, nofunc_func, noextern_extern, noexn_exn, nocont_cont}
-use Rattle.wasm_types.specs.trees.Below.{expanded, is_shared, abstract_of, bottom_of, itself, IsAboveAbstract}
+use Rattle.wasm_types.specs.trees.Below.{expanded, is_shared, abstract_above, bottom_of, itself, IsAboveAbstract}
 use Rattle.wasm_types.specs.trees.Chains.{IsSound}
 use Rattle.wasm_operator_validator_rules.specs.Operands.{ValueType, all_known}
 use Rattle.wasm_operator_validator_rules.specs.Context.{is_defaulted, initialised_at_first}
@@ -58,14 +58,14 @@ one_bottom a b nocont_cont = refl
 under_itself : (a : Abstract) → bottom_under (bottom_under a) ≡ bottom_under a
 under_itself a = one_bottom (bottom_under a) a (under_below a)
 
-under_constructor : (x : InnerOf TypeTree) → bottom_under (abstract_of x) ≡ bottom_of x
+under_constructor : (x : InnerOf TypeTree) → bottom_under (abstract_above x) ≡ bottom_of x
 under_constructor (function ps rs) = refl
 under_constructor (array_of f) = refl
 under_constructor (struct_of fs) = refl
 under_constructor (continuation t) = refl
 
 under_bottom : (x : InnerOf TypeTree) → bottom_under (bottom_of x) ≡ bottom_of x
-under_bottom x = ap bottom_under (sym (under_constructor x)) ∙ under_itself (abstract_of x) ∙ under_constructor x
+under_bottom x = ap bottom_under (sym (under_constructor x)) ∙ under_itself (abstract_above x) ∙ under_constructor x
 
 -- ---- nulls
 

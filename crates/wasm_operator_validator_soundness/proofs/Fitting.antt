@@ -1,10 +1,10 @@
 -- Values that fit operands, and stacks of operands.
-use Rattle.std.proofs.Common.{◌≡◌, List, [], ◌∷◌, ◌++◌, reverse, refl, ap, ◌∙◌, append_assoc}
-use Rattle.std.proofs.lemmas.List.{reverse-append}
+use Rattle.std.proofs.Common.{◌≡◌, ℕ, List, [], ◌∷◌, ◌++◌, length, drop, reverse, refl, ap, subst, ◌∙◌, append_assoc}
+use Rattle.std.proofs.lemmas.List.{reverse-append, length-reverse}
 use Rattle.wasm_types.specs.trees.laws.Below.{below_transitive}
 use Rattle.wasm_operator_validator_rules.specs.Operands.{ValueType, Operand, bottom, some_reference, known, OperandBelow, AllBelow, all_known, stack}
 use Rattle.wasm_operator_validator_soundness.specs.Values.{Value, least_type, EachFits, FitsOperand, AllFit}
-use Rattle.wasm_operator_validator_soundness.specs.Machine.{front, back}
+use Rattle.wasm_operator_validator_soundness.specs.States.{front, back}
 
 -- ---- one value, and all of them
 
@@ -46,6 +46,16 @@ pub fits_back : (ts us : List Operand) (vs : List Value) → AllFit vs (ts ++ us
 fits_back [] us vs f = f
 fits_back (t ∷ ts) us [] f = absurd f
 fits_back (t ∷ ts) us (v ∷ vs) f = fits_back ts us vs f.1
+
+fits_below_front : (ts us : List Operand) (vs : List Value) → AllFit vs (ts ++ us) → AllFit (drop (length ts) vs) us
+fits_below_front [] us vs f = f
+fits_below_front (t ∷ ts) us [] f = absurd f
+fits_below_front (t ∷ ts) us (v ∷ vs) f = fits_below_front ts us vs f.1
+
+-- those below as many as are taken
+pub fits_dropped : (popped rest : List Operand) (n : ℕ) (vs : List Value) → length popped ≡ n → AllFit vs (reverse popped ++ rest) → AllFit (drop n vs) rest
+fits_dropped popped rest n vs e f =
+    subst (λ (m : ℕ). AllFit (drop m vs) rest) (length-reverse popped ∙ e) (fits_below_front (reverse popped) rest vs f)
 
 pub fits_joined : (vs ws : List Value) (ts us : List Operand) → AllFit vs ts → AllFit ws us → AllFit (vs ++ ws) (ts ++ us)
 fits_joined [] ws [] us f h = h

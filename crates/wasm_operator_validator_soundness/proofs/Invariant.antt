@@ -1,21 +1,16 @@
 -- What holds of each configuration that typed code reaches: each label awaits values of some types, and its instructions are
--- typed over these and the values that stand there.
-use Rattle.std.proofs.Common.{◌≡◌, ℕ, zero, suc, List, [], ◌∷◌, ◌++◌, map, Option, Some, None, Bool, true, false, IsTrue, refl, sym, subst, slice_get, slice_set}
+-- typed over these and the values that are there.
+use Rattle.std.proofs.Common.{◌≡◌, ℕ, zero, suc, List, [], ◌∷◌, ◌++◌, map, Option, Some, None, Bool, false, IsTrue, refl, sym, subst, slice_get, slice_set}
 use Rattle.wasm_operator_validator_rules.specs.expression.immediates.declared.frames.FrameKind.{FrameKind}
 use Rattle.wasm_operator_validator_rules.specs.expression.immediates.declared.frames.FrameKind.TheVariants as frames
-use Rattle.wasm_operator_validator_rules.specs.expression.Code.{Code, close, plain, nested, turn}
+use Rattle.wasm_operator_validator_rules.specs.expression.Code.{IsIn}
 use Rattle.wasm_operator_validator_rules.specs.Operands.{ValueType, Operand, AllBelow, all_known, stack}
 use Rattle.wasm_operator_validator_rules.specs.Context.{Context, Initialised, Signature, Frame}
-use Rattle.wasm_operator_validator_rules.specs.Row.{after}
-use Rattle.wasm_operator_validator_rules.specs.Typed.{Typed, MayClose}
+use Rattle.wasm_operator_validator_rules.specs.Typed.{Typed}
 use Rattle.wasm_operator_validator_soundness.specs.Values.{Value, Fits, AllFit}
-use Rattle.wasm_operator_validator_soundness.specs.Machine.{Continuation, behind, again, Label, Configuration, branch_type}
-use Rattle.wasm_operator_validator_soundness.specs.Machine.{Outcome, next, returned, replaced, trapped, stuck, Reduction, Unless, traps_or, second_part}
+use Rattle.wasm_operator_validator_soundness.specs.States.{Continuation, behind, again, Handlers, no_handlers, exits, clauses, Label, Configuration, branch_type, is_clause, context_in}
+use Rattle.wasm_operator_validator_soundness.specs.States.{Outcome, next, returned, replaced, trapped, stuck, Reduction}
 use Rattle.wasm_operator_validator_soundness.specs.Soundness.{LocalFits, LocalsFit, EndsWell}
-
-IsNothing : {A : Type 0} → Option A → Type 0
-IsNothing None = Unit {0}
-IsNothing (Some y) = ⊥
 
 pub none_is_some : {A : Type 0} (x : A) → None ≡ Some x → ⊥
 none_is_some x e = absurd cc
@@ -63,27 +58,27 @@ now_set (o ∷ os) [] x v t f e = absurd f
 now_set (o ∷ os) (u ∷ us) zero v t f e = refl
 now_set (o ∷ os) (u ∷ us) (suc x) v t f e = now_set os us x v t f.1 e
 
--- ---- the second part of an `if`
-
--- it is typed where the whole `if` is, from the parameters, with the locals that were initialised before
-pub second_typed : (h : Context) (f : Frame) (set : Initialised) (c : Code) (s : List Operand) → f.kind ≡ frames.If → Typed h f set c s
-    → (j : FrameKind) × Typed h (record { kind = j; block = f.block; before = f.before }) f.before (second_part c) (stack f.block.params)
-second_typed h f set (close o) s e t = let m = subst (λ (j : FrameKind). MayClose j f.block) e t.1 in (frames.If, (m, m))
-second_typed h f set (plain o more) s e t = second_typed h f (after o set) more t.0 e t.2
-second_typed h f set (nested o body more) s e t = second_typed h f set more (stack (t.1).results ++ t.2) e t.6
-second_typed h f set (turn o more) s e t = (frames.Else, t.1)
-
 -- ---- the invariant
 
+abbrev pub frame_of : FrameKind → Signature → Initialised → Frame
+frame_of kind b before = record { kind = kind; block = b; before = before }
+
 module _ (g : Context) where
-  abbrev pub at : List (List ValueType) → Context
-  at labels = record g { labels = labels }
+  abbrev pub at : List (List ValueType) → List Bool → Context
+  at labels catches = record g { labels = labels; catches = catches }
 
   -- a loop's instructions are typed from its parameters
-  abbrev pub LoopsBack : List (Option Value) → Continuation → Signature → List Label → Type 0
-  LoopsBack locals behind b ls = Unit {0}
-  LoopsBack locals (again body) b ls = (kind : FrameKind) × (before set : Initialised) × AreSet set locals
-      × Typed (at (b.params ∷ map branch_type ls)) (record { kind = kind; block = b; before = before }) set body (stack b.params)
+  abbrev pub LoopsBack : List (Option Value) → Continuation → Signature → Bool → List Label → Type 0
+  LoopsBack locals behind b c ls = Unit {0}
+  LoopsBack locals (again body) b c ls = (kind : FrameKind) × (before set : Initialised) × AreSet set locals × IsIn kind body
+      × Typed (at (b.params ∷ map branch_type ls) (c ∷ map is_clause ls)) (frame_of kind b before) set body (stack b.params)
+
+  -- the clauses of an older `try` are those of typed code
+  abbrev pub HandlersFit : List (Option Value) → Handlers → Signature → List Label → Type 0
+  HandlersFit locals no_handlers b ls = Unit {0}
+  HandlersFit locals (exits ns) b ls = Unit {0}
+  HandlersFit locals (clauses c) b ls = (before set : Initialised) × (s : List Operand) × AreSet before locals × IsIn frames.LegacyTry c
+      × Typed (at (b.results ∷ map branch_type ls) (false ∷ map is_clause ls)) (frame_of frames.LegacyTry b before) set c s
 
   -- a label, with these around it, awaits values for these operands
   pub record Awaits (locals : List (Option Value)) (l : Label) (ls : List Label) (given : List Operand) : Type 0 where
@@ -93,8 +88,10 @@ module _ (g : Context) where
     pub are_set : AreSet set locals
     pub operands : List Operand
     pub fit : AllFit l.values operands
-    pub typed : Typed (at (branch_type l ∷ map branch_type ls)) (record { kind = kind; block = l.block; before = before }) set l.code (given ++ operands)
-    pub loops : LoopsBack locals l.continuation l.block ls
+    pub inside : IsIn kind l.code
+    pub typed : Typed (context_in g (l ∷ ls)) (frame_of kind l.block before) set l.code (given ++ operands)
+    pub loops : LoopsBack locals l.continuation l.block l.clause ls
+    pub handlers : HandlersFit locals l.handlers l.block ls
 
   -- each awaits what the one within it gives, and the caller what the function does
   abbrev pub LabelsAwait : List (Option Value) → List Label → List Operand → Type 0
@@ -123,30 +120,35 @@ module _ (g : Context) where
   abbrev pub IsOkay : Reduction → Type 0
   IsOkay r = r.answered → r.asked × IsGood r.outcome
 
-  pub traps_good : (b : Bool) (P : Type 0) (o : Outcome) → Unless b P → (P → IsGood o) → IsGood (traps_or b o)
-  traps_good true P o u f = tt
-  traps_good false P o u f = f u
-
   -- ---- a local that is written leaves all labels as they are
 
-  pub loops_still : (locals : List (Option Value)) (x : ℕ) (v : Value) (c : Continuation) (b : Signature) (ls : List Label)
-      → LoopsBack locals c b ls → LoopsBack (slice_set locals x (Some v)) c b ls
-  loops_still locals x v behind b ls t = tt
-  loops_still locals x v (again body) b ls t = (t.0, t.1, t.2, are_still_set locals x v t.2 t.3, t.4)
+  module _ (locals : List (Option Value)) (x : ℕ) (v : Value) where
+    abbrev now : List (Option Value)
+    now = slice_set locals x (Some v)
 
-  pub still_await : (locals : List (Option Value)) (x : ℕ) (v : Value) (ls : List Label) (given : List Operand)
-      → LabelsAwait locals ls given → LabelsAwait (slice_set locals x (Some v)) ls given
-  still_await locals x v [] given w = w
-  still_await locals x v (l ∷ ls) given w = (
-    record {
-      kind = w.0.kind;
-      before = w.0.before;
-      set = w.0.set;
-      are_set = are_still_set locals x v w.0.set w.0.are_set;
-      operands = w.0.operands;
-      fit = w.0.fit;
-      typed = w.0.typed;
-      loops = loops_still locals x v l.continuation l.block ls w.0.loops;
-    },
-    still_await locals x v ls (stack l.block.results) w.1,
-  )
+    pub loops_still : (c : Continuation) (b : Signature) (m : Bool) (ls : List Label) → LoopsBack locals c b m ls → LoopsBack (slice_set locals x (Some v)) c b m ls
+    loops_still behind b m ls t = tt
+    loops_still (again body) b m ls t = (t.0, t.1, t.2, are_still_set locals x v t.2 t.3, t.4, t.5)
+
+    pub handlers_still : (h : Handlers) (b : Signature) (ls : List Label) → HandlersFit locals h b ls → HandlersFit (slice_set locals x (Some v)) h b ls
+    handlers_still no_handlers b ls t = tt
+    handlers_still (exits ns) b ls t = tt
+    handlers_still (clauses c) b ls t = (t.0, t.1, t.2, are_still_set locals x v t.0 t.3, t.4, t.5)
+
+    pub still_await : (ls : List Label) (given : List Operand) → LabelsAwait locals ls given → LabelsAwait (slice_set locals x (Some v)) ls given
+    still_await [] given w = w
+    still_await (l ∷ ls) given w = (
+      record {
+        kind = w.0.kind;
+        before = w.0.before;
+        set = w.0.set;
+        are_set = are_still_set locals x v w.0.set w.0.are_set;
+        operands = w.0.operands;
+        fit = w.0.fit;
+        inside = w.0.inside;
+        typed = w.0.typed;
+        loops = loops_still l.continuation l.block l.clause ls w.0.loops;
+        handlers = handlers_still l.handlers l.block ls w.0.handlers;
+      },
+      still_await ls (stack l.block.results) w.1,
+    )

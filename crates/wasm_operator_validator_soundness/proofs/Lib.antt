@@ -1,9 +1,13 @@
 pub mod Fitting
 pub mod Invariant
+pub mod Leaving
+pub mod Parts
 pub mod Steps
 pub mod Beginning
 pub mod Answering
 pub mod WorkedValues
 pub mod WorkedRuns
 pub mod WorkedBodies
+pub mod Rows
 pub mod WorkedStuck
+pub mod WorkedAnswered

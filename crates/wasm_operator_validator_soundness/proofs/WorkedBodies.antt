@@ -13,7 +13,7 @@ use Rattle.wasm_operator_validator_rules.specs.worked.Codes.{constant, sum, end}
 use Rattle.wasm_operator_validator_soundness.specs.worked.Runs.{outside, two_summed}
 
 abbrev within : Context
-within = inside outside.results outside
+within = inside frames.Block outside.results outside
 
 abbrev first : Initialised
 first = initialised_at_first 0 outside.locals
@@ -38,7 +38,7 @@ sum_typed x = record {
     (
       known (number i32) ∷ known (number i32) ∷ [],
       constant_steps x (known (number i32) ∷ []) (refl, tt),
-      (known (number i32) ∷ [], sum_steps, ((refl, tt), tt)),
+      (known (number i32) ∷ [], sum_steps, ((refl, tt), tt, tt)),
     ),
   );
 }

@@ -2,18 +2,22 @@
 -- are its first locals, and each other local has the default value of its type, if that has one. So the law on activations
 -- speaks of every call by fitting arguments, and `ref.null` has one answer, where types are of valid groups. There each
 -- type is sound: of one constructor and one sharedness with all types above it by declaration.
-use Rattle.std.specs.Prelude.{◌≡◌, ℕ, true, false, List, [], ◌∷◌, ◌++◌, length, map, All, Option, Some, None}
+use Rattle.std.specs.Prelude.{◌≡◌, ◌↔◌, ℕ, true, false, List, [], ◌∷◌, ◌++◌, length, map, All, Option, Some, None}
 use Rattle.wasm_types.specs.trees.Types.{HeapOf, abstract, concrete, exact, number, ref}
 use Rattle.wasm_types.specs.trees.Trees.{TypeTree}
 use Rattle.wasm_types.specs.trees.Each.{EachHeap, EachValue}
 use Rattle.wasm_types.specs.trees.Below.{expanded, is_shared, bottom_of}
 use Rattle.wasm_types.specs.trees.Chains.{IsSound}
 use Rattle.wasm_operator_validator_rules.specs.expression.Code.{Code}
-use Rattle.wasm_operator_validator_rules.specs.Operands.{ValueType, all_known}
+use Rattle.wasm_operator_validator_rules.specs.expression.operator.Op.{Op}
+use Rattle.wasm_operator_validator_rules.specs.Operands.{ValueType, Operand, all_known, stack}
 use Rattle.wasm_operator_validator_rules.specs.Context.{Context}
+use Rattle.wasm_operator_validator_rules.specs.InstructionTypes.{InstructionType, instruction_type}
+use Rattle.wasm_operator_validator_rules.specs.Row.{IsEnabled, TableRow, GroupRow}
 use Rattle.wasm_operator_validator_rules.specs.Typed.{IsBody}
 use Rattle.wasm_operator_validator_soundness.specs.Values.{Value, number_value, ref_null, least_type, AllFit}
-use Rattle.wasm_operator_validator_soundness.specs.Machine.{Configuration, Answer, IsNullOf, reduce, Runs}
+use Rattle.wasm_operator_validator_soundness.specs.States.{Configuration, Answer, AreOnTop}
+use Rattle.wasm_operator_validator_soundness.specs.Machine.{IsNullOf, context_at, set_in, FitsEachRow, reduce, Runs}
 use Rattle.wasm_operator_validator_soundness.specs.Soundness.{AreLocals, begun}
 
 -- the null of a heap type
@@ -50,5 +54,15 @@ NullsAreOne = (h : HeapOf TypeTree) (v : Value) → IsNullOf (ref true h) (v ∷
 abbrev pub AnswersExist : Type 0
 AnswersExist =
     (g : Context) (params : ℕ) (c : Code) (locals : List (Option Value)) (answers : List Answer) (k : Configuration)
-    → g.labels ≡ [] → IsBody g params c → AreLocals g params locals → Runs g (begun g c locals) answers k → All IsSound g.«module».types
+    → g.labels ≡ [] → g.catches ≡ [] → IsBody g params c → AreLocals g params locals → Runs g (begun g c locals) answers k → All IsSound g.«module».types
     → (a : Answer) × (reduce g k a).answered
+
+-- An operator whose rows are those of the table of instruction types, which has a type for it: on values of the types that it
+-- takes, an answer by which it goes on fits exactly if its values are of the types that it gives, for as many as it takes.
+abbrev pub TableAnswered : Type 0
+TableAnswered =
+    (g : Context) (k : Configuration) (a : Answer) (o : Op) (t : InstructionType)
+    → IsEnabled g.bits o → instruction_type (context_at g k) o ≡ Some t
+    → ((popped pushed : List Operand) → GroupRow (context_at g k) (set_in k) o popped pushed ↔ TableRow (context_at g k) o popped pushed)
+    → AreOnTop t.takes k.innermost.values
+    → FitsEachRow g a k o ↔ ((length t.takes ≡ a.taken) × AllFit a.values (stack t.gives))

@@ -1,5 +1,7 @@
 -- Rules: one activation is sound, in the order in which they are read.
 pub mod Values
+pub mod States
+pub mod Labels
 pub mod Machine
 pub mod Soundness
 pub mod Beginning

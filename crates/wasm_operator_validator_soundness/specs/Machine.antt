@@ -1,9 +1,13 @@
 -- How instructions run within one activation (WebAssembly 3.0, execution, instructions). The idea: values carry their types
--- and nothing else, so whatever the standard computes from bits, memories, tables, globals or other functions is an answer
--- that comes from outside, and has to fit the type that it is said to have. A reduction then says what it asks of the values
--- that stand there, what it asks of the answer, and what comes of it. All operators in the table of instruction types have
--- one rule; the others have rules of their own. Where no rule applies, the outcome is that the configuration is stuck.
-use Rattle.std.specs.Prelude.{◌≡◌, ℕ, zero, suc, Bool, true, false, List, [], ◌∷◌, ◌++◌, map, get_or, Option, Some, None, slice_get, slice_set}
+-- and nothing else, so whatever the standard computes from bits, memories, tables, globals, objects or other functions is an
+-- answer that comes from outside, and has to fit the type that it is said to have. A reduction then says what it asks of the
+-- values that are there, what it asks of the answer, and what comes of it.
+--
+-- Each plain operator asks that some row of the typing rules, in the context in which it runs, takes the values on top. What the
+-- values and locals of the activation themselves determine has a rule of its own: branches, calls, `select`, locals, nulls, and
+-- copies into tables. All other operators have one rule, by their rows: an answer fits what each row gives that takes the values
+-- on top, or what a label takes that the operator names. If no rule applies, the outcome is that the configuration is stuck.
+use Rattle.std.specs.Prelude.{◌≡◌, ℕ, zero, suc, Bool, true, false, List, [], ◌∷◌, ◌++◌, map, get_or, Option, Some, None, slice_get, slice_set, reverse, length, drop}
 use Rattle.wasm_types.specs.trees.Types.{Number, i32, InnerOf, function, number, value_map}
 use Rattle.wasm_types.specs.trees.Trees.{TypeTree}
 use Rattle.wasm_types.specs.trees.Below.{expanded}
@@ -12,93 +16,30 @@ use Rattle.wasm_types.specs.values.declared.value.ValType.TheVariants as value
 use Rattle.wasm_types.specs.values.Values.{value_of}
 use Rattle.wasm_operator_validator_rules.specs.expression.immediates.declared.block.BlockType.{BlockType}
 use Rattle.wasm_operator_validator_rules.specs.expression.immediates.declared.block.BlockType.TheVariants as block
-use Rattle.wasm_operator_validator_rules.specs.expression.control.declared.control.ControlOperator.{ControlOperator}
-use Rattle.wasm_operator_validator_rules.specs.expression.control.declared.control.ControlOperator.TheVariants as control
-use Rattle.wasm_operator_validator_rules.specs.expression.memory.declared.memory.MemoryOperator.{MemoryOperator}
-use Rattle.wasm_operator_validator_rules.specs.expression.memory.declared.memory.MemoryOperator.TheVariants as memory
-use Rattle.wasm_operator_validator_rules.specs.expression.memory.declared.bulk.BulkOperator.{BulkOperator}
-use Rattle.wasm_operator_validator_rules.specs.expression.memory.declared.bulk.BulkOperator.TheVariants as bulk
+use Rattle.wasm_operator_validator_rules.specs.expression.immediates.declared.frames.FrameKind.{FrameKind}
+use Rattle.wasm_operator_validator_rules.specs.expression.immediates.declared.frames.FrameKind.TheVariants as frames
+use Rattle.wasm_operator_validator_rules.specs.expression.groups.declared.control.ControlOperator.{ControlOperator}
+use Rattle.wasm_operator_validator_rules.specs.expression.groups.declared.control.ControlOperator.TheVariants as control
+use Rattle.wasm_operator_validator_rules.specs.expression.groups.declared.memory.MemoryOperator.{MemoryOperator}
+use Rattle.wasm_operator_validator_rules.specs.expression.groups.declared.memory.MemoryOperator.TheVariants as memory
+use Rattle.wasm_operator_validator_rules.specs.expression.groups.declared.bulk.BulkOperator.{BulkOperator}
+use Rattle.wasm_operator_validator_rules.specs.expression.groups.declared.bulk.BulkOperator.TheVariants as bulk
+use Rattle.wasm_operator_validator_rules.specs.expression.operator.declared.role.Role.{Role}
+use Rattle.wasm_operator_validator_rules.specs.expression.operator.declared.role.Role.TheVariants.{Opens}
+use Rattle.wasm_operator_validator_rules.specs.expression.operator.Roles.{role_of}
 use Rattle.wasm_operator_validator_rules.specs.expression.operator.Op as op
 use Rattle.wasm_operator_validator_rules.specs.expression.operator.Op.{Op, ParametricTree}
 use Rattle.wasm_operator_validator_rules.specs.expression.Code.{Code, close, plain, nested, turn}
-use Rattle.wasm_operator_validator_rules.specs.Operands.{ValueType, known, IsReference, stack}
-use Rattle.wasm_operator_validator_rules.specs.Context.{Context, Table, Signature, written_type, address_type}
-use Rattle.wasm_operator_validator_rules.specs.InstructionTypes.{InstructionType, instruction_type, i32_type, shorter}
+use Rattle.wasm_operator_validator_rules.specs.Operands.{ValueType, Operand, known, IsReference, stack}
+use Rattle.wasm_operator_validator_rules.specs.Context.{Context, Table, Initialised, Signature, is_catch, inside, written_type, address_type}
+use Rattle.wasm_operator_validator_rules.specs.InstructionTypes.{i32_type, shorter}
+use Rattle.wasm_operator_validator_rules.specs.Row.{Row}
+use Rattle.wasm_operator_validator_rules.specs.Typed.{block_type_of, Turns, in_part}
 use Rattle.wasm_operator_validator_soundness.specs.Values.{Value, number_value, ref_null, ref_defined, least_type, Fits, EachFits, AllFit}
-
--- ---- configurations (execution, runtime structure, stack)
-
--- where a branch to a label goes on: behind its block, or at the beginning of a loop's instructions
-pub data Continuation : Type 0 where
-  behind : Continuation
-  again : Code → Continuation
-
--- A label of the stack, with what stands above it: the instructions still to come, the values, the top first, the block's
--- type, and where a branch to it goes on.
-pub record Label : Type 0 where
-  pub code : Code
-  pub values : List Value
-  pub block : Signature
-  pub continuation : Continuation
-
--- The activation's locals, of which some may have no value yet, and its labels: the innermost, and those around it. The
--- function itself is the last of them.
-pub record Configuration : Type 0 where
-  pub locals : List (Option Value)
-  pub innermost : Label
-  pub around : List Label
-
--- the types of the values that a branch to a label takes
-abbrev pub taken_by : Continuation → Signature → List ValueType
-taken_by behind b = b.results
-taken_by (again c) b = b.params
-
-abbrev pub branch_type : Label → List ValueType
-branch_type l = taken_by l.continuation l.block
-
--- What a reduction takes from outside: the values that an operator computes, reads or hands back, the top first; whether a
--- condition holds; which label of a table is meant; and whether the operator traps. A call traps where its function does, and
--- where it throws, since none of these operators handles an exception.
-pub record Answer : Type 0 where
-  pub values : List Value
-  pub condition : Bool
-  pub index : ℕ
-  pub traps : Bool
-
--- What comes of a reduction: another configuration; the values that the function gives; a call of this type, with its
--- arguments, that takes the activation's place; a trap. Or no rule applies.
-pub data Outcome : Type 0 where
-  next : Configuration → Outcome
-  returned : List Value → Outcome
-  replaced : Signature → List Value → Outcome
-  trapped : Outcome
-  stuck : Outcome
-
--- a reduction: what it asks of the values that stand there, what it asks of the answer, and what comes of it
-pub record Reduction : Type 1 where
-  pub asked : Type 0
-  pub answered : Type 0
-  pub outcome : Outcome
-
-abbrev pub no_rule : Reduction
-no_rule = record { asked = Unit {0}; answered = Unit {0}; outcome = stuck }
-
--- ---- values off the stack
-
--- as many values as there are items in a list, and those below them
-abbrev pub front : {A : Type 0} → List A → List Value → List Value
-front [] vs = []
-front (t ∷ ts) [] = []
-front (t ∷ ts) (v ∷ vs) = v ∷ front ts vs
-
-abbrev pub back : {A : Type 0} → List A → List Value → List Value
-back [] vs = vs
-back (t ∷ ts) [] = []
-back (t ∷ ts) (v ∷ vs) = back ts vs
-
--- the values on top are of these types, the last on top
-abbrev pub AreOnTop : List ValueType → List Value → Type 0
-AreOnTop ts vs = AllFit (front (stack ts) vs) (stack ts)
+use Rattle.wasm_operator_validator_soundness.specs.States.{Continuation, behind, again, Handlers, no_handlers, exits, clauses, Label, Configuration, all_labels, branch_type, context_in}
+use Rattle.wasm_operator_validator_soundness.specs.States.{Way, branches, traps, throws, Answer, Outcome, next, returned, replaced, trapped, stuck}
+use Rattle.wasm_operator_validator_soundness.specs.States.{Reduction, by_itself, no_rule, refused, asks, front, back, AreOnTop}
+use Rattle.wasm_operator_validator_soundness.specs.Labels.{labels_named}
 
 -- ---- what the code means in a module
 
@@ -119,12 +60,40 @@ block_signature g block.Empty = Some (record { params = []; results = [] })
 block_signature g (block.Val written) = Some (record { params = []; results = meant_type g written ∷ [] })
 block_signature g (block.FuncType x) = function_type (slice_get g.«module».types x)
 
+-- that of the block that an operator opens, if it opens one
+abbrev pub signature_for : Context → Option BlockType → Option Signature
+signature_for g None = None
+signature_for g (Some bt) = block_signature g bt
+
 -- the second part of an `if`, which is empty where there is no `else`
 abbrev pub second_part : Code → Code
 second_part (close o) = close o
 second_part (plain o more) = second_part more
 second_part (nested o body more) = second_part more
 second_part (turn o more) = more
+
+-- a clause of an older `try`: its operator, the context in which that stands, and its instructions; by its number
+pub record Clause : Type 0 where
+  pub operator : Op
+  pub context : Context
+  pub code : Code
+
+abbrev pub clause_at : Context → Code → ℕ → Option Clause
+clause_at g (close o) n = None
+clause_at g (plain o more) n = clause_at g more n
+clause_at g (nested o body more) n = clause_at g more n
+clause_at g (turn o more) zero = Some (record { operator = o; context = g; code = more })
+clause_at g (turn o more) (suc n) = clause_at (in_part o g) more n
+
+-- how a branch to a block goes on, and what catches exceptions in it, by its kind
+abbrev pub continuation_of : FrameKind → Code → Continuation
+continuation_of frames.Loop body = again body
+continuation_of j body = behind
+
+abbrev pub handlers_of : FrameKind → Op → Code → Handlers
+handlers_of frames.TryTable o body = exits (labels_named 0 o)
+handlers_of frames.LegacyTry o body = clauses body
+handlers_of j o body = no_handlers
 
 -- ---- leaving labels (execution, control instructions)
 
@@ -149,21 +118,21 @@ jump k (suc n) (l ∷ ls) vs = jump k n ls vs
 abbrev pub going : Configuration → List Value → Code → Configuration
 going k vs code = record k { innermost = record k.innermost { values = vs; code = code } }
 
-abbrev pub all_labels : Configuration → List Label
-all_labels k = k.innermost ∷ k.around
-
--- the context in which its innermost instructions stand
+-- the context in which its innermost instructions stand, and the locals that have a value
 abbrev pub context_at : Context → Configuration → Context
-context_at g k = record g { labels = map branch_type (all_labels k) }
+context_at g k = context_in g (all_labels k)
 
-abbrev pub traps_or : Bool → Outcome → Outcome
-traps_or true o = trapped
-traps_or false o = o
+abbrev pub has_value : Option (Option Value) → Bool
+has_value (Some (Some v)) = true
+has_value _ = false
 
--- an operator that traps gives nothing
-abbrev pub Unless : Bool → Type 0 → Type 0
-Unless true P = Unit {0}
-Unless false P = P
+abbrev pub set_in : Configuration → Initialised
+set_in k = λ x. has_value (slice_get k.locals x)
+
+-- a row of an operator takes the values on top
+abbrev pub TakesValues : Context → Configuration → Op → List Operand → List Operand → Type 0
+TakesValues g k o popped pushed =
+    Row (context_at g k) (set_in k) o popped pushed × AllFit (front (reverse popped) k.innermost.values) (reverse popped)
 
 -- the part of an `if` that a condition chooses, and the first or the second of two values
 abbrev pub either_part : Bool → Code → Code
@@ -184,53 +153,99 @@ IsNullOf t [] = ⊥
 IsNullOf t (v ∷ []) = IsNull v × Fits v t
 IsNullOf t (v ∷ w ∷ vs) = ⊥
 
--- a reduction that asks nothing of the answer
-abbrev pub by_itself : Type 0 → Outcome → Reduction
-by_itself P o = record { asked = P; answered = Unit {0}; outcome = o }
-
 module _ (g : Context) (a : Answer) (k : Configuration) where
   abbrev pub vs : List Value
   vs = k.innermost.values
 
-  -- and one that leaves these values
+  -- a reduction that leaves these values
   abbrev pub leaves : Type 0 → List Value → Code → Reduction
   leaves P ws more = by_itself P (next (going k ws more))
 
-  -- values of these types go, and the answer's come, of those types; or the operator traps
-  abbrev pub exchange : List ValueType → List ValueType → Code → Reduction
-  exchange ts us more = record {
-    asked = AreOnTop ts vs;
-    answered = Unless a.traps (AllFit a.values (stack us));
-    outcome = traps_or a.traps (next (going k (a.values ++ back (stack ts) vs) more));
+  -- ---- labels that the answer goes to, with its values
+
+  -- one of these labels, if it is there: with values of the types that it takes
+  abbrev pub goes_to : ℕ → List Label → Option (List ValueType) → Reduction
+  goes_to n ls None = refused
+  goes_to n ls (Some ts) = record { asked = Unit {0}; answered = AllFit a.values (stack ts); outcome = jump k n ls a.values }
+
+  abbrev pub goes_by : Option ℕ → List Label → Reduction
+  goes_by None ls = refused
+  goes_by (Some n) ls = goes_to n ls (slice_get (map branch_type ls) n)
+
+  -- a clause of an older `try` with this label: with values of the types with which each typing of the clause begins
+  abbrev pub turns_to : Option Clause → Label → List Label → Reduction
+  turns_to None l ls = refused
+  turns_to (Some c) l ls = record {
+    asked = (ts : List ValueType) × Turns c.context l.block c.operator ts;
+    answered = (ts : List ValueType) → Turns c.context l.block c.operator ts → AllFit a.values (stack ts);
+    outcome =
+        next (record k { innermost = record l { code = c.code; values = a.values; continuation = behind; handlers = no_handlers; clause = true }; around = ls });
   }
 
-  -- an operator of the table of instruction types
-  abbrev pub by_table : Option InstructionType → Code → Reduction
-  by_table None more = no_rule
-  by_table (Some t) more = exchange t.takes t.gives more
+  abbrev pub caught_by : Handlers → Label → List Label → Reduction
+  caught_by no_handlers l ls = refused
+  caught_by (exits ns) l ls = goes_by (slice_get ns a.index) ls
+  caught_by (clauses c) l ls = turns_to (clause_at (inside frames.LegacyTry l.block.results (context_in g ls)) c a.index) l ls
+
+  -- an exception that leaves so many of these labels, and that a clause of the next one catches
+  abbrev pub caught_after : ℕ → List Label → Reduction
+  caught_after n [] = refused
+  caught_after zero (l ∷ ls) = caught_by l.handlers l ls
+  caught_after (suc n) (l ∷ ls) = caught_after n ls
+
+  -- what may fail: a trap, or an exception, which leaves the activation or is caught within it
+  abbrev pub unless_fails : Way → Reduction → Reduction
+  unless_fails traps r = by_itself (Unit {0}) trapped
+  unless_fails (throws n) r = caught_after n (all_labels k)
+  unless_fails w r = r
+
+  abbrev pub unless_traps : Way → Reduction → Reduction
+  unless_traps traps r = by_itself (Unit {0}) trapped
+  unless_traps w r = r
+
+  -- ---- operators by their rows
+
+  -- Each row that takes the values on top takes so many, and gives what the answer's values fit.
+  abbrev pub FitsEachRow : Op → Type 0
+  FitsEachRow o = (popped pushed : List Operand) → TakesValues g k o popped pushed → (length popped ≡ a.taken) × AllFit a.values (reverse pushed)
+
+  -- If what comes next is not reached, a row may give anything, and no values fit that.
+  abbrev pub runs_by_rows : Way → Op → Code → Reduction
+  runs_by_rows branches o more = goes_by (slice_get (labels_named (length k.around) o) a.index) (all_labels k)
+  runs_by_rows w o more =
+      record { asked = Unit {0}; answered = FitsEachRow o; outcome = next (going k (a.values ++ drop a.taken vs) more) }
+
+  abbrev pub by_rows : Op → Code → Reduction
+  by_rows o more = unless_fails a.way (runs_by_rows a.way o more)
 
   -- ---- blocks (execution, control instructions, blocks)
 
-  -- the instructions of a block begin above a new label, with its parameters
-  abbrev pub within : Signature → Code → Continuation → List Value → Code → Outcome
-  within b body c ws more = next (record k {
-    innermost = record { code = body; values = front (stack b.params) ws; block = b; continuation = c };
+  -- a part of a block's instructions begins above a new label, with its parameters
+  abbrev pub within : FrameKind → Op → Signature → Code → Code → List Value → Code → Outcome
+  within j o b body part ws more = next (record k {
+    innermost = record {
+      code = part;
+      values = front (stack b.params) ws;
+      block = b;
+      continuation = continuation_of j body;
+      handlers = handlers_of j o body;
+      clause = is_catch j;
+    };
     around = record k.innermost { values = back (stack b.params) ws; code = more } ∷ k.around;
   })
 
-  abbrev pub open_block : Option Signature → Code → Continuation → Code → Reduction
-  open_block None body c more = no_rule
-  open_block (Some b) body c more = by_itself (AreOnTop b.params vs) (within b body c vs more)
+  abbrev pub open_if : Op → Signature → Code → List Value → Code → Reduction
+  open_if o b body [] more = no_rule
+  open_if o b body (c ∷ ws) more = by_itself (Fits c i32_type × AreOnTop b.params ws) (within frames.If o b body (either_part a.condition body) ws more)
 
-  abbrev pub open_if : Option Signature → Code → List Value → Code → Reduction
-  open_if (Some b) body (c ∷ ws) more = by_itself (Fits c i32_type × AreOnTop b.params ws) (within b (either_part a.condition body) behind ws more)
-  open_if _ body ws more = no_rule
+  abbrev pub opens : FrameKind → Option Signature → Op → Code → Code → Reduction
+  opens j None o body more = no_rule
+  opens frames.If (Some b) o body more = open_if o b body vs more
+  opens j (Some b) o body more = by_itself (AreOnTop b.params vs) (within j o b body body vs more)
 
-  abbrev pub enter : Op → Code → Code → Reduction
-  enter (op.Control (control.Block bt)) body more = open_block (block_signature g bt) body behind more
-  enter (op.Control (control.Loop bt)) body more = open_block (block_signature g bt) body (again body) more
-  enter (op.Control (control.If bt)) body more = open_if (block_signature g bt) body vs more
-  enter o body more = no_rule
+  abbrev pub enter : Role → Op → Code → Code → Reduction
+  enter (Opens j) o body more = opens j (signature_for g (block_type_of o)) o body more
+  enter r o body more = no_rule
 
   -- ---- branches, returns and calls (execution, control instructions)
 
@@ -254,7 +269,15 @@ module _ (g : Context) (a : Answer) (k : Configuration) where
   branch_by n (Some ts) (c ∷ ws) = by_itself (Fits c i32_type × AreOnTop ts ws) (jump k n (all_labels k) (front (stack ts) ws))
   branch_by n _ ws = no_rule
 
-  -- the function takes its arguments and gives its results, or the call traps
+  -- values of these types go, and the answer's come, of those types; or the function called traps or throws
+  abbrev pub exchange : List ValueType → List ValueType → Code → Reduction
+  exchange ts us more = asks (AreOnTop ts vs) (unless_fails a.way (record {
+    asked = Unit {0};
+    answered = AllFit a.values (stack us);
+    outcome = next (going k (a.values ++ back (stack ts) vs) more);
+  }))
+
+  -- the function takes its arguments and gives its results
   abbrev pub call : Option Signature → Code → Reduction
   call None more = no_rule
   call (Some b) more = exchange b.params b.results more
@@ -270,7 +293,7 @@ module _ (g : Context) (a : Answer) (k : Configuration) where
 
   abbrev pub return_call_indirect : Option Table → Option Signature → List Value → Reduction
   return_call_indirect (Some t) (Some b) (c ∷ ws) =
-      by_itself (Fits c (address_type t.table64) × AreOnTop b.params ws) (traps_or a.traps (replaced b (front (stack b.params) ws)))
+      asks (Fits c (address_type t.table64) × AreOnTop b.params ws) (unless_traps a.way (by_itself (Unit {0}) (replaced b (front (stack b.params) ws))))
   return_call_indirect _ _ ws = no_rule
 
   abbrev pub operate_control : ControlOperator → Code → Reduction
@@ -284,7 +307,7 @@ module _ (g : Context) (a : Answer) (k : Configuration) where
   operate_control (control.CallIndirect y x) more = call_indirect (slice_get g.«module».tables x) (function_type (slice_get g.«module».types y)) more
   operate_control (control.ReturnCall x) more = return_call (function_type (slice_get g.«module».functions x))
   operate_control (control.ReturnCallIndirect y x) more = return_call_indirect (slice_get g.«module».tables x) (function_type (slice_get g.«module».types y)) vs
-  operate_control o more = no_rule
+  operate_control o more = by_rows (op.Control o) more
 
   -- ---- parametric instructions (execution, parametric instructions)
 
@@ -301,7 +324,7 @@ module _ (g : Context) (a : Answer) (k : Configuration) where
   operate_parametric op.Drop more = drop_from vs more
   operate_parametric op.Select more = select_from (λ v w. (n : Number) × Fits v (number n) × Fits w (number n)) vs more
   operate_parametric (op.TypedSelect written) more = let t = meant_type g written in select_from (λ v w. Fits v t × Fits w t) vs more
-  operate_parametric (op.TypedSelectMulti written) more = no_rule
+  operate_parametric o more = by_rows (op.Parametric o) more
 
   -- ---- locals (execution, variable instructions)
 
@@ -326,7 +349,7 @@ module _ (g : Context) (a : Answer) (k : Configuration) where
   operate_memory (memory.LocalGet x) more = get_local (slice_get k.locals x) more
   operate_memory (memory.LocalSet x) more = set_from x vs more
   operate_memory (memory.LocalTee x) more = tee_from x vs more
-  operate_memory o more = by_table (instruction_type (context_at g k) (op.Memory o)) more
+  operate_memory o more = by_rows (op.Memory o) more
 
   -- ---- references, and copies into tables (execution, reference instructions, table instructions)
 
@@ -343,11 +366,11 @@ module _ (g : Context) (a : Answer) (k : Configuration) where
 
   -- operands of these types go, and values of one type, which the answer names, are written where another type is declared
   abbrev pub copies : List ValueType → ValueType → ValueType → Code → Reduction
-  copies ts s t more = record {
-    asked = AreOnTop ts vs × Unless a.traps (EachFits a.values t);
-    answered = Unless a.traps (EachFits a.values s);
-    outcome = traps_or a.traps (next (going k (back (stack ts) vs) more));
-  }
+  copies ts s t more = asks (AreOnTop ts vs) (unless_traps a.way (record {
+    asked = EachFits a.values t;
+    answered = EachFits a.values s;
+    outcome = next (going k (back (stack ts) vs) more);
+  }))
 
   abbrev pub init_table : Option ValueType → Option Table → Code → Reduction
   init_table (Some s) (Some t) more = copies (address_type t.table64 ∷ i32_type ∷ i32_type ∷ []) s t.element more
@@ -363,25 +386,28 @@ module _ (g : Context) (a : Answer) (k : Configuration) where
   operate_bulk (bulk.RefFunc x) more = function_at (slice_get g.«module».functions x) more
   operate_bulk (bulk.TableInit e x) more = init_table (slice_get g.«module».elements e) (slice_get g.«module».tables x) more
   operate_bulk (bulk.TableCopy x y) more = copy_table (slice_get g.«module».tables x) (slice_get g.«module».tables y) more
-  operate_bulk o more = by_table (instruction_type (context_at g k) (op.Bulk o)) more
+  operate_bulk o more = by_rows (op.Bulk o) more
 
   -- ---- all of them
 
-  abbrev pub operate : Op → Code → Reduction
-  operate (op.Control o) more = operate_control o more
-  operate (op.Parametric o) more = operate_parametric o more
-  operate (op.Memory o) more = operate_memory o more
-  operate (op.Bulk o) more = operate_bulk o more
-  operate o more = by_table (instruction_type (context_at g k) o) more
+  abbrev pub rule : Op → Code → Reduction
+  rule (op.Control o) more = operate_control o more
+  rule (op.Parametric o) more = operate_parametric o more
+  rule (op.Memory o) more = operate_memory o more
+  rule (op.Bulk o) more = operate_bulk o more
+  rule o more = by_rows o more
 
-  -- the end of a block's instructions, or of the first part of an `if`
+  abbrev pub operate : Op → Code → Reduction
+  operate o more = asks ((popped pushed : List Operand) × TakesValues g k o popped pushed) (rule o more)
+
+  -- the end of a block's instructions, or of a part of them
   abbrev pub end_of_block : Reduction
   end_of_block = by_itself (AllFit vs (stack k.innermost.block.results)) (come_out k k.around vs)
 
   abbrev pub execute : Code → Reduction
   execute (close o) = end_of_block
   execute (plain o more) = operate o more
-  execute (nested o body more) = enter o body more
+  execute (nested o body more) = enter (role_of o) o body more
   execute (turn o more) = end_of_block
 
 -- the reduction of a configuration under an answer

@@ -1,13 +1,14 @@
 -- That typed code is never stuck (WebAssembly 3.0, appendix, soundness), for one activation: whatever it is answered, by
 -- values of the types that answers are said to have, each configuration that it reaches has what its reduction asks for, and
 -- that reduction leads on, or ends the activation by a trap or by values of the types that the caller was promised.
-use Rattle.std.specs.Prelude.{◌≡◌, ℕ, IsTrue, List, [], Option, Some, None, slice_get, ◌⊎◌, ◌∷◌}
+use Rattle.std.specs.Prelude.{◌≡◌, ℕ, false, IsTrue, List, [], Option, Some, None, slice_get, ◌⊎◌, ◌∷◌}
 use Rattle.wasm_operator_validator_rules.specs.expression.Code.{Code}
 use Rattle.wasm_operator_validator_rules.specs.Operands.{ValueType, AllBelow, all_known, stack}
 use Rattle.wasm_operator_validator_rules.specs.Context.{Context, initialised_at_first}
 use Rattle.wasm_operator_validator_rules.specs.Typed.{IsBody}
 use Rattle.wasm_operator_validator_soundness.specs.Values.{Value, Fits, AllFit}
-use Rattle.wasm_operator_validator_soundness.specs.Machine.{behind, Configuration, Answer, Outcome, next, returned, replaced, trapped, stuck, Reduction, reduce, Runs}
+use Rattle.wasm_operator_validator_soundness.specs.States.{behind, no_handlers, Configuration, Answer, Outcome, next, returned, replaced, trapped, stuck, Reduction}
+use Rattle.wasm_operator_validator_soundness.specs.Machine.{reduce, Runs}
 
 -- ---- where an activation begins
 
@@ -32,7 +33,7 @@ pub record AreLocals (g : Context) (params : ℕ) (locals : List (Option Value))
 abbrev pub begun : Context → Code → List (Option Value) → Configuration
 begun g c locals = record {
   locals = locals;
-  innermost = record { code = c; values = []; block = record { params = []; results = g.results }; continuation = behind };
+  innermost = record { code = c; values = []; block = record { params = []; results = g.results }; continuation = behind; handlers = no_handlers; clause = false };
   around = [];
 }
 
@@ -58,6 +59,6 @@ EndsWell g stuck = ⊥
 abbrev pub ActivationsAreSound : Type 0
 ActivationsAreSound =
     (g : Context) (params : ℕ) (c : Code) (locals : List (Option Value)) (answers : List Answer) (k : Configuration) (a : Answer)
-    → g.labels ≡ [] → IsBody g params c → AreLocals g params locals
+    → g.labels ≡ [] → g.catches ≡ [] → IsBody g params c → AreLocals g params locals
     → Runs g (begun g c locals) answers k → (reduce g k a).answered
     → (IsStuck (reduce g k a) → ⊥) × EndsWell g (reduce g k a).outcome

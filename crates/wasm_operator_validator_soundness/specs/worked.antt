@@ -1,3 +1,4 @@
 pub mod Values
 pub mod Runs
 pub mod Stuck
+pub mod Answered

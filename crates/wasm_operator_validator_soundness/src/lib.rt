@@ -8,10 +8,12 @@
 pub mod accepted;
 mod worked;
 
-ghost use Rattle.wasm_operator_validator_soundness.specs.Beginning.{CallsMayBegin, NullsAreGiven, NullsAreOne, AnswersExist};
+ghost use Rattle.wasm_operator_validator_soundness.specs.Beginning.{CallsMayBegin, NullsAreGiven, NullsAreOne, AnswersExist, TableAnswered};
 ghost use Rattle.wasm_operator_validator_soundness.specs.Soundness.{ActivationsAreSound};
 
-pub use worked::{runs_are_worked, stuck_configurations_are_worked, values_are_worked};
+pub use worked::{
+    operators_are_answered, runs_are_worked, stuck_configurations_are_worked, values_are_worked,
+};
 
 /// A well-typed body, begun with locals of their types and answered by values of theirs, is never stuck within its
 /// activation, and what it returns, or hands to a call in its place, is of the types that were promised.
@@ -20,10 +22,12 @@ pub fn activations_are_sound()
 {}
 
 /// Where types are of valid groups, a call by arguments of its function's parameters begins with such locals, some answer fits
-/// wherever it comes to, and `ref.null` is answered by one null.
+/// wherever it comes to, and `ref.null` is answered by one null. Operators of the table of instruction types are answered by
+/// exactly what the table gives.
 pub fn calls_may_begin()
     ensures begin { CallsMayBegin }
     ensures null { NullsAreGiven }
     ensures one_null { NullsAreOne }
     ensures answered { AnswersExist }
+    ensures table { TableAnswered }
 {}

@@ -1,6 +1,5 @@
 -- Locals that a body declares (WebAssembly 3.0, validation, locals).
 use Rattle.std.specs.Prelude.{◌≡◌, ◌≤◌, ◌<◌, ◌+◌, ◌++◌, ◌⊎◌, ℕ, length, replicate}
-use Rattle.wasm_types.specs.limits.Limits.{default_limits}
 use Rattle.wasm_types.specs.error.Denials.{Denies}
 use Rattle.wasm_types.specs.error.declared.error.ErrorKind.{ErrorKind}
 use Rattle.wasm_types.specs.error.declared.error.ErrorKind.TheVariants as kinds
@@ -14,29 +13,29 @@ use Rattle.wasm_operator_validator_state.specs.State.{State}
 abbrev pub with_locals : State → ℕ → ValType → State
 with_locals σ count t = record σ { given = record σ.given { locals = σ.given.locals ++ replicate count t } }
 
--- so many more are within the limit
-abbrev pub HasRoomFor : State → ℕ → Type 0
-HasRoomFor σ count = length σ.given.locals + count ≤ default_limits.locals
+-- with so many more there are at most so many
+abbrev pub HasRoomFor : ℕ → State → ℕ → Type 0
+HasRoomFor most σ count = length σ.given.locals + count ≤ most
 
 -- the module may write this type under the features of the body
 abbrev pub MayWrite : Meaning → State → ValType → Type 0
 MayWrite m σ written = (t : ValueType) × IsType σ.given.bits m.«module» written t
 
--- locals of a type that the module may write stand at the end, by what it names
-pub record DefinesLocals (m : Meaning) (σ : State) (count : ℕ) (written : ValType) (τ : State) : Type 0 where
+-- locals of a type that the module may write stand at the end, by what it names, where a function has at most so many
+pub record DefinesLocals (m : Meaning) (most : ℕ) (σ : State) (count : ℕ) (written : ValType) (τ : State) : Type 0 where
   pub named : ValType
   pub type : IsType σ.given.bits m.«module» written (type_in m named)
-  pub within : HasRoomFor σ count
+  pub within : HasRoomFor most σ count
   pub state : τ ≡ with_locals σ count named
 
 -- why locals of such a type are refused
-abbrev pub RefusesCount : State → ℕ → ErrorKind → Type 0
-RefusesCount σ count (kinds.EndOfData h) = ⊥
-RefusesCount σ count (kinds.MissingFeature f) = ⊥
-RefusesCount σ count kinds.OutOfMemory = (0 < count) × HasRoomFor σ count
-RefusesCount σ count kinds.Failed = ⊥
-RefusesCount σ count kinds.Other = default_limits.locals < length σ.given.locals + count
+abbrev pub RefusesCount : ℕ → State → ℕ → ErrorKind → Type 0
+RefusesCount most σ count (kinds.EndOfData h) = ⊥
+RefusesCount most σ count (kinds.MissingFeature f) = ⊥
+RefusesCount most σ count kinds.OutOfMemory = (0 < count) × HasRoomFor most σ count
+RefusesCount most σ count kinds.Failed = ⊥
+RefusesCount most σ count kinds.Other = most < length σ.given.locals + count
 
 -- why they are refused: for their type, or, where that may be written, for how many they are
-abbrev pub RefusesLocals : Meaning → State → ℕ → ValType → ErrorKind → Type 0
-RefusesLocals m σ count written k = Denies k (MayWrite m σ written) ⊎ (MayWrite m σ written × RefusesCount σ count k)
+abbrev pub RefusesLocals : Meaning → ℕ → State → ℕ → ValType → ErrorKind → Type 0
+RefusesLocals m most σ count written k = Denies k (MayWrite m σ written) ⊎ (MayWrite m σ written × RefusesCount most σ count k)

@@ -45,8 +45,14 @@ impl OperatorValidator {
     }
 
     /// What is known where no frame is open yet, in place of all that was known: these parameters are the locals. It says whether it was
-    /// done; else there are too many of them, or there is no memory, and no more is known of the validator.
-    pub fn restart(&mut self, features: WasmFeatures, params: &[ValType], shared: bool) -> bool
+    /// done; else there are more than `most` of them, or there is no memory, and no more is known of the validator.
+    pub fn restart(
+        &mut self,
+        features: WasmFeatures,
+        most: u32,
+        params: &[ValType],
+        shared: bool,
+    ) -> bool
         ensures { result ≡ true → self.new ≡ record {
           given = record { bits = features.0; locals = params.now; params = length params.now; shared = shared };
           inits = [];
@@ -61,7 +67,7 @@ impl OperatorValidator {
         self.shared = shared;
         self.failed = false;
         self.failed_before = false;
-        let done = put_params(&mut self.locals, &mut self.inits, params);
+        let done = put_params(&mut self.locals, &mut self.inits, most, params);
         self.params = self.locals.len_locals();
         done
     }
@@ -102,13 +108,13 @@ impl OperatorValidator {
 }
 
 // These parameters are the locals from now on, and have a value. It says whether it was done; else there are none.
-fn put_params(locals: &mut Locals, inits: &mut LocalInits, params: &[ValType]) -> bool
+fn put_params(locals: &mut Locals, inits: &mut LocalInits, most: u32, params: &[ValType]) -> bool
     ensures locals { result ≡ true → locals.new ≡ params.now }
     ensures none { result ≡ false → locals.new ≡ [] }
     ensures first { inits.new ≡ record { first = replicate (length locals.new) true; set = []; saved = None } }
 {
     inits.clear();
-    if !put_each(locals, params) {
+    if !put_each(locals, most, params) {
         locals.clear();
         return false;
     }
@@ -121,12 +127,12 @@ fn put_params(locals: &mut Locals, inits: &mut LocalInits, params: &[ValType]) -
 }
 
 // The same of the locals alone; else there are some of them.
-fn put_each(locals: &mut Locals, params: &[ValType]) -> bool
+fn put_each(locals: &mut Locals, most: u32, params: &[ValType]) -> bool
     ensures { result ≡ true → locals.new ≡ params.now }
 {
     locals.clear();
     for one in params {
-        if !locals.put(1, one) {
+        if !locals.put(most, 1, one) {
             return false;
         }
     }

@@ -1,6 +1,7 @@
 //! Locals that a body declares.
 
 ghost use Rattle.std.specs.Prelude.{◌≡◌, ◌<◌, true, false, OnOk, IfErr, MatchResult};
+ghost use Rattle.wasm_types.specs.limits.Limits.{IsWithinCeilings};
 ghost use Rattle.wasm_types.specs.error.Denials.{Denies, RefusedAt};
 ghost use Rattle.wasm_operator_validator_state.specs.rules.Context.{IsType};
 ghost use Rattle.wasm_operator_validator_state.specs.resources.Meaning.{Meaning, type_in};
@@ -9,7 +10,7 @@ ghost use Rattle.wasm_operator_validator_stacks.specs.Defining.{with_locals, Has
 use crate::OperatorValidator;
 use wasm_operator_validator_locals::too_many_locals;
 use wasm_operator_validator_state::WasmModuleResources;
-use wasm_types::{Error, Result, ValType, WasmFeatures};
+use wasm_types::{Error, Limits, Result, ValType, WasmFeatures};
 
 impl OperatorValidator {
     /// Puts `count` locals of a type at the end, as a body declares them (WebAssembly 3.0, validation, locals). They have a value
@@ -17,17 +18,19 @@ impl OperatorValidator {
     ///
     /// # Errors
     ///
-    /// First where the module may not write the type, also for no locals; then where there would be more than 50,000 in all; then
-    /// where there is no memory for them. Nothing changes then.
+    /// First where the module may not write the type, also for no locals; then where there would be more in all than the limits
+    /// say; then where there is no memory for them. Nothing changes then.
     pub fn define_locals<R: WasmModuleResources>(
         &mut self,
+        limits: Limits,
         offset: u64,
         count: u32,
         ty: ValType,
         resources: &R,
     ) -> Result<()>
-        ensures defined { OnOk result (DefinesLocals (R.meaning resources.now) self.old count ty self.new) }
-        ensures refused { IfErr result (λ e. RefusesLocals (R.meaning resources.now) self.old count ty e.kind) }
+        requires within { IsWithinCeilings limits }
+        ensures defined { OnOk result (DefinesLocals (R.meaning resources.now) limits.locals self.old count ty self.new) }
+        ensures refused { IfErr result (λ e. RefusesLocals (R.meaning resources.now) limits.locals self.old count ty e.kind) }
         ensures stays { IfErr result (λ _. self.new ≡ self.old) }
         ensures at { RefusedAt offset result }
     {
@@ -35,7 +38,7 @@ impl OperatorValidator {
             Ok(named) => named,
             Err(error) => return Err(error),
         };
-        self.put_locals(offset, count, &named)
+        self.put_locals(limits.locals, offset, count, &named)
     }
 
     // A type that the module may write, by its ids: numbers are most of them, and name nothing.
@@ -84,25 +87,25 @@ impl OperatorValidator {
 
     // The same of a type by its ids.
     #[inline]
-    fn put_locals(&mut self, offset: u64, count: u32, ty: &ValType) -> Result<()>
-        ensures put { OnOk result ((self.new ≡ with_locals self.old count ty.now) × HasRoomFor self.old count) }
-        ensures refused { IfErr result (λ e. RefusesCount self.old count e.kind) }
+    fn put_locals(&mut self, most: u32, offset: u64, count: u32, ty: &ValType) -> Result<()>
+        ensures put { OnOk result ((self.new ≡ with_locals self.old count ty.now) × HasRoomFor most self.old count) }
+        ensures refused { IfErr result (λ e. RefusesCount most self.old count e.kind) }
         ensures stays { IfErr result (λ _. self.new ≡ self.old) }
         ensures at { RefusedAt offset result }
     {
-        if !self.locals.may_define(count) {
+        if !self.locals.may_define(most, count) {
             return Err(too_many_locals(offset));
         }
-        if self.put_within(count, ty) {
+        if self.put_within(most, count, ty) {
             return Ok(());
         }
         Err(Error::out_of_memory(offset))
     }
 
-    // The same where there is room by the limit, and whether it was done. Else there is no memory, and nothing changes.
+    // The same where there is room, and whether it was done. Else there is no memory, and nothing changes.
     #[inline]
-    fn put_within(&mut self, count: u32, ty: &ValType) -> bool
-        requires { HasRoomFor self.old count }
+    fn put_within(&mut self, most: u32, count: u32, ty: &ValType) -> bool
+        requires { HasRoomFor most self.old count }
         ensures put { result ≡ true → self.new ≡ with_locals self.old count ty.now }
         ensures stays { result ≡ false → self.new ≡ self.old }
         ensures some { result ≡ false → 0 < count }
@@ -114,27 +117,28 @@ impl OperatorValidator {
         let Ok(()) = self.inits.define_locals(count, ty) else {
             return false;
         };
-        if !self.locals.put(count, ty) {
+        if !self.locals.put(most, count, ty) {
             self.inits.truncate(held);
             return false;
         }
         true
     }
 
-    /// Puts `count` locals of a number's type at the end, as `define_locals` does, and says whether it did. Else nothing changes:
-    /// the features do not allow the type, there would be too many, or there is no memory. It takes no locals of other types.
+    /// Puts `count` locals of a number's type at the end, as `define_locals` does where a function has at most `most` locals, and says
+    /// whether it did. Else nothing changes: the features do not allow the type, there would be too many, or there is no memory. It
+    /// takes no locals of other types.
     #[inline]
-    pub fn put_numbers(&mut self, count: u32, ty: ValType) -> bool
-        ensures put { result ≡ true → (m : Meaning) → DefinesLocals m self.old count ty self.new }
+    pub fn put_numbers(&mut self, most: u32, count: u32, ty: ValType) -> bool
+        ensures put { result ≡ true → (m : Meaning) → DefinesLocals m most self.old count ty self.new }
         ensures stays { result ≡ false → self.new ≡ self.old }
     {
         if !is_allowed_number(self.features, &ty) {
             return false;
         }
-        if !self.locals.may_define(count) {
+        if !self.locals.may_define(most, count) {
             return false;
         }
-        self.put_within(count, &ty)
+        self.put_within(most, count, &ty)
     }
 }
 

@@ -5,5 +5,6 @@ pub mod Rows
 pub mod Entering
 pub mod Checks
 pub mod Frames
+pub mod Clauses
 pub mod Locals
 pub mod Bodies

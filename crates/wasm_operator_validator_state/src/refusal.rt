@@ -78,6 +78,10 @@ pub enum Reason {
     NoElse,
     /// Labels of one branch take different numbers of operands.
     LabelsDiffer,
+    /// A branch on a reference that is not null goes to a label that takes nothing.
+    NoLabelTypes,
+    /// The last operand that such a label takes is no reference.
+    LabelWithoutReference,
     /// A call that takes the place of its caller gives other results.
     ResultsDiffer,
     /// A call goes through a table of something else than functions.
@@ -108,6 +112,18 @@ pub enum Reason {
     SelectOfTypes,
     /// A choice is of no type or of several.
     SelectArity,
+    /// The tag of an exception gives something back.
+    TagResults,
+    /// What a clause of `try_table` catches does not fit its label.
+    CatchTypes,
+    /// A `catch` that ends neither the body of a `try` nor the clause of a tag.
+    CatchOutsideTry,
+    /// A `catch_all` there.
+    CatchAllOutsideTry,
+    /// A `delegate` that does not end the body of a `try`.
+    DelegateOutsideTry,
+    /// A `rethrow` of what no clause has caught.
+    RethrowOutsideCatch,
     /// The operator has no rule here yet.
     Unsupported,
 }

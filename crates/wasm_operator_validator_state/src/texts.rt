@@ -259,6 +259,10 @@ pub fn reason_text(reason: Reason) -> &'static str {
         Reason::LabelsDiffer => {
             "type mismatch: br_table target labels have different number of types"
         }
+        Reason::NoLabelTypes => "type mismatch: br_on_non_null target has no label types",
+        Reason::LabelWithoutReference => {
+            "type mismatch: br_on_non_null target does not end with heap type"
+        }
         Reason::ResultsDiffer => {
             "type mismatch: current function and callee have different results"
         }
@@ -276,6 +280,12 @@ pub fn reason_text(reason: Reason) -> &'static str {
         Reason::SelectOfReferences => "type mismatch: select only takes integral types",
         Reason::SelectOfTypes => "type mismatch: select operands have different types",
         Reason::SelectArity => "invalid result arity",
+        Reason::TagResults => "invalid exception type: non-empty tag result type",
+        Reason::CatchTypes => "type mismatch: what is caught does not fit the label of its clause",
+        Reason::CatchOutsideTry => "catch found outside of an `try` block",
+        Reason::CatchAllOutsideTry => "catch_all found outside of a `try` block",
+        Reason::DelegateOutsideTry => "delegate found outside of an `try` block",
+        Reason::RethrowOutsideCatch => "invalid rethrow label: target was not a `catch` block",
         Reason::Unsupported => "the operator is not supported yet",
     }
 }

@@ -1,7 +1,6 @@
 -- Where the body of a function begins, and which functions may have a type: of a module with a function type of one parameter and two
 -- results at index 0, and a struct at index 1 (WebAssembly 3.0, validation, functions).
 use Rattle.std.specs.Prelude.{◌<◌, ℕ, Bool, true, false, List, [], ◌∷◌, length}
-use Rattle.wasm_types.specs.limits.Limits.{default_limits}
 use Rattle.wasm_types.specs.trees.Types.{i32, i64, number}
 use Rattle.wasm_types.specs.trees.Trees.{TypeTree}
 use Rattle.wasm_types.specs.values.declared.value.ValType.{ValType}
@@ -27,10 +26,11 @@ pub record BeginningRows : Type 0 where
   pub function : HasFunctionType listed 0 splitting its_signature
   pub no_function : (t : TypeTree) (b : Signature) → HasFunctionType listed 1 t b → ⊥
   pub no_type : (t : TypeTree) (b : Signature) → HasFunctionType listed 9 t b → ⊥
-  pub may : MayBegin listed 0
-  pub may_not_struct : MayBegin listed 1 → ⊥
-  pub may_not_none : MayBegin listed 9 → ⊥
-  pub may_not_large : (m : Meaning) (x : ℕ) (t : TypeTree) (b : Signature) → HasFunctionType m x t b → default_limits.locals < length b.params → MayBegin m x → ⊥
+  pub may : MayBegin listed 1 0
+  pub may_not_without_locals : MayBegin listed 0 0 → ⊥
+  pub may_not_struct : (most : ℕ) → MayBegin listed most 1 → ⊥
+  pub may_not_none : (most : ℕ) → MayBegin listed most 9 → ⊥
+  pub may_not_large : (m : Meaning) (most x : ℕ) (t : TypeTree) (b : Signature) → HasFunctionType m x t b → most < length b.params → MayBegin m most x → ⊥
   pub begins : Begins listed 5 0 (begun_with (I64 ∷ []) 1 false 0)
   pub not_of_a_struct : Begins listed 5 1 (begun_with (I64 ∷ []) 1 false 1) → ⊥
   pub no_other_features : Begins listed 4 0 (begun_with (I64 ∷ []) 1 false 0) → ⊥

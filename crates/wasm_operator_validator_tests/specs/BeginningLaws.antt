@@ -1,6 +1,5 @@
 -- The rows of `Beginning`.
 use Rattle.std.proofs.Common.{◌≡◌, ◌∙◌, ℕ, Bool, true, false, List, [], ◌∷◌, length, map, Option, Some, refl, sym, ap, arith, lit≤}
-use Rattle.wasm_types.specs.limits.Limits.{default_limits}
 use Rattle.wasm_types.specs.trees.Types.{i32, i64, number, function}
 use Rattle.wasm_types.specs.trees.Trees.{TypeTree, opened}
 use Rattle.wasm_types.specs.trees.Below.{expanded, is_shared}
@@ -76,15 +75,15 @@ unfolding type_in
 other_local h = let e : ◌≡◌ {A = List ValueType} (number i32 ∷ []) (number i64 ∷ []) = types_are (I32 ∷ []) 1 0 5 false h in absurd cc
 
 pub beginning_rows : BeginningRows
-unfolding default_limits
 beginning_rows = record {
   function = its_function;
   no_function = no_function;
   no_type = no_type;
   may = (splitting, its_signature, its_function, lit≤ tt);
-  may_not_struct = λ (t, b, h, few). no_function t b h;
-  may_not_none = λ (t, b, h, few). no_type t b h;
-  may_not_large = λ m x t b h many (u, c, k, few).
+  may_not_without_locals = λ (t, b, h, few). let e = ap (λ (ts : List ValueType). length ts) (params_are t b h) in omega (arith, e, few);
+  may_not_struct = λ most (t, b, h, few). no_function t b h;
+  may_not_none = λ most (t, b, h, few). no_type t b h;
+  may_not_large = λ m most x t b h many (u, c, k, few).
       let e = ap (λ (ts : List ValueType). length ts) (same_params m x t u b c h k) in omega (arith, e, many, few);
   begins = its_state;
   not_of_a_struct = λ h. no_function h.type h.signature h.function;

@@ -11,10 +11,10 @@ use Rattle.wasm_types.specs.values.declared.heap.HeapType.{HeapType}
 use Rattle.wasm_operator_validator_determined.specs.expression.immediates.declared.block.BlockType.TheVariants as block
 use Rattle.wasm_operator_validator_determined.specs.expression.immediates.declared.handlers.Handle.{Handle}
 use Rattle.wasm_operator_validator_determined.specs.expression.immediates.declared.memory.Ordering.{Ordering}
-use Rattle.wasm_operator_validator_determined.specs.expression.control.declared.control.ControlOperator.TheVariants as control
-use Rattle.wasm_operator_validator_determined.specs.expression.operator.gc.declared.gc.GcOperator.TheVariants as gc
-use Rattle.wasm_operator_validator_determined.specs.expression.operator.gc.declared.gc.DescriptorOperator.TheVariants as descriptor
-use Rattle.wasm_operator_validator_determined.specs.expression.threads.declared.atomic.SharedOperator.TheVariants as shared
+use Rattle.wasm_operator_validator_determined.specs.expression.groups.declared.control.ControlOperator.TheVariants as control
+use Rattle.wasm_operator_validator_determined.specs.expression.operator.groups.declared.gc.GcOperator.TheVariants as gc
+use Rattle.wasm_operator_validator_determined.specs.expression.operator.groups.declared.gc.DescriptorOperator.TheVariants as descriptor
+use Rattle.wasm_operator_validator_determined.specs.expression.groups.declared.atomic.SharedOperator.TheVariants as shared
 use Rattle.wasm_operator_validator_determined.specs.expression.operator.Op as op
 use Rattle.wasm_operator_validator_determined.specs.expression.operator.Op.{Op}
 use Rattle.wasm_operator_validator_determined.specs.rules.arity.Arity.{Known, Counts, counts_of}

@@ -1,6 +1,5 @@
 -- The rows of `Steps`.
 use Rattle.std.proofs.Common.{◌≡◌, ◌⊎◌, ◌∙◌, inl, inr, ℕ, Bool, true, false, List, [], ◌∷◌, length, Some, refl, sym, ap, arith, lit<, lit≤}
-use Rattle.wasm_types.specs.limits.Limits.{default_limits}
 use Rattle.wasm_types.specs.features.Features.{Floats, Simd, mask}
 use Rattle.wasm_types.specs.trees.Types.{i32, i64, number, function, any, eq, concrete}
 use Rattle.wasm_types.specs.trees.Trees.{TypeTree, opened}
@@ -152,7 +151,7 @@ first_of [] = I32
 first_of (t ∷ ts) = t
 
 pub locals_declared : LocalsDeclared
-unfolding default_limits type_in
+unfolding type_in
 locals_declared = record {
   two = record { named = I32; type = record { allowed = tt; known = tt; is = refl }; within = lit≤ tt; state = refl };
   none = record { named = I32; type = record { allowed = tt; known = tt; is = refl }; within = lit≤ tt; state = refl };

@@ -128,12 +128,12 @@ pub record BeginningsStopped : Type 0 where
 -- ---- locals and types of functions
 
 pub record LocalsDeclared : Type 0 where
-  pub two : DefinesLocals listed empty 2 I32 (with_locals empty 2 I32)
-  pub none : DefinesLocals listed empty 0 I32 empty
-  pub one_more : DefinesLocals listed empty 2 I32 (with_locals empty 3 I32) → ⊥
-  pub not_declared : DefinesLocals listed empty 2 I32 empty → ⊥
-  pub of_another_type : DefinesLocals listed empty 1 I32 (with_locals empty 1 I64) → ⊥
-  pub too_many : (τ : State) → DefinesLocals listed empty 50001 I32 τ → ⊥
+  pub two : DefinesLocals listed 2 empty 2 I32 (with_locals empty 2 I32)
+  pub none : DefinesLocals listed 0 empty 0 I32 empty
+  pub one_more : DefinesLocals listed 3 empty 2 I32 (with_locals empty 3 I32) → ⊥
+  pub not_declared : DefinesLocals listed 3 empty 2 I32 empty → ⊥
+  pub of_another_type : DefinesLocals listed 3 empty 1 I32 (with_locals empty 1 I64) → ⊥
+  pub too_many : (τ : State) → DefinesLocals listed 1 empty 2 I32 τ → ⊥
 
 pub record FunctionsAt : Type 0 where
   pub function : IsFunctionAt listed 0 (Some its_signature)

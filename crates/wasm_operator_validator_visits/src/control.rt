@@ -2,17 +2,17 @@
 
 use crate::{AnswerAs, ValidatingVisitor};
 use wasm_operator_validator_control::{
-    WasmModuleResources, check_block, check_br, check_br_if, check_br_table, check_call,
-    check_call_indirect, check_else, check_end, check_if, check_loop, check_nop, check_return,
-    check_return_call, check_return_call_indirect, check_unreachable,
+    WasmModuleResources, check_block, check_br, check_br_if, check_br_on_non_null,
+    check_br_on_null, check_br_table, check_call, check_call_indirect, check_call_ref, check_catch,
+    check_catch_all, check_delegate, check_else, check_end, check_if, check_loop, check_nop,
+    check_ref_as_non_null, check_rethrow, check_return, check_return_call,
+    check_return_call_indirect, check_return_call_ref, check_throw, check_throw_ref, check_try,
+    check_try_table, check_unreachable,
 };
 use wasm_operator_validator_memory::{
     check_drop, check_select, check_typed_select, check_typed_select_multi,
 };
-use wasm_operators_visit::{
-    BlockType, BrTable, ContinuationOperator, ControlOperator, ExceptionOperator, ResumeTable,
-    TryTable,
-};
+use wasm_operators_visit::{BlockType, BrTable, ContinuationOperator, ResumeTable, TryTable};
 use wasm_operators_visit_operator::VisitControl;
 use wasm_types::ValType;
 
@@ -99,23 +99,28 @@ impl<'a, 'v, 'r, R: WasmModuleResources, A: AnswerAs> VisitControl<'a>
     }
 
     fn visit_call_ref(&mut self, type_index: u32) -> A::Output {
-        self.on_references(ControlOperator::CallRef { type_index })
+        let checked = check_call_ref(self.inner, self.resources, type_index);
+        self.tell(checked)
     }
 
     fn visit_return_call_ref(&mut self, type_index: u32) -> A::Output {
-        self.on_references(ControlOperator::ReturnCallRef { type_index })
+        let checked = check_return_call_ref(self.inner, self.resources, type_index);
+        self.tell(checked)
     }
 
     fn visit_ref_as_non_null(&mut self) -> A::Output {
-        self.on_references(ControlOperator::RefAsNonNull)
+        let checked = check_ref_as_non_null(self.inner, self.resources);
+        self.tell(checked)
     }
 
     fn visit_br_on_null(&mut self, relative_depth: u32) -> A::Output {
-        self.on_references(ControlOperator::BrOnNull { relative_depth })
+        let checked = check_br_on_null(self.inner, self.resources, relative_depth);
+        self.tell(checked)
     }
 
     fn visit_br_on_non_null(&mut self, relative_depth: u32) -> A::Output {
-        self.on_references(ControlOperator::BrOnNonNull { relative_depth })
+        let checked = check_br_on_non_null(self.inner, self.resources, relative_depth);
+        self.tell(checked)
     }
 
     fn visit_drop(&mut self) -> A::Output {
@@ -139,35 +144,43 @@ impl<'a, 'v, 'r, R: WasmModuleResources, A: AnswerAs> VisitControl<'a>
     }
 
     fn visit_try(&mut self, blockty: BlockType) -> A::Output {
-        self.exception(ExceptionOperator::Try { blockty })
+        let checked = check_try(self.inner, self.resources, blockty);
+        self.tell(checked)
     }
 
     fn visit_catch(&mut self, tag_index: u32) -> A::Output {
-        self.exception(ExceptionOperator::Catch { tag_index })
+        let checked = check_catch(self.inner, self.resources, tag_index);
+        self.tell(checked)
     }
 
     fn visit_throw(&mut self, tag_index: u32) -> A::Output {
-        self.exception(ExceptionOperator::Throw { tag_index })
+        let checked = check_throw(self.inner, self.resources, tag_index);
+        self.tell(checked)
     }
 
     fn visit_rethrow(&mut self, relative_depth: u32) -> A::Output {
-        self.exception(ExceptionOperator::Rethrow { relative_depth })
+        let checked = check_rethrow(self.inner, self.resources, relative_depth);
+        self.tell(checked)
     }
 
     fn visit_throw_ref(&mut self) -> A::Output {
-        self.exception(ExceptionOperator::ThrowRef)
+        let checked = check_throw_ref(self.inner, self.resources);
+        self.tell(checked)
     }
 
     fn visit_delegate(&mut self, relative_depth: u32) -> A::Output {
-        self.exception(ExceptionOperator::Delegate { relative_depth })
+        let checked = check_delegate(self.inner, self.resources, relative_depth);
+        self.tell(checked)
     }
 
     fn visit_catch_all(&mut self) -> A::Output {
-        self.exception(ExceptionOperator::CatchAll)
+        let checked = check_catch_all(self.inner, self.resources);
+        self.tell(checked)
     }
 
     fn visit_try_table(&mut self, try_table: TryTable) -> A::Output {
-        self.exception(ExceptionOperator::TryTable { try_table })
+        let checked = check_try_table(self.inner, self.resources, &try_table);
+        self.tell(checked)
     }
 
     fn visit_cont_new(&mut self, cont_type_index: u32) -> A::Output {

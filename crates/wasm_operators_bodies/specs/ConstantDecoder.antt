@@ -11,7 +11,7 @@ use Rattle.wasm_operators_reader.specs.operator.declared.role.Role.{Role}
 use Rattle.wasm_operators_reader.specs.expression.Frames.{behind}
 use Rattle.wasm_operators_decode_codes.specs.OpcodeRoles.{role_at}
 use Rattle.wasm_operators_bodies.specs.Until.{Next, Again, Last, until, taken_by}
-use Rattle.wasm_operators_bodies.specs.Constants.{ends, SpelledConstant}
+use Rattle.wasm_operators_bodies.specs.Constants.{ends, IsConstantText}
 
 -- what follows an operator: more operators in these frames, or nothing
 abbrev pub NextFrames : Type 0
@@ -47,4 +47,4 @@ constant settings = taken_by (until (step settings) (Block ∷ []))
 
 -- the bytes of an expression whose only `end` is its last operator
 abbrev pub ConstantText : Settings → Grammar (List ℕ)
-ConstantText settings x text = (text ≡ x) × SpelledConstant settings text
+ConstantText settings x text = (text ≡ x) × IsConstantText settings text

@@ -26,7 +26,7 @@ use Rattle.wasm_operators_bodies.specs.Until.{Again, Last, until, taken_by, Goes
 use Rattle.wasm_operators_bodies.specs.UntilLaws.{TakesBytes, lawful-until, decides-until, lawful-taken_by, decides-taken_by}
 use Rattle.wasm_operators_reader.specs.StandingLaws.{fewer_left}
 use Rattle.wasm_operators_reader.specs.RunLaws.{closes_at}
-use Rattle.wasm_operators_bodies.specs.Constants.{ends, is_end, HasNoEnd, EndsOnce, SpelledConstant}
+use Rattle.wasm_operators_bodies.specs.Constants.{ends, is_end, HasNoEnd, EndsOnce, IsConstantText}
 use Rattle.wasm_operators_bodies.specs.ConstantDecoder.{NextFrames, behind_end, by_frames, by_role, in_frames, step, constant, ConstantText}
 
 -- ---- a step is lawful
@@ -218,13 +218,13 @@ module _ (settings : Settings) where
 
   -- ---- constant expressions
 
-  constant_to : (text : List ℕ) → Ended (Block ∷ []) text → SpelledConstant settings text
+  constant_to : (text : List ℕ) → Ended (Block ∷ []) text → IsConstantText settings text
   constant_to text h =
       let (c, rest, i, e, g) = h.closes in
       let same : h.ops ≡ walk c = e ∙ ap (λ (xs : List Op). walk c ++ xs) g ∙ append-nil (walk c) in
       record { code = c; spelled = record { expression = i; spelled = subst (λ (xs : List Op). SpelledOperators settings xs text) same h.spelled }; once = subst EndsOnce same h.once }
 
-  constant_from : (text : List ℕ) → SpelledConstant settings text → Until StepIn (Block ∷ []) tt text
+  constant_from : (text : List ℕ) → IsConstantText settings text → Until StepIn (Block ∷ []) tt text
   constant_from text h =
       let once = h.once in
       let closes : Closes (Block ∷ []) (walk h.code) = (h.code, [], h.spelled.expression, sym (append-nil (walk h.code)), refl) in

@@ -21,7 +21,7 @@ use Rattle.wasm_operators_reader.specs.expression.Stack.{innermost}
 use Rattle.wasm_operators_reader.specs.Standing.{Standing, at_start, Reads, Runs}
 use Rattle.wasm_operators_reader.specs.RunLaws.{run_more, closes_at}
 use Rattle.wasm_operators_reader.specs.MeetLaws.{meets_end, meets_refusal}
-use Rattle.wasm_operators_bodies.specs.Constants.{is_end, HasNoEnd, EndsOnce, SpelledConstant, PassesTo, StopsConstant, same_bytes}
+use Rattle.wasm_operators_bodies.specs.Constants.{is_end, HasNoEnd, EndsOnce, IsConstantText, PassesTo, StopsConstant, same_bytes}
 
 -- ---- from a run to bytes
 
@@ -70,7 +70,7 @@ module _ (s : State) (t : Standing) (run : PassesTo (at_start s) true t) (closed
   whole_run = run_more run.0 (at_start s) run.1 t run.2 run.3 run.5
 
   -- a constant expression was read, and no more
-  pub constant_read : (text : List ℕ) × SpelledConstant s.settings text × Takes s text t.bytes
+  pub constant_read : (text : List ℕ) × IsConstantText s.settings text × Takes s text t.bytes
   constant_read =
       let taken = run_takes all (at_start s) t whole_run in
       let (c, rest, i, e, g) = run_closes all (at_start s) t whole_run closed in
@@ -101,7 +101,7 @@ before_last [] (x ∷ y ∷ os) more z o p e h = absurd (not_empty y (os ++ o �
 before_last (f ∷ front) [] more z o p e h = subst (λ (q : Op). is_end q ≡ false) (same_first f o (front ++ z ∷ []) (p ∷ more) e) h.0
 before_last (f ∷ front) (x ∷ os) more z o p e h = before_last front os more z o p (same_rest f x (front ++ z ∷ []) (os ++ o ∷ p ∷ more) e) h.1
 
-module _ (s : State) (e : ErrorValue) (n : IsNotMemory e.kind) (text : List ℕ) (u : State) (taken : Takes s text u) (h : SpelledConstant s.settings text) where
+module _ (s : State) (e : ErrorValue) (n : IsNotMemory e.kind) (text : List ℕ) (u : State) (taken : Takes s text u) (h : IsConstantText s.settings text) where
   abbrev behind : Standing
   behind = record { bytes = u; frames = [] }
 

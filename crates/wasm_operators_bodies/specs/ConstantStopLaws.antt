@@ -21,7 +21,7 @@ use Rattle.wasm_operators_decode_codes.specs.RoleLaws.{role_of_opcode}
 use Rattle.wasm_operators_bodies.specs.Until.{Again, go_on, until, taken_by}
 use Rattle.wasm_operators_bodies.specs.UntilLaws.{until_step}
 use Rattle.wasm_operators_reader.specs.Standing.{Standing, at_start, Reads, RefusesIn, Runs}
-use Rattle.wasm_operators_bodies.specs.Constants.{SpelledConstant, is_end, HasNoEnd, StopsConstant}
+use Rattle.wasm_operators_bodies.specs.Constants.{IsConstantText, is_end, HasNoEnd, StopsConstant}
 use Rattle.wasm_operators_bodies.specs.ConstantDecoder.{NextFrames, behind_end, by_frames, by_role, step, constant}
 use Rattle.wasm_operators_bodies.specs.ConstantDecoderLaws.{step_takes, decides-constant}
 
@@ -110,12 +110,12 @@ module _ (s : State) (e : ErrorValue) where
   constant_fails h = fails_then e (until (step s.settings) (Block ∷ []) s) _ (stops_until h)
 
 -- what was read as a constant expression is what the decoder answers
-pub constant_done : (s t it : State) → (text : List ℕ) × SpelledConstant s.settings text × Takes s text t × (it ≡ part_at s text) → constant s.settings s ≡ Done it.rest t
+pub constant_done : (s t it : State) → (text : List ℕ) × IsConstantText s.settings text × Takes s text t × (it ≡ part_at s text) → constant s.settings s ≡ Done it.rest t
 constant_done s t it (text, spelled, taken, same) = (decides-constant s.settings).complete s t it.rest text taken (sym (ap (λ (b : State). b.rest) same), spelled)
 
 -- and it is the part that these bytes are
-pub constant_part : (s t it : State) → (text : List ℕ) × SpelledConstant s.settings text × Takes s text t × (it ≡ part_at s text) → it ≡ part_at s it.rest
+pub constant_part : (s t it : State) → (text : List ℕ) × IsConstantText s.settings text × Takes s text t × (it ≡ part_at s text) → it ≡ part_at s it.rest
 constant_part s t it (text, spelled, taken, same) = same ∙ ap (part_at s) (sym (ap (λ (b : State). b.rest) same))
 
-pub constant_reaches : (s t it : State) → (text : List ℕ) × SpelledConstant s.settings text × Takes s text t × (it ≡ part_at s text) → Reaches s t
+pub constant_reaches : (s t it : State) → (text : List ℕ) × IsConstantText s.settings text × Takes s text t × (it ≡ part_at s text) → Reaches s t
 constant_reaches s t it (text, spelled, taken, same) = record { text = text; taken = taken }

@@ -39,7 +39,7 @@ pub record EndsOnce (os : List Op) : Type 0 where
   pub ended : is_end last ≡ true
 
 -- an expression whose only `end` is its last operator
-pub record SpelledConstant (settings : Settings) (text : List ℕ) : Type 0 where
+pub record IsConstantText (settings : Settings) (text : List ℕ) : Type 0 where
   pub code : Code
   pub spelled : SpelledExpression settings code text
   pub once : EndsOnce (walk code)

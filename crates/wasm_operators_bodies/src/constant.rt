@@ -7,7 +7,7 @@ ghost use Rattle.wasm_types.specs.reader.Parts.{part_at};
 ghost use Rattle.wasm_types.specs.reader.Reading.{Gives, IsNotMemory, MemoryOnlyIf, NeedsNoMemory};
 ghost use Rattle.wasm_operators_reader.specs.operator.Op.{Op, op_of};
 ghost use Rattle.wasm_operators_reader.specs.Standing.{at_start, Reads, Refuses, WantsMemory};
-ghost use Rattle.wasm_operators_bodies.specs.Constants.{is_end, SpelledConstant, PassesTo, StopsConstant, same_bytes};
+ghost use Rattle.wasm_operators_bodies.specs.Constants.{is_end, IsConstantText, PassesTo, StopsConstant, same_bytes};
 ghost use Rattle.wasm_operators_bodies.specs.ConstantLaws.{same_bytes_equal};
 ghost use Rattle.wasm_operators_bodies.specs.ConstantDecoder.{constant};
 
@@ -48,8 +48,8 @@ impl<'a> ConstExpr<'a> {
     /// No front of the bytes spells such an expression: an operator is refused before the first `end`, or a frame is open behind
     /// it, which is refused there. Or there is no memory for a frame or a list of an operator. The reader stays as it was.
     pub fn read(alloc: Global, reader: &mut BinaryReader<'a>) -> Result<ConstExpr<'a>>
-        ensures read { IfOk result (λ it. (text : List ℕ) × SpelledConstant reader.old.settings text × Takes reader.old text reader.new × (it ≡ part_at reader.old text)) }
-        ensures refused { IfErr result (λ e. IsNotMemory e.kind → (text : List ℕ) (t : State) → Takes reader.old text t → SpelledConstant reader.old.settings text → ⊥) }
+        ensures read { IfOk result (λ it. (text : List ℕ) × IsConstantText reader.old.settings text × Takes reader.old text reader.new × (it ≡ part_at reader.old text)) }
+        ensures refused { IfErr result (λ e. IsNotMemory e.kind → (text : List ℕ) (t : State) → Takes reader.old text t → IsConstantText reader.old.settings text → ⊥) }
         ensures stops { IfErr result (λ e. StopsConstant (at_start reader.old) e) }
         ensures stays { IfErr result (λ _. reader.new ≡ reader.old) }
     {
@@ -174,7 +174,7 @@ fn read_end(operators: &mut OperatorsReader<'_>) -> Result<bool>
 
 /// Where the bytes go on behind a constant expression.
 fn pass_constant<'a>(alloc: Global, reader: BinaryReader<'a>) -> Result<BinaryReader<'a>>
-    ensures read { IfOk result (λ behind. (text : List ℕ) × SpelledConstant reader.entry.settings text × Takes reader.entry text behind) }
+    ensures read { IfOk result (λ behind. (text : List ℕ) × IsConstantText reader.entry.settings text × Takes reader.entry text behind) }
     ensures stops { IfErr result (λ e. StopsConstant (at_start reader.entry) e) }
 {
     let mut operators = OperatorsReader::new(alloc, reader);

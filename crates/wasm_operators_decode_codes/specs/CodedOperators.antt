@@ -7,17 +7,17 @@ use Rattle.wasm_types.specs.limits.Settings.{Settings}
 use Rattle.wasm_types.specs.decoding.Decoder.{State, Done}
 use Rattle.wasm_operators_decode_encoding.specs.immediates.Kinds.{Kind}
 use Rattle.wasm_operators_decode_encoding.specs.immediates.Immediates.{Immediate, kind_of}
-use Rattle.wasm_operators_decode_encoding.specs.operator.control.Table.{control_info, parametric_info, exception_info, continuation_info}
-use Rattle.wasm_operators_decode_encoding.specs.operator.memory.Table.{memory_info, const_info, bulk_info}
-use Rattle.wasm_operators_decode_encoding.specs.operator.numbers.Table.{numeric_info}
-use Rattle.wasm_operators_decode_encoding.specs.operator.gc.Table.{gc_info, descriptor_info}
-use Rattle.wasm_operators_decode_encoding.specs.operator.threads.Table.{atomic_info, shared_info}
+use Rattle.wasm_operators_decode_encoding.specs.operator.groups.control.Table.{control_info, parametric_info, exception_info, continuation_info}
+use Rattle.wasm_operators_decode_encoding.specs.operator.groups.memory.Table.{memory_info, const_info, bulk_info}
+use Rattle.wasm_operators_decode_encoding.specs.operator.groups.numbers.Table.{numeric_info}
+use Rattle.wasm_operators_decode_encoding.specs.operator.groups.gc.Table.{gc_info, descriptor_info}
+use Rattle.wasm_operators_decode_encoding.specs.operator.groups.threads.Table.{atomic_info, shared_info}
 use Rattle.wasm_operators_decode_encoding.specs.operator.vectors.Table.{simd_info, simd_numeric_info}
-use Rattle.wasm_operators_decode_encoding.specs.operator.control.Immediates.{control_immediates, parametric_immediates, exception_immediates, continuation_immediates, is_canonical as parametric_is_canonical}
-use Rattle.wasm_operators_decode_encoding.specs.operator.memory.Immediates.{memory_immediates, const_immediates, bulk_immediates}
-use Rattle.wasm_operators_decode_encoding.specs.operator.numbers.Immediates.{numeric_immediates}
-use Rattle.wasm_operators_decode_encoding.specs.operator.gc.Immediates.{gc_immediates, descriptor_immediates}
-use Rattle.wasm_operators_decode_encoding.specs.operator.threads.Immediates.{atomic_immediates, shared_immediates}
+use Rattle.wasm_operators_decode_encoding.specs.operator.groups.control.Immediates.{control_immediates, parametric_immediates, exception_immediates, continuation_immediates, is_canonical as parametric_is_canonical}
+use Rattle.wasm_operators_decode_encoding.specs.operator.groups.memory.Immediates.{memory_immediates, const_immediates, bulk_immediates}
+use Rattle.wasm_operators_decode_encoding.specs.operator.groups.numbers.Immediates.{numeric_immediates}
+use Rattle.wasm_operators_decode_encoding.specs.operator.groups.gc.Immediates.{gc_immediates, descriptor_immediates}
+use Rattle.wasm_operators_decode_encoding.specs.operator.groups.threads.Immediates.{atomic_immediates, shared_immediates}
 use Rattle.wasm_operators_decode_encoding.specs.operator.vectors.Immediates.{simd_immediates, simd_numeric_immediates}
 use Rattle.wasm_operators_decode_encoding.specs.operator.control_codes.{control_list, parametric_list, exception_list, continuation_list}
 use Rattle.wasm_operators_decode_encoding.specs.operator.memory_codes.{memory_list, const_list, bulk_list}

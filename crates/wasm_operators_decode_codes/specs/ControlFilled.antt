@@ -1,12 +1,12 @@
 -- Operators of control, exceptions and continuations: each variant takes any immediates of its kinds.
 use Rattle.std.proofs.Common.{◌≡◌, true, List, [], ◌∷◌, map, refl}
 use Rattle.wasm_operators_decode_encoding.specs.immediates.Immediates.{kind_of}
-use Rattle.wasm_operators_decode_encoding.specs.operator.control.Table.{control_info, exception_info, continuation_info, parametric_info}
-use Rattle.wasm_operators_decode_encoding.specs.operator.control.Immediates.{control_immediates, exception_immediates, continuation_immediates, parametric_immediates, is_canonical}
-use Rattle.wasm_operators_decode_encoding.specs.operator.control.declared.control.ControlOperator.{ControlOperator}
-use Rattle.wasm_operators_decode_encoding.specs.operator.control.declared.control.ControlOperator.TheVariants as control
-use Rattle.wasm_operators_decode_encoding.specs.operator.control.Trees as tree
-use Rattle.wasm_operators_decode_encoding.specs.operator.control.Trees.{ParametricTree, ExceptionTree, ContinuationTree}
+use Rattle.wasm_operators_decode_encoding.specs.operator.groups.control.Table.{control_info, exception_info, continuation_info, parametric_info}
+use Rattle.wasm_operators_decode_encoding.specs.operator.groups.control.Immediates.{control_immediates, exception_immediates, continuation_immediates, parametric_immediates, is_canonical}
+use Rattle.wasm_operators_decode_encoding.specs.operator.groups.declared.control.ControlOperator.{ControlOperator}
+use Rattle.wasm_operators_decode_encoding.specs.operator.groups.declared.control.ControlOperator.TheVariants as control
+use Rattle.wasm_operators_decode_encoding.specs.operator.groups.control.Trees as tree
+use Rattle.wasm_operators_decode_encoding.specs.operator.groups.control.Trees.{ParametricTree, ExceptionTree, ContinuationTree}
 use Rattle.wasm_types.specs.values.declared.value.ValType.{ValType}
 use Rattle.wasm_operators_decode_codes.specs.Carried.{Carriers}
 use Rattle.wasm_operators_decode_codes.specs.Filled.{IsMaker, Fills, fills}

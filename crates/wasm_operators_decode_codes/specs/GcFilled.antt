@@ -1,12 +1,12 @@
 -- Operators of aggregates, casts and descriptors: each variant takes any immediates of its kinds.
 use Rattle.std.proofs.Common.{true, map, refl}
 use Rattle.wasm_operators_decode_encoding.specs.immediates.Immediates.{kind_of}
-use Rattle.wasm_operators_decode_encoding.specs.operator.gc.Table.{gc_info, descriptor_info}
-use Rattle.wasm_operators_decode_encoding.specs.operator.gc.Immediates.{gc_immediates, descriptor_immediates}
-use Rattle.wasm_operators_decode_encoding.specs.operator.gc.declared.gc.GcOperator.{GcOperator}
-use Rattle.wasm_operators_decode_encoding.specs.operator.gc.declared.gc.GcOperator.TheVariants as gc
-use Rattle.wasm_operators_decode_encoding.specs.operator.gc.declared.gc.DescriptorOperator.{DescriptorOperator}
-use Rattle.wasm_operators_decode_encoding.specs.operator.gc.declared.gc.DescriptorOperator.TheVariants as descriptor
+use Rattle.wasm_operators_decode_encoding.specs.operator.groups.gc.Table.{gc_info, descriptor_info}
+use Rattle.wasm_operators_decode_encoding.specs.operator.groups.gc.Immediates.{gc_immediates, descriptor_immediates}
+use Rattle.wasm_operators_decode_encoding.specs.operator.groups.declared.gc.GcOperator.{GcOperator}
+use Rattle.wasm_operators_decode_encoding.specs.operator.groups.declared.gc.GcOperator.TheVariants as gc
+use Rattle.wasm_operators_decode_encoding.specs.operator.groups.declared.gc.DescriptorOperator.{DescriptorOperator}
+use Rattle.wasm_operators_decode_encoding.specs.operator.groups.declared.gc.DescriptorOperator.TheVariants as descriptor
 use Rattle.wasm_operators_decode_codes.specs.Carried.{Carriers}
 use Rattle.wasm_operators_decode_codes.specs.Filled.{IsMaker, Fills, fills}
 

@@ -1,14 +1,14 @@
 -- Operators of variables, memories, constants, tables and references: each variant takes any immediates of its kinds.
 use Rattle.std.proofs.Common.{true, map, refl}
 use Rattle.wasm_operators_decode_encoding.specs.immediates.Immediates.{kind_of}
-use Rattle.wasm_operators_decode_encoding.specs.operator.memory.Table.{memory_info, const_info, bulk_info}
-use Rattle.wasm_operators_decode_encoding.specs.operator.memory.Immediates.{memory_immediates, const_immediates, bulk_immediates}
-use Rattle.wasm_operators_decode_encoding.specs.operator.memory.declared.memory.MemoryOperator.{MemoryOperator}
-use Rattle.wasm_operators_decode_encoding.specs.operator.memory.declared.memory.MemoryOperator.TheVariants as memory
-use Rattle.wasm_operators_decode_encoding.specs.operator.memory.declared.constant.ConstOperator.{ConstOperator}
-use Rattle.wasm_operators_decode_encoding.specs.operator.memory.declared.constant.ConstOperator.TheVariants as const
-use Rattle.wasm_operators_decode_encoding.specs.operator.memory.declared.bulk.BulkOperator.{BulkOperator}
-use Rattle.wasm_operators_decode_encoding.specs.operator.memory.declared.bulk.BulkOperator.TheVariants as bulk
+use Rattle.wasm_operators_decode_encoding.specs.operator.groups.memory.Table.{memory_info, const_info, bulk_info}
+use Rattle.wasm_operators_decode_encoding.specs.operator.groups.memory.Immediates.{memory_immediates, const_immediates, bulk_immediates}
+use Rattle.wasm_operators_decode_encoding.specs.operator.groups.declared.memory.MemoryOperator.{MemoryOperator}
+use Rattle.wasm_operators_decode_encoding.specs.operator.groups.declared.memory.MemoryOperator.TheVariants as memory
+use Rattle.wasm_operators_decode_encoding.specs.operator.groups.declared.constant.ConstOperator.{ConstOperator}
+use Rattle.wasm_operators_decode_encoding.specs.operator.groups.declared.constant.ConstOperator.TheVariants as const
+use Rattle.wasm_operators_decode_encoding.specs.operator.groups.declared.bulk.BulkOperator.{BulkOperator}
+use Rattle.wasm_operators_decode_encoding.specs.operator.groups.declared.bulk.BulkOperator.TheVariants as bulk
 use Rattle.wasm_operators_decode_codes.specs.Carried.{Carriers}
 use Rattle.wasm_operators_decode_codes.specs.Filled.{IsMaker, Fills, fills}
 

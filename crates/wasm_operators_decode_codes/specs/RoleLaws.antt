@@ -1,11 +1,11 @@
 -- An opcode has the role of its operators.
 use Rattle.std.proofs.Common.{◌≡◌, Bool, true, false, refl}
 use Rattle.wasm_operators_decode_encoding.specs.info.Info.{Info}
-use Rattle.wasm_operators_decode_encoding.specs.operator.control.Table.{parametric_info, continuation_info}
-use Rattle.wasm_operators_decode_encoding.specs.operator.memory.Table.{memory_info, const_info, bulk_info}
-use Rattle.wasm_operators_decode_encoding.specs.operator.numbers.Table.{numeric_info}
-use Rattle.wasm_operators_decode_encoding.specs.operator.gc.Table.{gc_info, descriptor_info}
-use Rattle.wasm_operators_decode_encoding.specs.operator.threads.Table.{atomic_info, shared_info}
+use Rattle.wasm_operators_decode_encoding.specs.operator.groups.control.Table.{parametric_info, continuation_info}
+use Rattle.wasm_operators_decode_encoding.specs.operator.groups.memory.Table.{memory_info, const_info, bulk_info}
+use Rattle.wasm_operators_decode_encoding.specs.operator.groups.numbers.Table.{numeric_info}
+use Rattle.wasm_operators_decode_encoding.specs.operator.groups.gc.Table.{gc_info, descriptor_info}
+use Rattle.wasm_operators_decode_encoding.specs.operator.groups.threads.Table.{atomic_info, shared_info}
 use Rattle.wasm_operators_decode_encoding.specs.operator.vectors.Table.{simd_info, simd_numeric_info}
 use Rattle.wasm_operators_decode_encoding.specs.operator.control_codes.{parametric_list, parametric_told, continuation_list, continuation_told}
 use Rattle.wasm_operators_decode_encoding.specs.operator.memory_codes.{memory_list, memory_told, const_list, const_told, bulk_list, bulk_told}
@@ -13,10 +13,10 @@ use Rattle.wasm_operators_decode_encoding.specs.operator.numbers_codes.{numeric_
 use Rattle.wasm_operators_decode_encoding.specs.operator.gc_codes.{gc_list, gc_told, descriptor_list, descriptor_told}
 use Rattle.wasm_operators_decode_encoding.specs.operator.threads_codes.{atomic_list, atomic_told, shared_list, shared_told}
 use Rattle.wasm_operators_decode_encoding.specs.operator.vectors_codes.{simd_list, simd_told, simd_numeric_list, simd_numeric_told}
-use Rattle.wasm_operators_decode_encoding.specs.operator.control.declared.control.ControlOperator.{ControlOperator}
-use Rattle.wasm_operators_decode_encoding.specs.operator.control.declared.control.ControlOperator.TheVariants as control
-use Rattle.wasm_operators_decode_encoding.specs.operator.control.Trees.{ExceptionTree}
-use Rattle.wasm_operators_decode_encoding.specs.operator.control.Trees as tree
+use Rattle.wasm_operators_decode_encoding.specs.operator.groups.declared.control.ControlOperator.{ControlOperator}
+use Rattle.wasm_operators_decode_encoding.specs.operator.groups.declared.control.ControlOperator.TheVariants as control
+use Rattle.wasm_operators_decode_encoding.specs.operator.groups.control.Trees.{ExceptionTree}
+use Rattle.wasm_operators_decode_encoding.specs.operator.groups.control.Trees as tree
 use Rattle.wasm_operators_decode_encoding.specs.operator.Op as op
 use Rattle.wasm_operators_decode_encoding.specs.operator.Op.{Op}
 use Rattle.wasm_operators_decode_encoding.specs.operator.Roles.{control_role, exception_role, role_of}

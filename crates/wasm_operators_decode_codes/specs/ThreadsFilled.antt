@@ -1,12 +1,12 @@
 -- Atomic accesses: each variant takes any immediates of its kinds.
 use Rattle.std.proofs.Common.{true, map, refl}
 use Rattle.wasm_operators_decode_encoding.specs.immediates.Immediates.{kind_of}
-use Rattle.wasm_operators_decode_encoding.specs.operator.threads.Table.{atomic_info, shared_info}
-use Rattle.wasm_operators_decode_encoding.specs.operator.threads.Immediates.{atomic_immediates, shared_immediates}
-use Rattle.wasm_operators_decode_encoding.specs.operator.threads.declared.atomic.AtomicOperator.{AtomicOperator}
-use Rattle.wasm_operators_decode_encoding.specs.operator.threads.declared.atomic.AtomicOperator.TheVariants as atomic
-use Rattle.wasm_operators_decode_encoding.specs.operator.threads.declared.atomic.SharedOperator.{SharedOperator}
-use Rattle.wasm_operators_decode_encoding.specs.operator.threads.declared.atomic.SharedOperator.TheVariants as shared
+use Rattle.wasm_operators_decode_encoding.specs.operator.groups.threads.Table.{atomic_info, shared_info}
+use Rattle.wasm_operators_decode_encoding.specs.operator.groups.threads.Immediates.{atomic_immediates, shared_immediates}
+use Rattle.wasm_operators_decode_encoding.specs.operator.groups.declared.atomic.AtomicOperator.{AtomicOperator}
+use Rattle.wasm_operators_decode_encoding.specs.operator.groups.declared.atomic.AtomicOperator.TheVariants as atomic
+use Rattle.wasm_operators_decode_encoding.specs.operator.groups.declared.atomic.SharedOperator.{SharedOperator}
+use Rattle.wasm_operators_decode_encoding.specs.operator.groups.declared.atomic.SharedOperator.TheVariants as shared
 use Rattle.wasm_operators_decode_codes.specs.Carried.{Carriers}
 use Rattle.wasm_operators_decode_codes.specs.Filled.{IsMaker, Fills, fills}
 

@@ -4,9 +4,9 @@ ghost use Rattle.std.specs.Prelude.{◌≡◌, ◌≢◌, IfOk, IsTrue, option_m
 ghost use Rattle.wasm_types.specs.reader.Reading.{Gives, NeedsNoMemory};
 ghost use Rattle.wasm_operators_decode_encoding.specs.info.Info.{Info};
 ghost use Rattle.wasm_operators_decode_immediates.specs.immediates.Immediates.{ValueTypes};
-ghost use Rattle.wasm_operators_decode_encoding.specs.control.Immediates.{parametric_immediates, is_canonical};
-ghost use Rattle.wasm_operators_decode_encoding.specs.control.Table.{parametric_info};
-ghost use Rattle.wasm_operators_decode_encoding.specs.control.Trees.{parametric_of};
+ghost use Rattle.wasm_operators_decode_encoding.specs.groups.control.Immediates.{parametric_immediates, is_canonical};
+ghost use Rattle.wasm_operators_decode_encoding.specs.groups.control.Table.{parametric_info};
+ghost use Rattle.wasm_operators_decode_encoding.specs.groups.control.Trees.{parametric_of};
 ghost use Rattle.wasm_operators_decode_encoding.specs.Groups.{parametric_kinds};
 ghost use Rattle.wasm_operators_decode_encoding.specs.Sequences.{immediates};
 ghost use Rattle.wasm_operators_decode_control.specs.declared.parametric.ParametricShape.TheVariants as ParametricShape;

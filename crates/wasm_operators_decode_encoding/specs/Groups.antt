@@ -2,23 +2,23 @@
 -- instructions).
 use Rattle.std.specs.Prelude.{ℕ, List, Option, Some, None}
 use Rattle.wasm_operators_decode_immediates.specs.immediates.Kinds.{Kind}
-use Rattle.wasm_operators_operator.specs.control.Table.{control_info, parametric_info, exception_info}
-use Rattle.wasm_operators_operator.specs.memory.Table.{memory_info, const_info}
-use Rattle.wasm_operators_operator.specs.numbers.Table.{numeric_info}
-use Rattle.wasm_operators_operator.specs.control.Immediates.{control_immediates, parametric_immediates, exception_immediates}
-use Rattle.wasm_operators_operator.specs.memory.Immediates.{memory_immediates, const_immediates}
-use Rattle.wasm_operators_operator.specs.numbers.Immediates.{numeric_immediates}
+use Rattle.wasm_operators_operator.specs.groups.control.Table.{control_info, parametric_info, exception_info}
+use Rattle.wasm_operators_operator.specs.groups.memory.Table.{memory_info, const_info}
+use Rattle.wasm_operators_operator.specs.groups.numbers.Table.{numeric_info}
+use Rattle.wasm_operators_operator.specs.groups.control.Immediates.{control_immediates, parametric_immediates, exception_immediates}
+use Rattle.wasm_operators_operator.specs.groups.memory.Immediates.{memory_immediates, const_immediates}
+use Rattle.wasm_operators_operator.specs.groups.numbers.Immediates.{numeric_immediates}
 use Rattle.wasm_operators_operator.specs.control_codes.{control_list, parametric_list, exception_list}
 use Rattle.wasm_operators_operator.specs.memory_codes.{memory_list, const_list}
 use Rattle.wasm_operators_operator.specs.numbers_codes.{numeric_list}
-use Rattle.wasm_operators_operator.specs.memory.Table.{bulk_info}
-use Rattle.wasm_operators_operator.specs.gc.Table.{gc_info, descriptor_info}
-use Rattle.wasm_operators_operator.specs.threads.Table.{atomic_info, shared_info}
-use Rattle.wasm_operators_operator.specs.control.Table.{continuation_info}
-use Rattle.wasm_operators_operator.specs.memory.Immediates.{bulk_immediates}
-use Rattle.wasm_operators_operator.specs.gc.Immediates.{gc_immediates, descriptor_immediates}
-use Rattle.wasm_operators_operator.specs.threads.Immediates.{atomic_immediates, shared_immediates}
-use Rattle.wasm_operators_operator.specs.control.Immediates.{continuation_immediates}
+use Rattle.wasm_operators_operator.specs.groups.memory.Table.{bulk_info}
+use Rattle.wasm_operators_operator.specs.groups.gc.Table.{gc_info, descriptor_info}
+use Rattle.wasm_operators_operator.specs.groups.threads.Table.{atomic_info, shared_info}
+use Rattle.wasm_operators_operator.specs.groups.control.Table.{continuation_info}
+use Rattle.wasm_operators_operator.specs.groups.memory.Immediates.{bulk_immediates}
+use Rattle.wasm_operators_operator.specs.groups.gc.Immediates.{gc_immediates, descriptor_immediates}
+use Rattle.wasm_operators_operator.specs.groups.threads.Immediates.{atomic_immediates, shared_immediates}
+use Rattle.wasm_operators_operator.specs.groups.control.Immediates.{continuation_immediates}
 use Rattle.wasm_operators_operator.specs.memory_codes.{bulk_list}
 use Rattle.wasm_operators_operator.specs.gc_codes.{gc_list, descriptor_list}
 use Rattle.wasm_operators_operator.specs.threads_codes.{atomic_list, shared_list}

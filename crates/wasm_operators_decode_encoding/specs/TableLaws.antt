@@ -1,22 +1,22 @@
 -- At an operator's opcode the table of opcodes has the kinds of this operator.
 use Rattle.std.proofs.Common.{◌≡◌, List, [], ◌∷◌, Some, None, refl}
-use Rattle.wasm_operators_operator.specs.control.Table.{control_info, parametric_info, exception_info}
-use Rattle.wasm_operators_operator.specs.memory.Table.{memory_info, const_info}
-use Rattle.wasm_operators_operator.specs.numbers.Table.{numeric_info}
-use Rattle.wasm_operators_operator.specs.control.Immediates.{control_immediates, parametric_immediates, exception_immediates}
-use Rattle.wasm_operators_operator.specs.memory.Immediates.{memory_immediates, const_immediates}
-use Rattle.wasm_operators_operator.specs.numbers.Immediates.{numeric_immediates}
+use Rattle.wasm_operators_operator.specs.groups.control.Table.{control_info, parametric_info, exception_info}
+use Rattle.wasm_operators_operator.specs.groups.memory.Table.{memory_info, const_info}
+use Rattle.wasm_operators_operator.specs.groups.numbers.Table.{numeric_info}
+use Rattle.wasm_operators_operator.specs.groups.control.Immediates.{control_immediates, parametric_immediates, exception_immediates}
+use Rattle.wasm_operators_operator.specs.groups.memory.Immediates.{memory_immediates, const_immediates}
+use Rattle.wasm_operators_operator.specs.groups.numbers.Immediates.{numeric_immediates}
 use Rattle.wasm_operators_operator.specs.control_codes.{control_list, control_told, parametric_list, parametric_told, exception_list, exception_told}
 use Rattle.wasm_operators_operator.specs.memory_codes.{memory_list, memory_told, const_list, const_told}
 use Rattle.wasm_operators_operator.specs.numbers_codes.{numeric_list, numeric_told}
-use Rattle.wasm_operators_operator.specs.memory.Table.{bulk_info}
-use Rattle.wasm_operators_operator.specs.gc.Table.{gc_info, descriptor_info}
-use Rattle.wasm_operators_operator.specs.threads.Table.{atomic_info, shared_info}
-use Rattle.wasm_operators_operator.specs.control.Table.{continuation_info}
-use Rattle.wasm_operators_operator.specs.memory.Immediates.{bulk_immediates}
-use Rattle.wasm_operators_operator.specs.gc.Immediates.{gc_immediates, descriptor_immediates}
-use Rattle.wasm_operators_operator.specs.threads.Immediates.{atomic_immediates, shared_immediates}
-use Rattle.wasm_operators_operator.specs.control.Immediates.{continuation_immediates}
+use Rattle.wasm_operators_operator.specs.groups.memory.Table.{bulk_info}
+use Rattle.wasm_operators_operator.specs.groups.gc.Table.{gc_info, descriptor_info}
+use Rattle.wasm_operators_operator.specs.groups.threads.Table.{atomic_info, shared_info}
+use Rattle.wasm_operators_operator.specs.groups.control.Table.{continuation_info}
+use Rattle.wasm_operators_operator.specs.groups.memory.Immediates.{bulk_immediates}
+use Rattle.wasm_operators_operator.specs.groups.gc.Immediates.{gc_immediates, descriptor_immediates}
+use Rattle.wasm_operators_operator.specs.groups.threads.Immediates.{atomic_immediates, shared_immediates}
+use Rattle.wasm_operators_operator.specs.groups.control.Immediates.{continuation_immediates}
 use Rattle.wasm_operators_operator.specs.memory_codes.{bulk_list, bulk_told}
 use Rattle.wasm_operators_operator.specs.gc_codes.{gc_list, gc_told, descriptor_list, descriptor_told}
 use Rattle.wasm_operators_operator.specs.threads_codes.{atomic_list, atomic_told, shared_list, shared_told}

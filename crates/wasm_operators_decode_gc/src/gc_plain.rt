@@ -2,7 +2,7 @@
 
 ghost use Rattle.std.specs.Prelude.{◌≡◌, IfSome, option_map, Some, None, []};
 ghost use Rattle.wasm_operators_decode_encoding.specs.info.Info.{Info};
-ghost use Rattle.wasm_operators_decode_encoding.specs.gc.Table.{gc_info};
+ghost use Rattle.wasm_operators_decode_encoding.specs.groups.gc.Table.{gc_info};
 ghost use Rattle.wasm_operators_decode_encoding.specs.Groups.{gc_plain_kinds};
 
 use wasm_operators_decode_encoding::GcOperator;

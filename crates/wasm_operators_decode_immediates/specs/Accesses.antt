@@ -4,7 +4,7 @@ use Rattle.wasm_operators_decode_immediates.specs.declared.memory_argument.Acces
 use Rattle.wasm_operators_decode_immediates.specs.declared.memory_argument.Access.TheVariants.{Plain, Atomic, ReadModifyWrite}
 
 -- the same three kinds of access, in the words of the table
-abbrev pub access_of : Access → kind.Access
+abbrev pub access_of : Access → kind.AccessOrdering
 access_of Plain = kind.Plain
 access_of Atomic = kind.Atomic
 access_of ReadModifyWrite = kind.ReadModifyWrite

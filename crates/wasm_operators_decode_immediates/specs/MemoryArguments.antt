@@ -10,7 +10,7 @@ use Rattle.wasm_operators_immediates.specs.declared.memory.MemArg.{MemArg}
 use Rattle.wasm_operators_immediates.specs.declared.memory.MemArgOrdering.{MemArgOrdering}
 use Rattle.wasm_operators_immediates.specs.declared.memory.MemArgOrdering.TheVariants.{Op, Rmw}
 use Rattle.wasm_operators_immediates.specs.declared.memory.MemArgTarget.TheVariants.{Memory}
-use Rattle.wasm_operators_immediates.specs.Kinds.{Access, Plain, Atomic, ReadModifyWrite}
+use Rattle.wasm_operators_immediates.specs.Kinds.{AccessOrdering, Plain, Atomic, ReadModifyWrite}
 use Rattle.wasm_operators_immediates.specs.Blocks.{refuse_here}
 use Rattle.wasm_operators_decode_immediates.specs.declared.memory_argument.Flags.{Flags}
 use Rattle.wasm_operators_decode_immediates.specs.Bytes.{ordering_by, SpelledOrdering}
@@ -18,13 +18,13 @@ use Rattle.wasm_operators_decode_immediates.specs.Bytes.{ordering_by, SpelledOrd
 -- ---- what is allowed
 
 -- whether an access is atomic
-abbrev pub is_atomic : Access → Bool
+abbrev pub is_atomic : AccessOrdering → Bool
 is_atomic Plain = false
 is_atomic Atomic = true
 is_atomic ReadModifyWrite = true
 
 -- whether an ordering may be named
-abbrev pub may_order : ℕ → Access → Bool
+abbrev pub may_order : ℕ → AccessOrdering → Bool
 may_order features access = has SharedEverythingThreads features && is_atomic access
 
 -- ---- flags
@@ -67,13 +67,13 @@ unfoldable pub named_memory : Bool → Decoder ℕ
 named_memory named = if named then u32 else pure 0
 
 -- the ordering by the byte of such an access; both halves of a read-modify-write have one
-unfoldable pub access_ordering : Access → Decoder MemArgOrdering
+unfoldable pub access_ordering : AccessOrdering → Decoder MemArgOrdering
 access_ordering Plain = refuse_here Other
 access_ordering Atomic = ordering_by 0x01 >>= λ o. pure (Op o)
 access_ordering ReadModifyWrite = ordering_by 0x11 >>= λ o. pure (Rmw o)
 
 -- an ordering where one is named
-unfoldable pub named_ordering : Access → Bool → Decoder (Option MemArgOrdering)
+unfoldable pub named_ordering : AccessOrdering → Bool → Decoder (Option MemArgOrdering)
 named_ordering access named = if named then (access_ordering access >>= λ o. pure (Some o)) else pure None
 
 -- an offset of 64 bits, or of 32
@@ -85,13 +85,13 @@ abbrev pub argument : ℕ → ℕ → ℕ → Option MemArgOrdering → ℕ → 
 argument align natural memory ordering x = record { align = align; max_align = natural; offset = x; memory = memory; ordering = ordering; target = Memory }
 
 -- what follows these flags
-unfoldable pub after_flags : ℕ → Access → ℕ → Flags → Decoder MemArg
+unfoldable pub after_flags : ℕ → AccessOrdering → ℕ → Flags → Decoder MemArg
 after_flags features access natural f =
     named_memory f.has_memory >>= λ memory. named_ordering access f.has_ordering >>= λ ordering. offset (has Memory64 features) >>= λ x. pure
     (argument f.align natural memory ordering x)
 
 -- the argument of such an access with this exponent of its natural alignment
-unfoldable pub memory_argument : ℕ → Access → ℕ → Decoder MemArg
+unfoldable pub memory_argument : ℕ → AccessOrdering → ℕ → Decoder MemArg
 memory_argument features access natural = flags (may_order features access) (has MultiMemory features) >>= after_flags features access natural
 
 -- ---- grammars
@@ -109,7 +109,7 @@ NamedMemory true x text = IsUnsigned 32 x text
 NamedMemory false x text = (x ≡ 0) × (text ≡ [])
 
 -- 0x00 => seq_cst; acq_rel is 0x01, and 0x11 for both halves of a read-modify-write
-abbrev pub SpelledAccessOrdering : Access → Grammar MemArgOrdering
+abbrev pub SpelledAccessOrdering : AccessOrdering → Grammar MemArgOrdering
 SpelledAccessOrdering Plain o text = ⊥
 SpelledAccessOrdering Atomic (Op o) text = SpelledOrdering 0x01 o text
 SpelledAccessOrdering Atomic (Rmw o) text = ⊥
@@ -117,7 +117,7 @@ SpelledAccessOrdering ReadModifyWrite (Op o) text = ⊥
 SpelledAccessOrdering ReadModifyWrite (Rmw o) text = SpelledOrdering 0x11 o text
 
 -- an ordering where one is named, and nothing else
-abbrev pub NamedOrdering : Access → Bool → Grammar (Option MemArgOrdering)
+abbrev pub NamedOrdering : AccessOrdering → Bool → Grammar (Option MemArgOrdering)
 NamedOrdering access true (Some o) text = SpelledAccessOrdering access o text
 NamedOrdering access true None text = ⊥
 NamedOrdering access false (Some o) text = ⊥
@@ -129,7 +129,7 @@ offset_bits true = 64
 offset_bits false = 32
 
 -- memarg ::= n:flags x:memidx o:ordering m:offset => the argument with these, the memory and the ordering where the flags say so
-pub record SpelledMemArg (features : ℕ) (access : Access) (natural : ℕ) (m : MemArg) (text : List ℕ) : Type 0 where
+pub record SpelledMemArg (features : ℕ) (access : AccessOrdering) (natural : ℕ) (m : MemArg) (text : List ℕ) : Type 0 where
   pub flags : Flags
   pub flags_text : List ℕ
   pub memory_text : List ℕ

@@ -11,7 +11,7 @@ use Rattle.wasm_operators_immediates.specs.declared.memory.MemArg.{MemArg}
 use Rattle.wasm_operators_immediates.specs.declared.memory.MemArgOrdering.{MemArgOrdering}
 use Rattle.wasm_operators_immediates.specs.declared.memory.MemArgOrdering.TheVariants.{Op, Rmw}
 use Rattle.wasm_operators_immediates.specs.declared.memory.MemArgTarget.TheVariants.{Memory}
-use Rattle.wasm_operators_immediates.specs.Kinds.{Access, Plain, Atomic, ReadModifyWrite}
+use Rattle.wasm_operators_immediates.specs.Kinds.{AccessOrdering, Plain, Atomic, ReadModifyWrite}
 use Rattle.wasm_operators_immediates.specs.BlockLaws.{lawful-refuse_here, decides-refuse_here}
 use Rattle.wasm_operators_decode_immediates.specs.declared.memory_argument.Flags.{Flags}
 use Rattle.wasm_operators_decode_immediates.specs.Bytes.{ordering_by, SpelledOrdering}
@@ -28,13 +28,13 @@ unfolding named_memory
 lawful-named_memory true = lawful-unsigned 4 4
 lawful-named_memory false = lawful-pure 0
 
-pub lawful-access_ordering : (access : Access) → IsLawful (access_ordering access)
+pub lawful-access_ordering : (access : AccessOrdering) → IsLawful (access_ordering access)
 unfolding access_ordering
 lawful-access_ordering Plain = lawful-refuse_here MemArgOrdering Other
 lawful-access_ordering Atomic = lawful->>= (ordering_by 0x01) _ (lawful-ordering_by 0x01) (λ o. lawful-pure (Op o))
 lawful-access_ordering ReadModifyWrite = lawful->>= (ordering_by 0x11) _ (lawful-ordering_by 0x11) (λ o. lawful-pure (Rmw o))
 
-pub lawful-named_ordering : (access : Access) (named : Bool) → IsLawful (named_ordering access named)
+pub lawful-named_ordering : (access : AccessOrdering) (named : Bool) → IsLawful (named_ordering access named)
 unfolding named_ordering
 lawful-named_ordering access true = lawful->>= (access_ordering access) _ (lawful-access_ordering access) (λ o. lawful-pure (Some o))
 lawful-named_ordering access false = lawful-pure None
@@ -44,7 +44,7 @@ unfolding offset
 lawful-offset true = lawful-unsigned 9 1
 lawful-offset false = lawful-unsigned 4 4
 
-module _ (features : ℕ) (access : Access) (natural : ℕ) where
+module _ (features : ℕ) (access : AccessOrdering) (natural : ℕ) where
   lawful-after_flags : (f : Flags) → IsLawful (after_flags features access natural f)
   unfolding after_flags
   lawful-after_flags f =
@@ -73,7 +73,7 @@ rmw_from : (o : MemArgOrdering) (text : List ℕ) → SpelledAccessOrdering Read
 rmw_from (Op o) text h = absurd h
 rmw_from (Rmw o) text h = (o, h, refl)
 
-decides-access_ordering : (access : Access) → Decides (access_ordering access) (SpelledAccessOrdering access)
+decides-access_ordering : (access : AccessOrdering) → Decides (access_ordering access) (SpelledAccessOrdering access)
 unfolding access_ordering
 decides-access_ordering Plain = decides-refuse_here Other (SpelledAccessOrdering Plain) (λ o text h. h)
 decides-access_ordering Atomic = decides-same _ (Mapped Op (SpelledOrdering 0x01)) (SpelledAccessOrdering Atomic)
@@ -88,15 +88,15 @@ decides-access_ordering ReadModifyWrite = decides-same _ (Mapped Rmw (SpelledOrd
 abbrev some : MemArgOrdering → Option MemArgOrdering
 some o = Some o
 
-named_from : (access : Access) (o : Option MemArgOrdering) (text : List ℕ) → NamedOrdering access true o text → Mapped some (SpelledAccessOrdering access) o text
+named_from : (access : AccessOrdering) (o : Option MemArgOrdering) (text : List ℕ) → NamedOrdering access true o text → Mapped some (SpelledAccessOrdering access) o text
 named_from access (Some o) text h = (o, h, refl)
 named_from access None text h = absurd h
 
-none_only : (access : Access) (o : Option MemArgOrdering) (text : List ℕ) → NamedOrdering access false o text → (o ≡ None) × (text ≡ [])
+none_only : (access : AccessOrdering) (o : Option MemArgOrdering) (text : List ℕ) → NamedOrdering access false o text → (o ≡ None) × (text ≡ [])
 none_only access (Some o) text h = absurd h
 none_only access None text h = (refl, h)
 
-decides-named_ordering : (access : Access) (named : Bool) → Decides (named_ordering access named) (NamedOrdering access named)
+decides-named_ordering : (access : AccessOrdering) (named : Bool) → Decides (named_ordering access named) (NamedOrdering access named)
 unfolding named_ordering
 decides-named_ordering access true = decides-same _ (Mapped some (SpelledAccessOrdering access)) (NamedOrdering access true)
     (decides-map (access_ordering access) some (SpelledAccessOrdering access) (decides-access_ordering access))
@@ -109,7 +109,7 @@ unfolding offset
 decides-offset true = decides-u64
 decides-offset false = decides-u32
 
-module _ (features : ℕ) (access : Access) (natural : ℕ) where
+module _ (features : ℕ) (access : AccessOrdering) (natural : ℕ) where
   abbrev order : Bool
   order = may_order features access
 

@@ -4,8 +4,8 @@ ghost use Rattle.std.specs.Prelude.{◌≡◌, IfOk, option_map, Some, None, [],
 ghost use Rattle.wasm_types.specs.reader.Reading.{Gives, NeedsNoMemory};
 ghost use Rattle.wasm_operators_decode_encoding.specs.info.Info.{Info};
 ghost use Rattle.wasm_operators_decode_immediates.specs.immediates.Immediates.{F32Constant, F64Constant, I32Constant, I64Constant};
-ghost use Rattle.wasm_operators_decode_encoding.specs.memory.Immediates.{const_immediates};
-ghost use Rattle.wasm_operators_decode_encoding.specs.memory.Table.{const_info};
+ghost use Rattle.wasm_operators_decode_encoding.specs.groups.memory.Immediates.{const_immediates};
+ghost use Rattle.wasm_operators_decode_encoding.specs.groups.memory.Table.{const_info};
 ghost use Rattle.wasm_operators_decode_encoding.specs.Groups.{const_kinds};
 ghost use Rattle.wasm_operators_decode_encoding.specs.Sequences.{immediates};
 ghost use Rattle.wasm_operators_decode_memory.specs.declared.constant.ConstShape.TheVariants as ConstShape;

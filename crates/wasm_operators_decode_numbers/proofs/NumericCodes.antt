@@ -1,10 +1,10 @@
 -- Which codes of one byte are of numbers.
 use Rattle.std.proofs.Common.{◌≡◌, ◌<◌, ℕ, leb, List, [], Some, None, arith}
 use Rattle.std.proofs.lemmas.Bool.{le-leb}
-use Rattle.wasm_operators_numbers.specs.declared.numeric.NumericOperator.{NumericOperator}
-use Rattle.wasm_operators_numbers.specs.Table.{numeric_info}
-use Rattle.wasm_operators_numbers.specs.Immediates.{numeric_immediates}
-use Rattle.wasm_operators_numbers.proofs.Codes.{numeric_list, numeric_told}
+use Rattle.wasm_operators_groups.specs.declared.numeric.NumericOperator.{NumericOperator}
+use Rattle.wasm_operators_groups.specs.numbers.Table.{numeric_info}
+use Rattle.wasm_operators_groups.specs.numbers.Immediates.{numeric_immediates}
+use Rattle.wasm_operators_groups.proofs.NumbersCodes.{numeric_list, numeric_told}
 use Rattle.wasm_operators_decode_encoding.specs.Rows.{Row, rows}
 use Rattle.wasm_operators_decode_encoding.specs.Groups.{numeric_kinds}
 use Rattle.wasm_operators_decode_encoding.specs.KeptRows.{kinds_kept}

@@ -3,7 +3,7 @@
 //!
 //! None of these operators carries anything, so a code is all there is to look at: [`numeric_of`] goes by a code of one
 //! byte, [`numeric_prefixed_of`] by one behind `fc`. Each answers an operator exactly where the table of opcodes has
-//! one with this code. The table stands in `wasm_operators_numbers`.
+//! one with this code. The table stands in `wasm_operators_groups`.
 #![tactic(auto)]
 
 mod numeric;
@@ -11,4 +11,4 @@ mod numeric_prefixed;
 
 pub use numeric::numeric_of;
 pub use numeric_prefixed::numeric_prefixed_of;
-pub use wasm_operators_numbers::NumericOperator;
+pub use wasm_operators_groups::NumericOperator;

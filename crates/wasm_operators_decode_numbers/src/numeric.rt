@@ -1,11 +1,11 @@
 //! Operators on numbers from codes of one byte.
 
 ghost use Rattle.std.specs.Prelude.{◌≡◌, ◌≤◌, IfSome, option_map, None, []};
-ghost use Rattle.wasm_operators_numbers.specs.info.Info.{Info};
-ghost use Rattle.wasm_operators_numbers.specs.Table.{numeric_info};
+ghost use Rattle.wasm_operators_groups.specs.info.Info.{Info};
+ghost use Rattle.wasm_operators_groups.specs.numbers.Table.{numeric_info};
 ghost use Rattle.wasm_operators_decode_encoding.specs.Groups.{numeric_kinds};
 
-use wasm_operators_numbers::NumericOperator;
+use wasm_operators_groups::NumericOperator;
 
 // The test or comparison of integers with this code.
 fn integer_comparison(code: u32) -> NumericOperator

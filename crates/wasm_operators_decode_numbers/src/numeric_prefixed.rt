@@ -1,11 +1,11 @@
 //! Operators on numbers from codes behind `fc`.
 
 ghost use Rattle.std.specs.Prelude.{◌≡◌, IfSome, option_map, Some, []};
-ghost use Rattle.wasm_operators_numbers.specs.info.Info.{Info};
-ghost use Rattle.wasm_operators_numbers.specs.Table.{numeric_info};
+ghost use Rattle.wasm_operators_groups.specs.info.Info.{Info};
+ghost use Rattle.wasm_operators_groups.specs.numbers.Table.{numeric_info};
 ghost use Rattle.wasm_operators_decode_encoding.specs.Groups.{numeric_prefixed_kinds};
 
-use wasm_operators_numbers::NumericOperator;
+use wasm_operators_groups::NumericOperator;
 
 /// The operator with this code, if there is one in the group. It carries nothing.
 pub fn numeric_prefixed_of(code: u32) -> Option<NumericOperator>

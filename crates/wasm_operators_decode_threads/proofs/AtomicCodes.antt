@@ -3,9 +3,9 @@ use Rattle.std.proofs.Common.{◌≡◌, ◌≤◌, ◌<◌, ◌∙◌, ℕ, Boo
 use Rattle.std.proofs.lemmas.Bool.{le-leb, lt-leb, leb-true, eqb-true}
 use Rattle.wasm_operators_decode_immediates.specs.immediates.Kinds as kind
 use Rattle.wasm_operators_decode_immediates.specs.immediates.Kinds.{Kind, Atomic, ReadModifyWrite}
-use Rattle.wasm_operators_threads.specs.Table.{atomic_info}
-use Rattle.wasm_operators_threads.specs.Immediates.{atomic_immediates}
-use Rattle.wasm_operators_threads.proofs.Codes.{atomic_list}
+use Rattle.wasm_operators_groups.specs.threads.Table.{atomic_info}
+use Rattle.wasm_operators_groups.specs.threads.Immediates.{atomic_immediates}
+use Rattle.wasm_operators_groups.proofs.ThreadsCodes.{atomic_list}
 use Rattle.wasm_operators_decode_encoding.specs.Rows.{Row, rows}
 use Rattle.wasm_operators_decode_encoding.specs.Groups.{atomic_kinds}
 use Rattle.wasm_operators_decode_encoding.specs.KeptRows.{between, kinds_kept, is_between, code_within}

@@ -2,9 +2,9 @@
 use Rattle.std.specs.Prelude.{ℕ, List, [], ◌∷◌, Option, Some}
 use Rattle.wasm_operators_decode_immediates.specs.immediates.Kinds as kind
 use Rattle.wasm_operators_decode_immediates.specs.immediates.Kinds.{Kind, Atomic, ReadModifyWrite}
-use Rattle.wasm_operators_threads.specs.Table.{atomic_info}
-use Rattle.wasm_operators_threads.specs.Immediates.{atomic_immediates}
-use Rattle.wasm_operators_threads.proofs.Codes.{atomic_list}
+use Rattle.wasm_operators_groups.specs.threads.Table.{atomic_info}
+use Rattle.wasm_operators_groups.specs.threads.Immediates.{atomic_immediates}
+use Rattle.wasm_operators_groups.proofs.ThreadsCodes.{atomic_list}
 use Rattle.wasm_operators_decode_encoding.specs.Rows.{kinds_by, rows}
 use Rattle.wasm_operators_decode_encoding.specs.KeptRows.{between, kept}
 use Rattle.wasm_operators_decode_threads.specs.declared.atomic.AtomicShape.{AtomicShape}

@@ -2,18 +2,18 @@
 
 ghost use Rattle.std.specs.Prelude.{◌≡◌, ◌≤◌, IfOk, option_map, Some, None, [], ◌∷◌};
 ghost use Rattle.wasm_types.specs.reader.Reading.{Gives, NeedsNoMemory};
-ghost use Rattle.wasm_operators_threads.specs.info.Info.{Info};
+ghost use Rattle.wasm_operators_groups.specs.info.Info.{Info};
 ghost use Rattle.wasm_operators_decode_immediates.specs.immediates.Kinds.{Atomic, ReadModifyWrite};
 ghost use Rattle.wasm_operators_decode_immediates.specs.immediates.Immediates.{MemoryArgument, ZeroByte};
-ghost use Rattle.wasm_operators_threads.specs.Immediates.{atomic_immediates};
-ghost use Rattle.wasm_operators_threads.specs.Table.{atomic_info};
+ghost use Rattle.wasm_operators_groups.specs.threads.Immediates.{atomic_immediates};
+ghost use Rattle.wasm_operators_groups.specs.threads.Table.{atomic_info};
 ghost use Rattle.wasm_operators_decode_encoding.specs.Groups.{atomic_kinds};
 ghost use Rattle.wasm_operators_decode_encoding.specs.Sequences.{immediates};
 ghost use Rattle.wasm_operators_decode_threads.specs.declared.atomic.AtomicShape.TheVariants as AtomicShape;
 ghost use Rattle.wasm_operators_decode_threads.specs.Atomic.{atomic_run, atomic_shape_kinds};
 
 use wasm_operators_decode_immediates::{Access, MemArg, read_memarg, read_zero_byte};
-use wasm_operators_threads::AtomicOperator;
+use wasm_operators_groups::AtomicOperator;
 use wasm_types::{BinaryReader, Result};
 
 /// What stands behind an opcode of the group.

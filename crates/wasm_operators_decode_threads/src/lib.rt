@@ -11,4 +11,4 @@ mod shared;
 
 pub use atomic::{AtomicShape, atomic_shape, read_atomic};
 pub use shared::{SharedShape, read_shared, shared_shape};
-pub use wasm_operators_threads::{AtomicOperator, SharedOperator};
+pub use wasm_operators_groups::{AtomicOperator, SharedOperator};

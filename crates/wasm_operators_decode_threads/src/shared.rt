@@ -2,18 +2,18 @@
 
 ghost use Rattle.std.specs.Prelude.{◌≡◌, ◌≤◌, IfOk, option_map, Some, None, [], ◌∷◌};
 ghost use Rattle.wasm_types.specs.reader.Reading.{Gives, NeedsNoMemory};
-ghost use Rattle.wasm_operators_threads.specs.info.Info.{Info};
+ghost use Rattle.wasm_operators_groups.specs.info.Info.{Info};
 ghost use Rattle.wasm_operators_decode_immediates.specs.immediates.Kinds.{Fields, Globals, Tables, Types};
 ghost use Rattle.wasm_operators_decode_immediates.specs.immediates.Immediates.{Index, MemoryOrdering};
-ghost use Rattle.wasm_operators_threads.specs.Immediates.{shared_immediates};
-ghost use Rattle.wasm_operators_threads.specs.Table.{shared_info};
+ghost use Rattle.wasm_operators_groups.specs.threads.Immediates.{shared_immediates};
+ghost use Rattle.wasm_operators_groups.specs.threads.Table.{shared_info};
 ghost use Rattle.wasm_operators_decode_encoding.specs.Groups.{shared_kinds};
 ghost use Rattle.wasm_operators_decode_encoding.specs.Sequences.{immediates};
 ghost use Rattle.wasm_operators_decode_threads.specs.declared.shared.SharedShape.TheVariants as SharedShape;
 ghost use Rattle.wasm_operators_decode_threads.specs.Shared.{shared_shape_kinds};
 
 use wasm_operators_decode_immediates::{Ordering, read_ordering};
-use wasm_operators_threads::SharedOperator;
+use wasm_operators_groups::SharedOperator;
 use wasm_types::{BinaryReader, Result};
 
 /// What stands behind an opcode of the group.

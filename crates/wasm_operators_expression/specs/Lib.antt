@@ -10,10 +10,7 @@ pub mod SpellingLaws
 -- The rules and laws of the crates below, under their names: crates above cite them here.
 pub use Rattle.wasm_operators_decode_encoding.specs.info as info
 pub use Rattle.wasm_operators_decode_encoding.specs.immediates as immediates
-pub use Rattle.wasm_operators_decode_encoding.specs.control as control
-pub use Rattle.wasm_operators_decode_encoding.specs.memory as memory
-pub use Rattle.wasm_operators_decode_encoding.specs.numbers as numbers
-pub use Rattle.wasm_operators_decode_encoding.specs.threads as threads
+pub use Rattle.wasm_operators_decode_encoding.specs.groups as groups
 pub use Rattle.wasm_operators_decode_encoding.specs.operator as operator
 pub use Rattle.wasm_operators_decode_encoding.specs as decode_encoding
 pub use Rattle.wasm_operators_decode_encoding.specs.types as types

@@ -13,7 +13,7 @@ use Rattle.wasm_operators_immediates.specs.declared.memory.Ordering.{Ordering}
 use Rattle.wasm_operators_immediates.specs.declared.vector.V128.{V128}
 use Rattle.wasm_operators_immediates.specs.Tables.{Labels, CatchTable}
 use Rattle.wasm_operators_immediates.specs.Kinds as kind
-use Rattle.wasm_operators_immediates.specs.Kinds.{Kind, IndexSpace, Access}
+use Rattle.wasm_operators_immediates.specs.Kinds.{Kind, IndexSpace, AccessOrdering}
 
 -- an immediate: its kind, and what was carried
 pub data Immediate : Type 0 where
@@ -23,7 +23,7 @@ pub data Immediate : Type 0 where
   Block : BlockType → Immediate
   BranchTable : Labels → Immediate
   -- the access, the exponent of its natural alignment, and the argument
-  MemoryArgument : Access → ℕ → MemArg → Immediate
+  MemoryArgument : AccessOrdering → ℕ → MemArg → Immediate
   MemoryOrdering : Ordering → Immediate
   Heap : HeapType → Immediate
   -- the label, and the types before and after the cast

@@ -17,10 +17,10 @@ pub data IndexSpace : Type 0 where
 
 -- what ordering a memory argument may name: none; that of an atomic load or store, or of what waits or notifies; that of both
 -- halves of a read-modify-write
-pub data Access : Type 0 where
-  Plain : Access
-  Atomic : Access
-  ReadModifyWrite : Access
+pub data AccessOrdering : Type 0 where
+  Plain : AccessOrdering
+  Atomic : AccessOrdering
+  ReadModifyWrite : AccessOrdering
 
 -- each kind, with all that its bytes are read by
 pub data Kind : Type 0 where
@@ -33,7 +33,7 @@ pub data Kind : Type 0 where
   Block : Kind
   BranchTable : Kind
   -- the argument of an access with this exponent of its natural alignment
-  MemoryArgument : Access → ℕ → Kind
+  MemoryArgument : AccessOrdering → ℕ → Kind
   MemoryOrdering : Kind
   Heap : Kind
   -- a branch on a cast: a byte that says which of the two types are nullable, a label, and the heap types of the two

@@ -1,40 +1,40 @@
 -- Operators are found by prefix and code, and made of their immediates: by groups, which have their codes in runs.
 use Rattle.std.proofs.Common.{◌≡◌, ◌∙◌, ◌+◌, ◌*◌, ℕ, Bool, true, false, eqb, ltb, List, [], ◌∷◌, map, get_or, Option, Some, None, option_map, refl, sym, ap, subst}
-use Rattle.wasm_operators_control.specs.info.Info.{Info}
-use Rattle.wasm_operators_control.specs.info_codes.{key, same_key, is_eq, in_list, row_at, kinds_at, made_at}
-use Rattle.wasm_operators_control.specs.immediates.Kinds.{Kind}
-use Rattle.wasm_operators_control.specs.immediates.Immediates.{Immediate, kind_of}
-use Rattle.wasm_operators_control.specs.Table.{control_info, parametric_info, exception_info, continuation_info}
-use Rattle.wasm_operators_memory.specs.Table.{memory_info, const_info, bulk_info}
-use Rattle.wasm_operators_numbers.specs.Table.{numeric_info}
-use Rattle.wasm_operators_control.specs.Immediates.{control_immediates, parametric_immediates, exception_immediates, continuation_immediates}
-use Rattle.wasm_operators_memory.specs.Immediates.{memory_immediates, const_immediates, bulk_immediates}
-use Rattle.wasm_operators_numbers.specs.Immediates.{numeric_immediates}
-use Rattle.wasm_operators_control.proofs.Codes.{control_list, control_told, control_made, parametric_list, parametric_told, parametric_made}
-use Rattle.wasm_operators_control.proofs.Codes.{exception_list, exception_told, exception_made, continuation_list, continuation_told}
-use Rattle.wasm_operators_control.proofs.Codes.{continuation_made}
-use Rattle.wasm_operators_memory.proofs.Codes.{memory_list, memory_told, memory_made, const_list, const_told, const_made, bulk_list, bulk_told, bulk_made}
-use Rattle.wasm_operators_numbers.proofs.Codes.{numeric_list, numeric_told, numeric_made}
-use Rattle.wasm_operators_gc.specs.Table.{gc_info, descriptor_info}
-use Rattle.wasm_operators_threads.specs.Table.{atomic_info, shared_info}
-use Rattle.wasm_operators_gc.specs.Immediates.{gc_immediates, descriptor_immediates}
-use Rattle.wasm_operators_threads.specs.Immediates.{atomic_immediates, shared_immediates}
-use Rattle.wasm_operators_gc.proofs.Codes.{gc_list, gc_told, gc_made, descriptor_list, descriptor_told, descriptor_made}
-use Rattle.wasm_operators_threads.proofs.Codes.{atomic_list, atomic_told, atomic_made, shared_list, shared_told, shared_made}
+use Rattle.wasm_operators_groups.specs.info.Info.{Info}
+use Rattle.wasm_operators_groups.specs.info_codes.{key, same_key, is_eq, in_list, row_at, kinds_at, made_at}
+use Rattle.wasm_operators_groups.specs.immediates.Kinds.{Kind}
+use Rattle.wasm_operators_groups.specs.immediates.Immediates.{Immediate, kind_of}
+use Rattle.wasm_operators_groups.specs.control.Table.{control_info, parametric_info, exception_info, continuation_info}
+use Rattle.wasm_operators_groups.specs.memory.Table.{memory_info, const_info, bulk_info}
+use Rattle.wasm_operators_groups.specs.numbers.Table.{numeric_info}
+use Rattle.wasm_operators_groups.specs.control.Immediates.{control_immediates, parametric_immediates, exception_immediates, continuation_immediates}
+use Rattle.wasm_operators_groups.specs.memory.Immediates.{memory_immediates, const_immediates, bulk_immediates}
+use Rattle.wasm_operators_groups.specs.numbers.Immediates.{numeric_immediates}
+use Rattle.wasm_operators_groups.proofs.ControlCodes.{control_list, control_told, control_made, parametric_list, parametric_told, parametric_made}
+use Rattle.wasm_operators_groups.proofs.ControlCodes.{exception_list, exception_told, exception_made, continuation_list, continuation_told}
+use Rattle.wasm_operators_groups.proofs.ControlCodes.{continuation_made}
+use Rattle.wasm_operators_groups.proofs.MemoryCodes.{memory_list, memory_told, memory_made, const_list, const_told, const_made, bulk_list, bulk_told, bulk_made}
+use Rattle.wasm_operators_groups.proofs.NumbersCodes.{numeric_list, numeric_told, numeric_made}
+use Rattle.wasm_operators_groups.specs.gc.Table.{gc_info, descriptor_info}
+use Rattle.wasm_operators_groups.specs.threads.Table.{atomic_info, shared_info}
+use Rattle.wasm_operators_groups.specs.gc.Immediates.{gc_immediates, descriptor_immediates}
+use Rattle.wasm_operators_groups.specs.threads.Immediates.{atomic_immediates, shared_immediates}
+use Rattle.wasm_operators_groups.proofs.GcCodes.{gc_list, gc_told, gc_made, descriptor_list, descriptor_told, descriptor_made}
+use Rattle.wasm_operators_groups.proofs.ThreadsCodes.{atomic_list, atomic_told, atomic_made, shared_list, shared_told, shared_made}
 use Rattle.wasm_operators_vectors.specs.Table.{simd_info, simd_numeric_info}
 use Rattle.wasm_operators_vectors.specs.Immediates.{simd_immediates, simd_numeric_immediates}
 use Rattle.wasm_operators_vectors.proofs.Codes.{simd_list, simd_told, simd_made, simd_numeric_list, simd_numeric_told, simd_numeric_made}
-use Rattle.wasm_operators_control.specs.declared.control.ControlOperator.{ControlOperator}
-use Rattle.wasm_operators_memory.specs.declared.memory.MemoryOperator.{MemoryOperator}
-use Rattle.wasm_operators_memory.specs.declared.constant.ConstOperator.{ConstOperator}
-use Rattle.wasm_operators_numbers.specs.declared.numeric.NumericOperator.{NumericOperator}
-use Rattle.wasm_operators_memory.specs.declared.bulk.BulkOperator.{BulkOperator}
-use Rattle.wasm_operators_gc.specs.declared.gc.GcOperator.{GcOperator}
-use Rattle.wasm_operators_gc.specs.declared.gc.DescriptorOperator.{DescriptorOperator}
+use Rattle.wasm_operators_groups.specs.declared.control.ControlOperator.{ControlOperator}
+use Rattle.wasm_operators_groups.specs.declared.memory.MemoryOperator.{MemoryOperator}
+use Rattle.wasm_operators_groups.specs.declared.constant.ConstOperator.{ConstOperator}
+use Rattle.wasm_operators_groups.specs.declared.numeric.NumericOperator.{NumericOperator}
+use Rattle.wasm_operators_groups.specs.declared.bulk.BulkOperator.{BulkOperator}
+use Rattle.wasm_operators_groups.specs.declared.gc.GcOperator.{GcOperator}
+use Rattle.wasm_operators_groups.specs.declared.gc.DescriptorOperator.{DescriptorOperator}
 use Rattle.wasm_operators_vectors.specs.declared.vector.SimdOperator.{SimdOperator}
 use Rattle.wasm_operators_vectors.specs.declared.vector_numeric.SimdNumericOperator.{SimdNumericOperator}
-use Rattle.wasm_operators_threads.specs.declared.atomic.AtomicOperator.{AtomicOperator}
-use Rattle.wasm_operators_threads.specs.declared.atomic.SharedOperator.{SharedOperator}
+use Rattle.wasm_operators_groups.specs.declared.atomic.AtomicOperator.{AtomicOperator}
+use Rattle.wasm_operators_groups.specs.declared.atomic.SharedOperator.{SharedOperator}
 use Rattle.wasm_operators_operator.specs.Op as op
 use Rattle.wasm_operators_operator.specs.Op.{Op, ParametricTree, ExceptionTree, ContinuationTree}
 use Rattle.wasm_operators_operator.specs.Table.{info_of}

@@ -1,23 +1,23 @@
 -- What a clone of an operator keeps: its variant and all that it carries.
 use Rattle.std.proofs.Common.{◌≡◌, refl, ap}
 use Rattle.std.specs.List.{each_same}
-use Rattle.wasm_operators_control.specs.immediates.declared.handlers.TryTable.{TryTable}
-use Rattle.wasm_operators_control.specs.immediates.declared.handlers.ResumeTable.{ResumeTable}
-use Rattle.wasm_operators_control.specs.immediates.contracts.handlers.TryTableClone.TheImpl as try_table
-use Rattle.wasm_operators_control.specs.immediates.contracts.handlers.ResumeTableClone.TheImpl as resume_table
-use Rattle.wasm_operators_control.specs.immediates.Tables.{catch_table_of}
-use Rattle.wasm_operators_control.specs.declared.control.ControlOperator.{ControlOperator}
-use Rattle.wasm_operators_control.specs.declared.control.ControlOperator.TheVariants as control
-use Rattle.wasm_operators_control.specs.declared.control.ParametricOperator.{ParametricOperator}
-use Rattle.wasm_operators_control.specs.declared.control.ParametricOperator.TheVariants as parametric
-use Rattle.wasm_operators_control.specs.declared.exceptions.ExceptionOperator.{ExceptionOperator}
-use Rattle.wasm_operators_control.specs.declared.exceptions.ExceptionOperator.TheVariants as exception
-use Rattle.wasm_operators_control.specs.contracts.control.ControlOperatorClone.TheImpl as control_clone
-use Rattle.wasm_operators_control.specs.contracts.control.ParametricOperatorClone.TheImpl as parametric_clone
-use Rattle.wasm_operators_control.specs.contracts.exceptions.ExceptionOperatorClone.TheImpl as exception_clone
-use Rattle.wasm_operators_control.specs.declared.continuation.ContinuationOperator.{ContinuationOperator}
-use Rattle.wasm_operators_control.specs.declared.continuation.ContinuationOperator.TheVariants as continuation
-use Rattle.wasm_operators_control.specs.contracts.continuation.ContinuationOperatorClone.TheImpl as continuation_clone
+use Rattle.wasm_operators_groups.specs.immediates.declared.handlers.TryTable.{TryTable}
+use Rattle.wasm_operators_groups.specs.immediates.declared.handlers.ResumeTable.{ResumeTable}
+use Rattle.wasm_operators_groups.specs.immediates.contracts.handlers.TryTableClone.TheImpl as try_table
+use Rattle.wasm_operators_groups.specs.immediates.contracts.handlers.ResumeTableClone.TheImpl as resume_table
+use Rattle.wasm_operators_groups.specs.immediates.Tables.{catch_table_of}
+use Rattle.wasm_operators_groups.specs.declared.control.ControlOperator.{ControlOperator}
+use Rattle.wasm_operators_groups.specs.declared.control.ControlOperator.TheVariants as control
+use Rattle.wasm_operators_groups.specs.declared.control.ParametricOperator.{ParametricOperator}
+use Rattle.wasm_operators_groups.specs.declared.control.ParametricOperator.TheVariants as parametric
+use Rattle.wasm_operators_groups.specs.declared.exceptions.ExceptionOperator.{ExceptionOperator}
+use Rattle.wasm_operators_groups.specs.declared.exceptions.ExceptionOperator.TheVariants as exception
+use Rattle.wasm_operators_groups.specs.contracts.control.ControlOperatorClone.TheImpl as control_clone
+use Rattle.wasm_operators_groups.specs.contracts.control.ParametricOperatorClone.TheImpl as parametric_clone
+use Rattle.wasm_operators_groups.specs.contracts.exceptions.ExceptionOperatorClone.TheImpl as exception_clone
+use Rattle.wasm_operators_groups.specs.declared.continuation.ContinuationOperator.{ContinuationOperator}
+use Rattle.wasm_operators_groups.specs.declared.continuation.ContinuationOperator.TheVariants as continuation
+use Rattle.wasm_operators_groups.specs.contracts.continuation.ContinuationOperatorClone.TheImpl as continuation_clone
 use Rattle.wasm_operators_operator.specs.declared.operator.Operator.{Operator}
 use Rattle.wasm_operators_operator.specs.declared.operator.Operator.TheVariants as operator
 use Rattle.wasm_operators_operator.specs.contracts.operator.OperatorClone.TheImpl as clone

@@ -1,24 +1,24 @@
 -- `==` of operators, from that of the groups.
 use Rattle.std.proofs.Common.{◌≡◌, true, sym, ap, true≢false}
-use Rattle.wasm_operators_control.specs.types.values.Laws.{HeapEqualityIsIdentity, ReferenceEqualityIsIdentity, ValueEqualityIsIdentity}
-use Rattle.wasm_operators_control.specs.telling.{complete}
-use Rattle.wasm_operators_control.proofs.Equality.{controls, parametrics, exceptions, continuations}
-use Rattle.wasm_operators_memory.proofs.Equality.{memories, consts, bulks}
-use Rattle.wasm_operators_numbers.proofs.Equality.{numerics}
-use Rattle.wasm_operators_gc.proofs.Equality.{gcs, descriptors}
-use Rattle.wasm_operators_threads.proofs.Equality.{atomics, shareds}
+use Rattle.wasm_operators_groups.specs.types.values.Laws.{HeapEqualityIsIdentity, ReferenceEqualityIsIdentity, ValueEqualityIsIdentity}
+use Rattle.wasm_operators_groups.specs.telling.{complete}
+use Rattle.wasm_operators_groups.proofs.ControlEquality.{controls, parametrics, exceptions, continuations}
+use Rattle.wasm_operators_groups.proofs.MemoryEquality.{memories, consts, bulks}
+use Rattle.wasm_operators_groups.proofs.NumbersEquality.{numerics}
+use Rattle.wasm_operators_groups.proofs.GcEquality.{gcs, descriptors}
+use Rattle.wasm_operators_groups.proofs.ThreadsEquality.{atomics, shareds}
 use Rattle.wasm_operators_vectors.proofs.Equality.{simds, simd_numerics}
-use Rattle.wasm_operators_control.specs.contracts.control.ControlOperatorPartialEq.TheImpl as control_eq
-use Rattle.wasm_operators_memory.specs.contracts.memory.MemoryOperatorPartialEq.TheImpl as memory_eq
-use Rattle.wasm_operators_memory.specs.contracts.constant.ConstOperatorPartialEq.TheImpl as const_eq
-use Rattle.wasm_operators_numbers.specs.contracts.numeric.NumericOperatorPartialEq.TheImpl as numeric_eq
-use Rattle.wasm_operators_memory.specs.contracts.bulk.BulkOperatorPartialEq.TheImpl as bulk_eq
-use Rattle.wasm_operators_gc.specs.contracts.gc.GcOperatorPartialEq.TheImpl as gc_eq
-use Rattle.wasm_operators_gc.specs.contracts.gc.DescriptorOperatorPartialEq.TheImpl as descriptor_eq
+use Rattle.wasm_operators_groups.specs.contracts.control.ControlOperatorPartialEq.TheImpl as control_eq
+use Rattle.wasm_operators_groups.specs.contracts.memory.MemoryOperatorPartialEq.TheImpl as memory_eq
+use Rattle.wasm_operators_groups.specs.contracts.constant.ConstOperatorPartialEq.TheImpl as const_eq
+use Rattle.wasm_operators_groups.specs.contracts.numeric.NumericOperatorPartialEq.TheImpl as numeric_eq
+use Rattle.wasm_operators_groups.specs.contracts.bulk.BulkOperatorPartialEq.TheImpl as bulk_eq
+use Rattle.wasm_operators_groups.specs.contracts.gc.GcOperatorPartialEq.TheImpl as gc_eq
+use Rattle.wasm_operators_groups.specs.contracts.gc.DescriptorOperatorPartialEq.TheImpl as descriptor_eq
 use Rattle.wasm_operators_vectors.specs.contracts.vector.SimdOperatorPartialEq.TheImpl as simd_eq
 use Rattle.wasm_operators_vectors.specs.contracts.vector_numeric.SimdNumericOperatorPartialEq.TheImpl as simd_numeric_eq
-use Rattle.wasm_operators_threads.specs.contracts.atomic.AtomicOperatorPartialEq.TheImpl as atomic_eq
-use Rattle.wasm_operators_threads.specs.contracts.atomic.SharedOperatorPartialEq.TheImpl as shared_eq
+use Rattle.wasm_operators_groups.specs.contracts.atomic.AtomicOperatorPartialEq.TheImpl as atomic_eq
+use Rattle.wasm_operators_groups.specs.contracts.atomic.SharedOperatorPartialEq.TheImpl as shared_eq
 use Rattle.wasm_operators_operator.specs.declared.operator.Operator.{Operator}
 use Rattle.wasm_operators_operator.specs.declared.operator.Operator.TheVariants as operator
 use Rattle.wasm_operators_operator.specs.contracts.operator.OperatorPartialEq.TheImpl as operator_eq

@@ -1,33 +1,33 @@
 -- `==` of operators and of their groups holds exactly where the trees are equal.
 use Rattle.std.proofs.Common.{◌≡◌, ◌↔◌, IsTrue}
-use Rattle.wasm_operators_control.specs.declared.control.ControlOperator.{ControlOperator}
-use Rattle.wasm_operators_control.specs.declared.control.ParametricOperator.{ParametricOperator}
-use Rattle.wasm_operators_control.specs.declared.exceptions.ExceptionOperator.{ExceptionOperator}
-use Rattle.wasm_operators_memory.specs.declared.memory.MemoryOperator.{MemoryOperator}
-use Rattle.wasm_operators_memory.specs.declared.constant.ConstOperator.{ConstOperator}
-use Rattle.wasm_operators_numbers.specs.declared.numeric.NumericOperator.{NumericOperator}
-use Rattle.wasm_operators_memory.specs.declared.bulk.BulkOperator.{BulkOperator}
-use Rattle.wasm_operators_gc.specs.declared.gc.GcOperator.{GcOperator}
-use Rattle.wasm_operators_gc.specs.declared.gc.DescriptorOperator.{DescriptorOperator}
+use Rattle.wasm_operators_groups.specs.declared.control.ControlOperator.{ControlOperator}
+use Rattle.wasm_operators_groups.specs.declared.control.ParametricOperator.{ParametricOperator}
+use Rattle.wasm_operators_groups.specs.declared.exceptions.ExceptionOperator.{ExceptionOperator}
+use Rattle.wasm_operators_groups.specs.declared.memory.MemoryOperator.{MemoryOperator}
+use Rattle.wasm_operators_groups.specs.declared.constant.ConstOperator.{ConstOperator}
+use Rattle.wasm_operators_groups.specs.declared.numeric.NumericOperator.{NumericOperator}
+use Rattle.wasm_operators_groups.specs.declared.bulk.BulkOperator.{BulkOperator}
+use Rattle.wasm_operators_groups.specs.declared.gc.GcOperator.{GcOperator}
+use Rattle.wasm_operators_groups.specs.declared.gc.DescriptorOperator.{DescriptorOperator}
 use Rattle.wasm_operators_vectors.specs.declared.vector.SimdOperator.{SimdOperator}
 use Rattle.wasm_operators_vectors.specs.declared.vector_numeric.SimdNumericOperator.{SimdNumericOperator}
-use Rattle.wasm_operators_threads.specs.declared.atomic.AtomicOperator.{AtomicOperator}
-use Rattle.wasm_operators_threads.specs.declared.atomic.SharedOperator.{SharedOperator}
-use Rattle.wasm_operators_control.specs.declared.continuation.ContinuationOperator.{ContinuationOperator}
-use Rattle.wasm_operators_control.specs.contracts.control.ControlOperatorPartialEq.TheImpl as control
-use Rattle.wasm_operators_control.specs.contracts.control.ParametricOperatorPartialEq.TheImpl as parametric
-use Rattle.wasm_operators_control.specs.contracts.exceptions.ExceptionOperatorPartialEq.TheImpl as exception
-use Rattle.wasm_operators_memory.specs.contracts.memory.MemoryOperatorPartialEq.TheImpl as memory
-use Rattle.wasm_operators_memory.specs.contracts.constant.ConstOperatorPartialEq.TheImpl as const
-use Rattle.wasm_operators_numbers.specs.contracts.numeric.NumericOperatorPartialEq.TheImpl as numeric
-use Rattle.wasm_operators_memory.specs.contracts.bulk.BulkOperatorPartialEq.TheImpl as bulk
-use Rattle.wasm_operators_gc.specs.contracts.gc.GcOperatorPartialEq.TheImpl as gc
-use Rattle.wasm_operators_gc.specs.contracts.gc.DescriptorOperatorPartialEq.TheImpl as descriptor
+use Rattle.wasm_operators_groups.specs.declared.atomic.AtomicOperator.{AtomicOperator}
+use Rattle.wasm_operators_groups.specs.declared.atomic.SharedOperator.{SharedOperator}
+use Rattle.wasm_operators_groups.specs.declared.continuation.ContinuationOperator.{ContinuationOperator}
+use Rattle.wasm_operators_groups.specs.contracts.control.ControlOperatorPartialEq.TheImpl as control
+use Rattle.wasm_operators_groups.specs.contracts.control.ParametricOperatorPartialEq.TheImpl as parametric
+use Rattle.wasm_operators_groups.specs.contracts.exceptions.ExceptionOperatorPartialEq.TheImpl as exception
+use Rattle.wasm_operators_groups.specs.contracts.memory.MemoryOperatorPartialEq.TheImpl as memory
+use Rattle.wasm_operators_groups.specs.contracts.constant.ConstOperatorPartialEq.TheImpl as const
+use Rattle.wasm_operators_groups.specs.contracts.numeric.NumericOperatorPartialEq.TheImpl as numeric
+use Rattle.wasm_operators_groups.specs.contracts.bulk.BulkOperatorPartialEq.TheImpl as bulk
+use Rattle.wasm_operators_groups.specs.contracts.gc.GcOperatorPartialEq.TheImpl as gc
+use Rattle.wasm_operators_groups.specs.contracts.gc.DescriptorOperatorPartialEq.TheImpl as descriptor
 use Rattle.wasm_operators_vectors.specs.contracts.vector.SimdOperatorPartialEq.TheImpl as simd
 use Rattle.wasm_operators_vectors.specs.contracts.vector_numeric.SimdNumericOperatorPartialEq.TheImpl as simd_numeric
-use Rattle.wasm_operators_threads.specs.contracts.atomic.AtomicOperatorPartialEq.TheImpl as atomic
-use Rattle.wasm_operators_threads.specs.contracts.atomic.SharedOperatorPartialEq.TheImpl as shared
-use Rattle.wasm_operators_control.specs.contracts.continuation.ContinuationOperatorPartialEq.TheImpl as continuation
+use Rattle.wasm_operators_groups.specs.contracts.atomic.AtomicOperatorPartialEq.TheImpl as atomic
+use Rattle.wasm_operators_groups.specs.contracts.atomic.SharedOperatorPartialEq.TheImpl as shared
+use Rattle.wasm_operators_groups.specs.contracts.continuation.ContinuationOperatorPartialEq.TheImpl as continuation
 use Rattle.wasm_operators_operator.specs.declared.operator.Operator.{Operator}
 use Rattle.wasm_operators_operator.specs.contracts.operator.OperatorPartialEq.TheImpl as operator
 use Rattle.wasm_operators_operator.specs.Op.{op_of, parametric_of, exception_of, continuation_of}

@@ -1,14 +1,14 @@
 -- What each operator carries behind its opcode, in the order of the bytes (WebAssembly 3.0, binary format, instructions). The
 -- groups' parts are in the files of this name of the crates below.
 use Rattle.std.specs.Prelude.{Bool, true, List, map}
-use Rattle.wasm_operators_control.specs.immediates.Kinds.{Kind}
-use Rattle.wasm_operators_control.specs.immediates.Immediates.{Immediate, kind_of}
-use Rattle.wasm_operators_control.specs.Immediates.{control_immediates, parametric_immediates, exception_immediates}
-use Rattle.wasm_operators_control.specs.Immediates.{is_canonical as parametric_is_canonical, continuation_immediates}
-use Rattle.wasm_operators_memory.specs.Immediates.{memory_immediates, const_immediates, bulk_immediates}
-use Rattle.wasm_operators_numbers.specs.Immediates.{numeric_immediates}
-use Rattle.wasm_operators_gc.specs.Immediates.{gc_immediates, descriptor_immediates}
-use Rattle.wasm_operators_threads.specs.Immediates.{atomic_immediates, shared_immediates}
+use Rattle.wasm_operators_groups.specs.immediates.Kinds.{Kind}
+use Rattle.wasm_operators_groups.specs.immediates.Immediates.{Immediate, kind_of}
+use Rattle.wasm_operators_groups.specs.control.Immediates.{control_immediates, parametric_immediates, exception_immediates}
+use Rattle.wasm_operators_groups.specs.control.Immediates.{is_canonical as parametric_is_canonical, continuation_immediates}
+use Rattle.wasm_operators_groups.specs.memory.Immediates.{memory_immediates, const_immediates, bulk_immediates}
+use Rattle.wasm_operators_groups.specs.numbers.Immediates.{numeric_immediates}
+use Rattle.wasm_operators_groups.specs.gc.Immediates.{gc_immediates, descriptor_immediates}
+use Rattle.wasm_operators_groups.specs.threads.Immediates.{atomic_immediates, shared_immediates}
 use Rattle.wasm_operators_vectors.specs.Immediates.{simd_immediates, simd_numeric_immediates}
 use Rattle.wasm_operators_operator.specs.Op as op
 use Rattle.wasm_operators_operator.specs.Op.{Op}

@@ -1,16 +1,16 @@
 -- Operators as plain trees (WebAssembly 3.0, structure, instructions). A group that keeps nothing in memory is its own tree.
-pub use Rattle.wasm_operators_control.specs.Trees.{ParametricTree, Drop, Select, TypedSelect, TypedSelectMulti, parametric_of}
-pub use Rattle.wasm_operators_control.specs.Trees.{ExceptionTree, Try, Catch, Throw, Rethrow, ThrowRef, Delegate, CatchAll, TryTable, exception_of}
-pub use Rattle.wasm_operators_control.specs.Trees.{ContinuationTree, ContNew, ContBind, Suspend, Resume, ResumeThrow, ResumeThrowRef, Switch, continuation_of}
-use Rattle.wasm_operators_control.specs.declared.control.ControlOperator.{ControlOperator}
-use Rattle.wasm_operators_memory.specs.declared.memory.MemoryOperator.{MemoryOperator}
-use Rattle.wasm_operators_memory.specs.declared.constant.ConstOperator.{ConstOperator}
-use Rattle.wasm_operators_numbers.specs.declared.numeric.NumericOperator.{NumericOperator}
-use Rattle.wasm_operators_memory.specs.declared.bulk.BulkOperator.{BulkOperator}
-use Rattle.wasm_operators_gc.specs.declared.gc.GcOperator.{GcOperator}
-use Rattle.wasm_operators_gc.specs.declared.gc.DescriptorOperator.{DescriptorOperator}
-use Rattle.wasm_operators_threads.specs.declared.atomic.AtomicOperator.{AtomicOperator}
-use Rattle.wasm_operators_threads.specs.declared.atomic.SharedOperator.{SharedOperator}
+pub use Rattle.wasm_operators_groups.specs.control.Trees.{ParametricTree, Drop, Select, TypedSelect, TypedSelectMulti, parametric_of}
+pub use Rattle.wasm_operators_groups.specs.control.Trees.{ExceptionTree, Try, Catch, Throw, Rethrow, ThrowRef, Delegate, CatchAll, TryTable, exception_of}
+pub use Rattle.wasm_operators_groups.specs.control.Trees.{ContinuationTree, ContNew, ContBind, Suspend, Resume, ResumeThrow, ResumeThrowRef, Switch, continuation_of}
+use Rattle.wasm_operators_groups.specs.declared.control.ControlOperator.{ControlOperator}
+use Rattle.wasm_operators_groups.specs.declared.memory.MemoryOperator.{MemoryOperator}
+use Rattle.wasm_operators_groups.specs.declared.constant.ConstOperator.{ConstOperator}
+use Rattle.wasm_operators_groups.specs.declared.numeric.NumericOperator.{NumericOperator}
+use Rattle.wasm_operators_groups.specs.declared.bulk.BulkOperator.{BulkOperator}
+use Rattle.wasm_operators_groups.specs.declared.gc.GcOperator.{GcOperator}
+use Rattle.wasm_operators_groups.specs.declared.gc.DescriptorOperator.{DescriptorOperator}
+use Rattle.wasm_operators_groups.specs.declared.atomic.AtomicOperator.{AtomicOperator}
+use Rattle.wasm_operators_groups.specs.declared.atomic.SharedOperator.{SharedOperator}
 use Rattle.wasm_operators_vectors.specs.declared.vector.SimdOperator.{SimdOperator}
 use Rattle.wasm_operators_vectors.specs.declared.vector_numeric.SimdNumericOperator.{SimdNumericOperator}
 use Rattle.wasm_operators_operator.specs.declared.operator.Operator.{Operator}

@@ -1,8 +1,8 @@
 -- What operators do to frames, worked.
 use Rattle.std.specs.Prelude.{◌≡◌, true, false, Some, None}
-use Rattle.wasm_operators_control.specs.immediates.declared.block.BlockType.{BlockType}
-use Rattle.wasm_operators_control.specs.immediates.declared.frames.FrameKind.TheVariants as frames
-use Rattle.wasm_operators_control.specs.declared.control.ControlOperator.TheVariants as control
+use Rattle.wasm_operators_groups.specs.immediates.declared.block.BlockType.{BlockType}
+use Rattle.wasm_operators_groups.specs.immediates.declared.frames.FrameKind.TheVariants as frames
+use Rattle.wasm_operators_groups.specs.declared.control.ControlOperator.TheVariants as control
 use Rattle.wasm_operators_operator.specs.declared.role.Effect.TheVariants as effects
 use Rattle.wasm_operators_operator.specs.Op as op
 use Rattle.wasm_operators_operator.specs.Op.{Op}

@@ -2,10 +2,10 @@
 -- structure, control instructions, and binary format, instructions: `else` behind `if`, and `end`; the older `try` with its clauses
 -- by the proposal on exceptions).
 use Rattle.std.specs.Prelude.{Bool, false, is_some, Option, Some, None}
-use Rattle.wasm_operators_control.specs.immediates.declared.frames.FrameKind.{FrameKind}
-use Rattle.wasm_operators_control.specs.immediates.declared.frames.FrameKind.TheVariants as frames
-use Rattle.wasm_operators_control.specs.declared.control.ControlOperator.{ControlOperator}
-use Rattle.wasm_operators_control.specs.declared.control.ControlOperator.TheVariants as control
+use Rattle.wasm_operators_groups.specs.immediates.declared.frames.FrameKind.{FrameKind}
+use Rattle.wasm_operators_groups.specs.immediates.declared.frames.FrameKind.TheVariants as frames
+use Rattle.wasm_operators_groups.specs.declared.control.ControlOperator.{ControlOperator}
+use Rattle.wasm_operators_groups.specs.declared.control.ControlOperator.TheVariants as control
 use Rattle.wasm_operators_operator.specs.Op as op
 use Rattle.wasm_operators_operator.specs.Op.{Op, ExceptionTree}
 use Rattle.wasm_operators_operator.specs.declared.role.Role.{Role}

@@ -1,11 +1,11 @@
 -- The table of opcodes: what is told of each operator (WebAssembly 3.0, appendix, index of instructions). The groups' parts
 -- are in the files of this name of the crates below.
-use Rattle.wasm_operators_control.specs.info.Info.{Info}
-use Rattle.wasm_operators_control.specs.Table.{control_info, parametric_info, exception_info, continuation_info}
-use Rattle.wasm_operators_memory.specs.Table.{memory_info, const_info, bulk_info}
-use Rattle.wasm_operators_numbers.specs.Table.{numeric_info}
-use Rattle.wasm_operators_gc.specs.Table.{gc_info, descriptor_info}
-use Rattle.wasm_operators_threads.specs.Table.{atomic_info, shared_info}
+use Rattle.wasm_operators_groups.specs.info.Info.{Info}
+use Rattle.wasm_operators_groups.specs.control.Table.{control_info, parametric_info, exception_info, continuation_info}
+use Rattle.wasm_operators_groups.specs.memory.Table.{memory_info, const_info, bulk_info}
+use Rattle.wasm_operators_groups.specs.numbers.Table.{numeric_info}
+use Rattle.wasm_operators_groups.specs.gc.Table.{gc_info, descriptor_info}
+use Rattle.wasm_operators_groups.specs.threads.Table.{atomic_info, shared_info}
 use Rattle.wasm_operators_vectors.specs.Table.{simd_info, simd_numeric_info}
 use Rattle.wasm_operators_operator.specs.Op as op
 use Rattle.wasm_operators_operator.specs.Op.{Op}

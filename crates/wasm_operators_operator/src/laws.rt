@@ -8,7 +8,7 @@ ghost use Rattle.wasm_operators_operator.specs.EqualityLaws.{NumericEqualityIsId
 ghost use Rattle.wasm_operators_operator.specs.EqualityLaws.{DescriptorEqualityIsIdentity, SimdEqualityIsIdentity, SimdNumericEqualityIsIdentity};
 ghost use Rattle.wasm_operators_operator.specs.EqualityLaws.{AtomicEqualityIsIdentity, SharedEqualityIsIdentity, ContinuationEqualityIsOfTrees};
 
-use wasm_operators_control::equality_is_identity;
+use wasm_operators_groups::equality_is_identity;
 
 /// A clone of an operator has the operator's tree.
 pub const fn clones_have_the_tree()

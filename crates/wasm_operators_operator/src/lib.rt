@@ -12,12 +12,10 @@ mod role;
 
 pub use operator::Operator;
 pub use role::{Effect, Role};
-pub use wasm_operators_control::{
-    BlockType, BrTable, ContinuationOperator, ControlOperator, ExceptionOperator, MemArg,
-    OperatorInfo, Ordering, ParametricOperator, Proposal, ResumeTable, TryTable, V128,
+pub use wasm_operators_groups::{
+    AtomicOperator, BlockType, BrTable, BulkOperator, ConstOperator, ContinuationOperator,
+    ControlOperator, DescriptorOperator, ExceptionOperator, GcOperator, MemArg, MemoryOperator,
+    NumericOperator, OperatorInfo, Ordering, ParametricOperator, Proposal, ResumeTable,
+    SharedOperator, TryTable, V128,
 };
-pub use wasm_operators_gc::{DescriptorOperator, GcOperator};
-pub use wasm_operators_memory::{BulkOperator, ConstOperator, MemoryOperator};
-pub use wasm_operators_numbers::NumericOperator;
-pub use wasm_operators_threads::{AtomicOperator, SharedOperator};
 pub use wasm_operators_vectors::{SimdNumericOperator, SimdOperator};

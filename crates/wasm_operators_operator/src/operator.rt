@@ -1,17 +1,14 @@
 //! Operators.
 
 ghost use Rattle.std.specs.Prelude.{◌≡◌};
-ghost use Rattle.wasm_operators_control.specs.info.Info.{told};
+ghost use Rattle.wasm_operators_groups.specs.info.Info.{told};
 
 use crate::role::Role;
-use wasm_operators_control::{
-    ContinuationOperator, ControlOperator, ExceptionOperator, FrameKind, OperatorInfo,
-    ParametricOperator,
+use wasm_operators_groups::{
+    AtomicOperator, BulkOperator, ConstOperator, ContinuationOperator, ControlOperator,
+    DescriptorOperator, ExceptionOperator, FrameKind, GcOperator, MemoryOperator, NumericOperator,
+    OperatorInfo, ParametricOperator, SharedOperator,
 };
-use wasm_operators_gc::{DescriptorOperator, GcOperator};
-use wasm_operators_memory::{BulkOperator, ConstOperator, MemoryOperator};
-use wasm_operators_numbers::NumericOperator;
-use wasm_operators_threads::{AtomicOperator, SharedOperator};
 use wasm_operators_vectors::{SimdNumericOperator, SimdOperator};
 
 /// An operator, by its group (WebAssembly 3.0, structure, instructions). A body is a list of them, in which `end` closes

@@ -1,12 +1,12 @@
 //! What operators do to the frames in which they stand.
 
 ghost use Rattle.std.specs.Prelude.{◌≡◌};
-ghost use Rattle.wasm_operators_control.specs.Trees.{exception_of};
+ghost use Rattle.wasm_operators_groups.specs.control.Trees.{exception_of};
 ghost use Rattle.wasm_operators_operator.specs.Op.{op_of};
 ghost use Rattle.wasm_operators_operator.specs.Roles.{role_of, control_role, exception_role, effect, clause};
 
 use crate::operator::Operator;
-use wasm_operators_control::{ControlOperator, ExceptionOperator, FrameKind};
+use wasm_operators_groups::{ControlOperator, ExceptionOperator, FrameKind};
 
 /// What an operator is for the nesting of instructions.
 #[derive(Clone, Copy)]

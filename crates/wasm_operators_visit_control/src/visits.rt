@@ -2,7 +2,7 @@
 
 ghost use Rattle.wasm_operators_visit.specs.operator.Op.{Op, ParametricTree, ExceptionTree, ContinuationTree};
 ghost use Rattle.wasm_operators_visit.specs.immediates.Tables.{catch_table_of};
-ghost use Rattle.wasm_operators_visit.specs.control.declared.control.ControlOperator.{ControlOperator};
+ghost use Rattle.wasm_operators_visit.specs.groups.declared.control.ControlOperator.{ControlOperator};
 
 use wasm_operators_visit::{BlockType, BrTable, ResumeTable, TryTable, Visitor};
 use wasm_types::ValType;

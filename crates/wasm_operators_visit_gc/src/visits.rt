@@ -1,8 +1,8 @@
 //! One visit for each operator.
 
 ghost use Rattle.wasm_operators_visit.specs.operator.Op.{Op};
-ghost use Rattle.wasm_operators_visit.specs.gc.declared.gc.GcOperator.{GcOperator};
-ghost use Rattle.wasm_operators_visit.specs.gc.declared.gc.DescriptorOperator.{DescriptorOperator};
+ghost use Rattle.wasm_operators_visit.specs.groups.declared.gc.GcOperator.{GcOperator};
+ghost use Rattle.wasm_operators_visit.specs.groups.declared.gc.DescriptorOperator.{DescriptorOperator};
 
 use wasm_operators_visit::Visitor;
 use wasm_types::{HeapType, RefType};

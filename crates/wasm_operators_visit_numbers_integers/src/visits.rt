@@ -1,7 +1,7 @@
 //! One visit for each operator.
 
 ghost use Rattle.wasm_operators_visit.specs.operator.Op.{Op};
-ghost use Rattle.wasm_operators_visit.specs.numbers.declared.numeric.NumericOperator.{NumericOperator};
+ghost use Rattle.wasm_operators_visit.specs.groups.declared.numeric.NumericOperator.{NumericOperator};
 
 use wasm_operators_visit::Visitor;
 

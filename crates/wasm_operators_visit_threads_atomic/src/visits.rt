@@ -1,7 +1,7 @@
 //! One visit for each operator.
 
 ghost use Rattle.wasm_operators_visit.specs.operator.Op.{Op};
-ghost use Rattle.wasm_operators_visit.specs.threads.declared.atomic.AtomicOperator.{AtomicOperator};
+ghost use Rattle.wasm_operators_visit.specs.groups.declared.atomic.AtomicOperator.{AtomicOperator};
 
 use wasm_operators_visit::{MemArg, Visitor};
 

@@ -3,11 +3,11 @@ use Rattle.std.proofs.Common.{◌≡◌, ◌∙◌, ℕ, ◌+◌, ◌==◌, List
 use Rattle.std.specs.Prelude.{nat_le}
 use Rattle.wasm_types.specs.decoding.Decoder.{State, Done, Reaches}
 use Rattle.wasm_sections_parser.specs.declared.frame.Frame.TheVariants.{CodeEntry}
-use Rattle.wasm_sections_parser.specs.declared.parser.Parser.{Parser}
 use Rattle.wasm_sections_parser.specs.declared.parser.Chunk.TheVariants.{Parsed}
 use Rattle.wasm_sections_parser.specs.declared.progress.Stage.{Stage}
 use Rattle.wasm_sections_parser.specs.declared.progress.Stage.TheVariants.{Code}
 use Rattle.wasm_sections_parser.specs.declared.progress.Progress.{Progress}
+use Rattle.wasm_sections_parser.specs.Parsers.{Parser}
 use Rattle.wasm_sections_parser.specs.Steps.{entry, over_stage, is_over, behind_code, next_entry, at_stage, step}
 use Rattle.wasm_sections_parser.specs.Parsing.{reads, comes, between, at_end, IsNext, Parses}
 
@@ -33,17 +33,17 @@ module _ (p : Parser) (text : List ℕ) (left end : ℕ) (s : p.progress.stage �
 
   pub body_given : (eof : Bool) (n o : ℕ) (u t r : State) (q : Progress) → u ≡ reads p text → next_entry p.progress left end u ≡ Done (entry r.rest, q) t
       → (r.start ≡ r.place) × (r.place + length r.rest ≡ t.place) × (r.settings ≡ u.settings) → Reaches u t → o ≡ t.place → t.start + n ≡ t.place
-      → Parses p text eof (Ok (Parsed n (CodeEntry r))) (record { offset = o; features = p.features; progress = q })
+      → Parses p text eof (Ok (Parsed n (CodeEntry r))) (record { offset = o; settings = p.settings; progress = q })
   body_given eof n o u t r q e given placed forward at counted =
       let f : p.offset ≡ t.start = sym (ap (λ (v : State). v.start) e) ∙ sym forward.taken.start in
       let read : comes p text ≡ Done (entry r.rest, q) t = comes_entry ∙ subst (λ (v : State). next_entry p.progress left end v ≡ Done (entry r.rest, q) t) e given in
-      let next : IsNext p text n (CodeEntry r) (record { offset = o; features = p.features; progress = q }) =
+      let next : IsNext p text n (CodeEntry r) (record { offset = o; settings = p.settings; progress = q }) =
       record {
         after = t;
         read = read;
         placed = (placed.0, placed.1, placed.2 ∙ ap (λ (v : State). v.settings) e);
         consumed = sym counted ∙ ap (λ (k : ℕ). k + n) (sym f);
         offset = at;
-        features = refl;
+        settings = refl;
       } in
       rw (goes_on, within) next

@@ -1,4 +1,5 @@
 -- Rules: what comes next where a parser stands, and what a call answers. `Steps` has the decoders too.
+pub mod Parsers
 pub mod Steps
 pub mod Places
 pub mod Needs

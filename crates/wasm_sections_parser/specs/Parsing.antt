@@ -1,6 +1,5 @@
 -- What a call of a parser answers, and where the parser stands then.
 use Rattle.std.specs.Prelude.{◌≡◌, ℕ, ◌+◌, ◌==◌, nat_le, List, length, Bool, true, false, None, Result, Ok, Err, if◌then◌else◌}
-use Rattle.wasm_types.specs.limits.Limits.{default_limits}
 use Rattle.wasm_types.specs.decoding.Decoder.{State, Outcome, Done, Short}
 use Rattle.wasm_types.specs.error.declared.error.ErrorKind.TheVariants.{Failed, Other}
 use Rattle.wasm_types.specs.error.ErrorValue.{ErrorValue}
@@ -13,7 +12,7 @@ use Rattle.wasm_sections_parser.specs.declared.frame.Frame.TheVariants as frames
 use Rattle.wasm_sections_parser.specs.declared.progress.Stage.{Stage}
 use Rattle.wasm_sections_parser.specs.declared.progress.Stage.TheVariants as stages
 use Rattle.wasm_sections_parser.specs.declared.progress.Progress.{Progress}
-use Rattle.wasm_sections_parser.specs.declared.parser.Parser.{Parser}
+use Rattle.wasm_sections_parser.specs.Parsers.{Parser, staged}
 use Rattle.wasm_sections_parser.specs.declared.parser.Chunk.{Chunk}
 use Rattle.wasm_sections_parser.specs.declared.parser.Chunk.TheVariants.{NeedMoreData, Parsed}
 use Rattle.wasm_sections_parser.specs.Places.{IsPlaced}
@@ -36,11 +35,11 @@ shape_of (frames.End place) = the_end
 
 -- where a parser reads these bytes
 abbrev pub reads : Parser → List ℕ → State
-reads p text = record { rest = text; place = p.offset; settings = record { features = p.features.0; limits = default_limits }; start = p.offset }
+reads p text = record { rest = text; place = p.offset; settings = p.settings; start = p.offset }
 
 -- what comes next for a parser with these bytes
 abbrev pub comes : Parser → List ℕ → Outcome (Shape × Progress)
-comes p text = step (record { features = p.features.0; limits = default_limits }) p.progress (reads p text)
+comes p text = step p.settings p.progress (reads p text)
 
 -- whether a section, or the end, may come at this offset
 abbrev pub between : Stage → ℕ → Bool
@@ -54,23 +53,6 @@ between stages.Failed place = false
 abbrev pub at_end : Parser → List ℕ → Bool
 at_end p text = if length text == 0 then between p.progress.stage p.offset else false
 
--- the same parser in another stage
-abbrev pub staged : Parser → Stage → Parser
-staged p s = record {
-  offset = p.offset;
-  features = p.features;
-  progress =
-      record {
-        stage = s;
-        last = p.progress.last;
-        functions = p.progress.functions;
-        bodies = p.progress.bodies;
-        data_count =
-            p.progress.data_count;
-        segments = p.progress.segments;
-      };
-}
-
 -- the next frame was read, of so many bytes
 pub record IsNext (p : Parser) (text : List ℕ) (n : ℕ) (f : Frame) (q : Parser) : Type 0 where
   pub after : State
@@ -78,7 +60,7 @@ pub record IsNext (p : Parser) (text : List ℕ) (n : ℕ) (f : Frame) (q : Pars
   pub placed : IsPlaced f q.progress (reads p text) after.place
   pub consumed : after.place ≡ p.offset + n
   pub offset : q.offset ≡ after.place
-  pub features : q.features ≡ p.features
+  pub settings : q.settings ≡ p.settings
 
 -- What is answered where no byte is there and a section or the end may come: the end, where no byte follows and the counts agree.
 -- An id alone tells nothing, so two bytes are needed.

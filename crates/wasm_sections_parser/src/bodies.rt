@@ -25,7 +25,7 @@ impl Parser {
         let Some((left, end)) = bodies_left(&progress) else {
             return None;
         };
-        let mut reader = BinaryReader::new_features(data, self.offset, self.features);
+        let mut reader = BinaryReader::new_limited(data, self.offset, self.features, self.limits);
         let Some(part) = short_entry(progress, left, end, &mut reader) else {
             return None;
         };

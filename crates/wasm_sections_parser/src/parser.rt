@@ -2,15 +2,18 @@
 
 ghost use Rattle.std.specs.Prelude.{◌≡◌, ◌+◌, ◌<◌, ◌^◌, length, None};
 ghost use Rattle.wasm_types.specs.features.Sets.{bits_of, default_features};
+ghost use Rattle.wasm_types.specs.limits.Limits.{default_limits, IsWithinCeilings};
 ghost use Rattle.wasm_types.specs.reader.Reading.{NeedsNoMemory};
 ghost use Rattle.wasm_sections_parser.specs.declared.progress.Stage.TheVariants.{Header, Failed};
-ghost use Rattle.wasm_sections_parser.specs.Parsing.{between, staged, Ends, Comes, Parses};
+ghost use Rattle.wasm_sections_parser.specs.Parsers.{staged};
+ghost use Rattle.wasm_sections_parser.specs.Parsing.{between, Ends, Comes, Parses};
 
 use crate::needs::needed;
 use crate::progress::{counts_agree, is_over};
 use crate::sections::{Read, read_frame};
 use crate::{Frame, Progress, Stage};
-use wasm_types::{BinaryReader, Error, Result, WasmFeatures};
+use std::marker::Model;
+use wasm_types::{BinaryReader, Error, Limits, Result, WasmFeatures};
 
 /// What a call gives.
 #[derive(Drop)]
@@ -28,24 +31,39 @@ pub enum Chunk<'a> {
     },
 }
 
-/// Reads a module from its bytes, in pieces.
+/// Reads a module from its bytes, in pieces, by the features that are allowed and the limits that hold.
 #[derive(Clone, Copy)]
 pub struct Parser {
     pub(crate) offset: u64,
     pub(crate) features: WasmFeatures,
+    pub(crate) limits: Limits,
     pub(crate) progress: Progress,
 }
 
+impl Model for Parser {
+    ghost use Rattle.wasm_types.specs.limits.Limits.{IsWithinCeilings};
+    ghost use Rattle.wasm_sections_parser.specs.Parsers.{Parser as Standing};
+
+    ghost Value = { Standing };
+
+    ghost view = { λ p. record { offset = p.offset; settings = record { features = p.features.0; limits = p.limits }; progress = p.progress } };
+
+    ghost invariant = { λ p. IsWithinCeilings p.limits };
+
+    ghost inverse = { λ s. record { offset = s.offset; features = record { 0 = s.settings.features }; limits = s.settings.limits; progress = s.progress } };
+}
+
 impl Parser {
-    /// A parser of a module that begins at this offset of the input, with the default features.
+    /// A parser of a module that begins at this offset of the input, with the default features and the default limits.
     pub fn new(offset: u64) -> Parser
         ensures offset { result.offset ≡ offset }
-        ensures features { result.features.0 ≡ bits_of default_features }
+        ensures settings { result.settings ≡ record { features = bits_of default_features; limits = default_limits } }
         ensures progress { result.progress ≡ record { stage = Header; last = 0; functions = 0; bodies = 0; data_count = None; segments = 0 } }
     {
         Parser {
             offset,
             features: WasmFeatures::default(),
+            limits: Limits::default(),
             progress: Progress {
                 stage: Stage::Header,
                 last: 0,
@@ -59,16 +77,32 @@ impl Parser {
 
     /// The features that are allowed.
     pub fn features(&self) -> WasmFeatures
-        ensures { result ≡ self.now.features }
+        ensures { result.0 ≡ self.now.settings.features }
     {
         self.features
     }
 
     /// Allows these features from here on.
     pub fn set_features(&mut self, features: WasmFeatures)
-        ensures { self.new ≡ record { offset = self.old.offset; features = features; progress = self.old.progress } }
+        ensures { self.new ≡ record self.old { settings = record { features = features.0; limits = self.old.settings.limits } } }
     {
         self.features = features;
+    }
+
+    /// The limits that hold.
+    pub fn limits(&self) -> Limits
+        ensures value { result ≡ self.now.settings.limits }
+        ensures within { IsWithinCeilings result }
+    {
+        self.limits
+    }
+
+    /// Holds to these limits from here on.
+    pub fn set_limits(&mut self, limits: Limits)
+        requires within { IsWithinCeilings limits }
+        ensures { self.new ≡ record self.old { settings = record { features = self.old.settings.features; limits = limits } } }
+    {
+        self.limits = limits;
     }
 
     /// Refuses the module where it stands: from here on each call is refused with kind 4.
@@ -145,7 +179,7 @@ impl Parser {
         ensures answer { Comes self.old data.now eof result self.new }
         ensures no_memory { NeedsNoMemory result }
     {
-        let mut reader = BinaryReader::new_features(data, self.offset, self.features);
+        let mut reader = BinaryReader::new_limited(data, self.offset, self.features, self.limits);
         match read_frame(self.progress, &mut reader) {
             Ok(Read { frame, progress }) => {
                 self.offset = reader.original_position();

@@ -10,7 +10,7 @@ use Rattle.wasm_sections_frames.specs.Outer.{Header, Part, SpelledPart, Outer, S
 use Rattle.wasm_sections_frames.specs.PartLaws.{decides-header}
 use Rattle.wasm_sections_parser.specs.declared.frame.Frame.{Frame}
 use Rattle.wasm_sections_parser.specs.declared.frame.Frame.TheVariants as frames
-use Rattle.wasm_sections_parser.specs.declared.parser.Parser.{Parser}
+use Rattle.wasm_sections_parser.specs.Parsers.{Parser}
 use Rattle.wasm_sections_parser.specs.declared.parser.Chunk.TheVariants.{Parsed}
 use Rattle.wasm_sections_parser.specs.declared.progress.Stage.{Stage}
 use Rattle.wasm_sections_parser.specs.declared.progress.Stage.TheVariants as stages
@@ -18,7 +18,7 @@ use Rattle.wasm_sections_parser.specs.declared.progress.Progress.{Progress}
 use Rattle.wasm_sections_parser.specs.Steps.{Shape, version, custom, section, code, begun, counts_agree, is_over, Next, next_header, step}
 use Rattle.wasm_sections_parser.specs.Parsing.{between, reads}
 use Rattle.wasm_sections_parser_laws.specs.calls.Runs.{fresh, Run, entries, Framed, AreFramed, Frames, AreCounted, Noted, AreNoted, IsBetween, IsOpen, IsCounted}
-use Rattle.wasm_sections_parser_laws.specs.calls.Calls.{settings_of, shapes_of, stands, Called, Calls}
+use Rattle.wasm_sections_parser_laws.specs.calls.Calls.{shapes_of, stands, Called, Calls}
 use Rattle.wasm_sections_parser_laws.specs.Modules.{IsModule, Begun, IsFront}
 use Rattle.wasm_sections_parser_laws.specs.steps.StepCases.{header_given, no_end}
 use Rattle.wasm_sections_parser_laws.specs.RunLaws.{run_seen}
@@ -130,10 +130,10 @@ front_module z s xs q t h end b counts =
 -- ---- calls
 
 pub calls_front : (fs : List Frame) (p q : Parser) (text rest : List ℕ) → p.progress ≡ fresh → Calls p text fs q rest
-    → is_over q.progress ≡ false → IsFront (settings_of p) (reads p text) (shapes_of fs) q.progress (stands q rest p.offset)
+    → is_over q.progress ≡ false → IsFront p.settings (reads p text) (shapes_of fs) q.progress (stands q rest p.offset)
 calls_front fs p q text rest e h going =
-    run_front (settings_of p) (shapes_of fs) (reads p text) q.progress (stands q rest p.offset)
-    (subst (λ (v : Progress). Run (settings_of p) v (reads p text) (shapes_of fs) q.progress (stands q rest p.offset)) e (calls_run fs p q text rest h going).0)
+    run_front p.settings (shapes_of fs) (reads p text) q.progress (stands q rest p.offset)
+    (subst (λ (v : Progress). Run p.settings v (reads p text) (shapes_of fs) q.progress (stands q rest p.offset)) e (calls_run fs p q text rest h going).0)
 
 begun_takes : (z : Settings) (s : State) (xs : List Shape) (q : Progress) (t : State) → Begun z s xs q t → (text : List ℕ) × Takes s text t
 begun_takes z s xs q t h = (h.text ++ (h.seen.front ++ h.seen.back), Takes-then s h.there t h.text (h.seen.front ++ h.seen.back) h.taken h.seen.taken)
@@ -146,15 +146,15 @@ end_place a b e = cc
 
 -- the end is given only behind a whole module
 abbrev Whole : Parser → List ℕ → List Frame → ℕ → List ℕ → Type 0
-Whole p text fs place rest = IsModule (settings_of p) text (shapes_of fs) × (rest ≡ []) × (place ≡ p.offset + length text)
+Whole p text fs place rest = IsModule p.settings text (shapes_of fs) × (rest ≡ []) × (place ≡ p.offset + length text)
 
 module _ (fs : List Frame) (p q r : Parser) (text rest : List ℕ) (n place : ℕ) where
-  at_the_end : AtEnd q rest n (frames.End place) r → IsFront (settings_of p) (reads p text) (shapes_of fs) q.progress (stands q rest p.offset) → Whole p text fs place rest
+  at_the_end : AtEnd q rest n (frames.End place) r → IsFront p.settings (reads p text) (shapes_of fs) q.progress (stands q rest p.offset) → Whole p text fs place rest
   at_the_end k (inl none) = absurd (no_stage q.progress.stage q.offset (ap (λ (v : Progress). v.stage) (sym none.1)) k.here)
   at_the_end k (inr b) =
-      let taken = begun_takes (settings_of p) (reads p text) (shapes_of fs) q.progress (stands q rest p.offset) b in
+      let taken = begun_takes p.settings (reads p text) (shapes_of fs) q.progress (stands q rest p.offset) b in
       let long : length text ≡ length taken.0 = ap length taken.1.parts ∙ ap (λ (x : List ℕ). length (taken.0 ++ x)) k.none ∙ ap length (append-nil taken.0) in (
-        front_module (settings_of p) (reads p text) (shapes_of fs) q.progress
+        front_module p.settings (reads p text) (shapes_of fs) q.progress
             (stands q rest p.offset) b k.none k.here k.agree,
         k.none,
         end_place place q.offset k.frame
@@ -166,4 +166,4 @@ module _ (fs : List Frame) (p q r : Parser) (text rest : List ℕ) (n place : �
     where
       go : is_over q.progress ≡ false → AtEnd q rest n (frames.End place) r ⊎ Stepped q rest n (frames.End place) r → Whole p text fs place rest
       go going (inl k) = at_the_end k (calls_front fs p q text rest e h going)
-      go going (inr k) = absurd (no_end (settings_of q) q.progress r.progress (reads q rest) (stands r (drop n rest) q.offset) k.step)
+      go going (inr k) = absurd (no_end q.settings q.progress r.progress (reads q rest) (stands r (drop n rest) q.offset) k.step)

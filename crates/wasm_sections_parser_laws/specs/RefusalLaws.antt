@@ -14,14 +14,14 @@ use Rattle.wasm_types.specs.error.ErrorText.{hint_of}
 use Rattle.wasm_types.specs.reader.Reading.{FailsAt, IsNotMemory}
 use Rattle.wasm_sections_frames.specs.Outer.{Outer, IsOrdered, CountsAgree}
 use Rattle.wasm_sections_parser.specs.declared.frame.Frame.{Frame}
-use Rattle.wasm_sections_parser.specs.declared.parser.Parser.{Parser}
+use Rattle.wasm_sections_parser.specs.Parsers.{Parser}
 use Rattle.wasm_sections_parser.specs.declared.parser.Chunk.TheVariants.{NeedMoreData}
 use Rattle.wasm_sections_parser.specs.declared.progress.Progress.{Progress}
 use Rattle.wasm_sections_parser.specs.Steps.{Shape, begun, counts_agree, is_over, Next, ordered, next_section, step}
 use Rattle.wasm_sections_parser.specs.StepLaws.{lawful-step}
 use Rattle.wasm_sections_parser.specs.Parsing.{between, reads, at_end, comes, Ends, Comes, IsOver, one_of, Parses}
 use Rattle.wasm_sections_parser_laws.specs.calls.Runs.{fresh, Run, Frames, AreCounted}
-use Rattle.wasm_sections_parser_laws.specs.calls.Calls.{settings_of, shapes_of, stands, Called, Calls}
+use Rattle.wasm_sections_parser_laws.specs.calls.Calls.{shapes_of, stands, Called, Calls}
 use Rattle.wasm_sections_parser_laws.specs.steps.StepCases.{step_between}
 use Rattle.wasm_sections_parser_laws.specs.Modules.{IsStart}
 use Rattle.wasm_sections_parser_laws.specs.RunsComplete.{module_run}
@@ -83,16 +83,16 @@ module _ (q r : Parser) (rest : List ℕ) (e : ErrorValue) (c : Called q rest (E
       over true f g = absurd cc
       over false f g = bytes (length c.piece == 0) refl (at_end q c.piece) refl refl g
 
-  told_all : c.eof ≡ true → step (settings_of q) q.progress (reads q (c.piece ++ c.later)) ≡ comes q c.piece
-  told_all f = ap (λ (x : List ℕ). step (settings_of q) q.progress (reads q x)) (ap (λ (x : List ℕ). c.piece ++ x) (c.told f) ∙ append-nil c.piece)
+  told_all : c.eof ≡ true → step q.settings q.progress (reads q (c.piece ++ c.later)) ≡ comes q c.piece
+  told_all f = ap (λ (x : List ℕ). step q.settings q.progress (reads q x)) (ap (λ (x : List ℕ). c.piece ++ x) (c.told f) ∙ append-nil c.piece)
 
-  pub refused_stuck : is_over q.progress ≡ false → IsStuck (settings_of q) q.progress (reads q rest)
+  pub refused_stuck : is_over q.progress ≡ false → IsStuck q.settings q.progress (reads q rest)
   refused_stuck going y t f = go (refused_cases going)
     where
       go : Refuses → ⊥
-      go (inl k) = no_section (settings_of q) q.progress (reads q rest) k.1 k.0 y t f
-      go (inr k) = failed e.kind e.offset (comes q c.piece) (step (settings_of q) q.progress (reads q (c.piece ++ c.later))) c.later c.eof y t k.1.0 k.1.1 k.1.2 told_all
-          ((lawful-step (settings_of q) q.progress).steady (reads q c.piece) c.later) (ap (λ (x : List ℕ). step (settings_of q) q.progress (reads q x)) (sym c.whole) ∙ f)
+      go (inl k) = no_section q.settings q.progress (reads q rest) k.1 k.0 y t f
+      go (inr k) = failed e.kind e.offset (comes q c.piece) (step q.settings q.progress (reads q (c.piece ++ c.later))) c.later c.eof y t k.1.0 k.1.1 k.1.2 told_all
+          ((lawful-step q.settings q.progress).steady (reads q c.piece) c.later) (ap (λ (x : List ℕ). step q.settings q.progress (reads q x)) (sym c.whole) ∙ f)
 
 -- ---- two runs
 
@@ -108,13 +108,13 @@ run_prefix z (x ∷ xs) (y ∷ ys) p q r s t u h k stuck =
     (rest.0, (λ i. (ap (λ (n : Next). n.0) (sym v)) i ∷ rest.1 i), rest.2)
 
 -- a call that is handed all the bytes that are left and asks for more
-pub asked_stuck : (q r : Parser) (rest : List ℕ) (n : ℕ) → is_over q.progress ≡ false → Parses q rest false (Ok (NeedMoreData n)) r → IsStuck (settings_of q) q.progress (reads q rest)
+pub asked_stuck : (q r : Parser) (rest : List ℕ) (n : ℕ) → is_over q.progress ≡ false → Parses q rest false (Ok (NeedMoreData n)) r → IsStuck q.settings q.progress (reads q rest)
 asked_stuck q r rest n going h y t f = over (is_over q.progress) going h
   where
     missing : (k : Bool) → (length rest == 0) ≡ k → (b : Bool) → cond k (between q.progress.stage q.offset) false ≡ b
         → one_of b (Ends q false (Ok (NeedMoreData n)) r) (Comes q rest false (Ok (NeedMoreData n)) r) → ⊥
     missing k e false g a = let no : Short a.1.0 a.1.1 ≡ given y t = sym a.1.2 ∙ f in cc
-    missing true e true g a = no_section (settings_of q) q.progress (reads q rest) g (no_bytes rest (eqb-true _ _ e)) y t f
+    missing true e true g a = no_section q.settings q.progress (reads q rest) g (no_bytes rest (eqb-true _ _ e)) y t f
     missing false e true g a = absurd cc
 
     over : (k : Bool) → k ≡ false → one_of k (IsOver q (Ok (NeedMoreData n)) r) (one_of (at_end q rest) (Ends q false (Ok (NeedMoreData n)) r) (Comes q rest false (Ok (NeedMoreData n)) r)) → ⊥
@@ -125,37 +125,37 @@ asked_stuck q r rest n going h y t f = over (is_over q.progress) going h
 
 -- behind calls, where nothing comes next
 module _ (fs : List Frame) (p q : Parser) (text rest : List ℕ) (first : p.progress ≡ fresh) (calls : Calls p text fs q rest)
-    (going : is_over q.progress ≡ false) (none : IsStuck (settings_of q) q.progress (reads q rest)) where
-  all_run : Run (settings_of p) fresh (reads p text) (shapes_of fs) q.progress (stands q rest p.offset)
-  all_run = subst (λ (v : Progress). Run (settings_of p) v (reads p text) (shapes_of fs) q.progress (stands q rest p.offset)) first (calls_run fs p q text rest calls going).0
+    (going : is_over q.progress ≡ false) (none : IsStuck q.settings q.progress (reads q rest)) where
+  all_run : Run p.settings fresh (reads p text) (shapes_of fs) q.progress (stands q rest p.offset)
+  all_run = subst (λ (v : Progress). Run p.settings v (reads p text) (shapes_of fs) q.progress (stands q rest p.offset)) first (calls_run fs p q text rest calls going).0
 
-  stuck : IsStuck (settings_of p) q.progress (stands q rest p.offset)
+  stuck : IsStuck p.settings q.progress (stands q rest p.offset)
   stuck y t f =
-      let same : settings_of p ≡ settings_of q = sym (calls_run fs p q text rest calls going).1 in
-      let d = restart_done (settings_of p) q.progress p.offset (reads q rest) t y f in
+      let same : p.settings ≡ q.settings = sym (calls_run fs p q text rest calls going).1 in
+      let d = restart_done p.settings q.progress p.offset (reads q rest) t y f in
       none y d.0 (ap (λ (z : Settings). step z q.progress (reads q rest)) (sym same) ∙ d.1)
 
   -- what is spelled at the front comes first
-  pub front_first : (front back : List ℕ) (xs : List Shape) (long : ℕ) → text ≡ front ++ back → IsStart (settings_of p) front xs long
+  pub front_first : (front back : List ℕ) (xs : List Shape) (long : ℕ) → text ≡ front ++ back → IsStart p.settings front xs long
       → p.offset + long < 2 ^ 64 → (zs : List Shape) × (shapes_of fs ≡ xs ++ zs)
   front_first front back xs long whole (inl begin) room = (shapes_of fs, sym (ap (λ (k : List Shape). k ++ shapes_of fs) begin.1))
   front_first front back xs long whole (inr h) room =
-      let t : State = record { rest = back; place = p.offset + length front; settings = settings_of p; start = p.offset } in
+      let t : State = record { rest = back; place = p.offset + length front; settings = p.settings; start = p.offset } in
       let taken : Takes (reads p text) front t = record { parts = whole; place = refl; settings = refl; start = refl } in
-      let run = front_run (settings_of p) front xs long (reads p text) t h taken room in
-      let left = run_prefix (settings_of p) xs (shapes_of fs) fresh run.0 q.progress (reads p text) t (stands q rest p.offset) run.1 all_run stuck in
+      let run = front_run p.settings front xs long (reads p text) t h taken room in
+      let left = run_prefix p.settings xs (shapes_of fs) fresh run.0 q.progress (reads p text) t (stands q rest p.offset) run.1 all_run stuck in
       (left.0, left.1)
 
 module _ (fs : List Frame) (p q r : Parser) (text rest : List ℕ) (e : ErrorValue) (first : p.progress ≡ fresh)
     (calls : Calls p text fs q rest) (going : is_over q.progress ≡ false) (c : Called q rest (Err e) r) where
   -- a module is not refused
-  pub not_refused : (m : Outer) (xs : List Shape) → Frames (settings_of p) m text xs → IsOrdered m.parts → AreCounted m.parts → CountsAgree m.parts → p.offset + length text < 2 ^ 64 → ⊥
+  pub not_refused : (m : Outer) (xs : List Shape) → Frames p.settings m text xs → IsOrdered m.parts → AreCounted m.parts → CountsAgree m.parts → p.offset + length text < 2 ^ 64 → ⊥
   not_refused m xs h order counted counts room =
-      let t : State = record { rest = []; place = p.offset + length text; settings = settings_of p; start = p.offset } in
-      let none : IsStuck (settings_of q) q.progress (reads q rest) = refused_stuck q r rest e c going in
+      let t : State = record { rest = []; place = p.offset + length text; settings = p.settings; start = p.offset } in
+      let none : IsStuck q.settings q.progress (reads q rest) = refused_stuck q r rest e c going in
       let taken : Takes (reads p text) text t = record { parts = sym (append-nil text); place = refl; settings = refl; start = refl } in
-      let run = module_run (settings_of p) m text xs (reads p text) t h order counted taken room in
-      let left = run_prefix (settings_of p) xs (shapes_of fs) fresh run.0 q.progress (reads p text) t (stands q rest p.offset) run.1
+      let run = module_run p.settings m text xs (reads p text) t h order counted taken room in
+      let left = run_prefix p.settings xs (shapes_of fs) fresh run.0 q.progress (reads p text) t (stands q rest p.offset) run.1
       (all_run fs p q text rest first calls going none) (stuck fs p q text rest first calls going none) in
       let there : counts_agree run.0 ≡ true = agree m.parts (begun fresh) run.0 refl run.2 order counts in
       ended run.0 t left.0 left.2 run.3 there refl (refused_cases q r rest e c going)
@@ -167,9 +167,9 @@ module _ (fs : List Frame) (p q r : Parser) (text rest : List ℕ) (e : ErrorVal
       no_piece [] b f = refl
       no_piece (x ∷ a) b f = absurd cc
 
-      ended : (v : Progress) (t : State) (zs : List Shape) → Run (settings_of p) v t zs q.progress (stands q rest p.offset)
+      ended : (v : Progress) (t : State) (zs : List Shape) → Run p.settings v t zs q.progress (stands q rest p.offset)
           → between v.stage t.place ≡ true → counts_agree v ≡ true → t.rest ≡ [] → Refuses q r rest e c → ⊥
-      ended v t (x ∷ zs) k b f none g = no_section (settings_of p) v t b none (x, k.0) k.1 k.2
+      ended v t (x ∷ zs) k b f none g = no_section p.settings v t b none (x, k.0) k.1 k.2
       ended v t [] k b f none (inl g) = agreed_so v k.0 f g.2
       ended v t [] k b f none (inr g) =
           let empty : rest ≡ [] = sym (ap (λ (w : State). w.rest) k.1) ∙ none in

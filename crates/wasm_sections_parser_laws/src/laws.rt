@@ -5,13 +5,13 @@ ghost use Rattle.wasm_types.specs.limits.Settings.{Settings};
 ghost use Rattle.wasm_types.specs.error.ErrorValue.{ErrorValue};
 ghost use Rattle.wasm_sections_parser.specs.declared.frame.Frame.{Frame};
 ghost use Rattle.wasm_sections_parser.specs.declared.frame.Frame.TheVariants.{End};
-ghost use Rattle.wasm_sections_parser.specs.declared.parser.Parser.{Parser};
+ghost use Rattle.wasm_sections_parser.specs.Parsers.{Parser};
 ghost use Rattle.wasm_sections_parser.specs.declared.parser.Chunk.TheVariants.{NeedMoreData, Parsed};
 ghost use Rattle.wasm_sections_parser.specs.Parsing.{reads, Parses};
 ghost use Rattle.wasm_sections_parser.specs.Steps.{Shape, is_over};
 ghost use Rattle.wasm_sections_frames.specs.Outer.{Outer, SpelledOuter};
 ghost use Rattle.wasm_sections_parser_laws.specs.calls.Runs.{fresh, Frames};
-ghost use Rattle.wasm_sections_parser_laws.specs.calls.Calls.{settings_of, shapes_of, stands, Called, Calls};
+ghost use Rattle.wasm_sections_parser_laws.specs.calls.Calls.{shapes_of, stands, Called, Calls};
 ghost use Rattle.wasm_sections_parser_laws.specs.Modules.{IsModule, IsFront, IsStart};
 ghost use Rattle.wasm_sections_parser_laws.specs.Worked.{RunRows, CutRows};
 
@@ -28,18 +28,18 @@ pub const fn frames_are_of_modules()
 /// end by their sizes below 2^64. They come too before a call that is handed all the bytes that are left and asks for more.
 pub const fn calls_give_modules()
     ensures end { (p q r : Parser) (text rest : List ℕ) (fs : List Frame) (n place : ℕ) → p.progress ≡ fresh → Calls p text fs q rest → Called q rest (Ok (Parsed n (End place))) r
-        → IsModule (settings_of p) text (shapes_of fs) × (rest ≡ []) × (place ≡ p.offset + length text) }
+        → IsModule p.settings text (shapes_of fs) × (rest ≡ []) × (place ≡ p.offset + length text) }
     ensures accepted { (p q r : Parser) (text rest : List ℕ) (fs : List Frame) (e : ErrorValue) (xs : List Shape) → p.progress ≡ fresh → p.offset + length text < 2 ^ 64
-        → IsModule (settings_of p) text xs → Calls p text fs q rest → is_over q.progress ≡ false → Called q rest (Err e) r → ⊥ }
+        → IsModule p.settings text xs → Calls p text fs q rest → is_over q.progress ≡ false → Called q rest (Err e) r → ⊥ }
     ensures before { (p q : Parser) (text rest : List ℕ) (fs : List Frame) → p.progress ≡ fresh → Calls p text fs q rest → is_over q.progress ≡ false
-        → IsFront (settings_of p) (reads p text) (shapes_of fs) q.progress (stands q rest p.offset) }
+        → IsFront p.settings (reads p text) (shapes_of fs) q.progress (stands q rest p.offset) }
     ensures spelled { (p q : Parser) (text rest : List ℕ) (fs : List Frame) → p.progress ≡ fresh → Calls p text fs q rest → is_over q.progress ≡ false → (front : List ℕ)
-        × (long : ℕ) × (text ≡ front ++ rest) × IsStart (settings_of p) front (shapes_of fs) long }
+        × (long : ℕ) × (text ≡ front ++ rest) × IsStart p.settings front (shapes_of fs) long }
     ensures refused { (p q r : Parser) (text rest front back : List ℕ) (fs : List Frame) (e : ErrorValue) (xs : List Shape) (long : ℕ) → p.progress ≡ fresh → text ≡ front ++ back
-        → IsStart (settings_of p) front xs long → p.offset + long < 2 ^ 64 → Calls p text fs q rest → is_over q.progress ≡ false → Called q rest (Err e) r → (zs : List Shape)
+        → IsStart p.settings front xs long → p.offset + long < 2 ^ 64 → Calls p text fs q rest → is_over q.progress ≡ false → Called q rest (Err e) r → (zs : List Shape)
         × (shapes_of fs ≡ xs ++ zs) }
     ensures asked { (p q r : Parser) (text rest front back : List ℕ) (fs : List Frame) (n : ℕ) (xs : List Shape) (long : ℕ) → p.progress ≡ fresh → text ≡ front ++ back
-        → IsStart (settings_of p) front xs long → p.offset + long < 2 ^ 64 → Calls p text fs q rest → is_over q.progress ≡ false → Parses q rest false (Ok (NeedMoreData n)) r
+        → IsStart p.settings front xs long → p.offset + long < 2 ^ 64 → Calls p text fs q rest → is_over q.progress ≡ false → Parses q rest false (Ok (NeedMoreData n)) r
         → (zs : List Shape) × (shapes_of fs ≡ xs ++ zs) }
 {}
 

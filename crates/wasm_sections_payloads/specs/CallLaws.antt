@@ -5,13 +5,13 @@ use Rattle.wasm_types.specs.error.ErrorValue.{ErrorValue}
 use Rattle.wasm_types.specs.reader.Reading.{IsNotMemory}
 use Rattle.wasm_sections_parser.specs.declared.frame.Frame.{Frame}
 use Rattle.wasm_sections_parser.specs.declared.frame.Frame.TheVariants as frames
-use Rattle.wasm_sections_parser.specs.declared.parser.Parser.{Parser}
+use Rattle.wasm_sections_parser.specs.Parsers.{Parser, staged}
 use Rattle.wasm_sections_parser.specs.declared.parser.Chunk.TheVariants as raw
 use Rattle.wasm_sections_parser.specs.declared.progress.Stage.TheVariants as stages
 use Rattle.wasm_sections_parser.specs.Steps.{Shape, is_over}
-use Rattle.wasm_sections_parser.specs.Parsing.{at_end, staged, Ends, Comes, IsOver, one_of, Parses}
+use Rattle.wasm_sections_parser.specs.Parsing.{at_end, Ends, Comes, IsOver, one_of, Parses}
 use Rattle.wasm_sections_parser_laws.specs.calls.Runs.{fresh}
-use Rattle.wasm_sections_parser_laws.specs.calls.Calls.{settings_of, shapes_of, Called, Calls}
+use Rattle.wasm_sections_parser_laws.specs.calls.Calls.{shapes_of, Called, Calls}
 use Rattle.wasm_sections_parser_laws.specs.Modules.{IsModule}
 use Rattle.wasm_sections_parser_laws.specs.ModuleLaws.{end_given}
 use Rattle.wasm_sections_parser_laws.specs.RefusalLaws.{not_refused}
@@ -69,11 +69,11 @@ place_is k m e = cc
 -- the end comes only behind a whole module, and what came before it are the payloads of its frames
 pub end_of_payloads : (p q r : Parser) (text rest : List ℕ) (xs : List Payload) (n place : ℕ) → p.progress ≡ fresh → PayloadCalls p text xs q rest
     → CalledPayload q rest (Ok (Parsed n (payloads.End place))) r
-    → (fs : List Frame) × ArePayloads fs xs × IsModule (settings_of p) text (shapes_of fs) × (rest ≡ []) × (place ≡ p.offset + length text)
+    → (fs : List Frame) × ArePayloads fs xs × IsModule p.settings text (shapes_of fs) × (rest ≡ []) × (place ≡ p.offset + length text)
 end_of_payloads p q r text rest xs n place first calls last = go last.parses.0 (frame_called q rest n (payloads.End place) r last) last.parses.2
   where
     go : (f : Frame) → Called q rest (Ok (raw.Parsed n f)) r → IsPayloadOf f (payloads.End place) → (fs : List Frame) × ArePayloads fs xs
-        × IsModule (settings_of p) text (shapes_of fs) × (rest ≡ []) × (place ≡ p.offset + length text)
+        × IsModule p.settings text (shapes_of fs) × (rest ≡ []) × (place ≡ p.offset + length text)
     go (frames.End k) h is =
         let given = calls_of_frames xs p q text rest calls in
         let m = end_given given.0 p q r text rest n k first given.2 h in
@@ -132,7 +132,7 @@ RefusedAtFrame q rest e = (n : ℕ) × (f : Frame) × (v : Parser) × Called q r
 
 -- a whole module is refused only at a frame that is no payload, or behind its end
 pub refused_at_payload : (p q r : Parser) (text rest : List ℕ) (xs : List Payload) (ys : List Shape) (e : ErrorValue) → p.progress ≡ fresh → p.offset + length text < 2 ^ 64
-    → IsModule (settings_of p) text ys
+    → IsModule p.settings text ys
     → PayloadCalls p text xs q rest → CalledPayload q rest (Err e) r → EndIsLast xs ⊎ RefusedAtFrame q rest e
 refused_at_payload p q r text rest xs ys e first room m calls last = over (is_over q.progress) refl
   where

@@ -4,10 +4,10 @@ use Rattle.wasm_types.specs.error.declared.error.ErrorKind.TheVariants.{Failed}
 use Rattle.wasm_types.specs.error.ErrorValue.{ErrorValue}
 use Rattle.wasm_types.specs.reader.Reading.{IsNotMemory}
 use Rattle.wasm_sections_parser.specs.declared.frame.Frame.{Frame}
-use Rattle.wasm_sections_parser.specs.declared.parser.Parser.{Parser}
+use Rattle.wasm_sections_parser.specs.Parsers.{Parser, staged}
 use Rattle.wasm_sections_parser.specs.declared.parser.Chunk.TheVariants as raw
 use Rattle.wasm_sections_parser.specs.declared.progress.Stage.TheVariants as stages
-use Rattle.wasm_sections_parser.specs.Parsing.{staged, Parses}
+use Rattle.wasm_sections_parser.specs.Parsing.{Parses}
 use Rattle.wasm_sections_payloads.specs.declared.payload.Payload.{Payload}
 use Rattle.wasm_sections_payloads.specs.declared.payload.Payload.TheVariants as payloads
 use Rattle.wasm_sections_payloads.specs.declared.parser.Chunk.{Chunk}

@@ -3,13 +3,13 @@ use Rattle.std.proofs.Common.{◌≡◌, ◌⊎◌, ℕ, ◌+◌, ◌<◌, ◌�
 use Rattle.std.proofs.lemmas.List.{append-nil, length-drop}
 use Rattle.wasm_types.specs.error.ErrorValue.{ErrorValue}
 use Rattle.wasm_sections_parser.specs.declared.frame.Frame.{Frame}
-use Rattle.wasm_sections_parser.specs.declared.parser.Parser.{Parser}
+use Rattle.wasm_sections_parser.specs.Parsers.{Parser}
 use Rattle.wasm_sections_parser_laws.specs.calls.Advance.{parsed_within, parsed_is_over}
 use Rattle.wasm_sections_parser.specs.declared.frame.Frame.TheVariants as frames
 use Rattle.wasm_sections_parser.specs.declared.parser.Chunk.TheVariants.{Parsed}
 use Rattle.wasm_sections_parser.specs.Steps.{Shape, is_over}
 use Rattle.wasm_sections_parser_laws.specs.calls.Runs.{fresh}
-use Rattle.wasm_sections_parser_laws.specs.calls.Calls.{settings_of, shapes_of, Called, Calls}
+use Rattle.wasm_sections_parser_laws.specs.calls.Calls.{shapes_of, Called, Calls}
 use Rattle.wasm_sections_parser_laws.specs.Modules.{IsModule}
 use Rattle.wasm_sections_parser_laws.specs.ModuleLaws.{end_given}
 use Rattle.wasm_sections_parser_laws.specs.RefusalLaws.{not_refused}
@@ -43,11 +43,11 @@ walk_calls (p ∷ ps) s t h =
 
 -- the last payload is the end, and those before it are of a module
 pub walk_ends : (ps : List Payload) (p : Payload) (s u t : Standing) → s.parser.progress ≡ fresh → Walks s ps u → NextPayload u (Some (Ok p)) t → t.over ≡ true
-    → (fs : List Frame) × ArePayloads fs ps × IsModule (settings_of s.parser) s.rest (shapes_of fs) × (p ≡ payloads.End (s.parser.offset + length s.rest))
+    → (fs : List Frame) × ArePayloads fs ps × IsModule s.parser.settings s.rest (shapes_of fs) × (p ≡ payloads.End (s.parser.offset + length s.rest))
 walk_ends ps p s u t first walk next over = go next.1.0 next.1.1 next.1.2 (sym next.1.3 ∙ over)
   where
     go : (f : Frame) → IsFrameOf u.parser u.rest f t.parser t.rest → IsPayloadOf f p → is_end f ≡ true
-        → (fs : List Frame) × ArePayloads fs ps × IsModule (settings_of s.parser) s.rest (shapes_of fs)
+        → (fs : List Frame) × ArePayloads fs ps × IsModule s.parser.settings s.rest (shapes_of fs)
         × (p ≡ payloads.End (s.parser.offset + length s.rest))
     go (frames.End place) h e k =
         let calls = walk_calls ps s u walk in
@@ -75,7 +75,7 @@ walk_going (p ∷ ps) s u first h going =
 
 -- a whole module is refused only at a frame that is no payload
 pub walk_accepted : (ps : List Payload) (e : ErrorValue) (ys : List Shape) (s u t : Standing) → s.parser.progress ≡ fresh → s.parser.offset + length s.rest < 2 ^ 64
-    → IsModule (settings_of s.parser) s.rest ys
+    → IsModule s.parser.settings s.rest ys
     → Walks s ps u → NextPayload u (Some (Err e)) t → (f : Frame) × IsFrameOf u.parser u.rest f t.parser t.rest × IsRefusedAs f e
 walk_accepted ps e ys s u t first room m walk next = go next.3
   where

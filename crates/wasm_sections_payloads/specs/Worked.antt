@@ -1,8 +1,6 @@
 -- Worked frames as payloads, calls of the parser, and walks over a module.
 use Rattle.std.proofs.Common.{◌≡◌, ℕ, List, [], ◌∷◌, refl, sym, subst, arith, Bool, true, false, Some, None, Ok, Err, inl, inr}
-use Rattle.wasm_types.specs.limits.Limits.{default_limits}
-use Rattle.wasm_types.specs.limits.Settings.{no_features}
-use Rattle.wasm_types.specs.features.declared.WasmFeatures.{WasmFeatures}
+use Rattle.wasm_types.specs.limits.Settings.{Settings, no_features}
 use Rattle.wasm_types.specs.decoding.declared.Refusal.TheVariants as refusals
 use Rattle.wasm_types.specs.decoding.Decoder.{State, Outcome, Done, Short, Fault}
 use Rattle.wasm_types.specs.decoding.ExactLaws.{value_is, state_is}
@@ -16,7 +14,7 @@ use Rattle.wasm_sections_limited.specs.declared.section.SectionLimited.{SectionL
 use Rattle.wasm_sections_items.specs.declared.imports.import.Import.{Import}
 use Rattle.wasm_sections_parser.specs.declared.frame.Encoding.TheVariants.{Module}
 use Rattle.wasm_sections_parser.specs.declared.frame.Frame.TheVariants as frames
-use Rattle.wasm_sections_parser.specs.declared.parser.Parser.{Parser}
+use Rattle.wasm_sections_parser.specs.Parsers.{Parser}
 use Rattle.wasm_sections_parser.specs.declared.progress.Stage.{Stage}
 use Rattle.wasm_sections_parser.specs.declared.progress.Stage.TheVariants as stages
 use Rattle.wasm_sections_parser.specs.declared.progress.Progress.{Progress}
@@ -108,13 +106,13 @@ refused_rows = record {
 
 -- ---- calls
 
--- a parser with these features, in this stage
-abbrev parser : WasmFeatures → ℕ → Stage → Parser
-parser w place g = record { offset = place; features = w; progress = record { stage = g; last = 0; functions = 0; bodies = 0; data_count = None; segments = 0 } }
+-- a parser with these settings, in this stage
+abbrev parser : Settings → ℕ → Stage → Parser
+parser z place g = record { offset = place; settings = z; progress = record { stage = g; last = 0; functions = 0; bodies = 0; data_count = None; segments = 0 } }
 
 -- bytes left at an offset, where data began
-abbrev left : WasmFeatures → ℕ → ℕ → List ℕ → State
-left w start place text = record { rest = text; place = place; settings = record { features = w.0; limits = default_limits }; start = start }
+abbrev left : Settings → ℕ → ℕ → List ℕ → State
+left z start place text = record { rest = text; place = place; settings = z; start = start }
 
 abbrev first_eight : List ℕ
 first_eight = 0x00 ∷ 0x61 ∷ 0x73 ∷ 0x6d ∷ 0x01 ∷ 0x00 ∷ 0x00 ∷ 0x00 ∷ []
@@ -136,29 +134,29 @@ abbrev failed_before : ErrorValue
 failed_before = record { kind = Failed; offset = 8; message = [] }
 
 -- a parser behind a start section
-abbrev behind_start : WasmFeatures → Parser
-behind_start w = record { offset = 12; features = w; progress = record { stage = stages.Sections; last = 9; functions = 0; bodies = 0; data_count = None; segments = 0 } }
+abbrev behind_start : Settings → Parser
+behind_start z = record { offset = 12; settings = z; progress = record { stage = stages.Sections; last = 9; functions = 0; bodies = 0; data_count = None; segments = 0 } }
 
 -- Seven bytes of the header need one more, and not two; all eight are a payload. Behind it no byte needs two, or is the end where none
 -- follows; an id, a size of 5 and one byte need four, and so do an id and the first of a size of 5 or more, not one. A start section with a byte behind its number is refused: the parser stays
 -- where it stood, and fails from then on; never for memory. The end comes once, and last.
 pub record CallRows : Type 0 where
-  pub seven : (w : WasmFeatures) → ParsesPayload (parser w 0 stages.Header) first_seven false (Ok (NeedMoreData 1)) (parser w 0 stages.Header)
-  pub not_two : (w : WasmFeatures) → ParsesPayload (parser w 0 stages.Header) first_seven false (Ok (NeedMoreData 2)) (parser w 0 stages.Header) → ⊥
-  pub eight : (w : WasmFeatures) → ParsesPayload (parser w 0 stages.Header) first_eight false (Ok (Parsed 8 version_1)) (parser w 8 stages.Sections)
-  pub none : (w : WasmFeatures) → ParsesPayload (parser w 8 stages.Sections) [] false (Ok (NeedMoreData 2)) (parser w 8 stages.Sections)
-  pub end : (w : WasmFeatures) → ParsesPayload (parser w 8 stages.Sections) [] true (Ok (Parsed 0 (payloads.End 8))) (parser w 8 stages.Ended)
-  pub no_need_at_the_end : (w : WasmFeatures) → ParsesPayload (parser w 8 stages.Sections) [] true (Ok (NeedMoreData 2)) (parser w 8 stages.Sections) → ⊥
-  pub part : (w : WasmFeatures) → ParsesPayload (parser w 8 stages.Sections) (0x01 ∷ 0x05 ∷ 0x01 ∷ []) false (Ok (NeedMoreData 4)) (parser w 8 stages.Sections)
-  pub part_of_size : (w : WasmFeatures) → ParsesPayload (parser w 8 stages.Sections) (0x01 ∷ 0x85 ∷ []) false (Ok (NeedMoreData 4)) (parser w 8 stages.Sections)
-  pub not_one : (w : WasmFeatures) → ParsesPayload (parser w 8 stages.Sections) (0x01 ∷ 0x85 ∷ []) false (Ok (NeedMoreData 1)) (parser w 8 stages.Sections) → ⊥
-  pub refused : (w : WasmFeatures) → ParsesPayload (parser w 8 stages.Sections) long_start false (Err error) (parser w 8 stages.Failed)
-  pub failed : (w : WasmFeatures) → ParsesPayload (parser w 8 stages.Failed) first_eight false (Err failed_before) (parser w 8 stages.Failed)
-  pub not_for_memory : (w : WasmFeatures) (e : ErrorValue) → IsUnreadable (parser w 8 stages.Sections) long_start false e (parser w 8 stages.Failed) → e.kind ≡ OutOfMemory → ⊥
+  pub seven : (z : Settings) → ParsesPayload (parser z 0 stages.Header) first_seven false (Ok (NeedMoreData 1)) (parser z 0 stages.Header)
+  pub not_two : (z : Settings) → ParsesPayload (parser z 0 stages.Header) first_seven false (Ok (NeedMoreData 2)) (parser z 0 stages.Header) → ⊥
+  pub eight : (z : Settings) → ParsesPayload (parser z 0 stages.Header) first_eight false (Ok (Parsed 8 version_1)) (parser z 8 stages.Sections)
+  pub none : (z : Settings) → ParsesPayload (parser z 8 stages.Sections) [] false (Ok (NeedMoreData 2)) (parser z 8 stages.Sections)
+  pub end : (z : Settings) → ParsesPayload (parser z 8 stages.Sections) [] true (Ok (Parsed 0 (payloads.End 8))) (parser z 8 stages.Ended)
+  pub no_need_at_the_end : (z : Settings) → ParsesPayload (parser z 8 stages.Sections) [] true (Ok (NeedMoreData 2)) (parser z 8 stages.Sections) → ⊥
+  pub part : (z : Settings) → ParsesPayload (parser z 8 stages.Sections) (0x01 ∷ 0x05 ∷ 0x01 ∷ []) false (Ok (NeedMoreData 4)) (parser z 8 stages.Sections)
+  pub part_of_size : (z : Settings) → ParsesPayload (parser z 8 stages.Sections) (0x01 ∷ 0x85 ∷ []) false (Ok (NeedMoreData 4)) (parser z 8 stages.Sections)
+  pub not_one : (z : Settings) → ParsesPayload (parser z 8 stages.Sections) (0x01 ∷ 0x85 ∷ []) false (Ok (NeedMoreData 1)) (parser z 8 stages.Sections) → ⊥
+  pub refused : (z : Settings) → ParsesPayload (parser z 8 stages.Sections) long_start false (Err error) (parser z 8 stages.Failed)
+  pub failed : (z : Settings) → ParsesPayload (parser z 8 stages.Failed) first_eight false (Err failed_before) (parser z 8 stages.Failed)
+  pub not_for_memory : (z : Settings) (e : ErrorValue) → IsUnreadable (parser z 8 stages.Sections) long_start false e (parser z 8 stages.Failed) → e.kind ≡ OutOfMemory → ⊥
   pub end_last : EndIsLast (version_1 ∷ payloads.End 8 ∷ [])
   pub end_twice : EndIsLast (version_1 ∷ payloads.End 8 ∷ payloads.End 8 ∷ []) → ⊥
   pub no_end : EndIsLast (version_1 ∷ []) → ⊥
-  pub not_again : (w : WasmFeatures) → ParsesPayload (parser w 8 stages.Failed) first_eight false (Ok (Parsed 8 version_1)) (parser w 16 stages.Sections) → ⊥
+  pub not_again : (z : Settings) → ParsesPayload (parser z 8 stages.Failed) first_eight false (Ok (Parsed 8 version_1)) (parser z 16 stages.Sections) → ⊥
 
 abbrev short : ℕ → ℕ → Outcome (Shape × Progress)
 short p n = Short p n
@@ -166,33 +164,33 @@ short p n = Short p n
 need_is : (p q n m : ℕ) → short p n ≡ short q m → n ≡ m
 need_is p q n m e = cc
 
-header_next : (w : WasmFeatures) → IsNext (parser w 0 stages.Header) first_eight 8 (frames.Version 1 Module (record { start = 0; end = 8 })) (parser w 8 stages.Sections)
+header_next : (z : Settings) → IsNext (parser z 0 stages.Header) first_eight 8 (frames.Version 1 Module (record { start = 0; end = 8 })) (parser z 8 stages.Sections)
 unfolding step next_header header
-header_next w = record { after = left w 0 8 []; read = refl; placed = (refl, refl); consumed = refl; offset = refl; features = refl }
+header_next z = record { after = left z 0 8 []; read = refl; placed = (refl, refl); consumed = refl; offset = refl; settings = refl }
 
-start_next : (w : WasmFeatures) → IsNext (parser w 8 stages.Sections) long_start 4 (frames.Section 8 (left w 10 10 (0x05 ∷ 0x00 ∷ []))) (behind_start w)
+start_next : (z : Settings) → IsNext (parser z 8 stages.Sections) long_start 4 (frames.Section 8 (left z 10 10 (0x05 ∷ 0x00 ∷ []))) (behind_start z)
 unfolding step next_section contents in_part unsigned
-start_next w = record { after = left w 8 12 []; read = refl; placed = (refl, refl, refl); consumed = refl; offset = refl; features = refl }
+start_next z = record { after = left z 8 12 []; read = refl; placed = (refl, refl, refl); consumed = refl; offset = refl; settings = refl }
 
 pub call_rows : CallRows
 unfolding step next_header header next_section contents in_part unsigned needed least_within
 call_rows = record {
-  seven = λ w. (refl, (4, 1, refl, refl), refl);
-  not_two = λ w h. let n : 1 ≡ h.1.1 = need_is 4 h.1.0 1 h.1.1 h.1.2 in let two : 2 ≡ h.1.1 = h.1.3 in omega (arith, n, two);
-  eight = λ w. (frames.Version 1 Module (record { start = 0; end = 8 }), header_next w, refl);
-  none = λ w. (refl, refl, refl);
-  end = λ w. (frames.End 8, (refl, refl, refl, refl, refl), refl);
-  no_need_at_the_end = λ w h. let e = h.0 in cc;
-  part = λ w. (refl, (10, 4, refl, refl), refl);
-  part_of_size = λ w. (refl, (10, 1, refl, refl), refl);
-  not_one = λ w h. let four : 1 ≡ 4 = h.1.3 in omega (arith, four);
-  refused = λ w. inr (record { size = 4; frame = frames.Section 8 (left w 10 10 (0x05 ∷ 0x00 ∷ [])); behind = behind_start w; parses = start_next w; refused = refl; no_memory = tt; failed = refl });
-  failed = λ w. inl (refl, refl, refl);
-  not_for_memory = λ w e h k. subst IsNotMemory k h.no_memory;
+  seven = λ z. (refl, (4, 1, refl, refl), refl);
+  not_two = λ z h. let n : 1 ≡ h.1.1 = need_is 4 h.1.0 1 h.1.1 h.1.2 in let two : 2 ≡ h.1.1 = h.1.3 in omega (arith, n, two);
+  eight = λ z. (frames.Version 1 Module (record { start = 0; end = 8 }), header_next z, refl);
+  none = λ z. (refl, refl, refl);
+  end = λ z. (frames.End 8, (refl, refl, refl, refl, refl), refl);
+  no_need_at_the_end = λ z h. let e = h.0 in cc;
+  part = λ z. (refl, (10, 4, refl, refl), refl);
+  part_of_size = λ z. (refl, (10, 1, refl, refl), refl);
+  not_one = λ z h. let four : 1 ≡ 4 = h.1.3 in omega (arith, four);
+  refused = λ z. inr (record { size = 4; frame = frames.Section 8 (left z 10 10 (0x05 ∷ 0x00 ∷ [])); behind = behind_start z; parses = start_next z; refused = refl; no_memory = tt; failed = refl });
+  failed = λ z. inl (refl, refl, refl);
+  not_for_memory = λ z e h k. subst IsNotMemory k h.no_memory;
   end_last = (refl, refl);
   end_twice = λ h. let e = h.1.0 in cc;
   no_end = λ h. cc;
-  not_again = λ w h. h.1;
+  not_again = λ z h. h.1;
 }
 
 -- ---- walks
@@ -203,25 +201,25 @@ standing p text over = record { parser = p; rest = text; over = over }
 -- A bare header: the header, and the end, behind which nothing comes. A start section with a byte behind its number is refused, and
 -- nothing comes behind that.
 pub record WalkRows : Type 0 where
-  pub bare_header : (w : WasmFeatures) → Walks (standing (parser w 0 stages.Header) first_eight false) (version_1 ∷ payloads.End 8 ∷ []) (standing (parser w 8 stages.Ended) [] true)
-  pub nothing_more : (w : WasmFeatures) → NextPayload (standing (parser w 8 stages.Ended) [] true) None (standing (parser w 8 stages.Ended) [] true)
-  pub not_nothing_yet : (w : WasmFeatures) → NextPayload (standing (parser w 8 stages.Sections) [] false) None (standing (parser w 8 stages.Sections) [] true) → ⊥
-  pub refused : (w : WasmFeatures) → NextPayload (standing (parser w 8 stages.Sections) long_start false) (Some (Err error)) (standing (behind_start w) [] true)
-  pub nothing_behind : (w : WasmFeatures) → NextPayload (standing (behind_start w) [] true) None (standing (behind_start w) [] true)
-  pub no_end_behind : (w : WasmFeatures) → NextPayload (standing (behind_start w) [] true) (Some (Ok (payloads.End 12))) (standing (behind_start w) [] true) → ⊥
+  pub bare_header : (z : Settings) → Walks (standing (parser z 0 stages.Header) first_eight false) (version_1 ∷ payloads.End 8 ∷ []) (standing (parser z 8 stages.Ended) [] true)
+  pub nothing_more : (z : Settings) → NextPayload (standing (parser z 8 stages.Ended) [] true) None (standing (parser z 8 stages.Ended) [] true)
+  pub not_nothing_yet : (z : Settings) → NextPayload (standing (parser z 8 stages.Sections) [] false) None (standing (parser z 8 stages.Sections) [] true) → ⊥
+  pub refused : (z : Settings) → NextPayload (standing (parser z 8 stages.Sections) long_start false) (Some (Err error)) (standing (behind_start z) [] true)
+  pub nothing_behind : (z : Settings) → NextPayload (standing (behind_start z) [] true) None (standing (behind_start z) [] true)
+  pub no_end_behind : (z : Settings) → NextPayload (standing (behind_start z) [] true) (Some (Ok (payloads.End 12))) (standing (behind_start z) [] true) → ⊥
 
 pub walk_rows : WalkRows
 unfolding unsigned
 walk_rows = record {
   bare_header =
-      λ w. (
-        standing (parser w 8 stages.Sections) [] false,
-        (refl, (frames.Version 1 Module (record { start = 0; end = 8 }), (8, header_next w, refl), refl, refl)),
-        (standing (parser w 8 stages.Ended) [] true, (refl, (frames.End 8, (0, (refl, refl, refl, refl, refl), refl), refl, refl)), refl),
+      λ z. (
+        standing (parser z 8 stages.Sections) [] false,
+        (refl, (frames.Version 1 Module (record { start = 0; end = 8 }), (8, header_next z, refl), refl, refl)),
+        (standing (parser z 8 stages.Ended) [] true, (refl, (frames.End 8, (0, (refl, refl, refl, refl, refl), refl), refl, refl)), refl),
       );
-  nothing_more = λ w. (refl, refl);
-  not_nothing_yet = λ w h. let e = h.0 in cc;
-  refused = λ w. (refl, refl, tt, inr (frames.Section 8 (left w 10 10 (0x05 ∷ 0x00 ∷ [])), (4, start_next w, refl), refl));
-  nothing_behind = λ w. (refl, refl);
-  no_end_behind = λ w h. let e = h.0 in cc;
+  nothing_more = λ z. (refl, refl);
+  not_nothing_yet = λ z h. let e = h.0 in cc;
+  refused = λ z. (refl, refl, tt, inr (frames.Section 8 (left z 10 10 (0x05 ∷ 0x00 ∷ [])), (4, start_next z, refl), refl));
+  nothing_behind = λ z. (refl, refl);
+  no_end_behind = λ z h. let e = h.0 in cc;
 }

@@ -4,11 +4,11 @@ ghost use Rattle.std.specs.Prelude.{◌≡◌, ◌⊎◌, ◌+◌, ◌<◌, ◌^
 ghost use Rattle.wasm_types.specs.error.ErrorValue.{ErrorValue};
 ghost use Rattle.wasm_types.specs.reader.Reading.{IsNotMemory};
 ghost use Rattle.wasm_sections_parser.specs.declared.frame.Frame.{Frame};
-ghost use Rattle.wasm_sections_parser.specs.declared.parser.Parser.{Parser};
+ghost use Rattle.wasm_sections_parser.specs.Parsers.{Parser};
 ghost use Rattle.wasm_sections_parser.specs.declared.parser.Chunk.TheVariants.{Parsed as FrameParsed};
 ghost use Rattle.wasm_sections_parser.specs.Steps.{Shape, is_over};
 ghost use Rattle.wasm_sections_parser_laws.specs.calls.Runs.{fresh};
-ghost use Rattle.wasm_sections_parser_laws.specs.calls.Calls.{settings_of, shapes_of, Called, Calls};
+ghost use Rattle.wasm_sections_parser_laws.specs.calls.Calls.{shapes_of, Called, Calls};
 ghost use Rattle.wasm_sections_parser_laws.specs.Modules.{IsModule};
 ghost use Rattle.wasm_sections_payloads.specs.declared.payload.Payload.{Payload};
 ghost use Rattle.wasm_sections_payloads.specs.declared.payload.Payload.TheVariants.{End};
@@ -25,9 +25,9 @@ ghost use Rattle.wasm_sections_payloads.specs.Worked.{PayloadRows, RefusedRows, 
 pub const fn payloads_are_of_modules()
     ensures calls { (ps : List Payload) (s t : Standing) → Walks s ps t → (fs : List Frame) × ArePayloads fs ps × Calls s.parser s.rest fs t.parser t.rest }
     ensures ends { (ps : List Payload) (p : Payload) (s u t : Standing) → s.parser.progress ≡ fresh → Walks s ps u → NextPayload u (Some (Ok p)) t → t.over ≡ true
-        → (fs : List Frame) × ArePayloads fs ps × IsModule (settings_of s.parser) s.rest (shapes_of fs) × (p ≡ End (s.parser.offset + length s.rest)) }
+        → (fs : List Frame) × ArePayloads fs ps × IsModule s.parser.settings s.rest (shapes_of fs) × (p ≡ End (s.parser.offset + length s.rest)) }
     ensures accepted { (ps : List Payload) (e : ErrorValue) (ys : List Shape) (s u t : Standing) → s.parser.progress ≡ fresh → s.parser.offset + length s.rest < 2 ^ 64
-        → IsModule (settings_of s.parser) s.rest ys → Walks s ps u → NextPayload u (Some (Err e)) t → (f : Frame) × IsFrameOf u.parser u.rest f t.parser t.rest × IsRefusedAs f e }
+        → IsModule s.parser.settings s.rest ys → Walks s ps u → NextPayload u (Some (Err e)) t → (f : Frame) × IsFrameOf u.parser u.rest f t.parser t.rest × IsRefusedAs f e }
 {}
 
 /// What calls of `Parser::parse` give, however the bytes are cut into pieces: the payloads of the frames that calls of the parser of
@@ -39,9 +39,9 @@ pub const fn calls_are_of_modules()
     ensures frames { (xs : List Payload) (p q : Parser) (text rest : List ℕ) → PayloadCalls p text xs q rest → (fs : List Frame) × ArePayloads fs xs × Calls p text fs q rest }
     ensures payloads { (fs : List Frame) (xs : List Payload) (p q : Parser) (text rest : List ℕ) → Calls p text fs q rest → ArePayloads fs xs → PayloadCalls p text xs q rest }
     ensures end { (p q r : Parser) (text rest : List ℕ) (xs : List Payload) (n place : ℕ) → p.progress ≡ fresh → PayloadCalls p text xs q rest
-        → CalledPayload q rest (Ok (Parsed n (End place))) r → (fs : List Frame) × ArePayloads fs xs × IsModule (settings_of p) text (shapes_of fs) × (rest ≡ []) × (place ≡ p.offset + length text) }
+        → CalledPayload q rest (Ok (Parsed n (End place))) r → (fs : List Frame) × ArePayloads fs xs × IsModule p.settings text (shapes_of fs) × (rest ≡ []) × (place ≡ p.offset + length text) }
     ensures accepted { (p q r : Parser) (text rest : List ℕ) (xs : List Payload) (ys : List Shape) (e : ErrorValue) → p.progress ≡ fresh → p.offset + length text < 2 ^ 64
-        → IsModule (settings_of p) text ys → PayloadCalls p text xs q rest → CalledPayload q rest (Err e) r → EndIsLast xs
+        → IsModule p.settings text ys → PayloadCalls p text xs q rest → CalledPayload q rest (Err e) r → EndIsLast xs
         ⊎ ((n : ℕ) × (f : Frame) × (v : Parser) × Called q rest (Ok (FrameParsed n f)) v × IsRefusedAs f e) }
     ensures refused { (p : Parser) (text : List ℕ) (eof : Bool) (e : ErrorValue) (q : Parser) → ParsesPayload p text eof (Err e) q → is_over q.progress ≡ true }
     ensures memory { (p : Parser) (text : List ℕ) (eof : Bool) (e : ErrorValue) (q : Parser) → ParsesPayload p text eof (Err e) q → IsNotMemory e.kind }

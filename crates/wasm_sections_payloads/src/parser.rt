@@ -2,6 +2,7 @@
 
 ghost use Rattle.std.specs.Prelude.{◌≡◌, ◌+◌, ◌<◌, ◌≤◌, ◌^◌, length, false};
 ghost use Rattle.wasm_types.specs.features.Sets.{bits_of, default_features};
+ghost use Rattle.wasm_types.specs.limits.Limits.{default_limits, IsWithinCeilings};
 ghost use Rattle.wasm_types.specs.reader.Reading.{NeedsNoMemory};
 ghost use Rattle.wasm_sections_parser_laws.specs.calls.Runs.{fresh};
 ghost use Rattle.wasm_sections_payloads.specs.Parsing.{taken, ParsesPayload};
@@ -10,7 +11,7 @@ use crate::walk::walk_from;
 use crate::{ParseAll, Payload};
 use std::alloc::Global;
 use wasm_sections_parser::{Chunk as FrameChunk, Parser as FrameParser};
-use wasm_types::{Result, WasmFeatures};
+use wasm_types::{Limits, Result, WasmFeatures};
 
 /// What a call of a parser gives.
 #[derive(Drop)]
@@ -28,7 +29,8 @@ pub enum Chunk<'a> {
     },
 }
 
-/// Reads a module from its bytes, in pieces (WebAssembly 3.0, binary format, modules).
+/// Reads a module from its bytes, in pieces, by the features that are allowed and the limits that hold (WebAssembly 3.0, binary format,
+/// modules).
 #[derive(Clone, Copy)]
 pub struct Parser {
     frames: FrameParser,
@@ -36,11 +38,11 @@ pub struct Parser {
 }
 
 impl Parser {
-    /// A parser of a module that begins at this offset of the input, with the default features. What is read of its payloads takes
-    /// memory of `alloc`; the parser takes none.
+    /// A parser of a module that begins at this offset of the input, with the default features and the default limits. What is read
+    /// of its payloads takes memory of `alloc`; the parser takes none.
     pub fn new(alloc: Global, offset: u64) -> Parser
         ensures offset { result.frames.offset ≡ offset }
-        ensures features { result.frames.features.0 ≡ bits_of default_features }
+        ensures settings { result.frames.settings ≡ record { features = bits_of default_features; limits = default_limits } }
         ensures fresh { result.frames.progress ≡ fresh }
     {
         Parser {
@@ -51,16 +53,32 @@ impl Parser {
 
     /// The features that are allowed.
     pub fn features(&self) -> WasmFeatures
-        ensures { result ≡ self.now.frames.features }
+        ensures { result.0 ≡ self.now.frames.settings.features }
     {
         self.frames.features()
     }
 
     /// Allows these features from here on.
     pub fn set_features(&mut self, features: WasmFeatures)
-        ensures { self.new.frames ≡ record { offset = self.old.frames.offset; features = features; progress = self.old.frames.progress } }
+        ensures { self.new.frames ≡ record self.old.frames { settings = record { features = features.0; limits = self.old.frames.settings.limits } } }
     {
         self.frames.set_features(features);
+    }
+
+    /// The limits that hold.
+    pub fn limits(&self) -> Limits
+        ensures value { result ≡ self.now.frames.settings.limits }
+        ensures within { IsWithinCeilings result }
+    {
+        self.frames.limits()
+    }
+
+    /// Holds to these limits from here on.
+    pub fn set_limits(&mut self, limits: Limits)
+        requires within { IsWithinCeilings limits }
+        ensures { self.new.frames ≡ record self.old.frames { settings = record { features = self.old.frames.settings.features; limits = limits } } }
+    {
+        self.frames.set_limits(limits);
     }
 
     /// What comes next of the module, at the front of these bytes; `eof` says that none follow them. Where more bytes are needed

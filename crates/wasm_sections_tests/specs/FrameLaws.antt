@@ -3,10 +3,9 @@ use Rattle.std.proofs.Common.{◌≡◌, ◌∙◌, ℕ, ◌++◌, List, [], ◌
 use Rattle.wasm_types.specs.decoding.Decoder.{State, Outcome, Done, Short, Fault}
 use Rattle.wasm_types.specs.decoding.ExactLaws.{value_is, state_is}
 use Rattle.wasm_types.specs.decoding.Leb.{unsigned}
-use Rattle.wasm_types.specs.features.declared.WasmFeatures.{WasmFeatures}
-use Rattle.wasm_types.specs.limits.Limits.{default_limits}
+use Rattle.wasm_types.specs.limits.Settings.{Settings}
 use Rattle.wasm_sections_frames.specs.Decode.{header as header_decoder}
-use Rattle.wasm_sections_parser.specs.declared.parser.Parser.{Parser}
+use Rattle.wasm_sections_parser.specs.Parsers.{Parser}
 use Rattle.wasm_sections_parser.specs.declared.progress.Stage.{Stage}
 use Rattle.wasm_sections_parser.specs.declared.progress.Stage.TheVariants as stages
 use Rattle.wasm_sections_parser.specs.declared.progress.Progress.{Progress}
@@ -27,8 +26,8 @@ shape_rows = record {
   body = refl;
   end = refl;
   several = refl;
-  settings = λ w. refl;
-  stage = λ w. refl;
+  settings = λ z. refl;
+  stage = λ z. refl;
   at_first = refl;
   going_on = refl;
   in_code = refl;
@@ -75,82 +74,82 @@ fault_of (Done x s) = 0
 fault_of (Short p n) = p
 fault_of (Fault k p) = p
 
-abbrev behind_header : WasmFeatures → State
-behind_header w = record { rest = []; place = 8; settings = record { features = w.0; limits = default_limits }; start = 0 }
+abbrev behind_header : Settings → State
+behind_header z = record { rest = []; place = 8; settings = z; start = 0 }
 
-pub header_read : (w : WasmFeatures) → comes (fresh w) eight ≡ Done (version (record { version = 1; layer = 0 }), (begun w).progress) (behind_header w)
+pub header_read : (z : Settings) → comes (fresh z) eight ≡ Done (version (record { version = 1; layer = 0 }), (begun z).progress) (behind_header z)
 unfolding step next_header header_decoder
-header_read w = refl
+header_read z = refl
 
-pub header_next : (w : WasmFeatures) → IsNext (fresh w) eight 8 header (begun w)
-header_next w = record { after = behind_header w; read = header_read w; placed = (refl, refl); consumed = refl; offset = refl; features = refl }
+pub header_next : (z : Settings) → IsNext (fresh z) eight 8 header (begun z)
+header_next z = record { after = behind_header z; read = header_read z; placed = (refl, refl); consumed = refl; offset = refl; settings = refl }
 
 -- the same, with a byte behind it
-pub header_and_more : (w : WasmFeatures) → IsNext (fresh w) (eight ++ 0x01 ∷ []) 8 header (begun w)
+pub header_and_more : (z : Settings) → IsNext (fresh z) (eight ++ 0x01 ∷ []) 8 header (begun z)
 unfolding step next_header header_decoder
-header_and_more w = record {
-  after = record { rest = 0x01 ∷ []; place = 8; settings = record { features = w.0; limits = default_limits }; start = 0 };
+header_and_more z = record {
+  after = record { rest = 0x01 ∷ []; place = 8; settings = z; start = 0 };
   read = refl;
   placed = (refl, refl);
   consumed = refl;
   offset = refl;
-  features = refl;
+  settings = refl;
 }
 
 -- where a header ends, whatever is told of it
-pub header_ends : (w : WasmFeatures) (n : ℕ) (f : Frame) (q : Parser) (h : IsNext (fresh w) eight n f q) → h.after.place ≡ 8
-header_ends w n f q h = ap (λ (s : State). s.place) (sym (state_is _ _ _ _ (sym (header_read w) ∙ h.read)))
+pub header_ends : (z : Settings) (n : ℕ) (f : Frame) (q : Parser) (h : IsNext (fresh z) eight n f q) → h.after.place ≡ 8
+header_ends z n f q h = ap (λ (s : State). s.place) (sym (state_is _ _ _ _ (sym (header_read z) ∙ h.read)))
 
 pub parse_rows : ParseRows
 unfolding step next_header header_decoder next_section contents in_part unsigned
 parse_rows = record {
   headed = header_next;
-  headed_by_seven = λ w h. let e = h.consumed in let p = header_ends w _ _ _ h in omega (arith, e, p);
-  headed_as_another = λ w h.
-      let e = value_is _ _ _ _ (sym (header_read w) ∙ h.read) in
+  headed_by_seven = λ z h. let e = h.consumed in let p = header_ends z _ _ _ h in omega (arith, e, p);
+  headed_as_another = λ z h.
+      let e = value_is _ _ _ _ (sym (header_read z) ∙ h.read) in
       let n : ◌≡◌ {A = ℕ} 1 2 = ap (λ (x : Shape × Progress). version_of x.0) e in omega (arith, n);
-  headed_and_stayed = λ w h. let e = h.offset in let p = header_ends w _ _ _ h in omega (arith, e, p);
-  late = λ w. (tt, refl, λ e. refl, refl);
-  late_elsewhere = λ w h. let e : ◌≡◌ {A = ℕ} 10 8 = ap fault_of h.1 in omega (arith, e);
-  late_and_not_failed = λ w h. let e : stages.Sections ≡ stages.Failed = ap (λ (p : Parser). p.progress.stage) h.3 in cc;
-  out_of_memory = λ w h. h.0;
-  cut_short = λ w. (tt, refl, λ e. absurd cc, refl);
-  cut_short_while_more_come = λ w h. let e = h.2 refl in cc;
-  asked_where_none_come = λ w n h. let e = h.0 in cc;
-  end = λ w. (refl, refl, refl, refl, refl);
-  end_elsewhere = λ w h. let e = h.3 in let n : ◌≡◌ {A = ℕ} 9 8 = cc in omega (arith, n);
-  end_without_bodies = λ w. (refl, refl, refl, refl, refl);
-  end_despite_no_bodies = λ w h. let e = h.1 in cc;
-  end_refused = λ w h. let e = h.1 in cc;
-  over = λ w. (refl, refl, refl);
-  over_elsewhere = λ w h. let e = h.2 in omega (arith, e);
-  over_otherwise = λ w h. let e = h.0 in cc;
-  end_again = λ w h. h;
+  headed_and_stayed = λ z h. let e = h.offset in let p = header_ends z _ _ _ h in omega (arith, e, p);
+  late = λ z. (tt, refl, λ e. refl, refl);
+  late_elsewhere = λ z h. let e : ◌≡◌ {A = ℕ} 10 8 = ap fault_of h.1 in omega (arith, e);
+  late_and_not_failed = λ z h. let e : stages.Sections ≡ stages.Failed = ap (λ (p : Parser). p.progress.stage) h.3 in cc;
+  out_of_memory = λ z h. h.0;
+  cut_short = λ z. (tt, refl, λ e. absurd cc, refl);
+  cut_short_while_more_come = λ z h. let e = h.2 refl in cc;
+  asked_where_none_come = λ z n h. let e = h.0 in cc;
+  end = λ z. (refl, refl, refl, refl, refl);
+  end_elsewhere = λ z h. let e = h.3 in let n : ◌≡◌ {A = ℕ} 9 8 = cc in omega (arith, n);
+  end_without_bodies = λ z. (refl, refl, refl, refl, refl);
+  end_despite_no_bodies = λ z h. let e = h.1 in cc;
+  end_refused = λ z h. let e = h.1 in cc;
+  over = λ z. (refl, refl, refl);
+  over_elsewhere = λ z h. let e = h.2 in omega (arith, e);
+  over_otherwise = λ z h. let e = h.0 in cc;
+  end_again = λ z h. h;
 }
 
 -- an id alone is no frame
-no_frame : (w : WasmFeatures) (b : ℕ) (x : Shape × Progress) (s : State) → 1 ≡ b → comes (begun w) (b ∷ []) ≡ Done x s → ⊥
+no_frame : (z : Settings) (b : ℕ) (x : Shape × Progress) (s : State) → 1 ≡ b → comes (begun z) (b ∷ []) ≡ Done x s → ⊥
 unfolding step next_section unsigned
-no_frame w b x s one read = let r : comes (begun w) (1 ∷ []) ≡ Done x s = subst (λ (n : ℕ). comes (begun w) (n ∷ []) ≡ Done x s) (sym one) read in cc
+no_frame z b x s one read = let r : comes (begun z) (1 ∷ []) ≡ Done x s = subst (λ (n : ℕ). comes (begun z) (n ∷ []) ≡ Done x s) (sym one) read in cc
 
 -- the end does not come before a byte
-pub no_end : (w : WasmFeatures) (piece later : List ℕ) (eof : Bool) → 0x01 ∷ [] ≡ piece ++ later → (eof ≡ true → later ≡ [])
-    → Parses (begun w) piece eof (Ok (Parsed 0 (frames.End 8))) (ended w) → ⊥
-no_end w [] later eof whole told p = let none = told p.0 in cc
-no_end w (b ∷ []) later eof whole told p = let one : 1 ≡ b = ap (λ (xs : List ℕ). get_or xs 0 0) whole in no_frame w b _ _ one p.read
-no_end w (b ∷ c ∷ cs) later eof whole told p = let none : [] ≡ c ∷ (cs ++ later) = cc in cc
+pub no_end : (z : Settings) (piece later : List ℕ) (eof : Bool) → 0x01 ∷ [] ≡ piece ++ later → (eof ≡ true → later ≡ [])
+    → Parses (begun z) piece eof (Ok (Parsed 0 (frames.End 8))) (ended z) → ⊥
+no_end z [] later eof whole told p = let none = told p.0 in cc
+no_end z (b ∷ []) later eof whole told p = let one : 1 ≡ b = ap (λ (xs : List ℕ). get_or xs 0 0) whole in no_frame z b _ _ one p.read
+no_end z (b ∷ c ∷ cs) later eof whole told p = let none : [] ≡ c ∷ (cs ++ later) = cc in cc
 
 pub call_rows : CallRows
 call_rows = record {
-  a_piece = λ w. record { piece = eight; later = 0x01 ∷ []; eof = false; whole = refl; told = λ e. absurd cc; parses = header_next w };
-  end_before_bytes = λ w c. no_end w c.piece c.later c.eof c.whole c.told c.parses;
-  both = λ w. (
+  a_piece = λ z. record { piece = eight; later = 0x01 ∷ []; eof = false; whole = refl; told = λ e. absurd cc; parses = header_next z };
+  end_before_bytes = λ z c. no_end z c.piece c.later c.eof c.whole c.told c.parses;
+  both = λ z. (
     8,
-    begun w,
-    record { piece = eight; later = []; eof = true; whole = refl; told = λ e. refl; parses = header_next w },
-    (0, ended w, record { piece = []; later = []; eof = true; whole = refl; told = λ e. refl; parses = (refl, refl, refl, refl, refl) }, (refl, refl)),
+    begun z,
+    record { piece = eight; later = []; eof = true; whole = refl; told = λ e. refl; parses = header_next z },
+    (0, ended z, record { piece = []; later = []; eof = true; whole = refl; told = λ e. refl; parses = (refl, refl, refl, refl, refl) }, (refl, refl)),
   );
-  none = λ w. (refl, refl);
-  none_but_moved = λ w h. let e : ◌≡◌ {A = ℕ} 0 8 = ap (λ (p : Parser). p.offset) h.0 in omega (arith, e);
-  none_but_taken = λ w h. let e = h.1 in cc;
+  none = λ z. (refl, refl);
+  none_but_moved = λ z h. let e : ◌≡◌ {A = ℕ} 0 8 = ap (λ (p : Parser). p.offset) h.0 in omega (arith, e);
+  none_but_taken = λ z h. let e = h.1 in cc;
 }

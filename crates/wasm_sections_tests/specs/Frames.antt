@@ -5,47 +5,45 @@ use Rattle.wasm_types.specs.decoding.Decoder.{State}
 use Rattle.wasm_types.specs.error.declared.error.ErrorKind.{ErrorKind}
 use Rattle.wasm_types.specs.error.declared.error.ErrorKind.TheVariants.{EndOfData, OutOfMemory, Failed, Other}
 use Rattle.wasm_types.specs.error.ErrorValue.{ErrorValue}
-use Rattle.wasm_types.specs.features.declared.WasmFeatures.{WasmFeatures}
-use Rattle.wasm_types.specs.limits.Limits.{default_limits}
-use Rattle.wasm_types.specs.limits.Settings.{no_features}
+use Rattle.wasm_types.specs.limits.Settings.{Settings, no_features}
 use Rattle.wasm_sections_parser.specs.declared.frame.CustomSectionReader.{CustomSectionReader}
 use Rattle.wasm_sections_parser.specs.declared.frame.Encoding.TheVariants.{Module, Component}
 use Rattle.wasm_sections_parser.specs.declared.frame.Frame.{Frame}
 use Rattle.wasm_sections_parser.specs.declared.frame.Frame.TheVariants as frames
-use Rattle.wasm_sections_parser.specs.declared.parser.Parser.{Parser}
+use Rattle.wasm_sections_parser.specs.Parsers.{Parser, staged}
 use Rattle.wasm_sections_parser.specs.declared.parser.Chunk.TheVariants.{NeedMoreData, Parsed}
 use Rattle.wasm_sections_parser.specs.declared.progress.Stage.{Stage}
 use Rattle.wasm_sections_parser.specs.declared.progress.Stage.TheVariants as stages
 use Rattle.wasm_sections_parser.specs.declared.progress.Progress.{Progress}
 use Rattle.wasm_sections_parser.specs.Places.{IsPlacedBy}
 use Rattle.wasm_sections_parser.specs.Steps.{version, custom, section, code, entry, the_end, is_over}
-use Rattle.wasm_sections_parser.specs.Parsing.{shape_of, between, staged, Parses}
-use Rattle.wasm_sections_parser_laws.specs.calls.Calls.{settings_of, shapes_of, Called, Calls}
+use Rattle.wasm_sections_parser.specs.Parsing.{shape_of, between, Parses}
+use Rattle.wasm_sections_parser_laws.specs.calls.Calls.{shapes_of, Called, Calls}
 
 -- in this stage, behind sections up to a place, with so many functions and no body
 abbrev pub progress : Stage → ℕ → ℕ → Progress
 progress g last functions = record { stage = g; last = last; functions = functions; bodies = 0; data_count = None; segments = 0 }
 
--- a parser with these features, at this offset
-abbrev pub parser : WasmFeatures → ℕ → Stage → ℕ → ℕ → Parser
-parser w place g last functions = record { offset = place; features = w; progress = progress g last functions }
+-- a parser with these settings, at this offset
+abbrev pub parser : Settings → ℕ → Stage → ℕ → ℕ → Parser
+parser z place g last functions = record { offset = place; settings = z; progress = progress g last functions }
 
 -- before a module, behind its header, and behind a refusal there
-abbrev pub fresh : WasmFeatures → Parser
-fresh w = parser w 0 stages.Header 0 0
+abbrev pub fresh : Settings → Parser
+fresh z = parser z 0 stages.Header 0 0
 
-abbrev pub begun : WasmFeatures → Parser
-begun w = parser w 8 stages.Sections 0 0
+abbrev pub begun : Settings → Parser
+begun z = parser z 8 stages.Sections 0 0
 
-abbrev pub failed : WasmFeatures → Parser
-failed w = parser w 8 stages.Failed 0 0
+abbrev pub failed : Settings → Parser
+failed z = parser z 8 stages.Failed 0 0
 
-abbrev pub ended : WasmFeatures → Parser
-ended w = parser w 8 stages.Ended 0 0
+abbrev pub ended : Settings → Parser
+ended z = parser z 8 stages.Ended 0 0
 
 -- behind a function section of one function
-abbrev pub with_function : WasmFeatures → Stage → Parser
-with_function w g = parser w 18 g 3 1
+abbrev pub with_function : Settings → Stage → Parser
+with_function z g = parser z 18 g 3 1
 
 abbrev pub eight : List ℕ
 eight = 0x00 ∷ 0x61 ∷ 0x73 ∷ 0x6d ∷ 0x01 ∷ 0x00 ∷ 0x00 ∷ 0x00 ∷ []
@@ -71,8 +69,8 @@ pub record ShapeRows : Type 0 where
   pub body : shape_of (frames.CodeEntry (contents (0x00 ∷ 0x0b ∷ []))) ≡ entry (0x00 ∷ 0x0b ∷ [])
   pub end : shape_of (frames.End 10) ≡ the_end
   pub several : shapes_of (header ∷ frames.End 8 ∷ []) ≡ version (record { version = 1; layer = 0 }) ∷ the_end ∷ []
-  pub settings : (w : WasmFeatures) → settings_of (begun w) ≡ record { features = w.0; limits = default_limits }
-  pub stage : (w : WasmFeatures) → staged (with_function w stages.Sections) stages.Failed ≡ with_function w stages.Failed
+  pub settings : (z : Settings) → (begun z).settings ≡ z
+  pub stage : (z : Settings) → staged (with_function z stages.Sections) stages.Failed ≡ with_function z stages.Failed
   pub at_first : is_over (progress stages.Header 0 0) ≡ false
   pub going_on : is_over (progress stages.Sections 4 0) ≡ false
   pub in_code : is_over (progress (stages.Code 1 9) 12 0) ≡ false
@@ -106,32 +104,32 @@ pub record PlacedRows : Type 0 where
 
 -- what a call answers: a frame, an error that fails the parser, or the end where the counts agree
 pub record ParseRows : Type 0 where
-  pub headed : (w : WasmFeatures) → Parses (fresh w) eight true (Ok (Parsed 8 header)) (begun w)
-  pub headed_by_seven : (w : WasmFeatures) → Parses (fresh w) eight true (Ok (Parsed 7 header)) (begun w) → ⊥
-  pub headed_as_another : (w : WasmFeatures) → Parses (fresh w) eight true (Ok (Parsed 8 (frames.Version 2 Module (record { start = 0; end = 8 })))) (begun w) → ⊥
-  pub headed_and_stayed : (w : WasmFeatures) → Parses (fresh w) eight true (Ok (Parsed 8 header)) (fresh w) → ⊥
-  pub late : (w : WasmFeatures) → Parses (parser w 8 stages.Sections 4 0) (0x03 ∷ 0x02 ∷ []) false (Err (error Other 10)) (parser w 8 stages.Failed 4 0)
-  pub late_elsewhere : (w : WasmFeatures) → Parses (parser w 8 stages.Sections 4 0) (0x03 ∷ 0x02 ∷ []) false (Err (error Other 8)) (parser w 8 stages.Failed 4 0) → ⊥
-  pub late_and_not_failed : (w : WasmFeatures) → Parses (parser w 8 stages.Sections 4 0) (0x03 ∷ 0x02 ∷ []) false (Err (error Other 10)) (parser w 8 stages.Sections 4 0) → ⊥
-  pub out_of_memory : (w : WasmFeatures) → Parses (fresh w) eight true (Err (error OutOfMemory 0)) (parser w 0 stages.Failed 0 0) → ⊥
-  pub cut_short : (w : WasmFeatures) → Parses (begun w) (0x01 ∷ []) true (Err (error (EndOfData 1) 9)) (failed w)
-  pub cut_short_while_more_come : (w : WasmFeatures) → Parses (begun w) (0x01 ∷ []) false (Err (error (EndOfData 1) 9)) (failed w) → ⊥
-  pub asked_where_none_come : (w : WasmFeatures) (n : ℕ) → Parses (begun w) (0x01 ∷ []) true (Ok (NeedMoreData n)) (begun w) → ⊥
-  pub end : (w : WasmFeatures) → Parses (begun w) [] true (Ok (Parsed 0 (frames.End 8))) (ended w)
-  pub end_elsewhere : (w : WasmFeatures) → Parses (begun w) [] true (Ok (Parsed 0 (frames.End 9))) (ended w) → ⊥
-  pub end_without_bodies : (w : WasmFeatures) → Parses (with_function w stages.Sections) [] true (Err (error Other 18)) (with_function w stages.Failed)
-  pub end_despite_no_bodies : (w : WasmFeatures) → Parses (with_function w stages.Sections) [] true (Ok (Parsed 0 (frames.End 18))) (with_function w stages.Ended) → ⊥
-  pub end_refused : (w : WasmFeatures) → Parses (begun w) [] true (Err (error Other 8)) (failed w) → ⊥
-  pub over : (w : WasmFeatures) → Parses (ended w) [] true (Err (error Failed 8)) (ended w)
-  pub over_elsewhere : (w : WasmFeatures) → Parses (ended w) [] true (Err (error Failed 9)) (ended w) → ⊥
-  pub over_otherwise : (w : WasmFeatures) → Parses (ended w) [] true (Err (error Other 8)) (ended w) → ⊥
-  pub end_again : (w : WasmFeatures) → Parses (ended w) [] true (Ok (Parsed 0 (frames.End 8))) (ended w) → ⊥
+  pub headed : (z : Settings) → Parses (fresh z) eight true (Ok (Parsed 8 header)) (begun z)
+  pub headed_by_seven : (z : Settings) → Parses (fresh z) eight true (Ok (Parsed 7 header)) (begun z) → ⊥
+  pub headed_as_another : (z : Settings) → Parses (fresh z) eight true (Ok (Parsed 8 (frames.Version 2 Module (record { start = 0; end = 8 })))) (begun z) → ⊥
+  pub headed_and_stayed : (z : Settings) → Parses (fresh z) eight true (Ok (Parsed 8 header)) (fresh z) → ⊥
+  pub late : (z : Settings) → Parses (parser z 8 stages.Sections 4 0) (0x03 ∷ 0x02 ∷ []) false (Err (error Other 10)) (parser z 8 stages.Failed 4 0)
+  pub late_elsewhere : (z : Settings) → Parses (parser z 8 stages.Sections 4 0) (0x03 ∷ 0x02 ∷ []) false (Err (error Other 8)) (parser z 8 stages.Failed 4 0) → ⊥
+  pub late_and_not_failed : (z : Settings) → Parses (parser z 8 stages.Sections 4 0) (0x03 ∷ 0x02 ∷ []) false (Err (error Other 10)) (parser z 8 stages.Sections 4 0) → ⊥
+  pub out_of_memory : (z : Settings) → Parses (fresh z) eight true (Err (error OutOfMemory 0)) (parser z 0 stages.Failed 0 0) → ⊥
+  pub cut_short : (z : Settings) → Parses (begun z) (0x01 ∷ []) true (Err (error (EndOfData 1) 9)) (failed z)
+  pub cut_short_while_more_come : (z : Settings) → Parses (begun z) (0x01 ∷ []) false (Err (error (EndOfData 1) 9)) (failed z) → ⊥
+  pub asked_where_none_come : (z : Settings) (n : ℕ) → Parses (begun z) (0x01 ∷ []) true (Ok (NeedMoreData n)) (begun z) → ⊥
+  pub end : (z : Settings) → Parses (begun z) [] true (Ok (Parsed 0 (frames.End 8))) (ended z)
+  pub end_elsewhere : (z : Settings) → Parses (begun z) [] true (Ok (Parsed 0 (frames.End 9))) (ended z) → ⊥
+  pub end_without_bodies : (z : Settings) → Parses (with_function z stages.Sections) [] true (Err (error Other 18)) (with_function z stages.Failed)
+  pub end_despite_no_bodies : (z : Settings) → Parses (with_function z stages.Sections) [] true (Ok (Parsed 0 (frames.End 18))) (with_function z stages.Ended) → ⊥
+  pub end_refused : (z : Settings) → Parses (begun z) [] true (Err (error Other 8)) (failed z) → ⊥
+  pub over : (z : Settings) → Parses (ended z) [] true (Err (error Failed 8)) (ended z)
+  pub over_elsewhere : (z : Settings) → Parses (ended z) [] true (Err (error Failed 9)) (ended z) → ⊥
+  pub over_otherwise : (z : Settings) → Parses (ended z) [] true (Err (error Other 8)) (ended z) → ⊥
+  pub end_again : (z : Settings) → Parses (ended z) [] true (Ok (Parsed 0 (frames.End 8))) (ended z) → ⊥
 
 -- calls over a text that comes in pieces
 pub record CallRows : Type 0 where
-  pub a_piece : (w : WasmFeatures) → Called (fresh w) (eight ++ 0x01 ∷ []) (Ok (Parsed 8 header)) (begun w)
-  pub end_before_bytes : (w : WasmFeatures) → Called (begun w) (0x01 ∷ []) (Ok (Parsed 0 (frames.End 8))) (ended w) → ⊥
-  pub both : (w : WasmFeatures) → Calls (fresh w) eight (header ∷ frames.End 8 ∷ []) (ended w) []
-  pub none : (w : WasmFeatures) → Calls (fresh w) eight [] (fresh w) eight
-  pub none_but_moved : (w : WasmFeatures) → Calls (fresh w) eight [] (begun w) eight → ⊥
-  pub none_but_taken : (w : WasmFeatures) → Calls (fresh w) eight [] (fresh w) [] → ⊥
+  pub a_piece : (z : Settings) → Called (fresh z) (eight ++ 0x01 ∷ []) (Ok (Parsed 8 header)) (begun z)
+  pub end_before_bytes : (z : Settings) → Called (begun z) (0x01 ∷ []) (Ok (Parsed 0 (frames.End 8))) (ended z) → ⊥
+  pub both : (z : Settings) → Calls (fresh z) eight (header ∷ frames.End 8 ∷ []) (ended z) []
+  pub none : (z : Settings) → Calls (fresh z) eight [] (fresh z) eight
+  pub none_but_moved : (z : Settings) → Calls (fresh z) eight [] (begun z) eight → ⊥
+  pub none_but_taken : (z : Settings) → Calls (fresh z) eight [] (fresh z) [] → ⊥

@@ -2,7 +2,7 @@
 -- calls over a text that comes in pieces (WebAssembly 3.0, binary format, modules).
 use Rattle.std.specs.Prelude.{◌≡◌, ◌++◌, [], ◌∷◌, true, false, Ok, Err}
 use Rattle.wasm_types.specs.error.declared.error.ErrorKind.TheVariants.{Failed, Other}
-use Rattle.wasm_types.specs.features.declared.WasmFeatures.{WasmFeatures}
+use Rattle.wasm_types.specs.limits.Settings.{Settings}
 use Rattle.wasm_sections_parser.specs.declared.frame.Encoding.TheVariants.{Module}
 use Rattle.wasm_sections_parser.specs.declared.frame.Frame.TheVariants as frames
 use Rattle.wasm_sections_payloads.specs.declared.payload.Payload.{Payload}
@@ -22,11 +22,11 @@ pub record TakenRows : Type 0 where
   pub refused : taken (Err (error Other 8)) ≡ 0
   pub left : payloads_left false (0x01 ∷ 0x00 ∷ []) ≡ 3
   pub none_left : payloads_left true (0x01 ∷ 0x00 ∷ []) ≡ 0
-  pub over : (w : WasmFeatures) → FailedBefore (ended w) (Err (error Failed 8)) (ended w)
-  pub over_and_given : (w : WasmFeatures) → FailedBefore (ended w) (Ok (Parsed 0 (payloads.End 8))) (ended w) → ⊥
-  pub over_otherwise : (w : WasmFeatures) → FailedBefore (ended w) (Err (error Other 8)) (ended w) → ⊥
-  pub over_elsewhere : (w : WasmFeatures) → FailedBefore (ended w) (Err (error Failed 9)) (ended w) → ⊥
-  pub over_and_moved : (w : WasmFeatures) → FailedBefore (ended w) (Err (error Failed 8)) (begun w) → ⊥
+  pub over : (z : Settings) → FailedBefore (ended z) (Err (error Failed 8)) (ended z)
+  pub over_and_given : (z : Settings) → FailedBefore (ended z) (Ok (Parsed 0 (payloads.End 8))) (ended z) → ⊥
+  pub over_otherwise : (z : Settings) → FailedBefore (ended z) (Err (error Other 8)) (ended z) → ⊥
+  pub over_elsewhere : (z : Settings) → FailedBefore (ended z) (Err (error Failed 9)) (ended z) → ⊥
+  pub over_and_moved : (z : Settings) → FailedBefore (ended z) (Err (error Failed 8)) (begun z) → ⊥
 
 -- the payloads of frames, and a frame of all the bytes that are left
 pub record PayloadRows : Type 0 where
@@ -35,14 +35,14 @@ pub record PayloadRows : Type 0 where
   pub exchanged : ArePayloads (header ∷ frames.End 8 ∷ []) (payloads.End 8 ∷ version_1 ∷ []) → ⊥
   pub one_missing : ArePayloads (header ∷ frames.End 8 ∷ []) (version_1 ∷ []) → ⊥
   pub one_too_many : ArePayloads (header ∷ []) (version_1 ∷ payloads.End 8 ∷ []) → ⊥
-  pub frame : (w : WasmFeatures) → IsFrameOf (fresh w) (eight ++ 0x01 ∷ []) header (begun w) (0x01 ∷ [])
-  pub frame_and_stayed : (w : WasmFeatures) → IsFrameOf (fresh w) eight header (begun w) eight → ⊥
+  pub frame : (z : Settings) → IsFrameOf (fresh z) (eight ++ 0x01 ∷ []) header (begun z) (0x01 ∷ [])
+  pub frame_and_stayed : (z : Settings) → IsFrameOf (fresh z) eight header (begun z) eight → ⊥
 
 -- calls over a text that comes in pieces
 pub record CalledRows : Type 0 where
-  pub a_piece : (w : WasmFeatures) → CalledPayload (fresh w) (eight ++ 0x01 ∷ []) (Ok (Parsed 8 version_1)) (begun w)
-  pub both : (w : WasmFeatures) → PayloadCalls (fresh w) eight (version_1 ∷ payloads.End 8 ∷ []) (ended w) []
-  pub none : (w : WasmFeatures) → PayloadCalls (fresh w) eight [] (fresh w) eight
-  pub none_but_moved : (w : WasmFeatures) → PayloadCalls (fresh w) eight [] (begun w) eight → ⊥
-  pub none_but_taken : (w : WasmFeatures) → PayloadCalls (fresh w) eight [] (fresh w) [] → ⊥
-  pub end_before_bytes : (w : WasmFeatures) → CalledPayload (begun w) (0x01 ∷ []) (Ok (Parsed 0 (payloads.End 8))) (ended w) → ⊥
+  pub a_piece : (z : Settings) → CalledPayload (fresh z) (eight ++ 0x01 ∷ []) (Ok (Parsed 8 version_1)) (begun z)
+  pub both : (z : Settings) → PayloadCalls (fresh z) eight (version_1 ∷ payloads.End 8 ∷ []) (ended z) []
+  pub none : (z : Settings) → PayloadCalls (fresh z) eight [] (fresh z) eight
+  pub none_but_moved : (z : Settings) → PayloadCalls (fresh z) eight [] (begun z) eight → ⊥
+  pub none_but_taken : (z : Settings) → PayloadCalls (fresh z) eight [] (fresh z) [] → ⊥
+  pub end_before_bytes : (z : Settings) → CalledPayload (begun z) (0x01 ∷ []) (Ok (Parsed 0 (payloads.End 8))) (ended z) → ⊥

@@ -4,7 +4,7 @@ use Rattle.wasm_types_trees.specs.Types.{Abstract, func, any, none, nofunc, stru
 use Rattle.wasm_types_trees.specs.Trees.{TypeTree, opened}
 use Rattle.wasm_types_trees.specs.AbstractOrder.{AbstractBelow, same, eq_any, i31_any, struct_any, array_any, none_any, i31_eq, struct_eq, array_eq}
 use Rattle.wasm_types_trees.specs.AbstractOrder.{none_eq, none_i31, none_array, nofunc_func, noextern_extern, noexn_exn, nocont_cont}
-use Rattle.wasm_types_trees.specs.Below.{expanded, is_shared, supertype, abstract_of, bottom_of, DeclaredBelow, itself, declared}
+use Rattle.wasm_types_trees.specs.Below.{expanded, is_shared, supertype, abstract_above, bottom_of, DeclaredBelow, itself, declared}
 use Rattle.wasm_types_trees.specs.worked.Types.{base, derived, leaf, unrelated, shared_struct, routine, numbers, suspended, broken}
 use Rattle.wasm_types_trees.specs.worked.Subtypes.{SubtypesWorked}
 
@@ -79,7 +79,7 @@ IsOver s a u = (s ≡ is_shared u) × (a ≡ bottom_of (expanded u))
 
 -- that it is not below an abstract type
 abbrev IsNotUnder : Bool → Abstract → TypeTree → Type 0
-IsNotUnder s a u = is_shared u ≡ s → AbstractBelow (abstract_of (expanded u)) a → ⊥
+IsNotUnder s a u = is_shared u ≡ s → AbstractBelow (abstract_above (expanded u)) a → ⊥
 
 -- that it is not a given type
 abbrev pub IsNot : TypeTree → TypeTree → Type 0

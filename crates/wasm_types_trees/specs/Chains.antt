@@ -2,13 +2,13 @@
 use Rattle.std.specs.Prelude.{◌≡◌, List, All, Contains, Some}
 use Rattle.wasm_types_trees.specs.Each.{EachEntry}
 use Rattle.wasm_types_trees.specs.Trees.{TypeTree, opened}
-use Rattle.wasm_types_trees.specs.Below.{expanded, is_shared, supertype, abstract_of, DeclaredBelow}
+use Rattle.wasm_types_trees.specs.Below.{expanded, is_shared, supertype, abstract_above, DeclaredBelow}
 use Rattle.wasm_types_trees.specs.Matches.{Matches}
 
 -- two types of one sharedness and one constructor
 pub record IsAlike (t u : TypeTree) : Type 0 where
   pub shared : is_shared t ≡ is_shared u
-  pub constructor : abstract_of (expanded t) ≡ abstract_of (expanded u)
+  pub constructor : abstract_above (expanded t) ≡ abstract_above (expanded u)
 
 -- each type above t by declaration is alike: so it is where every declared link matches
 abbrev pub IsSound : TypeTree → Type 0

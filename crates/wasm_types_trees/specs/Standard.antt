@@ -5,7 +5,7 @@ use Rattle.wasm_types_trees.specs.Types.{func, extern, any, none, noextern, nofu
 use Rattle.wasm_types_trees.specs.Types.{abstract, concrete, exact, ValueOf, number, ref}
 use Rattle.wasm_types_trees.specs.Each.{EachHeap}
 use Rattle.wasm_types_trees.specs.Trees.{TypeTree}
-use Rattle.wasm_types_trees.specs.Below.{expanded, is_shared, supertype, abstract_of, NullBelow}
+use Rattle.wasm_types_trees.specs.Below.{expanded, is_shared, supertype, abstract_above, NullBelow}
 
 -- Heap types: each rule of the standard, in its order. The abstract types of one rule are all shared or all not, by the
 -- proposal on shared everything; `nocont` is added by the proposal on stack switching, `exact` by that on custom descriptors.
@@ -17,7 +17,7 @@ pub data HeapMatches (V : TypeTree → Type 0) : HeapOf TypeTree → HeapOf Type
   struct_eq : {s : Bool} → HeapMatches V (abstract s struct) (abstract s eq)
   array_eq : {s : Bool} → HeapMatches V (abstract s array) (abstract s eq)
   -- a defined type below the abstract type of its constructor: struct, array, func, cont
-  expansion : {t : TypeTree} → HeapMatches V (concrete t) (abstract (is_shared t) (abstract_of (expanded t)))
+  expansion : {t : TypeTree} → HeapMatches V (concrete t) (abstract (is_shared t) (abstract_above (expanded t)))
   -- a defined type below the supertype that it declares
   declaration : {t u : TypeTree} → supertype t ≡ Some u → HeapMatches V (concrete t) (concrete u)
   none_below : {s : Bool} {h : HeapOf TypeTree} → HeapMatches V h (abstract s any) → HeapMatches V (abstract s none) h

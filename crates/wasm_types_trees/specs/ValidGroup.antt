@@ -8,7 +8,7 @@ use Rattle.wasm_types_trees.specs.Types.{ValueOf, StorageOf, i8, i16, value, Fie
 use Rattle.wasm_types_trees.specs.Types.{EntryOf, entry_of_subtype, entry_map}
 use Rattle.wasm_types_trees.specs.Each.{EachOption, EachEntry}
 use Rattle.wasm_types_trees.specs.Trees.{GroupTree, TypeTree, group_tree, opened}
-use Rattle.wasm_types_trees.specs.Unfold.{Reference, Local, Earlier, unfolded}
+use Rattle.wasm_types_trees.specs.Unfold.{GroupReference, Local, Earlier, unfolded}
 use Rattle.wasm_types_trees.specs.Below.{expanded, supertype, value_is_shared}
 use Rattle.wasm_types_trees.specs.Matches.{Matches}
 use Rattle.wasm_types_trees.specs.Gates.{Has, ValueIsAllowed}
@@ -33,7 +33,7 @@ abbrev pub written_entries : Written → List (EntryOf ℕ)
 written_entries g = map entry_of_subtype g.types
 
 -- what an index means in a group whose first type has the index `start`
-abbrev pub reference_at : ℕ → ℕ → Reference
+abbrev pub reference_at : ℕ → ℕ → GroupReference
 reference_at start i = if nat_lt i start then Earlier i else Local (i - start)
 
 -- the type of an index, and past the end a type of no group
@@ -45,7 +45,7 @@ abbrev pub written_tree : List TypeTree → Written → GroupTree
 written_tree space g = unfolded (type_at space) (map (entry_map (reference_at (length space))) (written_entries g))
 
 -- what an index means where the types are known by ids, those of the index space so far in order: the canonical form
-abbrev pub canonical_at : List ℕ → ℕ → Reference
+abbrev pub canonical_at : List ℕ → ℕ → GroupReference
 canonical_at ids i = if nat_lt i (length ids) then Earlier (get_or ids i 0) else Local (i - length ids)
 
 -- n types of a group, from a place on

@@ -1,8 +1,8 @@
 -- How far a validator is behind a module: worked rows.
 use Rattle.std.proofs.Common.{◌≡◌, ℕ, List, [], Ok}
 use Rattle.wasm_types.specs.error.declared.error.ErrorKind.TheVariants.{OutOfMemory, Other}
+use Rattle.wasm_types.specs.limits.Limits.{default_limits}
 use Rattle.wasm_types.specs.limits.Settings.{Settings}
-use Rattle.wasm_module_validator_sharing.specs.reading.Reading.{under}
 use Rattle.wasm_module_validator_sharing.specs.reading.progress.Progress.{Kept, kept_groups, nothing_over, renewed}
 use Rattle.wasm_module_validator_sharing.specs.reading.progress.standing.type_trees.Groups.{Group}
 use Rattle.wasm_module_validator.specs.declared.validator.State.TheVariants.{Ended, Failed}
@@ -22,12 +22,17 @@ pub record AcceptedRows (z : Settings) (bytes : List ℕ) : Type 0 where
 
 -- ---- what a module begins with behind another
 
--- a module of which nothing was read, by features with the bits 5, over a list with these groups
-abbrev pub begun_over : List Group → Kept
-begun_over groups = (nothing_over groups (under 5)).kept
+-- features with these bits, and the limits by default, but for the number of locals
+abbrev pub with_locals : ℕ → ℕ → Settings
+with_locals bits most = record { features = bits; limits = record default_limits { locals = most } }
 
--- by the same features it begins over the same list, and by others over none; whatever was counted is forgotten
+-- a module of which nothing was read, by features with the bits 5 and at most 10 locals, over a list with these groups
+abbrev pub begun_over : List Group → Kept
+begun_over groups = (nothing_over groups (with_locals 5 10)).kept
+
+-- by the same settings it begins over the same list, and by other features or other limits over none; whatever was counted is forgotten
 pub record RenewedRows (groups : List Group) : Type 0 where
-  pub same : kept_groups 5 (begun_over groups) ≡ groups
-  pub other : kept_groups 6 (begun_over groups) ≡ []
-  pub counted : renewed 5 (record (begun_over groups) { count = 3 }) ≡ nothing_over groups (under 5)
+  pub same : kept_groups (with_locals 5 10) (begun_over groups) ≡ groups
+  pub other_features : kept_groups (with_locals 6 10) (begun_over groups) ≡ []
+  pub other_limits : kept_groups (with_locals 5 11) (begun_over groups) ≡ []
+  pub counted : renewed (with_locals 5 10) (record (begun_over groups) { count = 3 }) ≡ nothing_over groups (with_locals 5 10)

@@ -2,6 +2,7 @@
 use Rattle.std.proofs.Common.{◌≡◌, ◌∙◌, ◌≤◌, ℕ, zero, suc, ◌+◌, List, [], ◌∷◌, length, drop, Result, Ok, Err, Option, Some, None, slice_get, sym, ap, subst, add-one, arith}
 use Rattle.wasm_types.specs.decoding.Decoder.{State as Bytes}
 use Rattle.wasm_types.specs.limits.Settings.{Settings}
+use Rattle.wasm_types.specs.limits.declared.Limits.{Limits}
 use Rattle.wasm_types.specs.error.Denials.{Denies, Tells}
 use Rattle.wasm_types.specs.error.DenialLaws.{denies_from}
 use Rattle.wasm_types.specs.error.ErrorValue.{ErrorValue}
@@ -13,41 +14,41 @@ use Rattle.wasm_module_validator_rules.specs.Valid.{Each}
 use Rattle.wasm_module_validator_functions.specs.Locals.{judged_by}
 use Rattle.wasm_module_validator_functions.specs.Functions.{SpellsValidFunction, ValidatesFunction}
 use Rattle.wasm_module_validator_functions.specs.laws.Functions.{functions_are}
-use Rattle.wasm_module_validator_functions.specs.code.Code.{IsReadBy, IsFunctionOf}
+use Rattle.wasm_module_validator_adding.specs.Bodies.{IsReadBy}
+use Rattle.wasm_module_validator_functions.specs.code.Code.{IsFunctionOf}
 
 tells_same : {X : Type 0} (answer : Result X ErrorValue) (P Q : Type 0) → (P → Q) → (Q → P) → Tells answer P → Tells answer Q
 tells_same (Ok u) P Q to from h = to h
 tells_same (Err e) P Q to from h = denies_from e.kind P Q from h
 
-module _ (z : Settings) (m : Meaning) (bits x : ℕ) (s : Bytes) (r : IsReadBy z bits s) where
-  may_begin : IsFunctionOf z m.«module» x s.rest → MayBegin m x
+module _ (z : Settings) (m : Meaning) (bits : ℕ) (l : Limits) (x : ℕ) (s : Bytes) (held : z.limits ≡ l) (r : IsReadBy z bits s) where
+  by_these : judged_by bits l ≡ z
+  by_these = ap (λ (n : ℕ). judged_by n l) (sym r.features) ∙ ap (judged_by z.features) (sym held)
+
+  may_begin : IsFunctionOf z m.«module» x s.rest → MayBegin m l.locals x
   may_begin (f, spelled, (t, at, v)) =
       let within = v.within in
-      let few = r.few_locals in
-      (t, v.signature, record { at = at; function = v.function }, omega (arith, within, few))
+      let same = ap (λ (y : Limits). y.locals) held in
+      (t, v.signature, record { at = at; function = v.function }, omega (arith, within, same))
 
   -- where no validator begins, the bytes spell no valid function
-  pub none_begins : (k : ErrorKind) → Denies k (MayBegin m x) → Denies k (IsFunctionOf z m.«module» x s.rest)
+  pub none_begins : (k : ErrorKind) → Denies k (MayBegin m l.locals x) → Denies k (IsFunctionOf z m.«module» x s.rest)
   none_begins k d = denies_from k _ _ may_begin d
 
   -- what a validator that was just made answers, at the same module
-  pub judged : (n : Meaning) (σ τ : State) (answer : Result (Unit {0}) ErrorValue) → n ≡ m → Begins m bits x σ → ValidatesFunction n s σ answer τ
+  pub judged : (n : Meaning) (σ τ : State) (answer : Result (Unit {0}) ErrorValue) → n ≡ m → Begins m bits x σ → ValidatesFunction n l s σ answer τ
       → Tells answer (IsFunctionOf z m.«module» x s.rest)
   judged n σ τ answer same b w =
-      let v : ValidatesFunction m s σ answer τ = subst (λ (k : Meaning). ValidatesFunction k s σ answer τ) same w in
+      let v : ValidatesFunction m l s σ answer τ = subst (λ (k : Meaning). ValidatesFunction k l s σ answer τ) same w in
       let same_bits : σ.given.bits ≡ bits = ap (λ (ν : State). ν.given.bits) b.state in
       let begun : Begins m σ.given.bits x σ = subst (λ (n : ℕ). Begins m n x σ) (sym same_bits) b in
-      let under : judged_by σ.given.bits s.settings ≡ z
-      = ap (λ (n : ℕ). judged_by n s.settings) (same_bits ∙ sym r.features) ∙ ap (λ (y : Settings). judged_by z.features y) r.settings in
-      let rules = functions_are z m.«module» x s.rest r.few_locals r.within in
+      let under : judged_by σ.given.bits l ≡ z = ap (λ (n : ℕ). judged_by n l) same_bits ∙ by_these in
+      let rules = functions_are z m.«module» x s.rest r.within in
       tells_same answer _ _ rules.0 rules.1 (subst (λ (y : Settings). Tells answer (SpellsValidFunction y m.«module» x s.rest)) under (v.exact x begun))
 
-  -- what is judged valid under these features
-  pub accepted : SpellsValidFunction (judged_by bits s.settings) m.«module» x s.rest → IsFunctionOf z m.«module» x s.rest
-  accepted v =
-      let under : judged_by bits s.settings ≡ z
-      = ap (λ (n : ℕ). judged_by n s.settings) (sym r.features) ∙ ap (λ (y : Settings). judged_by z.features y) r.settings in
-      (functions_are z m.«module» x s.rest r.few_locals r.within).0 (subst (λ (y : Settings). SpellsValidFunction y m.«module» x s.rest) under v)
+  -- what is judged valid by these features and limits
+  pub accepted : SpellsValidFunction (judged_by bits l) m.«module» x s.rest → IsFunctionOf z m.«module» x s.rest
+  accepted v = (functions_are z m.«module» x s.rest r.within).0 (subst (λ (y : Settings). SpellsValidFunction y m.«module» x s.rest) by_these v)
 
 -- ---- all of them
 

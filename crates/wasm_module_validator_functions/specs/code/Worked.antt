@@ -9,7 +9,8 @@ use Rattle.wasm_operator_validator_stacks.specs.rules.Context.{Module, Signature
 use Rattle.wasm_module_validator_rules.specs.Syntax.{Function}
 use Rattle.wasm_module_validator_rules.specs.Binary.{SpelledFunction}
 use Rattle.wasm_module_validator_rules.specs.worked.Trees.{end, does}
-use Rattle.wasm_module_validator_functions.specs.code.Code.{IsReadBy, IsFunctionOf}
+use Rattle.wasm_module_validator_adding.specs.Bodies.{IsReadBy}
+use Rattle.wasm_module_validator_functions.specs.code.Code.{IsFunctionOf}
 
 -- bytes that are read under no features
 abbrev at : List ℕ → State
@@ -23,15 +24,13 @@ empty_body = 0x00 ∷ 0x0b ∷ []
 abbrev procedure : Signature
 procedure = record { params = []; results = [] }
 
--- Bytes may be a body under the features by which they were read, and under no others; and not where there are too many of them, or where
--- the limit of locals is above that by default. An empty body is a valid function that takes nothing and gives nothing; no bytes are
+-- Bytes may be a body under the features by which they were read, and under no others; and not if there are too many of them. An empty body is a valid function that takes nothing and gives nothing; no bytes are
 -- none, and none is of a type that there is not.
 pub record BodyRows : Type 0 where
   pub read : IsReadBy no_features 0 (at empty_body)
   pub no_other_features : IsReadBy no_features 1 (at empty_body) → ⊥
   pub no_other_settings : (z : Settings) → z.features ≡ 1 → IsReadBy z 1 (at empty_body) → ⊥
   pub not_longer : (s : State) → 7654321 < length s.rest → IsReadBy no_features 0 s → ⊥
-  pub no_more_locals : (z : Settings) (s : State) → 50000 < z.limits.locals → IsReadBy z z.features s → ⊥
   pub empty : (g : Module) (x : ℕ) (t : TypeTree) → slice_get g.types x ≡ Some t → IsFunctionType t procedure → IsFunctionOf no_features g x empty_body
   pub nothing : (z : Settings) (g : Module) (x : ℕ) → IsFunctionOf z g x [] → ⊥
   pub no_type : (z : Settings) (g : Module) (x : ℕ) (text : List ℕ) → slice_get g.types x ≡ None → IsFunctionOf z g x text → ⊥
@@ -67,15 +66,14 @@ some_type o x e f = let g = sym e ∙ f in cc
 pub body_rows : BodyRows
 unfolding default_limits
 body_rows = record {
-  read = record { settings = refl; features = refl; few_locals = lit≤ tt; within = lit≤ tt };
+  read = record { settings = refl; features = refl; within = lit≤ tt };
   no_other_features = λ h. let n : 0 ≡ 1 = h.features in omega (arith, n);
   no_other_settings = λ z one h. let n : 0 ≡ 1 = ap (λ (y : Settings). y.features) h.settings ∙ one in omega (arith, n);
   not_longer = λ s long h. let few = h.within in omega (arith, few, long);
-  no_more_locals = λ z s many h. let few = h.few_locals in omega (arith, few, many);
   empty = λ g x t at is. (
     does [] end,
     spelled,
-    (t, at, record { signature = procedure; function = is; locals = tt; within = lit≤ tt; body = record { expression = refl; typed = (tt, tt) } }),
+    (t, at, record { signature = procedure; function = is; locals = tt; within = lit≤ tt; body = record { expression = refl; typed = (tt, tt, tt) } }),
   );
   nothing = λ z g x h. none_spelled z h.0 h.1;
   no_type = λ z g x text none h. some_type (slice_get g.types x) h.2.0 none h.2.1;

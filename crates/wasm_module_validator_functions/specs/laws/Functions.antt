@@ -2,10 +2,11 @@
 use Rattle.std.proofs.Common.{◌≡◌, ◌∙◌, ℕ, ◌+◌, List, [], ◌++◌, length, Option, Some, None, Bool, false, Result, Ok, Err, slice_get, inl, inr, refl, sym, ap, subst, arith}
 use Rattle.std.proofs.lemmas.List.{length-map}
 use Rattle.std.proofs.lemmas.Option.{get_or_from_slice_get}
-use Rattle.std.specs.Prelude.{IfErr}
+use Rattle.std.specs.Prelude.{IfErr, OnOk}
 use Rattle.wasm_types.specs.decoding.Decoder.{State as Bytes, Done, Takes}
 use Rattle.wasm_types.specs.decoding.ExactLaws.{value_is, state_is}
 use Rattle.wasm_types.specs.limits.Settings.{Settings}
+use Rattle.wasm_types.specs.limits.declared.Limits.{Limits}
 use Rattle.wasm_types.specs.error.Denials.{Tells}
 use Rattle.wasm_types.specs.error.DenialLaws.{denies_from}
 use Rattle.wasm_types.specs.error.ErrorValue.{ErrorValue}
@@ -19,12 +20,14 @@ use Rattle.wasm_types.specs.values.declared.value.ValType.{ValType}
 use Rattle.wasm_operators_bodies.specs.Locals.{LocalGroup}
 use Rattle.wasm_operators_bodies.specs.LocalsLaws.{decides-locals}
 use Rattle.wasm_operators_bodies.specs.reader.immediates.declared.block.BlockType.TheVariants as block
+use Rattle.wasm_operators_bodies.specs.reader.operator.Op.{Op}
+use Rattle.wasm_operators_bodies.specs.reader.expression.Code.{Code, close, plain, nested, turn, walk}
 use Rattle.wasm_operators_bodies.specs.reader.expression.Spelling.{SpelledExpression}
 use Rattle.wasm_operator_validator_stacks.specs.rules.Operands.{ValueType}
 use Rattle.wasm_operator_validator_stacks.specs.rules.Context.{Context, Module, Signature, IsFunctionType}
 use Rattle.wasm_operator_validator_stacks.specs.rules.Typed.{IsBody}
 use Rattle.wasm_operator_validator_stacks.specs.resources.Meaning.{Meaning, type_in}
-use Rattle.wasm_operator_validator_stacks.specs.state.State.{Given, State, types_in, signature_of, signature_of_type}
+use Rattle.wasm_operator_validator_stacks.specs.state.State.{Given, Open, State, types_in, signature_of, signature_of_type, initialised, ClosesAll, Accepts}
 use Rattle.wasm_operator_validator_stacks.specs.state.Bodies.{fresh, body_context}
 use Rattle.wasm_operator_validator_stacks.specs.Layout.{none_saved}
 use Rattle.wasm_operator_validator_functions.specs.Functions.{HasFunctionType, Begins}
@@ -35,7 +38,7 @@ use Rattle.wasm_module_validator_rules.specs.Binary.{SpelledFunction}
 use Rattle.wasm_module_validator_rules.specs.Valid as valid
 use Rattle.wasm_module_validator_rules.specs.Valid.{Each, IsValidFunction, IsValidValueType, HasValidBody, locals_in}
 use Rattle.wasm_module_validator_functions.specs.Locals.{judged_by, relocated, SpellsLocals, TakesLocals, ReadsLocals}
-use Rattle.wasm_module_validator_functions.specs.Functions.{SpellsValidFunction, FunctionsAreThoseOfTheRules, under, StopsFunction, ValidatesFunction}
+use Rattle.wasm_module_validator_functions.specs.Functions.{SpellsValidFunction, FunctionsAreThoseOfTheRules, under, AcceptsRest, StopsFunction, ValidatesFunction}
 use Rattle.wasm_module_validator_functions.specs.laws.Locals.{defined_types, defined_count, defined_locals, defined_state}
 
 -- ---- the type of a function
@@ -57,7 +60,7 @@ results_at m x t b h =
 
 -- a context where a body begins
 abbrev context_of : ℕ → Module → List ValueType → List ValueType → Bool → Context
-context_of bits g ls rs shared = record { bits = bits; «module» = g; locals = ls; labels = []; results = rs; shared = shared }
+context_of bits g ls rs shared = record { bits = bits; «module» = g; locals = ls; labels = []; catches = []; results = rs; shared = shared }
 
 same_context : (n k : ℕ) (g : Module) (ls ks rs qs : List ValueType) (shared : Bool) → n ≡ k → ls ≡ ks → rs ≡ qs → context_of n g ls rs shared ≡ context_of k g ks qs shared
 same_context n k g ls ks rs qs shared e f h =
@@ -101,7 +104,6 @@ module _ (m : Meaning) (bits x : ℕ) (σ : State) (b : Begins m bits x σ) wher
       let same = ap (λ (c : Signature). length c.params) (same_signature v.type v.valid.signature v.at v.valid.function) in
       let count = begun_count in
       let within = v.valid.within in
-      let held = v.held in
       record {
         groups = v.function.locals;
         front = v.spelled.locals_text;
@@ -109,19 +111,19 @@ module _ (m : Meaning) (bits x : ℕ) (σ : State) (b : Begins m bits x σ) wher
         spelled = v.spelled.locals;
         whole = v.spelled.whole;
         types = v.valid.locals;
-        within = omega (arith, same, count, within, held);
+        within = omega (arith, same, count, within);
       }
 
-  module _ (s t : Bytes) (τ : State) (features : s.settings.features ≡ bits) (h : TakesLocals m s σ t τ) where
+  module _ (s t : Bytes) (τ : State) (features : s.settings.features ≡ bits) (h : TakesLocals m s.settings s σ t τ) where
     -- it is the beginning of an expression with more locals
     begins_behind : τ ≡ fresh (given_with τ.given.locals) (block.FuncType x) none_saved
-    begins_behind = defined_state m h.groups σ τ h.defined ∙ ap (λ (ν : State). relocated ν τ.given.locals) b.state
+    begins_behind = defined_state m s.settings.limits.locals h.groups σ τ h.defined ∙ ap (λ (ν : State). relocated ν τ.given.locals) b.state
 
     -- and its context is that of the body by the rules
     context_behind : body_context m (given_with τ.given.locals) (block.FuncType x) ≡ valid.body_context s.settings m.«module» b.type b.signature h.groups
     context_behind =
         let all : types_in m τ.given.locals ≡ b.signature.params ++ locals_in m.«module».types h.groups =
-        defined_locals m h.groups σ τ h.defined ∙ ap (λ (ts : List ValueType). ts ++ locals_in m.«module».types h.groups) begun_types in
+        defined_locals m s.settings.limits.locals h.groups σ τ h.defined ∙ ap (λ (ts : List ValueType). ts ++ locals_in m.«module».types h.groups) begun_types in
         same_context bits s.settings.features m.«module» (types_in m τ.given.locals) (b.signature.params ++ locals_in m.«module».types h.groups)
         (signature_of m (block.FuncType x)).results b.signature.results (is_shared b.type) (sym features) all (results_at m x b.type b.signature b.function)
 
@@ -129,7 +131,7 @@ module _ (m : Meaning) (bits x : ℕ) (σ : State) (b : Begins m bits x σ) wher
     accepted_valid a =
         let taken = (decides-locals s.settings).sound s t h.groups h.read in
         let typed = (bodies_are_expressions m (given_with τ.given.locals) (block.FuncType x) none_saved t).0 (subst (λ (ν : State). AcceptsExpression m ν t) begins_behind a) in
-        let counted = defined_count m h.groups σ τ h.defined in
+        let counted = defined_count m s.settings.limits.locals h.groups σ τ h.defined in
         let count = begun_count in
         let within = h.within in
         record {
@@ -146,15 +148,14 @@ module _ (m : Meaning) (bits x : ℕ) (σ : State) (b : Begins m bits x σ) wher
           valid = record {
             signature = b.signature;
             function = b.function.function;
-            locals = defined_types m s.settings.features h.groups σ τ (features ∙ sym begun_bits) h.defined;
+            locals = defined_types m s.settings.limits.locals s.settings.features h.groups σ τ (features ∙ sym begun_bits) h.defined;
             within = omega (arith, counted, count, within);
             body = subst (λ (g : Context). IsBody g (length b.signature.params) typed.0) context_behind
                 (subst (λ (n : ℕ). IsBody (body_context m (given_with τ.given.locals) (block.FuncType x)) n typed.0) params_count typed.2);
           };
-          held = omega (arith, counted, count, within);
         }
 
-    valid_accepted : SpellsValidFunction s.settings m.«module» x s.rest → AcceptsExpression m τ t
+    pub valid_accepted : SpellsValidFunction s.settings m.«module» x s.rest → AcceptsExpression m τ t
     valid_accepted v =
         let end : Bytes = record { rest = v.spelled.body_text; place = s.place + length v.spelled.locals_text; settings = s.settings; start = s.start } in
         let taken : Takes s v.spelled.locals_text end = record { parts = v.spelled.whole; place = refl; settings = refl; start = refl } in
@@ -175,9 +176,25 @@ module _ (m : Meaning) (bits x : ℕ) (σ : State) (b : Begins m bits x σ) wher
         ((bodies_are_expressions m (given_with τ.given.locals) (block.FuncType x) none_saved t).1 (c, spelled, of_params))
 
 -- the locals were taken, and the expression behind them was accepted
-pub accepted_body : (m : Meaning) (bits x : ℕ) (σ : State) → Begins m bits x σ → (s t : Bytes) (τ ω : State) → TakesLocals m (under bits s) σ t τ → Validates m τ t (Ok tt) ω
-    → SpellsValidFunction (judged_by bits s.settings) m.«module» x s.rest
-accepted_body m bits x σ b s t τ ω h v = accepted_valid m bits x σ b (under bits s) t τ refl h v.exact
+pub accepted_body : (m : Meaning) (z : Settings) (x : ℕ) (σ : State) → Begins m z.features x σ → (s t : Bytes) (τ ω : State) → TakesLocals m z (under z s) σ t τ → Validates m τ t (Ok tt) ω
+    → SpellsValidFunction z m.«module» x s.rest
+accepted_body m z x σ b s t τ ω h v = accepted_valid m z.features x σ b (under z s) t τ refl h v.exact
+
+-- ---- from any state
+
+-- an expression has an operator
+some_operator : (c : Code) → walk c ≡ [] → ⊥
+some_operator (close o) e = absurd cc
+some_operator (plain o more) e = absurd cc
+some_operator (nested o body more) e = absurd cc
+some_operator (turn o more) e = absurd cc
+
+-- after the end no operator may come
+none_after : (m : Meaning) (σ : State) (os : List Op) → σ.opens ≡ [] → Accepts m σ os → os ≡ []
+none_after m σ os e a = subst (λ (o : List Open). ClosesAll m σ.given [] o (initialised m σ.given σ.inits) os) e a.1
+
+none_over : (m : Meaning) (σ τ : State) (t : Bytes) → τ ≡ relocated σ τ.given.locals → σ.opens ≡ [] → AcceptsExpression m τ t → ⊥
+none_over m σ τ t others e (c, spelled, a) = some_operator c (none_after m τ (walk c) (ap (λ (ν : State). ν.opens) others ∙ e) a)
 
 -- ---- whole bodies
 
@@ -185,11 +202,16 @@ tells_same : (answer : Result (Unit {0}) ErrorValue) (P Q : Type 0) → (P → Q
 tells_same (Ok u) P Q to from h = to h
 tells_same (Err e) P Q to from h = denies_from e.kind P Q from h
 
-module _ (m : Meaning) (s : Bytes) (σ : State) where
+module _ (m : Meaning) (l : Limits) (s : Bytes) (σ : State) where
+  abbrev z : Settings
+  z = judged_by σ.given.bits l
+
   -- the locals were refused
-  pub locals_refused : (e : ErrorValue) (t : Bytes) (τ : State) → ReadsLocals m (under σ.given.bits s) σ (Err e) t τ → ValidatesFunction m s σ (Err e) τ
+  pub locals_refused : (e : ErrorValue) (t : Bytes) (τ : State) → ReadsLocals m l (under z s) σ (Err e) t τ → ValidatesFunction m l s σ (Err e) τ
   locals_refused e t τ r = record {
-    exact = λ x b. denies_from e.kind _ _ (valid_locals m σ.given.bits x σ b (judged_by σ.given.bits s.settings) s.rest) (r.exact (begun_going m σ.given.bits x σ b));
+    exact = λ x b. denies_from e.kind _ _ (valid_locals m σ.given.bits x σ b z s.rest) (r.exact (begun_going m σ.given.bits x σ b));
+    accepted = tt;
+    over = λ none. tt;
     stopped = r.stopped;
     stops = inl r.stops;
     ended = tt;
@@ -198,15 +220,25 @@ module _ (m : Meaning) (s : Bytes) (σ : State) where
     saved = ap (λ (ν : State). ν.saved) r.others;
   }
 
-  module _ (t : Bytes) (τ : State) (r : ReadsLocals m (under σ.given.bits s) σ (Ok tt) t τ) where
-    stops_behind : (answer : Result (Unit {0}) ErrorValue) (ω : State) → Validates m τ t answer ω → IfErr answer (λ e. StopsFunction m (under σ.given.bits s) σ e)
+  module _ (t : Bytes) (τ : State) (r : ReadsLocals m l (under z s) σ (Ok tt) t τ) where
+    stops_behind : (answer : Result (Unit {0}) ErrorValue) (ω : State) → Validates m τ t answer ω → IfErr answer (StopsFunction m z (under z s) σ)
     stops_behind (Ok u) ω v = tt
     stops_behind (Err e) ω v = inr (record { behind = t; known = τ; left = ω; taken = r.taken; stops = v.stops })
 
+    accepted_from : (answer : Result (Unit {0}) ErrorValue) → Tells answer (AcceptsExpression m τ t) → OnOk answer (AcceptsRest m z (under z s) σ)
+    accepted_from (Ok u) a = record { behind = t; known = τ; taken = r.taken; accepted = a }
+    accepted_from (Err e) d = tt
+
+    over_from : (answer : Result (Unit {0}) ErrorValue) → Tells answer (AcceptsExpression m τ t) → σ.opens ≡ [] → OnOk answer ⊥
+    over_from (Ok u) a none = none_over m σ τ t (defined_state m z.limits.locals r.taken.groups σ τ r.taken.defined) none a
+    over_from (Err e) d none = tt
+
     -- the locals were taken, and the expression behind them was judged
-    pub expression_judged : (answer : Result (Unit {0}) ErrorValue) (ω : State) → Validates m τ t answer ω → ValidatesFunction m s σ answer ω
+    pub expression_judged : (answer : Result (Unit {0}) ErrorValue) (ω : State) → Validates m τ t answer ω → ValidatesFunction m l s σ answer ω
     expression_judged answer ω v = record {
-      exact = λ x b. tells_same answer _ _ (accepted_valid m σ.given.bits x σ b (under σ.given.bits s) t τ refl r.taken) (valid_accepted m σ.given.bits x σ b (under σ.given.bits s) t τ refl r.taken) v.exact;
+      exact = λ x b. tells_same answer _ _ (accepted_valid m σ.given.bits x σ b (under z s) t τ refl r.taken) (valid_accepted m σ.given.bits x σ b (under z s) t τ refl r.taken) v.exact;
+      accepted = accepted_from answer v.exact;
+      over = over_from answer v.exact;
       stopped = λ f. (let e : ◌≡◌ {A = Option ErrorKind} None (Some kinds.Failed) = r.stopped f in absurd cc);
       stops = stops_behind answer ω v;
       ended = v.ended;
@@ -218,7 +250,7 @@ module _ (m : Meaning) (s : Bytes) (σ : State) where
 -- ---- the functions of the rules
 
 pub functions_are : FunctionsAreThoseOfTheRules
-functions_are z g x text limit bytes = (to, from)
+functions_are z g x text bytes = (to, from)
   where
     to : SpellsValidFunction z g x text → (f : Function) × SpelledFunction z f text × HasValidBody z g x f
     to v = (
@@ -228,13 +260,10 @@ functions_are z g x text limit bytes = (to, from)
     )
 
     from : (f : Function) × SpelledFunction z f text × HasValidBody z g x f → SpellsValidFunction z g x text
-    from (f, spelled, (t, at, v)) =
-        let within = v.within in
-        record {
-          function = f;
-          spelled = record { locals_text = spelled.locals_text; body_text = spelled.body_text; locals = spelled.locals; body = spelled.body; whole = spelled.whole };
-          type = t;
-          at = at;
-          valid = v;
-          held = omega (arith, within, limit);
-        }
+    from (f, spelled, (t, at, v)) = record {
+      function = f;
+      spelled = record { locals_text = spelled.locals_text; body_text = spelled.body_text; locals = spelled.locals; body = spelled.body; whole = spelled.whole };
+      type = t;
+      at = at;
+      valid = v;
+    }

@@ -52,7 +52,7 @@ each_at P (x ∷ xs) y ys h = each_at P xs y ys h.1
 
 -- ---- one group
 
-module _ (m : Meaning) (σ ρ : State) (l : LocalGroup) (d : DefinesLocals m σ l.count l.type ρ) where
+module _ (m : Meaning) (most : ℕ) (σ ρ : State) (l : LocalGroup) (d : DefinesLocals m most σ l.count l.type ρ) where
   one_bits : ρ.given.bits ≡ σ.given.bits
   one_bits = ap (λ (x : State). x.given.bits) d.state
 
@@ -69,39 +69,39 @@ module _ (m : Meaning) (σ ρ : State) (l : LocalGroup) (d : DefinesLocals m σ 
 
 -- ---- all groups
 
-module _ (m : Meaning) where
-  pub defined_bits : (gs : List LocalGroup) (σ τ : State) → DefinesAll m σ gs τ → τ.given.bits ≡ σ.given.bits
+module _ (m : Meaning) (most : ℕ) where
+  pub defined_bits : (gs : List LocalGroup) (σ τ : State) → DefinesAll m most σ gs τ → τ.given.bits ≡ σ.given.bits
   defined_bits [] σ τ h = ap (λ (x : State). x.given.bits) h
-  defined_bits (l ∷ ls) σ τ (ρ, d, more) = defined_bits ls ρ τ more ∙ one_bits m σ ρ l d
+  defined_bits (l ∷ ls) σ τ (ρ, d, more) = defined_bits ls ρ τ more ∙ one_bits m most σ ρ l d
 
-  pub defined_types : (bits : ℕ) (gs : List LocalGroup) (σ τ : State) → bits ≡ σ.given.bits → DefinesAll m σ gs τ
+  pub defined_types : (bits : ℕ) (gs : List LocalGroup) (σ τ : State) → bits ≡ σ.given.bits → DefinesAll m most σ gs τ
       → Each (λ (l : LocalGroup). (t : ValueType) × IsType bits m.«module» l.type t) gs
   defined_types bits [] σ τ e h = tt
   defined_types bits (l ∷ ls) σ τ e (ρ, d, more) = (
     (type_in m d.named, subst (λ (b : ℕ). IsType b m.«module» l.type (type_in m d.named)) (sym e) d.type),
-    defined_types bits ls ρ τ (e ∙ sym (one_bits m σ ρ l d)) more,
+    defined_types bits ls ρ τ (e ∙ sym (one_bits m most σ ρ l d)) more,
   )
 
-  pub defined_count : (gs : List LocalGroup) (σ τ : State) → DefinesAll m σ gs τ → length τ.given.locals ≡ length σ.given.locals + total gs
+  pub defined_count : (gs : List LocalGroup) (σ τ : State) → DefinesAll m most σ gs τ → length τ.given.locals ≡ length σ.given.locals + total gs
   defined_count [] σ τ h = let e : length τ.given.locals ≡ length σ.given.locals = ap (λ (x : State). length x.given.locals) h in omega (arith, e)
   defined_count (l ∷ ls) σ τ (ρ, d, more) =
       let e = defined_count ls ρ τ more in
-      let f = one_count m σ ρ l d in
+      let f = one_count m most σ ρ l d in
       omega (arith, e, f)
 
-  pub defined_locals : (gs : List LocalGroup) (σ τ : State) → DefinesAll m σ gs τ
+  pub defined_locals : (gs : List LocalGroup) (σ τ : State) → DefinesAll m most σ gs τ
       → types_in m τ.given.locals ≡ types_in m σ.given.locals ++ locals_in m.«module».types gs
   defined_locals [] σ τ h = ap (λ (x : State). types_in m x.given.locals) h ∙ sym (append-nil (types_in m σ.given.locals))
   defined_locals (l ∷ ls) σ τ (ρ, d, more) =
       let here = replicate l.count (value_in m.«module».types l.type) in
-      defined_locals ls ρ τ more ∙ ap (λ (ts : List ValueType). ts ++ locals_in m.«module».types ls) (one_types m σ ρ l d)
+      defined_locals ls ρ τ more ∙ ap (λ (ts : List ValueType). ts ++ locals_in m.«module».types ls) (one_types m most σ ρ l d)
       ∙ append_assoc (types_in m σ.given.locals) here (locals_in m.«module».types ls)
 
-  pub defined_state : (gs : List LocalGroup) (σ τ : State) → DefinesAll m σ gs τ → τ ≡ relocated σ τ.given.locals
+  pub defined_state : (gs : List LocalGroup) (σ τ : State) → DefinesAll m most σ gs τ → τ ≡ relocated σ τ.given.locals
   defined_state [] σ τ h = h ∙ ap (relocated σ) (sym (ap (λ (x : State). x.given.locals) h))
   defined_state (l ∷ ls) σ τ (ρ, d, more) = defined_state ls ρ τ more ∙ ap (λ (x : State). relocated x τ.given.locals) d.state
 
   -- one more at the end
-  pub defined_more : (gs : List LocalGroup) (σ ρ τ : State) (l : LocalGroup) → DefinesAll m σ gs ρ → DefinesLocals m ρ l.count l.type τ → DefinesAll m σ (gs ++ l ∷ []) τ
-  defined_more [] σ ρ τ l h d = (τ, subst (λ (x : State). DefinesLocals m x l.count l.type τ) h d, refl)
+  pub defined_more : (gs : List LocalGroup) (σ ρ τ : State) (l : LocalGroup) → DefinesAll m most σ gs ρ → DefinesLocals m most ρ l.count l.type τ → DefinesAll m most σ (gs ++ l ∷ []) τ
+  defined_more [] σ ρ τ l h d = (τ, subst (λ (x : State). DefinesLocals m most x l.count l.type τ) h d, refl)
   defined_more (g ∷ gs) σ ρ τ l (ν, first, more) d = (ν, first, defined_more gs ν ρ τ l more d)

@@ -4,7 +4,7 @@ use Rattle.wasm_types.specs.decoding.Leb.{IsUnsigned, last, more, IsListed}
 use Rattle.wasm_types.specs.limits.Settings.{Settings}
 use Rattle.wasm_operators_bodies.specs.Locals.{SpelledGroup}
 use Rattle.wasm_operator_validator_stacks.specs.rules.Context.{Module}
-use Rattle.wasm_module_validator_functions.specs.Locals.{most, SpellsLocals}
+use Rattle.wasm_module_validator_functions.specs.Locals.{SpellsLocals}
 
 zero_is : IsUnsigned 32 0 (0 ∷ [])
 zero_is = last 32 0 0 (omega arith) (lit< tt) refl
@@ -13,7 +13,7 @@ none_listed : IsListed SpelledGroup [] (0 ∷ [])
 none_listed = record { count = 0 ∷ []; values = []; counted = zero_is; each = refl; whole = refl }
 
 -- no groups, and behind them an end; as many parameters as there may be locals
-pub none_spelled : (z : Settings) (g : Module) (before : ℕ) → before ≤ most z → SpellsLocals z g before (0 ∷ 0x0b ∷ [])
+pub none_spelled : (z : Settings) (g : Module) (before : ℕ) → before ≤ z.limits.locals → SpellsLocals z g before (0 ∷ 0x0b ∷ [])
 none_spelled z g before h = record {
   groups = [];
   front = 0 ∷ [];
@@ -25,7 +25,7 @@ none_spelled z g before h = record {
 }
 
 -- more parameters than there may be locals
-pub too_many_before : (z : Settings) (g : Module) (before : ℕ) (text : List ℕ) → most z < before → SpellsLocals z g before text → ⊥
+pub too_many_before : (z : Settings) (g : Module) (before : ℕ) (text : List ℕ) → z.limits.locals < before → SpellsLocals z g before text → ⊥
 too_many_before z g before text h s = let w = s.within in omega (arith, h, w)
 
 no_front : {A : Type 0} (xs ys : List A) → [] ≡ xs ++ ys → xs ≡ []

@@ -1,30 +1,21 @@
 //! Bodies judged in turn.
 
+ghost use Rattle.std.specs.Prelude.{◌≡◌};
+ghost use Rattle.wasm_types.specs.limits.Limits.{IsWithinCeilings};
 ghost use Rattle.wasm_types.specs.limits.Settings.{Settings};
 ghost use Rattle.wasm_types.specs.error.Denials.{Tells};
 ghost use Rattle.wasm_module_validator_rules.specs.Valid.{Each};
-ghost use Rattle.wasm_module_validator_functions.specs.code.Code.{IsReadBy, IsFunctionOf};
+ghost use Rattle.wasm_module_validator_adding.specs.Bodies.{IsReadBy};
+ghost use Rattle.wasm_module_validator_functions.specs.code.Code.{IsFunctionOf};
 
-use crate::{
-    BodyJudge, FuncToValidate, FuncValidatorAllocations, FunctionBody, WasmModuleResources,
-};
+use crate::{BodyJudge, FuncToValidate, FuncValidatorAllocations, WasmModuleResources};
 use std::alloc::Global;
-use wasm_types::{Result, WasmFeatures};
+use wasm_module_validator_adding::Body;
+use wasm_types::{Limits, Result, WasmFeatures};
 
-/// The body of a function of a module, which is to be judged.
-#[derive(Drop)]
-pub struct Body<'a> {
-    /// The index of the function in its module.
-    pub index: u32,
-    /// The index of the function's type, among those of the module.
-    pub type_index: u32,
-    /// Its bytes.
-    pub body: FunctionBody<'a>,
-}
-
-/// Judges bodies of functions in order, by these features. Where they were read by the settings of a module, with these features and no
-/// more locals than by default, and each has no more bytes than a body may have, it is Ok exactly where each spells a valid function
-/// of its type, out of memory aside (WebAssembly 3.0, validation, modules, functions).
+/// Judges bodies of functions in order, by these features and limits. If they were read by the settings of a module, with these features
+/// and limits, and each has no more bytes than a body may have, it is Ok exactly if each spells a valid function of its type, out of
+/// memory aside (WebAssembly 3.0, validation, modules, functions).
 ///
 /// # Errors
 ///
@@ -34,16 +25,18 @@ pub fn judge_bodies<R: WasmModuleResources>(
     alloc: Global,
     resources: &R,
     features: WasmFeatures,
+    limits: Limits,
     bodies: &[Body<'_>],
 ) -> Result<()>
-    ensures { (z : Settings) → Each (λ b. IsReadBy z features.0 b.body) bodies.now
+    requires within { IsWithinCeilings limits }
+    ensures { (z : Settings) → z.limits ≡ limits → Each (λ b. IsReadBy z features.0 b.body) bodies.now
         → Tells result (Each (λ b. IsFunctionOf z (R.meaning resources.now).«module» b.type_index b.body.rest) bodies.now) }
 {
     let mut judge = BodyJudge::new(alloc, features);
     for i in 0..bodies.len() {
         let body = &bodies[i];
-        if !judge.accepts(resources, body.type_index, features, &body.body) {
-            match judge_body(alloc, resources, features, body) {
+        if !judge.accepts(resources, body.type_index, features, limits, &body.body) {
+            match judge_body(alloc, resources, features, limits, body) {
                 Ok(()) => (),
                 Err(error) => return Err(error),
             }
@@ -58,9 +51,11 @@ fn judge_body<R: WasmModuleResources>(
     alloc: Global,
     resources: &R,
     features: WasmFeatures,
+    limits: Limits,
     body: &Body<'_>,
 ) -> Result<()>
-    ensures { (z : Settings) → IsReadBy z features.0 body.now.body
+    requires within { IsWithinCeilings limits }
+    ensures { (z : Settings) → z.limits ≡ limits → IsReadBy z features.0 body.now.body
         → Tells result (IsFunctionOf z (R.meaning resources.now).«module» body.now.type_index body.now.body.rest) }
 {
     let function = FuncToValidate {
@@ -68,6 +63,7 @@ fn judge_body<R: WasmModuleResources>(
         index: body.index,
         ty: body.type_index,
         features,
+        limits,
     };
     let mut validator = match function.into_validator(FuncValidatorAllocations::new(alloc)) {
         Ok(validator) => validator,

@@ -90,6 +90,7 @@ pub fn canonicalize_and_intern_rec_group<M: InternRecGroup>(
     ensures at { RefusedAt offset result }
     ensures settings { M.settings target.new ≡ M.settings target.old }
     ensures can_intern { IsTrue types.new.can_intern }
+    ensures limits { types.new.limits ≡ types.old.limits }
 {
     check_written(*target.features(), &rec_group, offset)?;
     let needs_canonical = target.features().needs_type_canonicalization();

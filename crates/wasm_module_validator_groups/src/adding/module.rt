@@ -131,6 +131,7 @@ impl Module {
         ensures at { RefusedAt offset result }
         ensures settings { settings_of self.new.features.0 self.new.limits ≡ settings_of self.old.features.0 self.old.limits }
         ensures can_intern { IsTrue types.new.can_intern }
+        ensures limits { types.new.limits ≡ types.old.limits }
     {
         if check_limit {
             let further = rec_group.types().len();

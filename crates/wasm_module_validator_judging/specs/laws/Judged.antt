@@ -11,8 +11,8 @@ use Rattle.wasm_types.specs.limits.Settings.{Settings}
 use Rattle.wasm_operator_validator_stacks.specs.rules.Context.{Module}
 use Rattle.wasm_module_validator_resources.specs.Reading.{context_of}
 use Rattle.wasm_module_validator_progress.specs.so_far.laws.Judging.{body_is_judged}
-use Rattle.wasm_module_validator_progress.specs.code.Code.{IsFunctionOf}
-use Rattle.wasm_module_validator_progress.specs.functions.declared.code.bodies.Body.{Body}
+use Rattle.wasm_module_validator_functions.specs.code.Code.{IsFunctionOf}
+use Rattle.wasm_module_validator_progress.specs.adding.declared.bodies.Body.{Body}
 use Rattle.wasm_module_validator_progress.specs.standing.steps.contexts.rules.Syntax.{Function}
 use Rattle.wasm_module_validator_progress.specs.standing.steps.contexts.rules.Spaces.{module_of}
 use Rattle.wasm_module_validator_progress.specs.standing.steps.contexts.rules.Binary.{SpelledFunction}

@@ -10,8 +10,8 @@ use Rattle.wasm_types.specs.error.declared.error.ErrorKind.{ErrorKind}
 use Rattle.wasm_sections_parser.specs.Steps as frame
 use Rattle.wasm_module_validator_module.specs.declared.module.Function.{Function}
 use Rattle.wasm_module_validator_standing.specs.so_far.SoFar.{entry_of}
-use Rattle.wasm_module_validator_functions.specs.code.Code.{IsReadBy}
-use Rattle.wasm_module_validator_functions.specs.declared.code.bodies.Body.{Body}
+use Rattle.wasm_module_validator_adding.specs.Bodies.{IsReadBy}
+use Rattle.wasm_module_validator_adding.specs.declared.bodies.Body.{Body}
 use Rattle.wasm_module_validator_standing.specs.steps.contexts.rules.Spaces.{FunctionEntry, imported, function_of, function_with, function_space}
 use Rattle.wasm_module_validator_standing.specs.steps.contexts.laws.Lists.{each_joined}
 use Rattle.wasm_module_validator_standing.specs.steps.Sections.{code_place}
@@ -79,7 +79,6 @@ module _ (z : Settings) (p : SoFar) (r : Progress) (bodies : List Body) (at : Is
 
   pub code_behind : p.last < code_place → IsAt z (record r { last = code_place }) bodies (record p { last = code_place })
   code_behind o = record {
-    locals = at.locals;
     stands = at.stands;
     judged = shape_keeps z (frame.code 0 0) p (record p { last = code_place }) at.judged (o, refl);
     counted = at.counted;
@@ -118,14 +117,13 @@ module _ (z : Settings) (p : SoFar) (r : Progress) (bodies : List Body) (at : Is
 
     -- it is read by these settings
     pub read_by : b.body.settings ≡ z → IsReadBy z z.features b.body
-    read_by same = record { settings = same; features = refl; few_locals = at.locals; within = within }
+    read_by same = record { settings = same; features = refl; within = within }
 
     longer : suc (length bodies) ≡ length (bodies ++ b ∷ [])
     longer = omega (arith, length_push bodies b)
 
     pub body_behind : b.body.settings ≡ z → (q : SoFar) → JudgesBody z p (text_of b) q → IsAt z r (bodies ++ b ∷ []) q
     body_behind same q j = subst (IsAt z r (bodies ++ b ∷ [])) (sym j.added) (record {
-      locals = at.locals;
       stands = at.stands;
       judged = shape_keeps z (frame.entry (text_of b)) p (record p { bodies = p.bodies ++ text_of b ∷ [] }) at.judged judges;
       counted = at.counted;

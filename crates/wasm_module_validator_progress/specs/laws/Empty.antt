@@ -1,13 +1,15 @@
 -- A module of which nothing was read stands over a list with no types, and over that of a module before.
 use Rattle.std.proofs.Common.{arith, ◌≡◌, ◌∙◌, sym, ap, subst, ℕ, ◌<◌, List, [], true}
-use Rattle.wasm_types.specs.limits.Limits.{default_limits}
+use Rattle.wasm_types.specs.limits.Limits.{IsWithinCeilings}
 use Rattle.wasm_types.specs.limits.Settings.{Settings}
 use Rattle.wasm_types.specs.trees.Unfold.{type_count}
 use Rattle.wasm_module_validator_type_trees.specs.Groups.{Group, count}
 use Rattle.wasm_module_validator_groups.specs.adding.Interned.{IsChecked}
+use Rattle.wasm_module_validator_types.specs.List.{Types}
 use Rattle.wasm_module_validator_module.specs.Spaces.{Spaces, nothing_read}
 use Rattle.wasm_module_validator_resources.specs.Named.{IsReadOver}
 use Rattle.wasm_module_validator_standing.specs.items.Items.{Items, no_items}
+use Rattle.wasm_module_validator_progress.specs.Progress.{IsOver}
 
 -- no id is below none
 none_below : (id : ℕ) → id < count [] → ⊥
@@ -25,13 +27,16 @@ at_nothing z = record {
 }
 
 -- nothing stands over a list with no types, at which types may be added
-pub nothing_is_over : (groups : List Group) (can : _) (items : Items) (z : Settings) → groups ≡ [] → can ≡ true → items ≡ no_items z → z.limits ≡ default_limits
-    → IsReadOver groups items.spaces × (can ≡ true) × (items.spaces.settings.limits ≡ default_limits)
-nothing_is_over groups can items z e c f w =
-    let read : IsReadOver groups (nothing_read z) = subst (λ (g : List Group). IsReadOver g (nothing_read z)) (sym e) (at_nothing z) in (
-      subst (λ (i : Items). IsReadOver groups i.spaces) (sym f) read,
+pub nothing_is_over : (types : Types) (items : Items) (z : Settings) → types.groups ≡ [] → types.can_intern ≡ true → types.limits ≡ z.limits → items ≡ no_items z
+    → IsWithinCeilings z.limits → (types.can_intern ≡ true) × IsOver types items.spaces
+nothing_is_over types items z e c l f w =
+    let read : IsReadOver types.groups (nothing_read z) = subst (λ (g : List Group). IsReadOver g (nothing_read z)) (sym e) (at_nothing z) in (
       c,
-      ap (λ (i : Items). i.spaces.settings.limits) f ∙ w,
+      (
+        subst (λ (i : Items). IsReadOver types.groups i.spaces) (sym f) read,
+        l ∙ sym (ap (λ (i : Items). i.spaces.settings.limits) f),
+        subst (λ (i : Items). IsWithinCeilings i.spaces.settings.limits) (sym f) w,
+      ),
     )
 
 -- nothing stands over the list of a module before

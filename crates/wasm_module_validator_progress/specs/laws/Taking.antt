@@ -11,7 +11,7 @@ use Rattle.wasm_types.specs.error.DenialLaws.{denies_from}
 use Rattle.wasm_types.specs.error.ErrorValue.{ErrorValue}
 use Rattle.wasm_types.specs.error.declared.error.ErrorKind.{ErrorKind}
 use Rattle.wasm_sections_parser.specs.Steps as frame
-use Rattle.wasm_module_validator_functions.specs.declared.code.bodies.Body.{Body}
+use Rattle.wasm_module_validator_adding.specs.declared.bodies.Body.{Body}
 use Rattle.wasm_module_validator_adding.specs.Adding.{Spelled, AreAdded, StopsAdding}
 use Rattle.wasm_module_validator_standing.specs.steps.contexts.rules.Syntax.{ModuleTree}
 use Rattle.wasm_module_validator_standing.specs.steps.Sections.{Section, Item, number, place, code_place, IsUnread}
@@ -68,7 +68,6 @@ module _ (z : Settings) (p : SoFar) (r : Progress) (bodies : List Body) (at : Is
 
     pub at_behind : (k : Kept) → IsRead s k (reading z q.tree) → IsAt z (record { kept = k; last = place s }) bodies q
     at_behind k h = record {
-      locals = at.locals;
       stands = h.reading.stands;
       judged = shape_keeps z (frame.section (number s) text) p q at.judged (s, refl, j);
       counted = h.counted;

@@ -7,15 +7,15 @@ use Rattle.wasm_types.specs.error.DenialLaws.{denies}
 use Rattle.wasm_types.specs.error.declared.error.ErrorKind.{ErrorKind}
 use Rattle.wasm_types.specs.error.declared.error.ErrorKind.TheVariants.{EndOfData, MissingFeature, OutOfMemory, Failed, Other}
 use Rattle.wasm_sections_parser.specs.declared.frame.Frame.{Frame}
-use Rattle.wasm_sections_parser.specs.declared.parser.Parser.{Parser}
+use Rattle.wasm_sections_parser.specs.Parsers.{Parser}
 use Rattle.wasm_sections_parser.specs.Parsing.{shape_of}
 use Rattle.wasm_sections_parser.specs.Steps.{Shape, the_end}
 use Rattle.wasm_sections_parser_laws.specs.calls.Runs.{fresh}
-use Rattle.wasm_sections_parser_laws.specs.calls.Calls.{settings_of, shapes_of}
+use Rattle.wasm_sections_parser_laws.specs.calls.Calls.{shapes_of}
 use Rattle.wasm_sections_payloads.specs.declared.payload.Payload.{Payload}
 use Rattle.wasm_sections_payloads.specs.Payloads.{IsPayloadOf}
 use Rattle.wasm_sections_payloads.specs.Walking.{Standing, NextPayload}
-use Rattle.wasm_module_validator_judging.specs.progress.functions.declared.code.bodies.Body.{Body}
+use Rattle.wasm_module_validator_judging.specs.progress.adding.declared.bodies.Body.{Body}
 use Rattle.wasm_module_validator_judging.specs.progress.standing.steps.Steps.{SoFar, nothing, JudgesShape, JudgesShapes}
 use Rattle.wasm_module_validator_judging.specs.progress.standing.steps.laws.Judged.{nothing_is_judged, judged_joined}
 use Rattle.wasm_module_validator_judging.specs.progress.standing.laws.Worked.{worked_nothing}
@@ -25,7 +25,7 @@ use Rattle.wasm_module_validator_judging.specs.progress.fronts.WalkLaws.{behind_
 use Rattle.wasm_module_validator_judging.specs.progress.fronts.JudgedLaws.{judged_more, judged_less, judged_next, judged_not_refused, judged_ended}
 use Rattle.wasm_module_validator_judging.specs.progress.standing.type_trees.Groups.{Group}
 use Rattle.wasm_module_validator_judging.specs.progress.Progress.{Progress, IsAt, nothing_over}
-use Rattle.wasm_module_validator_reading.specs.Reading.{under, IsReadAs}
+use Rattle.wasm_module_validator_reading.specs.Reading.{IsReadAs}
 
 -- what implies one of many things, each of which is denied, is denied
 denies_each : {X : Type 0} (k : ErrorKind) (P : X → Type 0) (Q : Type 0) → (Q → (x : X) × P x) → ((x : X) → Denies k (P x)) → Denies k Q
@@ -36,11 +36,10 @@ denies_each Failed P Q f d = λ q. let a = f q in d a.0 a.1
 denies_each Other P Q f d = λ q. let a = f q in d a.0 a.1
 
 -- before the first frame
-pub nothing_is_at : (groups : List Group) (bits : ℕ) → IsAt (under bits) (nothing_over groups (under bits)) [] nothing
-nothing_is_at groups bits = record {
-  locals = omega arith;
-  stands = worked_nothing groups (under bits);
-  judged = nothing_is_judged (under bits);
+pub nothing_is_at : (groups : List Group) (z : Settings) → IsAt z (nothing_over groups z) [] nothing
+nothing_is_at groups z = record {
+  stands = worked_nothing groups z;
+  judged = nothing_is_judged z;
   counted = refl;
   placed = refl;
   bodies = refl;
@@ -50,7 +49,7 @@ nothing_is_at groups bits = record {
 
 module _ (p : Parser) (text : List ℕ) where
   abbrev z : Settings
-  z = settings_of p
+  z = p.settings
 
   -- these frames were judged, and lead to this
   abbrev Judges : List Frame → SoFar → Type 0

@@ -3,12 +3,12 @@ use Rattle.std.proofs.Common.{◌≡◌, ◌∙◌, ◌↔◌, Bool, refl, ap, s
 use Rattle.wasm_types.specs.trees.Types.{Abstract, InnerOf, function, array_of, struct_of, continuation}
 use Rattle.wasm_types.specs.trees.Trees.{TypeTree}
 use Rattle.wasm_types.specs.trees.AbstractOrder.{AbstractBelow}
-use Rattle.wasm_types.specs.trees.Below.{expanded, abstract_of, bottom_of, itself, IsBelowAbstract, IsAboveAbstract}
+use Rattle.wasm_types.specs.trees.Below.{expanded, abstract_above, bottom_of, itself, IsBelowAbstract, IsAboveAbstract}
 use Rattle.wasm_types.specs.trees.Chains.{IsSound}
 use Rattle.wasm_module_validator_resources.specs.Named.{bottom_under, IsUnderKind, IsOverKind}
 
 -- the bottom type of a constructor, by its abstract type
-bottom_by : {R : Type 0} (x : InnerOf R) → bottom_under (abstract_of x) ≡ bottom_of x
+bottom_by : {R : Type 0} (x : InnerOf R) → bottom_under (abstract_above x) ≡ bottom_of x
 bottom_by (function ps rs) = refl
 bottom_by (array_of x) = refl
 bottom_by (struct_of xs) = refl

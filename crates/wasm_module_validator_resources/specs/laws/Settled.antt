@@ -7,7 +7,7 @@ use Rattle.wasm_types.specs.features.Features.{needs_canonical_types}
 use Rattle.wasm_types.specs.indices.declared.index.CoreTypeId.{CoreTypeId}
 use Rattle.wasm_types.specs.trees.Types.{InnerOf, function, array_of, struct_of, continuation}
 use Rattle.wasm_types.specs.trees.Trees.{TypeTree, opened}
-use Rattle.wasm_types.specs.trees.Below.{expanded, supertype, abstract_of, DeclaredBelow, itself, declared}
+use Rattle.wasm_types.specs.trees.Below.{expanded, supertype, abstract_above, DeclaredBelow, itself, declared}
 use Rattle.wasm_types.specs.trees.Chains.{IsSound}
 use Rattle.wasm_module_validator_type_trees.specs.Groups.{Group, count, tree_of}
 use Rattle.wasm_module_validator_type_trees.specs.Formed.{IsFormed, AreCanonical}
@@ -56,7 +56,7 @@ all_canonical : (groups : List Group) → IsTrue (are_canonical groups) → AreC
 all_canonical [] h = tt
 all_canonical (g ∷ earlier) h = let two = canonical_from g.is_canonical (are_canonical earlier) h in (two.0, all_canonical earlier two.1)
 
-same_constructor : {R S : Type 0} (x : InnerOf R) (y : InnerOf S) → kind_number x ≡ kind_number y → abstract_of x ≡ abstract_of y
+same_constructor : {R S : Type 0} (x : InnerOf R) (y : InnerOf S) → kind_number x ≡ kind_number y → abstract_above x ≡ abstract_above y
 same_constructor (function ps rs) (function qs ss) e = refl
 same_constructor (function ps rs) (array_of y) e = absurd (omega arith)
 same_constructor (function ps rs) (struct_of ys) e = absurd (omega arith)

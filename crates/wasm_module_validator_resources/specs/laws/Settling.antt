@@ -6,7 +6,7 @@ use Rattle.wasm_types.specs.features.Features.{needs_canonical_types}
 use Rattle.wasm_types.specs.indices.declared.index.CoreTypeId.{CoreTypeId}
 use Rattle.wasm_types.specs.trees.Types.{Abstract, func, array, struct, cont, InnerOf, function, array_of, struct_of, continuation}
 use Rattle.wasm_types.specs.trees.Trees.{TypeTree, opened}
-use Rattle.wasm_types.specs.trees.Below.{expanded, supertype, abstract_of, DeclaredBelow}
+use Rattle.wasm_types.specs.trees.Below.{expanded, supertype, abstract_above, DeclaredBelow}
 use Rattle.wasm_types.specs.trees.Matches.{Matches}
 use Rattle.wasm_types.specs.trees.Chains.{LinksMatch}
 use Rattle.wasm_types.specs.trees.ValidGroup.{IsFunction, IsValidSupertype}
@@ -41,7 +41,7 @@ number_by struct = 2
 number_by cont = 3
 number_by a = 4
 
-numbered : {R : Type 0} (x : InnerOf R) → number_by (abstract_of x) ≡ kind_number x
+numbered : {R : Type 0} (x : InnerOf R) → number_by (abstract_above x) ≡ kind_number x
 numbered (function ps rs) = refl
 numbered (array_of x) = refl
 numbered (struct_of xs) = refl

@@ -24,9 +24,19 @@ start_section = 0x08 ∷ 0x01 ∷ 0x00 ∷ []
 abbrev pub code_section : List ℕ
 code_section = 0x0a ∷ 0x04 ∷ 0x01 ∷ 0x02 ∷ 0x00 ∷ 0x0b ∷ []
 
--- one data segment is counted, and none stands
+-- two such bodies
+abbrev pub two_bodies_section : List ℕ
+two_bodies_section = 0x0a ∷ 0x07 ∷ 0x02 ∷ 0x02 ∷ 0x00 ∷ 0x0b ∷ 0x02 ∷ 0x00 ∷ 0x0b ∷ []
+
+-- one data segment is counted, or two are; there is one, which is passive and without bytes
 abbrev pub count_section : List ℕ
 count_section = 0x0c ∷ 0x01 ∷ 0x01 ∷ []
+
+abbrev pub count_two_section : List ℕ
+count_two_section = 0x0c ∷ 0x01 ∷ 0x02 ∷ []
+
+abbrev pub data_section : List ℕ
+data_section = 0x0b ∷ 0x03 ∷ 0x01 ∷ 0x01 ∷ 0x00 ∷ []
 
 -- no tag
 abbrev pub tag_section : List ℕ
@@ -42,6 +52,12 @@ pub record BytesWorked : Type 0 where
   pub header_alone : Accepted header
   pub start : Accepted (header ++ procedure_section ++ function_section ++ start_section ++ code_section)
   pub start_takes : Refused (header ++ takes_i32_section ++ function_section ++ start_section ++ code_section)
-  pub code_missing : Refused (header ++ function_section)
-  pub count_differs : Refused (header ++ count_section)
-  pub tag_section_needs : AcceptsUnder (without Exceptions) (header ++ tag_section) → ⊥
+  pub function : Accepted (header ++ procedure_section ++ function_section ++ code_section)
+  pub code_missing : Refused (header ++ procedure_section ++ function_section)
+  pub body_too_many : Refused (header ++ procedure_section ++ function_section ++ two_bodies_section)
+  pub uncounted : Accepted (header ++ data_section)
+  pub counted : Accepted (header ++ count_section ++ data_section)
+  pub segments_missing : Refused (header ++ count_section)
+  pub count_too_large : Refused (header ++ count_two_section ++ data_section)
+  pub tags : Accepted (header ++ tag_section)
+  pub tags_need : AcceptsUnder (without Exceptions) (header ++ tag_section) → ⊥

@@ -22,6 +22,7 @@ use Rattle.wasm_module_validator_rules.specs.Syntax.{ModuleTree}
 use Rattle.wasm_module_validator_rules.specs.Valid.{IsValid}
 use Rattle.wasm_module_validator_rules.specs.worked.Trees.{Yes, No, Needs, empty, one_function, procedure, takes_i32, gives_i32, end, only}
 use Rattle.wasm_module_validator_rules.specs.worked.Trees.{constant, long, sum, drop, global_get, function_at, refers_to, funcref, some_function, externref}
+use Rattle.wasm_module_validator_rules.specs.worked.Trees.{wide_memory, wide_table, with_page, of_types, of_tables, of_memories, of_tags, of_imports}
 use Rattle.wasm_module_validator_rules.specs.worked.Trees.{table_with, memory_with, constant_of, variable_of, tag_with, imports, exports, null_table}
 use Rattle.wasm_module_validator_rules.specs.worked.Trees.{filled_table, global_with, active_functions, declared_functions, active_data, passive_data, does}
 
@@ -39,10 +40,12 @@ self_referring = one_function procedure (refers_to 0)
 
 pub record FunctionsWorked (x : ℤ) : Type 0 where
   pub nothing : Yes empty
+  pub function : Yes (one_function procedure end)
   pub body : Yes (one_function gives_i32 (only (constant x)))
   pub body_empty : No (one_function gives_i32 end)
   pub body_of_another_type : No (one_function gives_i32 (only (long x)))
   pub body_missing : No (record (one_function procedure end) { code = [] })
+  pub body_too_many : No (record (one_function procedure end) { code = does [] end ∷ does [] end ∷ [] })
   pub type_unknown : No (record (one_function procedure end) { functions = 1 ∷ [] })
   pub start : Yes (starting (one_function procedure end))
   pub start_takes : No (starting (one_function takes_i32 end))
@@ -52,7 +55,7 @@ pub record FunctionsWorked (x : ℤ) : Type 0 where
   pub export_unknown : No (exporting (exports 97 kind.Func 1 ∷ []))
   pub export_of_another_space : No (exporting (exports 97 kind.Table 0 ∷ []))
   pub export_twice : No (exporting (exports 97 kind.Func 0 ∷ exports 97 kind.Func 0 ∷ []))
-  pub imported_exactly : Needs CustomDescriptors (record empty { types = procedure ∷ []; imports = imports (import.FuncExact 0) ∷ [] })
+  pub imported_exactly : Needs CustomDescriptors (of_imports (procedure ∷ []) (import.FuncExact 0 ∷ []))
   pub named_nowhere : No self_referring
   pub named_in_export : Yes (record self_referring { exports = exports 97 kind.Func 0 ∷ [] })
   pub named_in_segment : Yes (record self_referring { element_segments = declared_functions (0 ∷ []) ∷ [] })
@@ -60,33 +63,30 @@ pub record FunctionsWorked (x : ℤ) : Type 0 where
 -- ---- tables, memories, tags
 
 pub record SpacesWorked : Type 0 where
-  pub memory : Yes (record empty { memories = memory_with 1 (Some 2) ∷ [] })
-  pub memory_backwards : No (record empty { memories = memory_with 2 (Some 1) ∷ [] })
-  pub memory_whole : Yes (record empty { memories = memory_with 65536 None ∷ [] })
-  pub memory_too_large : No (record empty { memories = memory_with 65537 None ∷ [] })
-  pub memory_shared : Yes (record empty { memories = record (memory_with 1 (Some 1)) { shared = true } ∷ [] })
-  pub memory_shared_without_end : No (record empty { memories = record (memory_with 1 None) { shared = true } ∷ [] })
-  pub memory_shared_needs : Needs Threads (record empty { memories = record (memory_with 1 (Some 1)) { shared = true } ∷ [] })
-  pub page_of_one_byte : Yes (record empty { memories = record (memory_with 0x100000000 None) { page_size_log2 = Some 0 } ∷ [] })
-  pub page_of_two_bytes : No (record empty { memories = record (memory_with 1 None) { page_size_log2 = Some 1 } ∷ [] })
-  pub memories : Yes (record empty { memories = memory_with 1 None ∷ memory_with 1 None ∷ [] })
-  pub memories_need : Needs MultiMemory (record empty { memories = memory_with 1 None ∷ memory_with 1 None ∷ [] })
+  pub memory : Yes (of_memories (memory_with 1 (Some 2) ∷ []))
+  pub memory_backwards : No (of_memories (memory_with 2 (Some 1) ∷ []))
+  pub memory_whole : Yes (of_memories (memory_with 65536 None ∷ []))
+  pub memory_too_large : No (of_memories (memory_with 65537 None ∷ []))
+  pub memory_shared_needs : Needs Threads (of_memories (record (memory_with 1 (Some 1)) { shared = true } ∷ []))
+  pub memory_shared_without_end : No (of_memories (record (memory_with 1 None) { shared = true } ∷ []))
+  pub page_of_one_byte : Yes (of_memories (with_page 0 (memory_with 0x100000000 None) ∷ []))
+  pub page_of_two_bytes : No (of_memories (with_page 1 (memory_with 1 None) ∷ []))
+  pub memories_need : Needs MultiMemory (of_memories (memory_with 1 None ∷ memory_with 1 None ∷ []))
   pub memories_imported_need : Needs MultiMemory (record empty { imports = imports (import.Memory (memory_with 1 None)) ∷ []; memories = memory_with 1 None ∷ [] })
-  pub table : Yes (record empty { tables = null_table (table_with funcref 0) ∷ [] })
-  pub table_backwards : No (record empty { tables = null_table (record (table_with funcref 2) { maximum = Some 1 }) ∷ [] })
-  pub table_without_null : No (record empty { tables = null_table (table_with some_function 0) ∷ [] })
+  pub table : Yes (of_tables (table_with funcref 0 ∷ []))
+  pub table_backwards : No (of_tables (record (table_with funcref 2) { maximum = Some 1 } ∷ []))
+  pub table_without_null : No (of_tables (table_with some_function 0 ∷ []))
   pub table_filled : Yes (record (one_function procedure end) { tables = filled_table (table_with some_function 0) (only (function_at 0)) ∷ [] })
-  pub table_filled_needs : Needs FunctionReferences (record (one_function procedure end) { tables = filled_table (table_with some_function 0) (only (function_at 0)) ∷ [] })
-  pub tag : Yes (record empty { types = takes_i32 ∷ []; tags = tag_with 0 ∷ [] })
-  pub tag_needs : Needs Exceptions (record empty { types = takes_i32 ∷ []; tags = tag_with 0 ∷ [] })
-  pub memory_wide_needs : Needs Memory64 (record empty { memories = record (memory_with 1 None) { memory64 = true } ∷ [] })
-  pub page_needs : Needs CustomPageSizes (record empty { memories = record (memory_with 1 None) { page_size_log2 = Some 0 } ∷ [] })
-  pub table_wide_needs : Needs Memory64 (record empty { tables = null_table (record (table_with funcref 0) { table64 = true }) ∷ [] })
-  pub table_shared_of_unshared : No (record empty { tables = null_table (record (table_with funcref 0) { shared = true }) ∷ [] })
-  pub table_of_external_needs : Needs ReferenceTypes (record empty { tables = null_table (table_with externref 0) ∷ [] })
-  pub tables_need : Needs ReferenceTypes (record empty { tables = null_table (table_with funcref 0) ∷ null_table (table_with funcref 0) ∷ [] })
-  pub tag_gives_needs : Needs StackSwitching (record empty { types = gives_i32 ∷ []; tags = tag_with 0 ∷ [] })
-  pub tag_unknown : No (record empty { types = takes_i32 ∷ []; tags = tag_with 1 ∷ [] })
+  pub table_filled_needs : Needs FunctionReferences (record (one_function procedure end) { tables = filled_table (table_with funcref 0) (only (function_at 0)) ∷ [] })
+  pub tag_needs : Needs Exceptions (of_tags (takes_i32 ∷ []) (tag_with 0 ∷ []))
+  pub memory_wide_needs : Needs Memory64 (of_memories (wide_memory ∷ []))
+  pub page_needs : Needs CustomPageSizes (of_memories (with_page 0 (memory_with 1 None) ∷ []))
+  pub table_wide_needs : Needs Memory64 (of_tables (wide_table funcref 0 ∷ []))
+  pub table_shared_of_unshared : No (of_tables (record (table_with funcref 0) { shared = true } ∷ []))
+  pub table_of_external_needs : Needs ReferenceTypes (of_tables (table_with externref 0 ∷ []))
+  pub tables_need : Needs ReferenceTypes (of_tables (table_with funcref 0 ∷ table_with funcref 0 ∷ []))
+  pub tag_gives_needs : Needs StackSwitching (of_tags (gives_i32 ∷ []) (tag_with 0 ∷ []))
+  pub tag_unknown : No (of_tags (takes_i32 ∷ []) (tag_with 1 ∷ []))
 
 -- ---- globals and constants
 
@@ -109,13 +109,11 @@ pub record GlobalsWorked (x : ℤ) : Type 0 where
   pub global_of_another_type : No (with_globals (one (only (long x)) ∷ []))
   pub constant_missing : No (with_globals (one end ∷ []))
   pub not_constant : No (with_globals (one (plain (constant x) (plain drop (only (constant x)))) ∷ []))
-  pub summed : Yes (with_globals (one (plain (constant x) (plain (constant x) (only sum))) ∷ []))
   pub sum_needs : Needs ExtendedConst (with_globals (one (plain (constant x) (plain (constant x) (only sum))) ∷ []))
   pub imported_read : Yes (with_import (one (only (global_get 0)) ∷ []))
   pub variable_read : No (with_variable (one (only (global_get 0)) ∷ []))
   pub variable_imported_needs : Needs MutableGlobal (with_variable [])
   pub variable_exported_needs : Needs MutableGlobal (record empty { globals = global_with (variable_of value.I32) (only (constant x)) ∷ []; exports = exports 97 kind.Global 0 ∷ [] })
-  pub earlier_read : Yes (with_globals (one (only (constant x)) ∷ one (only (global_get 0)) ∷ []))
   pub earlier_read_needs : Needs Gc (with_globals (one (only (constant x)) ∷ one (only (global_get 0)) ∷ []))
   pub later_read : No (with_globals (one (only (global_get 1)) ∷ one (only (constant x)) ∷ []))
   pub itself_read : No (with_globals (one (only (global_get 0)) ∷ []))
@@ -125,7 +123,7 @@ pub record GlobalsWorked (x : ℤ) : Type 0 where
   pub shared_of_unshared : No (record (one_function procedure end) {
     globals = global_with (record (constant_of (value.Ref funcref)) { shared = true }) (only (function_at 0)) ∷ [];
   })
-  pub float_needs : Needs Floats (record empty { imports = imports (import.Global (constant_of value.F32)) ∷ [] })
+  pub float_needs : Needs Floats (of_imports [] (import.Global (constant_of value.F32) ∷ []))
   pub table_reads_own : No (record (one_function procedure end) {
     tables = filled_table (table_with funcref 0) (only (global_get 0)) ∷ [];
     globals = global_with (constant_of (value.Ref funcref)) (only (function_at 0)) ∷ [];
@@ -153,11 +151,11 @@ pub record SegmentsWorked (x : ℤ) : Type 0 where
   pub placed : Yes (record with_memory { data_segments = active_data (only (constant x)) ∷ [] })
   pub data_offset_of_another_type : No (record with_memory { data_segments = active_data (only (long x)) ∷ [] })
   pub memory_unknown : No (record empty { data_segments = active_data (only (constant x)) ∷ [] })
-  pub placed_wide : Yes (record empty { memories = record (memory_with 1 None) { memory64 = true } ∷ []; data_segments = active_data (only (long x)) ∷ [] })
-  pub placed_wide_by_short : No (record empty { memories = record (memory_with 1 None) { memory64 = true } ∷ []; data_segments = active_data (only (constant x)) ∷ [] })
+  pub placed_wide : Yes (record empty { memories = wide_memory ∷ []; data_segments = active_data (only (long x)) ∷ [] })
+  pub placed_wide_by_short : No (record empty { memories = wide_memory ∷ []; data_segments = active_data (only (constant x)) ∷ [] })
   pub passive_needs : Needs BulkMemory (record empty { data_segments = passive_data ∷ [] })
-  pub passive : Yes (record empty { data_segments = passive_data ∷ [] })
   pub count_needs : Needs BulkMemory (record empty { data_count = Some 0 })
+  pub counted : Yes (record empty { data_count = Some 1; data_segments = passive_data ∷ [] })
 
 -- ---- spaces
 
@@ -204,15 +202,20 @@ importing = record empty { types = procedure ∷ []; imports = imports (import.F
 abbrev pub with_locals : ℕ → ModuleTree
 with_locals n = record (one_function takes_i32 end) { code = does (record { count = n; type = value.I32 } ∷ []) end ∷ [] }
 
+-- valid within the first limits, and not within the second
+abbrev pub NeedsRoom : Limits → Limits → ModuleTree → Type 0
+NeedsRoom enough less m = IsValid (within enough) m × (IsValid (within less) m → ⊥)
+
+abbrev pub two_items : ModuleTree
+two_items = record (one_function procedure end) { element_segments = declared_functions (0 ∷ 0 ∷ []) ∷ [] }
+
 pub record LimitsWorked : Type 0 where
-  pub type_size : IsValid (within (record default_limits { type_size = 4 })) importing
-  pub type_size_reached : IsValid (within (record default_limits { type_size = 3 })) importing → ⊥
+  pub type_size : NeedsRoom (record default_limits { type_size = 4 }) (record default_limits { type_size = 3 }) importing
   pub type_size_of_nothing : IsValid (within (record default_limits { type_size = 1 })) empty
-  pub locals : IsValid (within (record default_limits { locals = 10 })) (with_locals 9)
-  pub parameters_count : IsValid (within (record default_limits { locals = 10 })) (with_locals 10) → ⊥
-  pub types : IsValid (within (record default_limits { types = 1 })) (record empty { types = procedure ∷ procedure ∷ [] }) → ⊥
-  pub empty_groups_count : IsValid (within (record default_limits { types = 1 })) (record empty { types = together [] ∷ procedure ∷ [] }) → ⊥
-  pub many_exports : IsValid (within (record default_limits { exports = 1 })) (exporting (exports 97 kind.Func 0 ∷ exports 98 kind.Func 0 ∷ [])) → ⊥
-  pub many_items : IsValid (within (record default_limits { segment_items = 1 })) (record (one_function procedure end) { element_segments = declared_functions (0 ∷ 0 ∷ []) ∷ [] }) → ⊥
-  pub many_segments : IsValid (within (record default_limits { data_segments = 0 })) (record empty { data_segments = passive_data ∷ [] }) → ⊥
-  pub imports_count : IsValid (within (record default_limits { functions = 1 })) (record importing { functions = 0 ∷ []; code = does [] end ∷ [] }) → ⊥
+  pub locals_and_parameters : NeedsRoom (record default_limits { locals = 11 }) (record default_limits { locals = 10 }) (with_locals 10)
+  pub types : NeedsRoom (record default_limits { types = 2 }) (record default_limits { types = 1 }) (of_types (procedure ∷ procedure ∷ []))
+  pub empty_groups_count : NeedsRoom (record default_limits { types = 2 }) (record default_limits { types = 1 }) (of_types (together [] ∷ procedure ∷ []))
+  pub many_exports : NeedsRoom (record default_limits { exports = 2 }) (record default_limits { exports = 1 }) (exporting (exports 97 kind.Func 0 ∷ exports 98 kind.Func 0 ∷ []))
+  pub many_items : NeedsRoom (record default_limits { segment_items = 2 }) (record default_limits { segment_items = 1 }) two_items
+  pub many_segments : NeedsRoom (record default_limits { data_segments = 1 }) (record default_limits { data_segments = 0 }) (record empty { data_segments = passive_data ∷ [] })
+  pub imports_count : NeedsRoom (record default_limits { functions = 2 }) (record default_limits { functions = 1 }) (record importing { functions = 0 ∷ []; code = does [] end ∷ [] })

@@ -9,7 +9,7 @@ use Rattle.wasm_types.specs.indices.declared.index.UnpackedIndex.TheVariants.{Mo
 use Rattle.wasm_types.specs.trees.Types.{EntryOf, entry_map}
 use Rattle.wasm_types.specs.trees.Each.{EachEntry, EachEntries}
 use Rattle.wasm_types.specs.trees.Trees.{TypeTree}
-use Rattle.wasm_types.specs.trees.Unfold.{Reference, type_count, IsKnown}
+use Rattle.wasm_types.specs.trees.Unfold.{GroupReference, type_count, IsKnown}
 use Rattle.wasm_types.specs.trees.laws.Types.{each_entry, entries_same}
 use Rattle.wasm_types.specs.trees.laws.Unfold.{groups_same}
 use Rattle.wasm_types.specs.groups.Entries.{Declared, first_of}
@@ -55,7 +55,7 @@ declared_same : (k m n p o q : ℕ) (x y : Declared) → IsTypeFormed true k m n
 declared_same k m n p o q x y v w e =
     let one : (x.entry ∷ []) ≡ (y.entry ∷ []) =
     entries_same reference_of IsTold index_same (x.entry ∷ []) (y.entry ∷ []) (entry_told k m x.entry v.within, tt) (entry_told p o y.entry w.within, tt)
-    (ap (λ (z : EntryOf Reference). z ∷ []) e) in
+    (ap (λ (z : EntryOf GroupReference). z ∷ []) e) in
     let same : x.entry ≡ y.entry = cc in
     let firsts : first_of x.supertypes ≡ first_of y.supertypes = sym v.first ∙ ap (λ (z : EntryOf UnpackedIndex). z.supertype) same ∙ w.first in
     let supers = supers_same x.supertypes y.supertypes v.one w.one firsts in

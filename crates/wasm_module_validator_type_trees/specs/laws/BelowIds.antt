@@ -9,7 +9,7 @@ use Rattle.wasm_types.specs.trees.Types.{function, array_of, struct_of, continua
 use Rattle.wasm_types.specs.trees.Each.{EachHeap, EachValue}
 use Rattle.wasm_types.specs.trees.Trees.{TypeTree}
 use Rattle.wasm_types.specs.trees.AbstractOrder.{AbstractBelow}
-use Rattle.wasm_types.specs.trees.Below.{expanded, is_shared, supertype, abstract_of, bottom_of, DeclaredBelow, itself, declared, IsBelowAbstract, IsAboveAbstract}
+use Rattle.wasm_types.specs.trees.Below.{expanded, is_shared, supertype, abstract_above, bottom_of, DeclaredBelow, itself, declared, IsBelowAbstract, IsAboveAbstract}
 use Rattle.wasm_types.specs.trees.Below.{HeapBelow, Below, heap_is_shared, value_is_shared}
 use Rattle.wasm_module_validator_type_trees.specs.Groups.{Group, count, tree_of}
 use Rattle.wasm_module_validator_type_trees.specs.Formed.{IsFormed, AreCanonical}
@@ -21,7 +21,7 @@ use Rattle.wasm_module_validator_type_trees.specs.laws.Apart.{apart}
 use Rattle.wasm_module_validator_type_trees.specs.laws.Ids.{opens, supertype_tree, supertype_below, trees_below, below_by_ids}
 
 -- the constructor is that of the type over ids
-abstract_kept : {R S : Type 0} (f : R → S) (x : InnerOf R) → abstract_of (inner_map f x) ≡ abstract_of x
+abstract_kept : {R S : Type 0} (f : R → S) (x : InnerOf R) → abstract_above (inner_map f x) ≡ abstract_above x
 abstract_kept f (function ps rs) = refl
 abstract_kept f (array_of x) = refl
 abstract_kept f (struct_of xs) = refl
@@ -42,9 +42,9 @@ module _ (groups : List Group) (formed : IsFormed groups) (c : AreCanonical grou
   pub shared_tree : (i : CoreTypeId) → i.0 < count groups → is_shared (tree_of groups i.0) ≡ (entry_by_id groups i).shared
   shared_tree i lt = ap (λ (x : EntryOf TypeTree). x.shared) (opens groups formed c i.0 undeclared lt)
 
-  pub abstract_tree : (i : CoreTypeId) → i.0 < count groups → abstract_of (expanded (tree_of groups i.0)) ≡ abstract_of (entry_by_id groups i).inner
+  pub abstract_tree : (i : CoreTypeId) → i.0 < count groups → abstract_above (expanded (tree_of groups i.0)) ≡ abstract_above (entry_by_id groups i).inner
   abstract_tree i lt =
-      ap (λ (x : EntryOf TypeTree). abstract_of x.inner) (opens groups formed c i.0 undeclared lt) ∙ abstract_kept (tree_named groups) (entry_by_id groups i).inner
+      ap (λ (x : EntryOf TypeTree). abstract_above x.inner) (opens groups formed c i.0 undeclared lt) ∙ abstract_kept (tree_named groups) (entry_by_id groups i).inner
 
   bottom_tree : (i : CoreTypeId) → i.0 < count groups → bottom_of (expanded (tree_of groups i.0)) ≡ bottom_of (entry_by_id groups i).inner
   bottom_tree i lt =
@@ -78,7 +78,7 @@ module _ (groups : List Group) (formed : IsFormed groups) (c : AreCanonical grou
       found.1,
       (
         sym (shared_tree found.0 found.2) ∙ ap is_shared found.3 ∙ h.2,
-        subst (λ (x : Abstract). AbstractBelow x a) (sym (ap (λ t. abstract_of (expanded t)) found.3) ∙ abstract_tree found.0 found.2) h.3,
+        subst (λ (x : Abstract). AbstractBelow x a) (sym (ap (λ t. abstract_above (expanded t)) found.3) ∙ abstract_tree found.0 found.2) h.3,
       ),
     ),
   )

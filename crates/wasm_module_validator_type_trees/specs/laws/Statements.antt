@@ -6,7 +6,7 @@ use Rattle.wasm_types.specs.indices.declared.index.UnpackedIndex.{UnpackedIndex}
 use Rattle.wasm_types.specs.trees.Types.{ValueOf, value_map, entry_map}
 use Rattle.wasm_types.specs.trees.Each.{EachValue}
 use Rattle.wasm_types.specs.trees.Trees.{opened}
-use Rattle.wasm_types.specs.trees.Below.{supertype, DeclaredBelow, Below, value_is_shared, abstract_of, expanded}
+use Rattle.wasm_types.specs.trees.Below.{supertype, DeclaredBelow, Below, value_is_shared, abstract_above, expanded}
 use Rattle.wasm_types.specs.groups.Entries.{Declared}
 use Rattle.wasm_module_validator_type_trees.specs.Groups.{Group, count, tree_of, tree_behind, group_at, declared_by_id}
 use Rattle.wasm_module_validator_type_trees.specs.Formed.{IsGroupFormed, IsMissing, IsFormed, AreCanonical, IsNewTree, KeepsTypes}
@@ -61,7 +61,7 @@ ValuesAreSharedAsTypes = (groups : List Group) → IsFormed groups → AreCanoni
 -- and each type its constructor
 abbrev pub ConstructorsAreOfTypes : Type 0
 ConstructorsAreOfTypes = (groups : List Group) → IsFormed groups → AreCanonical groups → (i : CoreTypeId) → i.0 < count groups
-    → abstract_of (expanded (tree_of groups i.0)) ≡ abstract_of (entry_by_id groups i).inner
+    → abstract_above (expanded (tree_of groups i.0)) ≡ abstract_above (entry_by_id groups i).inner
 
 -- the ids of the group of a number are known, one after the other, and each has a place of the group's tree
 abbrev pub GroupIdsUnfold : Type 0

@@ -6,7 +6,7 @@ use Rattle.wasm_types.specs.indices.declared.index.UnpackedIndex.TheVariants.{Mo
 use Rattle.wasm_types.specs.trees.Types.{EntryOf, entry_map}
 use Rattle.wasm_types.specs.trees.Each.{EachEntry, EachEntries}
 use Rattle.wasm_types.specs.trees.Trees.{TypeTree, group_tree}
-use Rattle.wasm_types.specs.trees.Unfold.{Reference, Local, Earlier, Entry, reference_tree, unfolded, IsKnown, IsWithin, IsGroupWithin, AreWithin}
+use Rattle.wasm_types.specs.trees.Unfold.{GroupReference, Local, Earlier, Entry, reference_tree, unfolded, IsKnown, IsWithin, IsGroupWithin, AreWithin}
 use Rattle.wasm_types.specs.trees.laws.Types.{each_entry, entry_of_each, entry_agrees}
 use Rattle.wasm_types.specs.trees.laws.Unfold as laws
 use Rattle.wasm_types.specs.groups.Entries.{Declared}
@@ -61,7 +61,7 @@ pub formed_within : (groups : List Group) → IsFormed groups → AreCanonical g
 formed_within [] w c = tt
 formed_within (g ∷ earlier) w c = (group_within (count earlier) g c.0 w.0, formed_within earlier w.2 c.1)
 
-within_known : (known places : ℕ) (r : Reference) → IsWithin known places r → IsKnown known r
+within_known : (known places : ℕ) (r : GroupReference) → IsWithin known places r → IsKnown known r
 within_known known places (Local p) w = tt
 within_known known places (Earlier i) w = w
 
@@ -69,7 +69,7 @@ pub group_known : (known : ℕ) (g : Group) → IsTrue g.is_canonical → IsGrou
 group_known known g c w =
     each_entries (IsWithin known (length (entries_of g))) (IsKnown known) (within_known known (length (entries_of g))) (entries_of g) (group_within known g c w)
 
-known_widens : (few many : ℕ) → few ≤ many → (r : Reference) → IsKnown few r → IsKnown many r
+known_widens : (few many : ℕ) → few ≤ many → (r : GroupReference) → IsKnown few r → IsKnown many r
 known_widens few many le (Local p) w = tt
 known_widens few many le (Earlier i) w = omega arith
 
@@ -79,7 +79,7 @@ entries_widen few many le xs w = each_entries (IsKnown few) (IsKnown many) (know
 -- ---- a group unrolls alike where the ids that it names do
 
 module _ (f h : ℕ → TypeTree) (known : ℕ) (agree : (i : ℕ) → i < known → f i ≡ h i) where
-  reference_agrees : (r : Reference) → IsKnown known r → reference_tree f r ≡ reference_tree h r
+  reference_agrees : (r : GroupReference) → IsKnown known r → reference_tree f r ≡ reference_tree h r
   reference_agrees (Local p) w = refl
   reference_agrees (Earlier i) w = ap (λ (t : TypeTree). reference_tree (λ n. t) (Earlier i)) (agree i w)
 

@@ -17,8 +17,8 @@ AnswersAreExact = (k : Known) (g : Context) (fs : List Standing) (set : Initiali
 no_continuation : (g : Context) (set : Initialised) (fs : List Standing) (o : ContinuationTree) (n c : ℕ) → Exchanges g set fs (op.Continuation o) n c → ⊥
 no_continuation g set fs o n c (by_row i) = let e = i.row.1.1 in cc
 no_continuation g set fs o n c (opened kind b h) = absurd h.1
-no_continuation g set (f ∷ fs) o n c (turned h e) = cc
-no_continuation g set (f ∷ fs) o n c (closed h e) = cc
+no_continuation g set (f ∷ fs) o n c (turned h ts e) = absurd e
+no_continuation g set (f ∷ fs) o n c (closed h e) = absurd e
 
 counted : (k : Known) (g : Context) (fs : List Standing) (set : Initialised) (o : Op) (n c : ℕ) → IsAround k g fs → Exchanges g set fs o n c → ended (counts_of k o) ≡ Some (in_u32 n, in_u32 c)
 counted k g fs set o n c a x = ap ended (counts_are_exact k g fs set o n c a x)

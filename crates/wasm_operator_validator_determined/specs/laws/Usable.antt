@@ -4,8 +4,8 @@ use Rattle.std.specs.Prelude.{if◌then◌else◌}
 use Rattle.wasm_types.specs.error.declared.error.ErrorKind.{ErrorKind}
 use Rattle.wasm_types.specs.error.declared.error.ErrorKind.TheVariants as kinds
 use Rattle.wasm_types.specs.error.Denials.{Denies}
-use Rattle.wasm_operator_validator_stacks.specs.rules.Context.{Context, MayUse}
-use Rattle.wasm_operator_validator_stacks.specs.rules.InstructionTypes.{InstructionType, named, may_use}
+use Rattle.wasm_operator_validator_stacks.specs.rules.Context.{Context, MayUse, may_use}
+use Rattle.wasm_operator_validator_stacks.specs.rules.InstructionTypes.{InstructionType, named}
 use Rattle.wasm_operator_validator_stacks.specs.state.State.{State}
 use Rattle.wasm_operator_validator_determined.specs.Operators.{MayUseIn, IsUsable, refusal_kind}
 
@@ -45,7 +45,7 @@ if_not_inside : (inside : Bool) → ((IsTrue inside → IsTrue false) → ⊥) �
 if_not_inside true n = refl
 if_not_inside false n = absurd (n (λ x. let y : false ≡ true = x in cc))
 
-may : (g : Context) (s : Bool) → MayUse g s → may_use g s ≡ true
+pub may : (g : Context) (s : Bool) → MayUse g s → may_use g s ≡ true
 may g true u = refl
 may g false u = if_inside g.shared u
 

@@ -4,9 +4,9 @@ use Rattle.wasm_types.specs.trees.Types.{number}
 use Rattle.wasm_types.specs.values.declared.value.ValType.{ValType}
 use Rattle.wasm_types.specs.values.Values.{value_of}
 use Rattle.wasm_operator_validator_determined.specs.expression.info.declared.proposal.Proposal.{Proposal}
-use Rattle.wasm_operator_validator_determined.specs.expression.memory.declared.constant.ConstOperator.{ConstOperator}
-use Rattle.wasm_operator_validator_determined.specs.expression.numbers.declared.numeric.NumericOperator.{NumericOperator}
-use Rattle.wasm_operator_validator_determined.specs.expression.numbers.Table.{numeric_info}
+use Rattle.wasm_operator_validator_determined.specs.expression.groups.declared.constant.ConstOperator.{ConstOperator}
+use Rattle.wasm_operator_validator_determined.specs.expression.groups.declared.numeric.NumericOperator.{NumericOperator}
+use Rattle.wasm_operator_validator_determined.specs.expression.groups.numbers.Table.{numeric_info}
 use Rattle.wasm_operator_validator_determined.specs.rules.Numbers.{class_of, taken_by, given_by, has_float, constant_type, is_float}
 
 -- it is of this proposal, with a float in its name or not, and takes and gives these types

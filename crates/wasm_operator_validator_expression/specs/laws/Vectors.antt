@@ -14,7 +14,7 @@ use Rattle.wasm_operators_walking.specs.Walking.{HasNoVectors}
 use Rattle.wasm_operator_validator_state.specs.rules.Operands.{Operand, stack}
 use Rattle.wasm_operator_validator_state.specs.rules.Context.{Context, Initialised, Frame, inside, label_of}
 use Rattle.wasm_operator_validator_state.specs.rules.Row.{Row, after}
-use Rattle.wasm_operator_validator_state.specs.rules.Typed.{Typed, other_part}
+use Rattle.wasm_operator_validator_state.specs.rules.Typed.{Typed, other_part, in_part}
 use Rattle.wasm_operator_validator_state.specs.resources.Meaning.{Meaning}
 use Rattle.wasm_operator_validator_state.specs.State.{Given, Open, State, ClosesAll, Accepts, results, initialised, context, frame_of}
 
@@ -76,10 +76,11 @@ typed_no_vectors g f set k (plain o more) s i (m, (popped, pushed, rest, row, be
 typed_no_vectors g f set k (nested o body more) s (j, e, i, v) (l, b, rest, op, below, inner, t) = (
   nests_no_vector o k j e,
   none_in_both (walk body) (walk more)
-      (typed_no_vectors (inside (label_of l b) g) (record { kind = l; block = b; before = set }) set j body (stack b.params) i inner)
+      (typed_no_vectors (inside l (label_of l b) g) (record { kind = l; block = b; before = set }) set j body (stack b.params) i inner)
       (typed_no_vectors g f set k more (stack b.results ++ rest) v t),
 )
-typed_no_vectors g f set k (turn o more) s (j, e, i) (below, t) = (turns_no_vector o k j e, typed_no_vectors g (other_part f) f.before j more (stack f.block.params) i t)
+typed_no_vectors g f set k (turn o more) s (j, e, i) (ts, begins, below, t) =
+    (turns_no_vector o k j e, typed_no_vectors (in_part o g) (other_part o f) f.before j more (stack ts) i t)
 
 closing_no_vectors : (m : Meaning) (w : Given) (pushed : List Operand) (opens : List Open) (set : Initialised) (os : List Op) → ClosesAll m w pushed opens set os → HasNoVectors os
 closing_no_vectors m w pushed [] set os e = subst HasNoVectors (sym e) tt

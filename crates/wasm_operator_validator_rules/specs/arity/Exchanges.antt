@@ -6,12 +6,10 @@ use Rattle.wasm_operator_validator_rules.specs.expression.immediates.declared.bl
 use Rattle.wasm_operator_validator_rules.specs.expression.immediates.declared.block.BlockType.TheVariants as block
 use Rattle.wasm_operator_validator_rules.specs.expression.immediates.declared.frames.FrameKind.{FrameKind}
 use Rattle.wasm_operator_validator_rules.specs.expression.operator.Op.{Op}
-use Rattle.wasm_operator_validator_rules.specs.expression.operator.Roles.{role_of}
-use Rattle.wasm_operator_validator_rules.specs.expression.operator.declared.role.Role.TheVariants.{Else, End}
 use Rattle.wasm_operator_validator_rules.specs.Operands.{ValueType, Operand}
 use Rattle.wasm_operator_validator_rules.specs.Context.{Module, Context, Initialised, Signature, IsFunctionType, label_of}
 use Rattle.wasm_operator_validator_rules.specs.Row.{Row}
-use Rattle.wasm_operator_validator_rules.specs.Typed.{OpensFrame, entry_of}
+use Rattle.wasm_operator_validator_rules.specs.Typed.{OpensFrame, Turns, EndsAt, entry_of}
 use Rattle.wasm_operator_validator_rules.specs.arity.Arity.{Known, counts_of}
 
 -- ---- the open frames
@@ -59,12 +57,13 @@ pub record IsShortest (g : Context) (set : Initialised) (o : Op) (n c : ℕ) : T
   pub least : (p q : List Operand) → Row g set o p q → (n ≤ length p) × (c ≤ length q)
 
 -- So many are taken and given by the rules: by a row; where a frame is opened, with its parameters; where the innermost frame is
--- turned or closed, with its results.
+-- turned, with its results and with what its next part begins with; where it is closed, with its results.
 pub data Exchanges (g : Context) (set : Initialised) : List Standing → Op → ℕ → ℕ → Type 0 where
   by_row : {fs : List Standing} {o : Op} {n c : ℕ} → IsShortest g set o n c → Exchanges g set fs o n c
   opened : {fs : List Standing} {o : Op} (k : FrameKind) (b : Signature) → OpensFrame g o k b → Exchanges g set fs o (length (entry_of k b)) (length b.params)
-  turned : {fs : List Standing} {o : Op} (f : Standing) → role_of o ≡ Else → Exchanges g set (f ∷ fs) o (length f.block.results) (length f.block.params)
-  closed : {fs : List Standing} {o : Op} (f : Standing) → role_of o ≡ End → Exchanges g set (f ∷ fs) o (length f.block.results) (length f.block.results)
+  turned : {fs : List Standing} {o : Op} (f : Standing) (ts : List ValueType) → Turns g f.block o ts
+      → Exchanges g set (f ∷ fs) o (length f.block.results) (length ts)
+  closed : {fs : List Standing} {o : Op} (f : Standing) → EndsAt g o → Exchanges g set (f ∷ fs) o (length f.block.results) (length f.block.results)
 
 -- where the rules let an operator take and give so many, the table has these numbers
 abbrev pub CountsAreExact : Type 0

@@ -7,10 +7,10 @@ use Rattle.wasm_operator_validator_rules.specs.expression.types.trees.worked.Typ
 use Rattle.wasm_operator_validator_rules.specs.expression.types.values.declared.value.ValType.TheVariants as value_type
 use Rattle.wasm_operator_validator_rules.specs.expression.immediates.declared.block.BlockType.TheVariants as block
 use Rattle.wasm_operator_validator_rules.specs.expression.immediates.declared.frames.FrameKind.TheVariants as frames
-use Rattle.wasm_operator_validator_rules.specs.expression.control.declared.control.ControlOperator.TheVariants as control
-use Rattle.wasm_operator_validator_rules.specs.expression.memory.declared.memory.MemoryOperator.TheVariants as memory
-use Rattle.wasm_operator_validator_rules.specs.expression.numbers.declared.numeric.NumericOperator.TheVariants as numeric
-use Rattle.wasm_operator_validator_rules.specs.expression.operator.gc.declared.gc.GcOperator.TheVariants as gc
+use Rattle.wasm_operator_validator_rules.specs.expression.groups.declared.control.ControlOperator.TheVariants as control
+use Rattle.wasm_operator_validator_rules.specs.expression.groups.declared.memory.MemoryOperator.TheVariants as memory
+use Rattle.wasm_operator_validator_rules.specs.expression.groups.declared.numeric.NumericOperator.TheVariants as numeric
+use Rattle.wasm_operator_validator_rules.specs.expression.operator.groups.declared.gc.GcOperator.TheVariants as gc
 use Rattle.wasm_operator_validator_rules.specs.expression.operator.Op as op
 use Rattle.wasm_operator_validator_rules.specs.expression.operator.Op.{Op}
 use Rattle.wasm_operator_validator_rules.specs.Context.{Module}

@@ -6,20 +6,20 @@
 use Rattle.std.specs.Prelude.{◌≡◌, ℕ, ◌≤◌, false, List, [], ◌∷◌, Some, slice_get, take}
 use Rattle.wasm_operator_validator_rules.specs.expression.types.features.Features.{ExtendedConst, Gc, SharedEverythingThreads}
 use Rattle.wasm_operator_validator_rules.specs.expression.types.trees.Gates.{Has}
-use Rattle.wasm_operator_validator_rules.specs.expression.control.declared.control.ControlOperator.{ControlOperator}
-use Rattle.wasm_operator_validator_rules.specs.expression.control.declared.control.ControlOperator.TheVariants as control
-use Rattle.wasm_operator_validator_rules.specs.expression.memory.declared.memory.MemoryOperator.{MemoryOperator}
-use Rattle.wasm_operator_validator_rules.specs.expression.memory.declared.memory.MemoryOperator.TheVariants as memory
-use Rattle.wasm_operator_validator_rules.specs.expression.memory.declared.bulk.BulkOperator.{BulkOperator}
-use Rattle.wasm_operator_validator_rules.specs.expression.memory.declared.bulk.BulkOperator.TheVariants as bulk
-use Rattle.wasm_operator_validator_rules.specs.expression.numbers.declared.numeric.NumericOperator.{NumericOperator}
-use Rattle.wasm_operator_validator_rules.specs.expression.numbers.declared.numeric.NumericOperator.TheVariants as numeric
-use Rattle.wasm_operator_validator_rules.specs.expression.threads.declared.atomic.SharedOperator.{SharedOperator}
-use Rattle.wasm_operator_validator_rules.specs.expression.threads.declared.atomic.SharedOperator.TheVariants as shared
-use Rattle.wasm_operator_validator_rules.specs.expression.operator.gc.declared.gc.GcOperator.{GcOperator}
-use Rattle.wasm_operator_validator_rules.specs.expression.operator.gc.declared.gc.GcOperator.TheVariants as gc
-use Rattle.wasm_operator_validator_rules.specs.expression.operator.gc.declared.gc.DescriptorOperator.{DescriptorOperator}
-use Rattle.wasm_operator_validator_rules.specs.expression.operator.gc.declared.gc.DescriptorOperator.TheVariants as descriptor
+use Rattle.wasm_operator_validator_rules.specs.expression.groups.declared.control.ControlOperator.{ControlOperator}
+use Rattle.wasm_operator_validator_rules.specs.expression.groups.declared.control.ControlOperator.TheVariants as control
+use Rattle.wasm_operator_validator_rules.specs.expression.groups.declared.memory.MemoryOperator.{MemoryOperator}
+use Rattle.wasm_operator_validator_rules.specs.expression.groups.declared.memory.MemoryOperator.TheVariants as memory
+use Rattle.wasm_operator_validator_rules.specs.expression.groups.declared.bulk.BulkOperator.{BulkOperator}
+use Rattle.wasm_operator_validator_rules.specs.expression.groups.declared.bulk.BulkOperator.TheVariants as bulk
+use Rattle.wasm_operator_validator_rules.specs.expression.groups.declared.numeric.NumericOperator.{NumericOperator}
+use Rattle.wasm_operator_validator_rules.specs.expression.groups.declared.numeric.NumericOperator.TheVariants as numeric
+use Rattle.wasm_operator_validator_rules.specs.expression.groups.declared.atomic.SharedOperator.{SharedOperator}
+use Rattle.wasm_operator_validator_rules.specs.expression.groups.declared.atomic.SharedOperator.TheVariants as shared
+use Rattle.wasm_operator_validator_rules.specs.expression.operator.groups.declared.gc.GcOperator.{GcOperator}
+use Rattle.wasm_operator_validator_rules.specs.expression.operator.groups.declared.gc.GcOperator.TheVariants as gc
+use Rattle.wasm_operator_validator_rules.specs.expression.operator.groups.declared.gc.DescriptorOperator.{DescriptorOperator}
+use Rattle.wasm_operator_validator_rules.specs.expression.operator.groups.declared.gc.DescriptorOperator.TheVariants as descriptor
 use Rattle.wasm_operator_validator_rules.specs.expression.operator.Op as op
 use Rattle.wasm_operator_validator_rules.specs.expression.operator.Op.{Op}
 use Rattle.wasm_operator_validator_rules.specs.expression.Code.{Code, walk}
@@ -59,11 +59,11 @@ IsConstantDescribed bits o = ⊥
 
 -- a global that a constant may read, where the first so many are imported
 abbrev pub IsConstantGlobal : ℕ → Module → ℕ → ℕ → Type 0
-IsConstantGlobal bits g count x = (v : Global) × (slice_get g.globals x ≡ Some v) × (v.mutable ≡ false) × (count ≤ x → Has bits Gc)
+IsConstantGlobal bits g imported x = (v : Global) × (slice_get g.globals x ≡ Some v) × (v.mutable ≡ false) × (imported ≤ x → Has bits Gc)
 
 abbrev pub IsConstantMemory : ℕ → Module → ℕ → MemoryOperator → Type 0
-IsConstantMemory bits g count (memory.GlobalGet x) = IsConstantGlobal bits g count x
-IsConstantMemory bits g count o = ⊥
+IsConstantMemory bits g imported (memory.GlobalGet x) = IsConstantGlobal bits g imported x
+IsConstantMemory bits g imported o = ⊥
 
 abbrev pub IsConstantReference : BulkOperator → Type 0
 IsConstantReference (bulk.RefNull h) = Unit {0}
@@ -81,19 +81,19 @@ IsConstantShared bits o = ⊥
 
 -- a constant operator, by these features, in this module, of whose globals the first so many are imported
 abbrev pub IsConstantOperator : ℕ → Module → ℕ → Op → Type 0
-IsConstantOperator bits g count (op.Const o) = Unit {0}
-IsConstantOperator bits g count (op.Numeric o) = IsConstantNumber bits o
-IsConstantOperator bits g count (op.Memory o) = IsConstantMemory bits g count o
-IsConstantOperator bits g count (op.Bulk o) = IsConstantReference o
-IsConstantOperator bits g count (op.Gc o) = IsConstantObject bits o
-IsConstantOperator bits g count (op.Descriptor o) = IsConstantDescribed bits o
-IsConstantOperator bits g count (op.Shared o) = IsConstantShared bits o
-IsConstantOperator bits g count (op.Control o) = IsEnd o
-IsConstantOperator bits g count o = ⊥
+IsConstantOperator bits g imported (op.Const o) = Unit {0}
+IsConstantOperator bits g imported (op.Numeric o) = IsConstantNumber bits o
+IsConstantOperator bits g imported (op.Memory o) = IsConstantMemory bits g imported o
+IsConstantOperator bits g imported (op.Bulk o) = IsConstantReference o
+IsConstantOperator bits g imported (op.Gc o) = IsConstantObject bits o
+IsConstantOperator bits g imported (op.Descriptor o) = IsConstantDescribed bits o
+IsConstantOperator bits g imported (op.Shared o) = IsConstantShared bits o
+IsConstantOperator bits g imported (op.Control o) = IsEnd o
+IsConstantOperator bits g imported o = ⊥
 
 abbrev pub AreConstantOperators : ℕ → Module → ℕ → List Op → Type 0
-AreConstantOperators bits g count [] = Unit {0}
-AreConstantOperators bits g count (o ∷ os) = IsConstantOperator bits g count o × AreConstantOperators bits g count os
+AreConstantOperators bits g imported [] = Unit {0}
+AreConstantOperators bits g imported (o ∷ os) = IsConstantOperator bits g imported o × AreConstantOperators bits g imported os
 
 -- ---- constant expressions
 
@@ -104,6 +104,7 @@ constant_context bits g t = record {
   «module» = g;
   locals = [];
   labels = [];
+  catches = [];
   results = t ∷ [];
   shared = false;
 }
@@ -113,6 +114,6 @@ abbrev pub seeing : ℕ → Module → Module
 seeing n g = record g { globals = take n g.globals }
 
 -- a constant expression of this type
-pub record IsConstant (bits : ℕ) (g : Module) (count : ℕ) (t : ValueType) (c : Code) : Type 0 where
-  pub operators : AreConstantOperators bits g count (walk c)
+pub record IsConstant (bits : ℕ) (g : Module) (imported : ℕ) (t : ValueType) (c : Code) : Type 0 where
+  pub operators : AreConstantOperators bits g imported (walk c)
   pub typed : IsBody (constant_context bits g t) 0 c

@@ -4,15 +4,15 @@ use Rattle.std.specs.Prelude.{ℕ, ℤ, ◌-◌, Bool, true, false, [], ◌∷�
 unfoldable pub use Rattle.wasm_operator_validator_rules.specs.expression.types.features.Features.{has}
 use Rattle.wasm_operator_validator_rules.specs.expression.types.features.Features.{Feature, mask, ExtendedConst, Gc, SharedEverythingThreads}
 use Rattle.wasm_operator_validator_rules.specs.expression.types.trees.Types.{i32, number}
-use Rattle.wasm_operator_validator_rules.specs.expression.control.declared.control.ControlOperator.TheVariants as control
+use Rattle.wasm_operator_validator_rules.specs.expression.groups.declared.control.ControlOperator.TheVariants as control
 use Rattle.wasm_operator_validator_rules.specs.expression.immediates.declared.memory.Ordering.TheVariants as ordering
-use Rattle.wasm_operator_validator_rules.specs.expression.memory.declared.memory.MemoryOperator.TheVariants as memory
-use Rattle.wasm_operator_validator_rules.specs.expression.memory.declared.constant.ConstOperator.TheVariants as const
-use Rattle.wasm_operator_validator_rules.specs.expression.memory.declared.bulk.BulkOperator.TheVariants as bulk
-use Rattle.wasm_operator_validator_rules.specs.expression.numbers.declared.numeric.NumericOperator.TheVariants as numeric
-use Rattle.wasm_operator_validator_rules.specs.expression.threads.declared.atomic.SharedOperator.TheVariants as shared
-use Rattle.wasm_operator_validator_rules.specs.expression.operator.gc.declared.gc.GcOperator.TheVariants as gc
-use Rattle.wasm_operator_validator_rules.specs.expression.operator.gc.declared.gc.DescriptorOperator.TheVariants as descriptor
+use Rattle.wasm_operator_validator_rules.specs.expression.groups.declared.memory.MemoryOperator.TheVariants as memory
+use Rattle.wasm_operator_validator_rules.specs.expression.groups.declared.constant.ConstOperator.TheVariants as const
+use Rattle.wasm_operator_validator_rules.specs.expression.groups.declared.bulk.BulkOperator.TheVariants as bulk
+use Rattle.wasm_operator_validator_rules.specs.expression.groups.declared.numeric.NumericOperator.TheVariants as numeric
+use Rattle.wasm_operator_validator_rules.specs.expression.groups.declared.atomic.SharedOperator.TheVariants as shared
+use Rattle.wasm_operator_validator_rules.specs.expression.operator.groups.declared.gc.GcOperator.TheVariants as gc
+use Rattle.wasm_operator_validator_rules.specs.expression.operator.groups.declared.gc.DescriptorOperator.TheVariants as descriptor
 use Rattle.wasm_operator_validator_rules.specs.expression.operator.Op as op
 use Rattle.wasm_operator_validator_rules.specs.expression.operator.Op.{Op}
 use Rattle.wasm_operator_validator_rules.specs.Context.{Module, Global}

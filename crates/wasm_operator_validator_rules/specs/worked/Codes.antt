@@ -1,18 +1,18 @@
 -- Code that is typed and code that is not.
-use Rattle.std.specs.Prelude.{ℕ, ℤ, [], ◌∷◌}
-use Rattle.wasm_operators_expression.specs.types.trees.Types.{i32, number}
+use Rattle.std.specs.Prelude.{◌≡◌, ℕ, ℤ, true, false, [], ◌∷◌}
+use Rattle.wasm_operators_expression.specs.types.trees.Types.{i32, i64, number}
 use Rattle.wasm_operators_expression.specs.types.values.declared.value.ValType.TheVariants as value
 use Rattle.wasm_operators_expression.specs.immediates.declared.block.BlockType.TheVariants as block
 use Rattle.wasm_operators_expression.specs.immediates.declared.frames.FrameKind.TheVariants as frames
-use Rattle.wasm_operators_expression.specs.control.declared.control.ControlOperator.TheVariants as control
-use Rattle.wasm_operators_expression.specs.memory.declared.memory.MemoryOperator.TheVariants as memory
-use Rattle.wasm_operators_expression.specs.memory.declared.constant.ConstOperator.TheVariants as const
-use Rattle.wasm_operators_expression.specs.numbers.declared.numeric.NumericOperator.TheVariants as numeric
+use Rattle.wasm_operators_expression.specs.groups.declared.control.ControlOperator.TheVariants as control
+use Rattle.wasm_operators_expression.specs.groups.declared.memory.MemoryOperator.TheVariants as memory
+use Rattle.wasm_operators_expression.specs.groups.declared.constant.ConstOperator.TheVariants as const
+use Rattle.wasm_operators_expression.specs.groups.declared.numeric.NumericOperator.TheVariants as numeric
 use Rattle.wasm_operators_expression.specs.operator.Op as op
 use Rattle.wasm_operators_expression.specs.operator.Op.{Op}
 use Rattle.wasm_operators_expression.specs.Code.{Code, close, plain, nested, turn}
-use Rattle.wasm_operator_validator_rules.specs.Context.{Signature, Frame, Initialised, initialised_at_first}
-use Rattle.wasm_operator_validator_rules.specs.Typed.{Typed}
+use Rattle.wasm_operator_validator_rules.specs.Context.{Signature, Frame, Initialised, inside, initialised_at_first}
+use Rattle.wasm_operator_validator_rules.specs.Typed.{Typed, other_part, in_part}
 use Rattle.wasm_operator_validator_rules.specs.worked.Contexts.{somewhere}
 
 -- operators by short names
@@ -42,6 +42,12 @@ if_i32 = op.Control (control.If (block.Val value.I32))
 
 abbrev pub other : Op
 other = op.Control control.Else
+
+abbrev pub catch : Op
+catch = op.Exception (op.Catch 0)
+
+abbrev pub catch_all : Op
+catch_all = op.Exception op.CatchAll
 
 abbrev pub get : ℕ → Op
 get x = op.Memory (memory.LocalGet x)
@@ -86,3 +92,17 @@ pub record CodesWorked (x : ℤ) : Type 0 where
   pub if_gives : IsNotTyped one (plain (constant x) (nested if_i32 (plain (constant x) end) end))
   pub if_else : IsTyped one (plain (constant x) (nested if_i32 (plain (constant x) (turn other (plain (constant x) end))) end))
   pub else_missing : IsNotTyped one (plain (constant x) (nested if_i32 (plain (constant x) (turn other end)) end))
+  pub closed_by_nop : IsNotTyped nothing (close (op.Control control.Nop))
+  pub turned_by_nop : IsNotTyped nothing (turn (op.Control control.Nop) end)
+  pub catch_unknown : IsNotTyped nothing (turn catch end)
+
+-- the contexts of blocks and clauses, and the kind of each part of a frame
+pub record PartsWorked : Type 0 where
+  pub in_block : (inside frames.Block (number i64 ∷ []) somewhere).catches ≡ false ∷ false ∷ false ∷ []
+  pub in_catch : (inside frames.LegacyCatch [] somewhere).catches ≡ true ∷ false ∷ false ∷ []
+  pub label : (inside frames.Loop (number i64 ∷ []) somewhere).labels ≡ (number i64 ∷ []) ∷ (number i64 ∷ []) ∷ (number i32 ∷ []) ∷ []
+  pub from_catch : (in_part catch somewhere).catches ≡ true ∷ false ∷ []
+  pub from_else : (in_part other somewhere).catches ≡ false ∷ false ∷ []
+  pub else_part : (other_part other one).kind ≡ frames.Else
+  pub catch_part : (other_part catch one).kind ≡ frames.LegacyCatch
+  pub catch_all_part : (other_part catch_all one).kind ≡ frames.LegacyCatchAll

@@ -2,10 +2,10 @@
 use Rattle.std.specs.Prelude.{true, false, List, [], ◌∷◌}
 use Rattle.wasm_operators_expression.specs.types.trees.Types.{i32, i64, f32, number, ref, concrete}
 use Rattle.wasm_operators_expression.specs.types.values.declared.value.ValType.TheVariants as value
-use Rattle.wasm_operators_expression.specs.control.declared.control.ControlOperator.TheVariants as control
-use Rattle.wasm_operators_expression.specs.memory.declared.memory.MemoryOperator.TheVariants as memory
-use Rattle.wasm_operators_expression.specs.memory.declared.bulk.BulkOperator.TheVariants as bulk
-use Rattle.wasm_operators_expression.specs.numbers.declared.numeric.NumericOperator.TheVariants as numeric
+use Rattle.wasm_operators_expression.specs.groups.declared.control.ControlOperator.TheVariants as control
+use Rattle.wasm_operators_expression.specs.groups.declared.memory.MemoryOperator.TheVariants as memory
+use Rattle.wasm_operators_expression.specs.groups.declared.bulk.BulkOperator.TheVariants as bulk
+use Rattle.wasm_operators_expression.specs.groups.declared.numeric.NumericOperator.TheVariants as numeric
 use Rattle.wasm_operators_expression.specs.operator.Op as op
 use Rattle.wasm_operators_expression.specs.operator.Op.{Op}
 use Rattle.wasm_operator_validator_rules.specs.Operands.{Operand, bottom, some_reference, known}
@@ -59,7 +59,7 @@ pub record ControlWorked : Type 0 where
   pub call_indirect_64 : Does (op.Control (control.CallIndirect 0 2)) (i32_known ∷ i64_known ∷ []) (i64_known ∷ [])
   pub call_indirect_no_functions : IsRefused somewhere all (op.Control (control.CallIndirect 0 1))
   pub return_call : IsRefused somewhere all (op.Control (control.ReturnCall 0))
-  pub not_supported_yet : IsRefused somewhere all (op.Control (control.CallRef 0))
+  pub frame_end : IsRefused somewhere all (op.Control control.End)
 
 pub record OperandsWorked : Type 0 where
   pub drop : Does (op.Parametric op.Drop) (some_reference ∷ []) []
@@ -101,6 +101,9 @@ pub record ReferencesWorked : Type 0 where
 
 pub record FeaturesWorked : Type 0 where
   pub sum : Row without_features all (op.Numeric numeric.I32Add) (i32_known ∷ i32_known ∷ []) (i32_known ∷ [])
+  pub call_ref : IsRefused without_features all (op.Control (control.CallRef 0))
+  pub return_call_ref : IsRefused without_features all (op.Control (control.ReturnCallRef 0))
+  pub as_non_null : IsRefused without_features all (op.Control control.RefAsNonNull)
   pub float_sum : IsRefused without_features all (op.Numeric numeric.F32Add)
   pub float_load : IsRefused without_features all (op.Memory (memory.F32Load (argument 2 2 0 0)))
   pub load : Row without_features all (op.Memory (memory.I32Load (argument 2 2 0 0))) (i32_known ∷ []) (i32_known ∷ [])

@@ -11,7 +11,8 @@ use Rattle.wasm_operator_validator_expression.specs.state.State.{Given, Saved}
 use Rattle.wasm_operator_validator_expression.specs.state.Bodies.{fresh, body_context}
 use Rattle.wasm_operator_validator_expression.specs.Validating.{AcceptsExpression}
 use Rattle.wasm_operator_validator_soundness.specs.Values.{Value}
-use Rattle.wasm_operator_validator_soundness.specs.Machine.{Configuration, Answer, reduce, Runs}
+use Rattle.wasm_operator_validator_soundness.specs.States.{Configuration, Answer}
+use Rattle.wasm_operator_validator_soundness.specs.Machine.{reduce, Runs}
 use Rattle.wasm_operator_validator_soundness.specs.Soundness.{AreLocals, begun, IsStuck, EndsWell}
 
 -- code, as the body of a function with so many parameters, is never stuck

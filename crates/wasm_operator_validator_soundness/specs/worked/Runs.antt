@@ -3,10 +3,10 @@ use Rattle.std.specs.Prelude.{◌≡◌, ℕ, ℤ, Bool, true, false, List, [], 
 use Rattle.wasm_types.specs.trees.Types.{i32, i64, number}
 use Rattle.wasm_types.specs.values.declared.value.ValType.TheVariants as value
 use Rattle.wasm_operator_validator_rules.specs.expression.immediates.declared.block.BlockType.TheVariants as block
-use Rattle.wasm_operator_validator_rules.specs.expression.control.declared.control.ControlOperator.{ControlOperator}
-use Rattle.wasm_operator_validator_rules.specs.expression.control.declared.control.ControlOperator.TheVariants as control
-use Rattle.wasm_operator_validator_rules.specs.expression.memory.declared.memory.MemoryOperator.TheVariants as memory
-use Rattle.wasm_operator_validator_rules.specs.expression.memory.declared.bulk.BulkOperator.TheVariants as bulk
+use Rattle.wasm_operator_validator_rules.specs.expression.groups.declared.control.ControlOperator.{ControlOperator}
+use Rattle.wasm_operator_validator_rules.specs.expression.groups.declared.control.ControlOperator.TheVariants as control
+use Rattle.wasm_operator_validator_rules.specs.expression.groups.declared.memory.MemoryOperator.TheVariants as memory
+use Rattle.wasm_operator_validator_rules.specs.expression.groups.declared.bulk.BulkOperator.TheVariants as bulk
 use Rattle.wasm_operator_validator_rules.specs.expression.operator.Op as op
 use Rattle.wasm_operator_validator_rules.specs.expression.operator.Op.{Op}
 use Rattle.wasm_operator_validator_rules.specs.expression.Code.{Code, plain, nested, turn}
@@ -14,24 +14,33 @@ use Rattle.wasm_operator_validator_rules.specs.Context.{Context, Signature}
 use Rattle.wasm_operator_validator_rules.specs.worked.Contexts.{somewhere, argument}
 use Rattle.wasm_operator_validator_rules.specs.worked.Codes.{end, constant, sum, unreachable, drop, block_of, if_of, if_i32, other, get, set}
 use Rattle.wasm_operator_validator_soundness.specs.Values.{Value}
-use Rattle.wasm_operator_validator_soundness.specs.Machine.{behind, again, Label, Configuration, Answer, Outcome, next, returned, replaced, trapped, stuck, reduce}
+use Rattle.wasm_operator_validator_soundness.specs.States.{behind, again, Handlers, no_handlers, exits, clauses, Label, Configuration, on, branches, traps, throws, Answer}
+use Rattle.wasm_operator_validator_soundness.specs.States.{Outcome, next, returned, replaced, trapped, stuck}
+use Rattle.wasm_operator_validator_soundness.specs.Machine.{reduce}
 use Rattle.wasm_operator_validator_soundness.specs.Soundness.{begun}
 use Rattle.wasm_operator_validator_soundness.specs.worked.Values.{one_i32, one_i64, a_function, no_function}
 
 -- a function with an i32, an i64 and a reference that is never null, that gives an i32
 abbrev pub outside : Context
-outside = record somewhere { labels = [] }
+outside = record somewhere { labels = []; catches = [] }
 
 -- ---- answers
 
 abbrev pub giving : List Value → Answer
-giving vs = record { values = vs; condition = false; index = 0; traps = false }
+giving vs = record { values = vs; taken = 0; condition = false; index = 0; way = on }
+
+-- for so many values
+abbrev pub taking : ℕ → List Value → Answer
+taking n vs = record (giving vs) { taken = n }
 
 abbrev pub silent : Answer
 silent = giving []
 
 abbrev pub number_given : Answer
 number_given = giving (one_i32 ∷ [])
+
+abbrev pub number_for : ℕ → Answer
+number_for n = taking n (one_i32 ∷ [])
 
 abbrev pub deciding : Bool → Answer
 deciding c = record silent { condition = c }
@@ -40,7 +49,15 @@ abbrev pub choosing : ℕ → Answer
 choosing i = record silent { index = i }
 
 abbrev pub trapping : Answer
-trapping = record silent { traps = true }
+trapping = record silent { way = traps }
+
+-- to the first label that the operator names
+abbrev pub branching : List Value → Answer
+branching vs = record (giving vs) { way = branches }
+
+-- an exception leaves so many labels, and the clause with this number catches it
+abbrev pub throwing : ℕ → ℕ → List Value → Answer
+throwing n i vs = record (giving vs) { index = i; way = throws n }
 
 -- ---- runs
 
@@ -50,7 +67,7 @@ onward o [] = o
 onward (next k) (a ∷ answers) = onward (reduce outside k a).outcome answers
 onward o (a ∷ answers) = o
 
--- from the beginning of the function, where the reference has no value
+-- from the beginning of the function, in which the reference has no value
 abbrev pub started : Code → Configuration
 started c = begun outside c (Some one_i32 ∷ Some one_i64 ∷ None ∷ [])
 
@@ -107,7 +124,8 @@ widens = record { params = number i32 ∷ []; results = number i64 ∷ [] }
 
 -- a label behind which these instructions stand, over these values
 abbrev pub labelled : Code → List Value → Label
-labelled c vs = record { code = c; values = vs; block = record { params = []; results = number i32 ∷ [] }; continuation = behind }
+labelled c vs =
+    record { code = c; values = vs; block = record { params = []; results = number i32 ∷ [] }; continuation = behind; handlers = no_handlers; clause = false }
 
 abbrev pub among : Label → List Label → Configuration
 among l ls = record { locals = []; innermost = l; around = ls }
@@ -119,12 +137,52 @@ in_blocks x = among (labelled (plain br_table end) (one_i32 ∷ a_function ∷ [
 -- in a block that gives two values, an i64 below an i32
 abbrev pub to_two : ℤ → Configuration
 to_two x =
-    among (record { code = plain (br 0) end; values = one_i32 ∷ one_i64 ∷ one_i32 ∷ []; block = record { params = []; results = number i64 ∷ number i32 ∷ [] }; continuation = behind })
-    (labelled (plain drop end) (a_function ∷ []) ∷ [])
+    let l = labelled (plain (br 0) end) (one_i32 ∷ one_i64 ∷ one_i32 ∷ []) in
+    among (record l { block = record { params = []; results = number i64 ∷ number i32 ∷ [] } }) (labelled (plain drop end) (a_function ∷ []) ∷ [])
 
 -- in a loop that takes an i32 and gives an i64, above these values
 abbrev pub in_loop : List Value → Configuration
-in_loop vs = among (record { code = plain (br 0) end; values = vs; block = widens; continuation = again (plain drop end) }) (labelled end [] ∷ [])
+in_loop vs = let l = labelled (plain (br 0) end) vs in among (record l { block = widens; continuation = again (plain drop end) }) (labelled end [] ∷ [])
+
+abbrev pub call : Op
+call = op.Control (control.Call 0)
+
+-- a call within a block, in what catches exceptions so, in a block that drops what it gets, in a function
+abbrev pub around_try : List Label
+around_try = labelled (plain drop end) (a_function ∷ []) ∷ labelled end [] ∷ []
+
+abbrev pub in_try : Handlers → Configuration
+in_try h = let l = labelled end (one_i64 ∷ []) in among (labelled (plain call end) (one_i32 ∷ [])) (record l { handlers = h } ∷ around_try)
+
+-- to the label around; the clauses of an older `try`, for a tag and for all
+abbrev pub by_table : Handlers
+by_table = exits (0 ∷ [])
+
+abbrev pub for_all : Code
+for_all = turn (op.Exception op.CatchAll) (plain drop end)
+
+abbrev pub by_clauses : Handlers
+by_clauses = clauses (turn (op.Exception (op.Catch 0)) for_all)
+
+-- in such a clause
+abbrev pub in_clause : Code → List Value → Configuration
+in_clause c vs = let l = labelled c vs in among (record l { clause = true }) around_try
+
+-- operators on references
+abbrev pub call_ref : Op
+call_ref = op.Control (control.CallRef 0)
+
+abbrev pub return_call_ref : Op
+return_call_ref = op.Control (control.ReturnCallRef 0)
+
+abbrev pub as_non_null : Op
+as_non_null = op.Control control.RefAsNonNull
+
+abbrev pub br_on_null : Op
+br_on_null = op.Control (control.BrOnNull 0)
+
+abbrev pub br_on_non_null : Op
+br_on_non_null = op.Control (control.BrOnNonNull 0)
 
 abbrev pub counting : ℤ → Code → Code
 counting x more = nested loop_of (plain (constant x) (plain (br_if 0) end)) more
@@ -138,11 +196,11 @@ endless x = plain (constant x) (nested widening_loop (plain (br 0) end) end)
 
 pub record RunsWorked (x : ℤ) : Type 0 where
   -- to the end, and to a trap
-  pub sum_given : run (two_summed x) (number_given ∷ number_given ∷ number_given ∷ silent ∷ []) ≡ returned (one_i32 ∷ [])
+  pub sum_given : run (two_summed x) (number_given ∷ number_given ∷ number_for 2 ∷ silent ∷ []) ≡ returned (one_i32 ∷ [])
   pub sum_half : run (two_summed x) (number_given ∷ number_given ∷ []) ≡ next (standing (one_i32 ∷ one_i32 ∷ []) (plain sum end))
   pub trap : run (plain unreachable end) (silent ∷ []) ≡ trapped
   pub load_traps : run (plain (constant x) (plain load end)) (number_given ∷ trapping ∷ silent ∷ []) ≡ trapped
-  pub load_gives : run (plain (constant x) (plain load end)) (number_given ∷ number_given ∷ silent ∷ []) ≡ returned (one_i32 ∷ [])
+  pub load_gives : run (plain (constant x) (plain load end)) (number_given ∷ number_for 1 ∷ silent ∷ []) ≡ returned (one_i32 ∷ [])
   -- blocks: values come out on top of those that stood around
   pub block_gives : run_over (one_i64 ∷ []) (nested block_i32 (plain (constant x) end) end) (silent ∷ number_given ∷ silent ∷ []) ≡ leaving (one_i32 ∷ one_i64 ∷ [])
   pub branch_out : run (nested block_of (nested block_of (plain (br 1) end) (plain unreachable end)) (plain (constant x) end)) (silent ∷ silent ∷ silent ∷ [])
@@ -166,8 +224,8 @@ pub record RunsWorked (x : ℤ) : Type 0 where
   -- returns and calls
   pub return_from_block : run (nested block_of (plain (constant x) (plain (control_of control.Return) end)) (plain unreachable end)) (silent ∷ number_given ∷ silent ∷ []) ≡ returned (one_i32 ∷ [])
   pub return_keeps : does (control_of control.Return) silent (one_i32 ∷ one_i64 ∷ []) ≡ returned (one_i32 ∷ [])
-  pub call : does (control_of (control.Call 0)) (giving (one_i64 ∷ [])) (one_i32 ∷ one_i32 ∷ []) ≡ leaving (one_i64 ∷ one_i32 ∷ [])
-  pub call_traps : does (control_of (control.Call 0)) trapping (one_i32 ∷ []) ≡ trapped
+  pub called : does call (giving (one_i64 ∷ [])) (one_i32 ∷ one_i32 ∷ []) ≡ leaving (one_i64 ∷ one_i32 ∷ [])
+  pub call_traps : does call trapping (one_i32 ∷ []) ≡ trapped
   pub call_indirect : does (control_of (control.CallIndirect 0 2)) (giving (one_i64 ∷ [])) (one_i64 ∷ one_i32 ∷ []) ≡ leaving (one_i64 ∷ [])
   pub return_call : does (control_of (control.ReturnCall 0)) silent (one_i32 ∷ one_i64 ∷ []) ≡ replaced widens (one_i32 ∷ [])
   pub return_call_indirect : does (control_of (control.ReturnCallIndirect 0 2)) silent (one_i64 ∷ one_i32 ∷ []) ≡ replaced widens (one_i32 ∷ [])
@@ -191,8 +249,20 @@ pub record RunsWorked (x : ℤ) : Type 0 where
   pub init : does (op.Bulk (bulk.TableInit 0 2)) silent (one_i32 ∷ one_i32 ∷ one_i64 ∷ one_i64 ∷ []) ≡ leaving (one_i64 ∷ [])
   pub init_traps : does (op.Bulk (bulk.TableInit 0 2)) trapping (one_i32 ∷ one_i32 ∷ one_i64 ∷ []) ≡ trapped
   pub copy : does (op.Bulk (bulk.TableCopy 0 2)) silent (one_i32 ∷ one_i64 ∷ one_i32 ∷ one_i64 ∷ []) ≡ leaving (one_i64 ∷ [])
+  -- operators by their rows
+  pub called_by_reference : does call_ref (taking 2 (one_i64 ∷ [])) (a_function ∷ one_i32 ∷ one_i32 ∷ []) ≡ leaving (one_i64 ∷ one_i32 ∷ [])
+  pub call_ref_traps : does call_ref trapping (no_function ∷ one_i32 ∷ []) ≡ trapped
+  pub returned_by_reference : does return_call_ref (branching (one_i32 ∷ [])) (a_function ∷ one_i32 ∷ one_i64 ∷ []) ≡ returned (one_i32 ∷ [])
+  pub not_null : does as_non_null (taking 1 (a_function ∷ [])) (a_function ∷ one_i64 ∷ []) ≡ leaving (a_function ∷ one_i64 ∷ [])
+  pub branch_on_null : does br_on_null (branching (one_i32 ∷ [])) (no_function ∷ one_i32 ∷ one_i64 ∷ []) ≡ returned (one_i32 ∷ [])
+  pub no_branch_on_null : does br_on_null (taking 2 (a_function ∷ one_i32 ∷ [])) (a_function ∷ one_i32 ∷ one_i64 ∷ []) ≡ leaving (a_function ∷ one_i32 ∷ one_i64 ∷ [])
+  pub no_branch_on_non_null : does br_on_non_null (taking 1 []) (no_function ∷ one_i64 ∷ []) ≡ leaving (one_i64 ∷ [])
+  -- exceptions that are caught within the activation
+  pub caught_at_label : (reduce outside (in_try by_table) (throwing 1 0 (one_i32 ∷ []))).outcome ≡ next (among (labelled end (one_i32 ∷ [])) [])
+  pub caught_by_first : (reduce outside (in_try by_clauses) (throwing 1 0 (one_i32 ∷ []))).outcome ≡ next (in_clause for_all (one_i32 ∷ []))
+  pub caught_by_second : (reduce outside (in_try by_clauses) (throwing 1 1 [])).outcome ≡ next (in_clause (plain drop end) [])
   -- no rule
   pub label_unknown : does (br 1) silent [] ≡ stuck
   pub function_unknown : does (control_of (control.Call 2)) silent [] ≡ stuck
   pub operand_missing : does drop silent [] ≡ stuck
-  pub not_supported_yet : does (control_of control.RefAsNonNull) silent (a_function ∷ []) ≡ stuck
+  pub not_caught : (reduce outside (in_try no_handlers) (throwing 1 0 [])).outcome ≡ stuck

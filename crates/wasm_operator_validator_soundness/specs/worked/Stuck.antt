@@ -5,9 +5,9 @@ use Rattle.wasm_types.specs.values.declared.value.ValType.TheVariants as value
 use Rattle.wasm_types.specs.values.declared.heap.HeapType.TheVariants as heap
 use Rattle.wasm_types.specs.values.declared.heap.AbstractHeapType.TheVariants as abstract
 use Rattle.wasm_operator_validator_rules.specs.expression.immediates.declared.block.BlockType.TheVariants as block
-use Rattle.wasm_operator_validator_rules.specs.expression.control.declared.control.ControlOperator.TheVariants as control
-use Rattle.wasm_operator_validator_rules.specs.expression.memory.declared.memory.MemoryOperator.TheVariants as memory
-use Rattle.wasm_operator_validator_rules.specs.expression.memory.declared.bulk.BulkOperator.TheVariants as bulk
+use Rattle.wasm_operator_validator_rules.specs.expression.groups.declared.control.ControlOperator.TheVariants as control
+use Rattle.wasm_operator_validator_rules.specs.expression.groups.declared.memory.MemoryOperator.TheVariants as memory
+use Rattle.wasm_operator_validator_rules.specs.expression.groups.declared.bulk.BulkOperator.TheVariants as bulk
 use Rattle.wasm_operator_validator_rules.specs.expression.operator.Op as op
 use Rattle.wasm_operator_validator_rules.specs.expression.operator.Op.{Op}
 use Rattle.wasm_operator_validator_rules.specs.expression.Code.{Code, plain, nested, turn}
@@ -17,10 +17,12 @@ use Rattle.wasm_operator_validator_rules.specs.Typed.{IsBody}
 use Rattle.wasm_operator_validator_rules.specs.worked.Contexts.{somewhere, any_function}
 use Rattle.wasm_operator_validator_rules.specs.worked.Codes.{end, constant, sum, drop, if_of, other, get, set}
 use Rattle.wasm_operator_validator_soundness.specs.Values.{Value, ref_extern, ref_null}
-use Rattle.wasm_operator_validator_soundness.specs.Machine.{Configuration, Answer, Reduction, returned, replaced, trapped, stuck, reduce, Runs}
+use Rattle.wasm_operator_validator_soundness.specs.States.{Configuration, Answer, Reduction, returned, replaced, trapped, stuck}
+use Rattle.wasm_operator_validator_soundness.specs.Machine.{reduce, Runs}
 use Rattle.wasm_operator_validator_soundness.specs.Soundness.{IsStuck, EndsWell}
 use Rattle.wasm_operator_validator_soundness.specs.worked.Values.{one_i32, one_i64, a_function, no_function, some_ref}
-use Rattle.wasm_operator_validator_soundness.specs.worked.Runs.{outside, giving, silent, number_given, deciding, trapping, started, standing, control_of, br, br_if, block_i32, in_loop, widening_loop, two_summed}
+use Rattle.wasm_operator_validator_soundness.specs.worked.Runs.{outside, giving, silent, number_given, number_for, deciding, trapping, started, standing}
+use Rattle.wasm_operator_validator_soundness.specs.worked.Runs.{control_of, br, br_if, block_i32, in_loop, widening_loop, two_summed, call}
 
 -- what comes next of these values and instructions
 abbrev pub here : List Value → Code → Answer → Reduction
@@ -62,8 +64,8 @@ abbrev pub widening_if : Op
 widening_if = op.Control (control.If (block.FuncType 0))
 
 -- to the function's label, whatever the index
-abbrev pub br_table : Op
-br_table = op.Control (control.BrTable (record { targets = []; default = 0 }))
+abbrev pub to_function : Op
+to_function = op.Control (control.BrTable (record { targets = []; default = 0 }))
 
 -- references to functions into a table of functions, and external ones
 abbrev pub init : Op
@@ -85,14 +87,14 @@ three = one_i32 ∷ one_i32 ∷ one_i32 ∷ []
 
 pub record StuckWorked (x : ℤ) : Type 0 where
   -- whole runs, of code that is not typed and of code that is
-  pub one_operand : ComesToBeStuck (plain (constant x) (plain sum end)) (number_given ∷ []) number_given
-  pub two_operands : ComesToAnEnd (two_summed x) (number_given ∷ number_given ∷ number_given ∷ []) silent (one_i32 ∷ [])
+  pub one_operand : ComesToBeStuck (plain (constant x) (plain sum end)) (number_given ∷ []) (number_for 2)
+  pub two_operands : ComesToAnEnd (two_summed x) (number_given ∷ number_given ∷ number_for 2 ∷ []) silent (one_i32 ∷ [])
   pub one_operand_untyped : IsBody outside 0 (plain (constant x) (plain sum end)) → ⊥
   pub two_operands_typed : IsBody outside 0 (two_summed x)
   pub unset_local : ComesToBeStuck (plain (get 2) (plain drop end)) [] silent
   -- operands
-  pub operand : GoesOn (one sum (one_i32 ∷ one_i32 ∷ one_i64 ∷ []) number_given)
-  pub operand_other : GetsStuck (one sum (one_i32 ∷ one_i64 ∷ []) number_given)
+  pub operand : GoesOn (one sum (one_i32 ∷ one_i32 ∷ one_i64 ∷ []) (number_for 2))
+  pub operand_other : GetsStuck (one sum (one_i32 ∷ one_i64 ∷ []) (number_for 2))
   pub operand_other_trap : GetsStuck (one sum (one_i32 ∷ one_i64 ∷ []) trapping)
   pub result_missing : GetsStuck (here [] end silent)
   pub result_left_over : GetsStuck (here (one_i32 ∷ one_i32 ∷ []) end silent)
@@ -111,10 +113,10 @@ pub record StuckWorked (x : ℤ) : Type 0 where
   pub branch_in_loop_other : GetsStuck (reduce outside (in_loop (one_i64 ∷ [])) silent)
   pub branch_if_other : GetsStuck (one (br_if 0) (one_i64 ∷ one_i32 ∷ []) (deciding true))
   pub branch_if_below : GetsStuck (one (br_if 0) (one_i32 ∷ one_i64 ∷ []) (deciding false))
-  pub br_table_other : GetsStuck (one br_table (one_i64 ∷ one_i32 ∷ []) silent)
-  pub br_table_below : GetsStuck (one br_table (one_i32 ∷ one_i64 ∷ []) silent)
+  pub br_table_other : GetsStuck (one to_function (one_i64 ∷ one_i32 ∷ []) silent)
+  pub br_table_below : GetsStuck (one to_function (one_i32 ∷ one_i64 ∷ []) silent)
   pub return_other : GetsStuck (one (control_of control.Return) (one_i64 ∷ []) silent)
-  pub call_other : GetsStuck (one (control_of (control.Call 0)) (one_i64 ∷ []) (giving (one_i64 ∷ [])))
+  pub call_other : GetsStuck (one call (one_i64 ∷ []) (giving (one_i64 ∷ [])))
   pub call_index : GetsStuck (one (control_of (control.CallIndirect 0 2)) (one_i32 ∷ one_i32 ∷ []) (giving (one_i64 ∷ [])))
   pub return_call_other : GetsStuck (one (control_of (control.ReturnCall 0)) (one_i64 ∷ []) silent)
   pub return_call_index : GetsStuck (one (control_of (control.ReturnCallIndirect 0 2)) (one_i32 ∷ one_i32 ∷ []) silent)
@@ -132,15 +134,16 @@ pub record StuckWorked (x : ℤ) : Type 0 where
   -- what is written into tables
   pub copied : GoesOn (one init three (giving (a_function ∷ no_function ∷ [])))
   pub copied_other : GetsStuck (one init_other three (giving (ref_extern false ∷ [])))
-  pub copied_nothing : GoesOn (one init_other three silent)
-  pub copied_trap : GoesOn (one init_other three trapping)
+  pub copied_nothing : GoesOn (one init three silent)
+  pub copied_trap : GoesOn (one init three trapping)
+  pub copied_nothing_other : GetsStuck (one init_other three silent)
   pub copied_across : GetsStuck (one copy_other three (giving (ref_extern false ∷ [])))
   pub copy_operand : GetsStuck (one init (one_i32 ∷ one_i32 ∷ one_i64 ∷ []) silent)
   -- answers
   pub given_other : IsRefused (one (constant x) [] (giving (one_i64 ∷ [])))
   pub given_nothing : IsRefused (one (constant x) [] silent)
   pub given_trap : GoesOn (one (constant x) [] trapping)
-  pub handed_back_other : IsRefused (one (control_of (control.Call 0)) (one_i32 ∷ []) number_given)
+  pub handed_back_other : IsRefused (one call (one_i32 ∷ []) number_given)
   pub null_given : GoesOn (one null_of_functions [] (giving (no_function ∷ [])))
   pub no_null_given : IsRefused (one null_of_functions [] (giving (a_function ∷ [])))
   pub other_null_given : IsRefused (one null_of_functions [] (giving (ref_null false extern ∷ [])))

@@ -2,7 +2,7 @@
 use Rattle.std.proofs.Common.{◌≡◌, ◌↔◌, ◌∙◌, List, [], ◌∷◌, ◌++◌, Option, Some, refl, sym, ap, subst}
 use Rattle.wasm_operator_validator_resources.specs.expression.immediates.declared.frames.FrameKind.{FrameKind}
 use Rattle.wasm_operator_validator_resources.specs.expression.immediates.declared.frames.FrameKind.TheVariants as frames
-use Rattle.wasm_operator_validator_resources.specs.expression.control.declared.control.ControlOperator.TheVariants as control
+use Rattle.wasm_operator_validator_resources.specs.expression.groups.declared.control.ControlOperator.TheVariants as control
 use Rattle.wasm_operator_validator_resources.specs.expression.operator.Op as op
 use Rattle.wasm_operator_validator_resources.specs.expression.operator.Op.{Op}
 use Rattle.wasm_operator_validator_resources.specs.expression.operator.declared.role.Role.{Role}
@@ -11,19 +11,19 @@ use Rattle.wasm_operator_validator_resources.specs.expression.operator.declared.
 use Rattle.wasm_operator_validator_resources.specs.expression.operator.declared.role.Effect.TheVariants as effects
 use Rattle.wasm_operator_validator_resources.specs.expression.operator.Roles.{role_of, effect}
 use Rattle.wasm_operator_validator_resources.specs.expression.Code.{Code, close, plain, nested, turn, walk, IsIn}
-use Rattle.wasm_operator_validator_resources.specs.rules.Operands.{Operand, AllBelow, stack}
+use Rattle.wasm_operator_validator_resources.specs.rules.Operands.{ValueType, Operand, AllBelow, stack}
 use Rattle.wasm_operator_validator_state.specs.laws.Operands.{all_below_trans}
 use Rattle.wasm_operator_validator_resources.specs.rules.Context.{Context, Initialised, Signature, Frame, inside, label_of}
 use Rattle.wasm_operator_validator_resources.specs.rules.Row.{after}
-use Rattle.wasm_operator_validator_resources.specs.rules.Typed.{Steps, OpensFrame, entry_of, MayClose, other_part, Typed}
+use Rattle.wasm_operator_validator_resources.specs.rules.Typed.{Steps, OpensFrame, entry_of, MayClose, Turns, other_part, in_part, Typed}
 use Rattle.wasm_operator_validator_state.specs.State.{InFrame}
 
 -- code that takes operands takes those below them
 pub typed_below : (g : Context) (f : Frame) (set : Initialised) (c : Code) (s t : List Operand) → AllBelow s t → Typed g f set c t → Typed g f set c s
-typed_below g f set (close o) s t b (y, z) = (all_below_trans s t _ b y, z)
+typed_below g f set (close o) s t b (y, z, w) = (all_below_trans s t _ b y, z, w)
 typed_below g f set (plain o more) s t b (m, (popped, pushed, rest, row, c, e), y) = (m, (popped, pushed, rest, row, all_below_trans _ _ _ b c, e), y)
 typed_below g f set (nested o body more) s t b (k, bl, rest, p, c, y, z) = (k, bl, rest, p, all_below_trans _ _ _ b c, y, z)
-typed_below g f set (turn o more) s t b (y, z) = (all_below_trans s t _ b y, z)
+typed_below g f set (turn o more) s t b (ts, u, y, z) = (ts, u, all_below_trans s t _ b y, z)
 
 abbrev pub Next : Type 1
 Next = List Op → Type 0
@@ -65,7 +65,7 @@ opened_frame k b set = record { kind = k; block = b; before = set }
 abbrev pub AfterOpen : Context → Initialised → Op → FrameKind → List Operand → List Op → (Signature → List Operand → Next) → Type 0
 AfterOpen g set o k s os More =
     (b : Signature) × (rest : List Operand) × OpensFrame g o k b × AllBelow s (stack (entry_of k b) ++ rest)
-    × InFrame (inside (label_of k b) g) (opened_frame k b set) set (stack b.params) os (More b (stack b.results ++ rest))
+    × InFrame (inside k (label_of k b) g) (opened_frame k b set) set (stack b.params) os (More b (stack b.results ++ rest))
 
 append_assoc : (xs ys zs : List Op) → (xs ++ ys) ++ zs ≡ xs ++ (ys ++ zs)
 append_assoc [] ys zs = refl
@@ -80,7 +80,7 @@ in_open g f set s o k os K p = (ahead, back)
         let x : ◌≡◌ {A = Option Effect} (Some (effects.Nests k)) (Some effects.Closes) = effect_is o q f.kind (role.Opens k) _ p i cc in cc
     ahead (plain q more, rest, i, e, y, n) =
         let x : ◌≡◌ {A = Option Effect} (Some (effects.Nests k)) (Some effects.Stays) = effect_is o q f.kind (role.Opens k) _ p i.0 cc in cc
-    ahead (nested q body more, rest, (j, i, w, v), e, (l, b, under, (r, t), c, y, z), n) =
+    ahead (nested q body more, rest, (j, i, w, v), e, (l, b, under, (r, t, asked), c, y, z), n) =
         let h : q ≡ o = cc in
         let a : ◌≡◌ {A = Option Effect} (Some (effects.Nests k)) (Some (effects.Nests j)) = effect_is o q f.kind (role.Opens k) _ p i h in
         let a' : j ≡ k = cc in
@@ -89,14 +89,14 @@ in_open g f set s o k os K p = (ahead, back)
         let u : os ≡ walk body ++ (walk more ++ rest) = (let x : os ≡ (walk body ++ walk more) ++ rest = cc in x ∙ append_assoc (walk body) (walk more) rest) in (
           b,
           under,
-          subst (λ (x : Op). OpensFrame g x k b) h (r ∙ ap role.Opens d', t),
+          subst (λ (x : Op). OpensFrame g x k b) h (r ∙ ap role.Opens d', t, asked),
           subst (λ (x : FrameKind). AllBelow s (stack (entry_of x b) ++ under)) d' c,
           (
             body,
             walk more ++ rest,
             subst (λ (x : FrameKind). IsIn x body) a' w,
             u,
-            subst (λ (x : FrameKind). Typed (inside (label_of x b) g) (opened_frame x b set) set body (stack b.params)) d' y,
+            subst (λ (x : FrameKind). Typed (inside x (label_of x b) g) (opened_frame x b set) set body (stack b.params)) d' y,
             (more, rest, v, refl, z, n),
           ),
         )
@@ -123,10 +123,10 @@ else = op.Control control.Else
 
 pub in_end : (g : Context) (f : Frame) (set : Initialised) (s : List Operand) (os : List Op) (K : Next)
     → InFrame g f set s (end ∷ os) K ↔ (AllBelow s (stack f.block.results) × MayClose f.kind f.block × K os)
-in_end g f set s os K = (ahead, λ (b, m, k). (close end, os, refl, refl, (b, m), k))
+in_end g f set s os K = (ahead, λ (b, m, k). (close end, os, refl, refl, (b, m, tt), k))
   where
     ahead : InFrame g f set s (end ∷ os) K → AllBelow s (stack f.block.results) × MayClose f.kind f.block × K os
-    ahead (close q, rest, i, e, (b, m), k) = let h : rest ≡ os = cc in (b, m, subst K h k)
+    ahead (close q, rest, i, e, (b, m, asked), k) = let h : rest ≡ os = cc in (b, m, subst K h k)
     ahead (plain q more, rest, i, e, y, k) =
         let x : ◌≡◌ {A = Option Effect} (Some effects.Closes) (Some effects.Stays) = effect_is end q f.kind role.End _ refl i.0 cc in cc
     ahead (nested q body more, rest, (j, i, w, v), e, y, k) =
@@ -147,24 +147,28 @@ else_turns frames.LegacyCatch e h = cc
 else_turns frames.LegacyCatchAll e h = cc
 
 pub in_else : (g : Context) (f : Frame) (set : Initialised) (s : List Operand) (os : List Op) (K : Next)
-    → InFrame g f set s (else ∷ os) K ↔ ((f.kind ≡ frames.If) × AllBelow s (stack f.block.results) × InFrame g (other_part f) f.before (stack f.block.params) os K)
+    → InFrame g f set s (else ∷ os) K ↔ ((f.kind ≡ frames.If) × AllBelow s (stack f.block.results) × InFrame g (other_part else f) f.before (stack f.block.params) os K)
 in_else g f set s os K = (ahead, back)
   where
-    ahead : InFrame g f set s (else ∷ os) K → (f.kind ≡ frames.If) × AllBelow s (stack f.block.results) × InFrame g (other_part f) f.before (stack f.block.params) os K
+    ahead : InFrame g f set s (else ∷ os) K → (f.kind ≡ frames.If) × AllBelow s (stack f.block.results) × InFrame g (other_part else f) f.before (stack f.block.params) os K
     ahead (close q, rest, i, e, y, k) =
         let x : effects.Closes ≡ effects.Turns frames.Else = (else_turns f.kind _ (effect_is else q f.kind role.Else _ refl i cc)).1 in cc
     ahead (plain q more, rest, i, e, y, k) =
         let x : effects.Stays ≡ effects.Turns frames.Else = (else_turns f.kind _ (effect_is else q f.kind role.Else _ refl i.0 cc)).1 in cc
     ahead (nested q body more, rest, (j, i, w, v), e, y, k) =
         let x : effects.Nests j ≡ effects.Turns frames.Else = (else_turns f.kind _ (effect_is else q f.kind role.Else _ refl i cc)).1 in cc
-    ahead (turn q more, rest, (j, i, w), e, (b, y), k) =
+    ahead (turn q more, rest, (j, i, w), e, (ts, begins, b, y), k) =
         let t = else_turns f.kind _ (effect_is else q f.kind role.Else _ refl i cc) in
         let u : j ≡ frames.Else = let x = t.1 in cc in
-        (t.0, b, (more, rest, subst (λ (x : FrameKind). IsIn x more) u w, cc, y, k))
+        let h : q ≡ else = cc in
+        let v : ts ≡ f.block.params = subst (λ (x : Op). Turns g f.block x ts) h begins in
+        let y' = subst (λ (x : Op). Typed (in_part x g) (other_part x f) f.before more (stack ts)) h y in
+        let y'' = subst (λ (us : List ValueType). Typed g (other_part else f) f.before more (stack us)) v y' in
+        (t.0, b, (more, rest, subst (λ (x : FrameKind). IsIn x more) u w, cc, y'', k))
 
-    back : (f.kind ≡ frames.If) × AllBelow s (stack f.block.results) × InFrame g (other_part f) f.before (stack f.block.params) os K → InFrame g f set s (else ∷ os) K
+    back : (f.kind ≡ frames.If) × AllBelow s (stack f.block.results) × InFrame g (other_part else f) f.before (stack f.block.params) os K → InFrame g f set s (else ∷ os) K
     back (h, b, (c, rest, i, e, y, k)) =
-        (turn else c, rest, (frames.Else, ap (effect role.Else) h, i), ap (λ (xs : List Op). else ∷ xs) e, (b, y), k)
+        (turn else c, rest, (frames.Else, ap (effect role.Else) h, i), ap (λ (xs : List Op). else ∷ xs) e, (f.block.params, refl, b, y), k)
 
 -- ---- beside operators
 

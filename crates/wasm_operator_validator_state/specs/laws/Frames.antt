@@ -7,7 +7,7 @@ use Rattle.wasm_operator_validator_resources.specs.expression.operator.Op.{Op}
 use Rattle.wasm_operator_validator_resources.specs.expression.operator.declared.role.Role.TheVariants as role
 use Rattle.wasm_operator_validator_resources.specs.expression.operator.Roles.{role_of}
 use Rattle.wasm_operator_validator_resources.specs.rules.Operands.{Operand, AllBelow, stack}
-use Rattle.wasm_operator_validator_resources.specs.rules.Context.{Context, Initialised, Signature, inside, label_of}
+use Rattle.wasm_operator_validator_resources.specs.rules.Context.{Context, Initialised, Signature, inside, is_catch, label_of}
 use Rattle.wasm_operator_validator_resources.specs.rules.Typed.{OpensFrame, entry_of}
 use Rattle.wasm_operator_validator_resources.specs.Meaning.{Meaning}
 use Rattle.wasm_operator_validator_state.specs.declared.operand.MaybeType.{MaybeType}
@@ -59,11 +59,11 @@ left_open m w [] set s o k os p i = absurd i
 left_open m w (f ∷ outer) set s o k os p i = in_open _ (frame_of m w f) set s o k os _ p
 
 begun_context : (m : Meaning) (w : Given) (k : FrameKind) (bt : BlockType) (inits : List ℕ) (opens : List Open) → IsOpen opens
-    → context m w (begun k bt inits ∷ opens) ≡ inside (label_of k (signature_of m bt)) (context m w opens)
+    → context m w (begun k bt inits ∷ opens) ≡ inside k (label_of k (signature_of m bt)) (context m w opens)
 begun_context m w k bt inits [] i = absurd i
 begun_context m w k bt inits (p ∷ outer) i = refl
 
-covers_nothing : (m : Meaning) (s : List Operand) → Covers m false [] s → s ≡ []
+pub covers_nothing : (m : Meaning) (s : List Operand) → Covers m false [] s → s ≡ []
 covers_nothing m [] c = refl
 covers_nothing m (t ∷ s) c = absurd c
 
@@ -76,7 +76,7 @@ Body m σ k bt os g s Next =
 abbrev pub BeginsOver : Meaning → State → FrameKind → BlockType → List Op → Type 0
 BeginsOver m σ k bt os =
     (rest : List Operand) × Stacks m σ rest
-    × Body m σ k bt os (inside (label_of k (signature_of m bt)) (context m σ.given σ.opens)) (stack (signature_of m bt).params)
+    × Body m σ k bt os (inside k (label_of k (signature_of m bt)) (context m σ.given σ.opens)) (stack (signature_of m bt).params)
     (λ later. Left m σ.given σ.opens (initialised m σ.given σ.inits) (stack (signature_of m bt).results ++ rest) later)
 
 begins_over : (m : Meaning) (σ : State) (k : FrameKind) (bt : BlockType) (os : List Op) → IsOpen σ.opens
@@ -101,7 +101,7 @@ begins_over m σ k bt os i = (ahead, back)
 
     back : (σ.failed ≡ false) × BeginsOver m σ k bt os → BeginsFrame m σ k bt os
     back (f, (rest, d, (code, later, in_it, e, typed, l))) =
-        let x : Body m σ k bt os (inside (label_of k (signature_of m bt)) (context m σ.given σ.opens)) (stack (signature_of m bt).params)
+        let x : Body m σ k bt os (inside k (label_of k (signature_of m bt)) (context m σ.given σ.opens)) (stack (signature_of m bt).params)
         (λ later. ClosesAll m σ.given (stack (signature_of m bt).results) σ.opens (initialised m σ.given σ.inits) later) =
         (code, later, in_it, e, typed, (more later).1 (rest, d, l)) in
         let x' = subst (λ (g : Context). Body m σ k bt os g (stack (signature_of m bt).params)
@@ -110,20 +110,43 @@ begins_over m σ k bt os i = (ahead, back)
         (λ later. ClosesAll m σ.given (stack (signature_of m bt).results) σ.opens (initialised m σ.given σ.inits) later)) (sym (append-nil (stack (signature_of m bt).params))) x' in
         (f, ([], tt, x''))
 
--- an opener carries a type that means this and nothing else
-abbrev pub Means : Meaning → Given → Op → FrameKind → Signature → Type 0
-Means m w o k b = (opens : List Open) (c : Signature) → OpensFrame (context m w opens) o k c ↔ (c ≡ b)
+-- an opener carries a type that means this and nothing else within these frames
+abbrev pub Means : Meaning → Given → List Open → Op → FrameKind → Signature → Type 0
+Means m w opens o k b = (c : Signature) → OpensFrame (context m w opens) o k c ↔ (c ≡ b)
+
+-- the context in an innermost frame by its kind
+abbrev pub context_by : Meaning → Given → BlockType → List Open → FrameKind → Context
+context_by m w bt outer k = record {
+  bits = w.bits;
+  «module» = m.«module»;
+  locals = types_in m w.locals;
+  labels = label_of k (signature_of m bt) ∷ map (label m) outer;
+  catches = is_catch k ∷ map (λ o. is_catch o.kind) outer;
+  results = last_of ((signature_of m bt).results ∷ map (results m) outer);
+  shared = w.shared;
+}
+
+same_by : (P : BlockType → List Open → FrameKind → Context) (b c : BlockType) (os ps : List Open) (k l : FrameKind) → c ≡ b → ps ≡ os → l ≡ k → P b os k ≡ P c ps l
+same_by P b c os ps k l e f g = rw (e, f, g) refl
+
+-- operands make no difference to the context
+same_context : (m : Meaning) (w : Given) (os ps : List Open) → SameFrames os ps → context m w os ≡ context m w ps
+same_context m w [] ps b = absurd b
+same_context m w (o ∷ outer) [] b = absurd b
+same_context m w (o ∷ outer) (p ∷ others) (k, bl, be, ot) = same_by (context_by m w) o.block p.block outer others o.kind p.kind bl ot k
 
 -- what an opener takes was taken off: what goes on is the frame that begins
-pub opened : (m : Meaning) (σ ρ : State) (o : Op) (k : FrameKind) (bt : BlockType) → role_of o ≡ role.Opens k → Means m σ.given o k (signature_of m bt)
+pub opened : (m : Meaning) (σ ρ : State) (o : Op) (k : FrameKind) (bt : BlockType) → role_of o ≡ role.Opens k → Means m σ.given σ.opens o k (signature_of m bt)
     → Popped m σ (stack (entry_of k (signature_of m bt))) ρ → (os : List Op) → Accepts m σ (o ∷ os) ↔ BeginsFrame m ρ k bt os
 opened m σ ρ o k bt r means p os = (λ x. (begins_over m ρ k bt os both.1).1 (ahead x), λ x. back ((begins_over m ρ k bt os both.1).0 x))
   where
     both : IsOpen σ.opens × IsOpen ρ.opens
     both = same_open σ.opens ρ.opens p.same.frames
 
-    means' : Means m ρ.given o k (signature_of m bt)
-    means' = subst (λ (w : Given). Means m w o k (signature_of m bt)) (sym p.same.given) means
+    means' : Means m ρ.given ρ.opens o k (signature_of m bt)
+    means' =
+        subst (λ (w : Given). Means m w ρ.opens o k (signature_of m bt)) (sym p.same.given)
+        (subst (λ (g : Context). (c : Signature) → OpensFrame g o k c ↔ (c ≡ signature_of m bt)) (same_context m σ.given σ.opens ρ.opens p.same.frames) means)
 
     ahead : Accepts m σ (o ∷ os) → (ρ.failed ≡ false) × BeginsOver m ρ k bt os
     ahead (f, x) =
@@ -131,9 +154,9 @@ opened m σ ρ o k bt r means p os = (λ x. (begins_over m ρ k bt os both.1).1 
         let n = moved m σ.given ρ.given σ.inits ρ.inits σ.opens s (o ∷ os) (sym p.same.given) (sym p.same.inits) l in
         let q = (same_left m ρ.given σ.opens ρ.opens _ s (o ∷ os) p.same.frames).0 n in
         let (b, rest, op, below, inner) = (left_open m ρ.given ρ.opens (initialised m ρ.given ρ.inits) s o k os r both.1).0 q in
-        let e = (means' ρ.opens b).0 op in
+        let e = (means' b).0 op in
         let (below', inner') = subst (λ (v : Signature). AllBelow s (stack (entry_of k v) ++ rest)
-        × InFrame (inside (label_of k v) (context m ρ.given ρ.opens)) (opened_frame k v (initialised m ρ.given ρ.inits)) (initialised m ρ.given ρ.inits) (stack v.params) os
+        × InFrame (inside k (label_of k v) (context m ρ.given ρ.opens)) (opened_frame k v (initialised m ρ.given ρ.inits)) (initialised m ρ.given ρ.inits) (stack v.params) os
         (λ later. Left m ρ.given ρ.opens (initialised m ρ.given ρ.inits) (stack v.results ++ rest) later)) e (below, inner) in
         (p.same.failed ∙ f, (rest, (p.stacks rest).0 (stacks_below m σ.opens s _ c below'), inner'))
 
@@ -141,7 +164,7 @@ opened m σ ρ o k bt r means p os = (λ x. (begins_over m ρ k bt os both.1).1 
     back (f, (rest, d, inner)) =
         let s = stack (entry_of k (signature_of m bt)) ++ rest in
         let q = (left_open m ρ.given ρ.opens (initialised m ρ.given ρ.inits) s o k os r both.1).1
-        (signature_of m bt, rest, (means' ρ.opens (signature_of m bt)).1 refl, all_below_refl s, inner) in
+        (signature_of m bt, rest, (means' (signature_of m bt)).1 refl, all_below_refl s, inner) in
         let l = (same_left m ρ.given σ.opens ρ.opens _ s (o ∷ os) p.same.frames).1 q in
         let n = moved m ρ.given σ.given ρ.inits σ.inits σ.opens s (o ∷ os) p.same.given p.same.inits l in
         (sym p.same.failed ∙ f, (closes_left m σ.given [] σ.opens _ (o ∷ os) both.0).1 (s, (p.stacks rest).1 d, n))
@@ -166,17 +189,6 @@ IsIfTop (o ∷ outer) = o.kind ≡ frames.If
 abbrev pub AfterElse : Meaning → Given → List Open → List Op → Type 0
 AfterElse m w [] os = ⊥
 AfterElse m w (o ∷ outer) os = ClosesAll m w (stack (signature_of m o.block).params) (begun frames.Else o.block o.before ∷ outer) (initialised m w o.before) os
-
--- the context in an innermost frame by its kind
-abbrev context_by : Meaning → Given → BlockType → List Open → FrameKind → Context
-context_by m w bt outer k = record {
-  bits = w.bits;
-  «module» = m.«module»;
-  locals = types_in m w.locals;
-  labels = label_of k (signature_of m bt) ∷ map (label m) outer;
-  results = last_of ((signature_of m bt).results ∷ map (results m) outer);
-  shared = w.shared;
-}
 
 -- the two parts of an `if` are in one context
 else_context : (m : Meaning) (w : Given) (o : Open) (outer : List Open) → o.kind ≡ frames.If → context m w (o ∷ outer) ≡ context m w (begun frames.Else o.block o.before ∷ outer)
@@ -254,13 +266,13 @@ finished m σ ρ f τ p l =
 pub finishes : (m : Meaning) (σ ρ : State) → Popped m σ (results_of m σ.opens) ρ → Stacks m σ (results_of m σ.opens) → IsBare ρ.opens
 finishes m σ ρ p c = bare m ρ.opens ((p.stacks []).0 (subst (λ (v : List Operand). Stacks m σ v) (sym (append-nil (results_of m σ.opens))) c))
 
-end_left : (m : Meaning) (w : Given) (opens ps : List Open) (ρ : State) (f : OpenFrame) (τ : State) (os : List Op) → SameFrames opens ps → LeavesTo ps ρ f τ → ρ.given ≡ w
+pub end_left : (m : Meaning) (w : Given) (opens ps : List Open) (ρ : State) (f : OpenFrame) (τ : State) (os : List Op) → SameFrames opens ps → LeavesTo ps ρ f τ → ρ.given ≡ w
     → AfterEnd m w opens os ↔ ClosesAll m τ.given (results_of m opens) τ.opens (initialised m τ.given τ.inits) os
 end_left m w [] ps ρ f τ os s l e = absurd s
 end_left m w (o ∷ outer) [] ρ f τ os s l e = absurd s
 end_left m w (o ∷ outer) (p ∷ others) ρ f τ os s l e = rw (l.3, e, s.2, s.3) (λ x. x, λ x. x)
 
-left_failed : (ps : List Open) (ρ : State) (f : OpenFrame) (τ : State) → LeavesTo ps ρ f τ → τ.failed ≡ ρ.failed
+pub left_failed : (ps : List Open) (ρ : State) (f : OpenFrame) (τ : State) → LeavesTo ps ρ f τ → τ.failed ≡ ρ.failed
 left_failed [] ρ f τ l = absurd l
 left_failed (p ∷ others) ρ f τ l = ap (λ (x : State). x.failed) l.3
 

@@ -3,7 +3,7 @@ use Rattle.std.specs.Prelude.{false, List, [], ◌∷◌, None}
 use Rattle.wasm_types.specs.values.declared.value.ValType.TheVariants.{I32}
 use Rattle.wasm_operator_validator_resources.specs.expression.immediates.declared.block.BlockType.{BlockType}
 use Rattle.wasm_operator_validator_resources.specs.expression.immediates.declared.block.BlockType.TheVariants as block
-use Rattle.wasm_operator_validator_resources.specs.expression.control.declared.control.ControlOperator.TheVariants as control
+use Rattle.wasm_operator_validator_resources.specs.expression.groups.declared.control.ControlOperator.TheVariants as control
 use Rattle.wasm_operator_validator_resources.specs.expression.operator.Op as op
 use Rattle.wasm_operator_validator_resources.specs.expression.operator.Op.{Op}
 use Rattle.wasm_operator_validator_resources.specs.Meaning.{Meaning}

@@ -3,14 +3,14 @@
 use Rattle.std.specs.Prelude.{List, [], ◌∷◌}
 use Rattle.wasm_operators_operator.specs.immediates.Kinds.{Types, Functions, Tables, Memories, Globals, Locals, Tags, Elements, DataSegments, Fields, Plain, Atomic, ReadModifyWrite}
 use Rattle.wasm_operators_operator.specs.immediates.Immediates.{Index, IndexOrZero, Label, Block, BranchTable, MemoryArgument, MemoryOrdering, Heap, CastBranch, ValueTypes, I32Constant, I64Constant, F32Constant, F64Constant, V128Constant, Lane, Lanes, Count, TryTable, Handlers, ZeroByte}
-use Rattle.wasm_operators_operator.specs.control.declared.control.ControlOperator.TheVariants as control
-use Rattle.wasm_operators_operator.specs.memory.declared.memory.MemoryOperator.TheVariants as memory
-use Rattle.wasm_operators_operator.specs.memory.declared.constant.ConstOperator.TheVariants as const
-use Rattle.wasm_operators_operator.specs.memory.declared.bulk.BulkOperator.TheVariants as bulk
-use Rattle.wasm_operators_operator.specs.gc.declared.gc.GcOperator.TheVariants as gc
-use Rattle.wasm_operators_operator.specs.gc.declared.gc.DescriptorOperator.TheVariants as descriptor
-use Rattle.wasm_operators_operator.specs.threads.declared.atomic.AtomicOperator.TheVariants as atomic
-use Rattle.wasm_operators_operator.specs.threads.declared.atomic.SharedOperator.TheVariants as shared
+use Rattle.wasm_operators_operator.specs.groups.declared.control.ControlOperator.TheVariants as control
+use Rattle.wasm_operators_operator.specs.groups.declared.memory.MemoryOperator.TheVariants as memory
+use Rattle.wasm_operators_operator.specs.groups.declared.constant.ConstOperator.TheVariants as const
+use Rattle.wasm_operators_operator.specs.groups.declared.bulk.BulkOperator.TheVariants as bulk
+use Rattle.wasm_operators_operator.specs.groups.declared.gc.GcOperator.TheVariants as gc
+use Rattle.wasm_operators_operator.specs.groups.declared.gc.DescriptorOperator.TheVariants as descriptor
+use Rattle.wasm_operators_operator.specs.groups.declared.atomic.AtomicOperator.TheVariants as atomic
+use Rattle.wasm_operators_operator.specs.groups.declared.atomic.SharedOperator.TheVariants as shared
 use Rattle.wasm_operators_operator.specs.vectors.declared.vector.SimdOperator.TheVariants as simd
 use Rattle.wasm_operators_operator.specs.Op as op
 use Rattle.wasm_operators_tests.specs.list.Listed.{Carried, Carries, carries, to_non_null, to_null}

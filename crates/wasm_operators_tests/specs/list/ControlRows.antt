@@ -2,7 +2,7 @@
 use Rattle.std.specs.Prelude.{List, [], ◌∷◌, codes, None}
 use Rattle.wasm_operators_operator.specs.info.declared.proposal.Proposal.TheVariants as proposal
 use Rattle.wasm_operators_operator.specs.immediates.Kinds.{Index, IndexOrZero, Label, Block, BranchTable, ValueTypes, TryTable, Handlers, Types, Functions, Tables, Tags}
-use Rattle.wasm_operators_operator.specs.control.declared.control.ControlOperator.TheVariants as control
+use Rattle.wasm_operators_operator.specs.groups.declared.control.ControlOperator.TheVariants as control
 use Rattle.wasm_operators_operator.specs.Op as op
 use Rattle.wasm_operators_tests.specs.list.Listed.{Carried, Listed, listed}
 

@@ -1,8 +1,8 @@
 -- `==` of operators and of tables of labels, worked.
 use Rattle.std.specs.Prelude.{◌≡◌, true, false, [], ◌∷◌, pos, negsuc}
 use Rattle.wasm_operators_operator.specs.immediates.Tables.{same_labels}
-use Rattle.wasm_operators_operator.specs.memory.declared.constant.ConstOperator.TheVariants as const
-use Rattle.wasm_operators_operator.specs.control.declared.control.ControlOperator.TheVariants as control
+use Rattle.wasm_operators_operator.specs.groups.declared.constant.ConstOperator.TheVariants as const
+use Rattle.wasm_operators_operator.specs.groups.declared.control.ControlOperator.TheVariants as control
 use Rattle.wasm_operators_operator.specs.declared.operator.Operator.TheVariants as operator
 use Rattle.wasm_operators_operator.specs.contracts.operator.OperatorPartialEq.TheImpl as equality
 

@@ -2,7 +2,7 @@
 -- instructions; the older exceptions by their proposal).
 use Rattle.std.specs.Prelude.{◌≡◌, true, false, Some, None}
 use Rattle.wasm_operators_operator.specs.immediates.declared.frames.FrameKind.TheVariants.{Block, If, Else, Loop, TryTable, LegacyTry, LegacyCatch, LegacyCatchAll}
-use Rattle.wasm_operators_operator.specs.control.declared.control.ControlOperator.TheVariants as control
+use Rattle.wasm_operators_operator.specs.groups.declared.control.ControlOperator.TheVariants as control
 use Rattle.wasm_operators_operator.specs.Op as op
 use Rattle.wasm_operators_operator.specs.Roles.{fits}
 

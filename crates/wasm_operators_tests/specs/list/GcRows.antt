@@ -2,8 +2,8 @@
 use Rattle.std.specs.Prelude.{List, [], ◌∷◌, codes, Some, None}
 use Rattle.wasm_operators_operator.specs.info.declared.proposal.Proposal.TheVariants as proposal
 use Rattle.wasm_operators_operator.specs.immediates.Kinds.{Index, Heap, CastBranch, Count, Types, Elements, DataSegments, Fields}
-use Rattle.wasm_operators_operator.specs.gc.declared.gc.GcOperator.TheVariants as gc
-use Rattle.wasm_operators_operator.specs.gc.declared.gc.DescriptorOperator.TheVariants as descriptor
+use Rattle.wasm_operators_operator.specs.groups.declared.gc.GcOperator.TheVariants as gc
+use Rattle.wasm_operators_operator.specs.groups.declared.gc.DescriptorOperator.TheVariants as descriptor
 use Rattle.wasm_operators_operator.specs.Op as op
 use Rattle.wasm_operators_tests.specs.list.Listed.{Carried, Listed, listed}
 

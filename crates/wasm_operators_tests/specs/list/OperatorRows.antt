@@ -15,19 +15,19 @@ use Rattle.wasm_operators_operator.specs.immediates.declared.handlers.ResumeTabl
 use Rattle.wasm_operators_operator.specs.immediates.declared.frames.FrameKind.TheVariants as frames
 use Rattle.wasm_operators_operator.specs.immediates.Kinds as kind
 use Rattle.wasm_operators_operator.specs.immediates.Tables.{CatchTable, catch_table_of}
-use Rattle.wasm_operators_operator.specs.control.declared.control.ControlOperator.{ControlOperator}
-use Rattle.wasm_operators_operator.specs.control.declared.control.ControlOperator.TheVariants as control
-use Rattle.wasm_operators_operator.specs.control.declared.control.ParametricOperator.TheVariants as parametric
-use Rattle.wasm_operators_operator.specs.control.declared.exceptions.ExceptionOperator.TheVariants as exception
-use Rattle.wasm_operators_operator.specs.control.declared.continuation.ContinuationOperator.TheVariants as continuation
-use Rattle.wasm_operators_operator.specs.memory.declared.memory.MemoryOperator.{MemoryOperator}
-use Rattle.wasm_operators_operator.specs.memory.declared.constant.ConstOperator.{ConstOperator}
-use Rattle.wasm_operators_operator.specs.memory.declared.bulk.BulkOperator.{BulkOperator}
-use Rattle.wasm_operators_operator.specs.numbers.declared.numeric.NumericOperator.{NumericOperator}
-use Rattle.wasm_operators_operator.specs.gc.declared.gc.GcOperator.{GcOperator}
-use Rattle.wasm_operators_operator.specs.gc.declared.gc.DescriptorOperator.{DescriptorOperator}
-use Rattle.wasm_operators_operator.specs.threads.declared.atomic.AtomicOperator.{AtomicOperator}
-use Rattle.wasm_operators_operator.specs.threads.declared.atomic.SharedOperator.{SharedOperator}
+use Rattle.wasm_operators_operator.specs.groups.declared.control.ControlOperator.{ControlOperator}
+use Rattle.wasm_operators_operator.specs.groups.declared.control.ControlOperator.TheVariants as control
+use Rattle.wasm_operators_operator.specs.groups.declared.control.ParametricOperator.TheVariants as parametric
+use Rattle.wasm_operators_operator.specs.groups.declared.exceptions.ExceptionOperator.TheVariants as exception
+use Rattle.wasm_operators_operator.specs.groups.declared.continuation.ContinuationOperator.TheVariants as continuation
+use Rattle.wasm_operators_operator.specs.groups.declared.memory.MemoryOperator.{MemoryOperator}
+use Rattle.wasm_operators_operator.specs.groups.declared.constant.ConstOperator.{ConstOperator}
+use Rattle.wasm_operators_operator.specs.groups.declared.bulk.BulkOperator.{BulkOperator}
+use Rattle.wasm_operators_operator.specs.groups.declared.numeric.NumericOperator.{NumericOperator}
+use Rattle.wasm_operators_operator.specs.groups.declared.gc.GcOperator.{GcOperator}
+use Rattle.wasm_operators_operator.specs.groups.declared.gc.DescriptorOperator.{DescriptorOperator}
+use Rattle.wasm_operators_operator.specs.groups.declared.atomic.AtomicOperator.{AtomicOperator}
+use Rattle.wasm_operators_operator.specs.groups.declared.atomic.SharedOperator.{SharedOperator}
 use Rattle.wasm_operators_operator.specs.vectors.declared.vector.SimdOperator.{SimdOperator}
 use Rattle.wasm_operators_operator.specs.vectors.declared.vector_numeric.SimdNumericOperator.{SimdNumericOperator}
 use Rattle.wasm_operators_operator.specs.declared.operator.Operator.TheVariants as operator

@@ -2,8 +2,8 @@
 use Rattle.std.specs.Prelude.{List, [], ◌∷◌, codes, Some}
 use Rattle.wasm_operators_operator.specs.info.declared.proposal.Proposal.TheVariants as proposal
 use Rattle.wasm_operators_operator.specs.immediates.Kinds.{Index, MemoryArgument, MemoryOrdering, ZeroByte, Types, Tables, Globals, Fields, Atomic, ReadModifyWrite}
-use Rattle.wasm_operators_operator.specs.threads.declared.atomic.AtomicOperator.TheVariants as atomic
-use Rattle.wasm_operators_operator.specs.threads.declared.atomic.SharedOperator.TheVariants as shared
+use Rattle.wasm_operators_operator.specs.groups.declared.atomic.AtomicOperator.TheVariants as atomic
+use Rattle.wasm_operators_operator.specs.groups.declared.atomic.SharedOperator.TheVariants as shared
 use Rattle.wasm_operators_operator.specs.Op as op
 use Rattle.wasm_operators_tests.specs.list.Listed.{Carried, Listed, listed}
 

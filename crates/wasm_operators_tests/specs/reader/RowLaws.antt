@@ -11,7 +11,7 @@ use Rattle.wasm_operators_reader.specs.immediates.Kinds as kind
 use Rattle.wasm_operators_reader.specs.immediates.Immediates.{Immediate, Index}
 use Rattle.wasm_operators_reader.specs.operator.Op as op
 use Rattle.wasm_operators_reader.specs.operator.Op.{Drop, Select}
-use Rattle.wasm_operators_reader.specs.operator.memory.declared.memory.MemoryOperator.TheVariants as memory
+use Rattle.wasm_operators_reader.specs.operator.groups.declared.memory.MemoryOperator.TheVariants as memory
 use Rattle.wasm_operators_reader.specs.decode_encoding.Coded.{Coded}
 use Rattle.wasm_operators_reader.specs.decode_encoding.Operators.{coded_of}
 use Rattle.wasm_operators_visit_short.specs.Short.{IsTold}

@@ -7,7 +7,7 @@ use Rattle.wasm_types.specs.limits.Settings.{no_features}
 use Rattle.wasm_operators_reader.specs.immediates.declared.frames.FrameKind.TheVariants.{Block}
 use Rattle.wasm_operators_reader.specs.operator.Op as op
 use Rattle.wasm_operators_reader.specs.operator.Op.{Drop, Select}
-use Rattle.wasm_operators_reader.specs.operator.memory.declared.memory.MemoryOperator.TheVariants as memory
+use Rattle.wasm_operators_reader.specs.operator.groups.declared.memory.MemoryOperator.TheVariants as memory
 use Rattle.wasm_operators_reader.specs.operator.vectors.declared.vector.SimdOperator.TheVariants as simd
 use Rattle.wasm_operators_visit_short.specs.Short.{IsTold}
 use Rattle.wasm_operators_reader.specs.Iterating.{NextOf}

@@ -10,7 +10,7 @@ use Rattle.wasm_types.specs.reader.Reading.{Fails}
 use Rattle.wasm_operators_reader.specs.immediates.Blocks.{function_block, value_block, empty_block, block_type}
 use Rattle.wasm_operators_reader.specs.immediates.declared.block.BlockType.TheVariants.{Empty}
 use Rattle.wasm_operators_reader.specs.immediates.declared.frames.FrameKind.TheVariants.{Block}
-use Rattle.wasm_operators_reader.specs.operator.control.declared.control.ControlOperator.TheVariants as control
+use Rattle.wasm_operators_reader.specs.operator.groups.declared.control.ControlOperator.TheVariants as control
 use Rattle.wasm_operators_reader.specs.operator.Op as op
 use Rattle.wasm_operators_reader.specs.operator.Table.{info_of}
 use Rattle.wasm_operators_reader.specs.decode_encoding.Opcodes.{opcode}

@@ -7,7 +7,7 @@ use Rattle.wasm_types.specs.error.ErrorValue.{ErrorValue}
 use Rattle.wasm_types.specs.limits.Settings.{no_features}
 use Rattle.wasm_operators_reader.specs.immediates.declared.frames.FrameKind.{FrameKind}
 use Rattle.wasm_operators_reader.specs.immediates.declared.frames.FrameKind.TheVariants.{Block, If, Else}
-use Rattle.wasm_operators_reader.specs.operator.control.declared.control.ControlOperator.TheVariants as control
+use Rattle.wasm_operators_reader.specs.operator.groups.declared.control.ControlOperator.TheVariants as control
 use Rattle.wasm_operators_reader.specs.operator.Op as op
 use Rattle.wasm_operators_reader.specs.expression.Stack.{innermost}
 use Rattle.wasm_operators_reader.specs.Standing.{Standing, at_start, IsFinished, Reads, Refuses, WantsMemory, TakesMemory, Runs, Stops, StopsAfter}

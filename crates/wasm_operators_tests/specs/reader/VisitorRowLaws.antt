@@ -8,7 +8,7 @@ use Rattle.wasm_types.specs.limits.Limits.{default_limits}
 use Rattle.wasm_types.specs.limits.Settings.{no_features}
 use Rattle.wasm_types.specs.reader.Reading.{Fails}
 use Rattle.wasm_operators_reader.specs.immediates.declared.frames.FrameKind.TheVariants.{Block}
-use Rattle.wasm_operators_reader.specs.operator.control.declared.control.ControlOperator.TheVariants as control
+use Rattle.wasm_operators_reader.specs.operator.groups.declared.control.ControlOperator.TheVariants as control
 use Rattle.wasm_operators_reader.specs.operator.Op as op
 use Rattle.wasm_operators_reader.specs.operator.Roles.{role_of, fits}
 use Rattle.wasm_operators_reader.specs.operator.declared.role.Role.TheVariants.{Plain, End}

@@ -5,7 +5,7 @@ use Rattle.wasm_types.specs.decoding.Decoder.{State}
 use Rattle.wasm_types.specs.error.declared.error.ErrorKind.TheVariants.{OutOfMemory, Other}
 use Rattle.wasm_types.specs.error.ErrorValue.{ErrorValue}
 use Rattle.wasm_operators_reader.specs.immediates.declared.frames.FrameKind.TheVariants.{Block, If}
-use Rattle.wasm_operators_reader.specs.operator.control.declared.control.ControlOperator.TheVariants as control
+use Rattle.wasm_operators_reader.specs.operator.groups.declared.control.ControlOperator.TheVariants as control
 use Rattle.wasm_operators_reader.specs.operator.Op as op
 use Rattle.wasm_operators_reader.specs.operator.Table.{info_of}
 use Rattle.wasm_operators_reader.specs.Standing.{Standing}

@@ -10,12 +10,12 @@ use Rattle.wasm_operators_decode_encoding.specs.immediates.declared.handlers.Han
 use Rattle.wasm_operators_decode_encoding.specs.immediates.Handlers.{catch_table}
 use Rattle.wasm_operators_decode_encoding.specs.decode_immediates.MemoryArguments.{argument}
 use Rattle.wasm_operators_decode_encoding.specs.operator.Op as op
-use Rattle.wasm_operators_decode_encoding.specs.control.declared.control.ControlOperator.TheVariants as control
-use Rattle.wasm_operators_decode_encoding.specs.memory.declared.memory.MemoryOperator.TheVariants as memory
-use Rattle.wasm_operators_decode_encoding.specs.memory.declared.constant.ConstOperator.TheVariants as const
-use Rattle.wasm_operators_decode_encoding.specs.memory.declared.bulk.BulkOperator.TheVariants as bulk
-use Rattle.wasm_operators_decode_encoding.specs.numbers.declared.numeric.NumericOperator.TheVariants as numeric
-use Rattle.wasm_operators_decode_encoding.specs.gc.declared.gc.GcOperator.TheVariants as gc
+use Rattle.wasm_operators_decode_encoding.specs.groups.declared.control.ControlOperator.TheVariants as control
+use Rattle.wasm_operators_decode_encoding.specs.groups.declared.memory.MemoryOperator.TheVariants as memory
+use Rattle.wasm_operators_decode_encoding.specs.groups.declared.constant.ConstOperator.TheVariants as const
+use Rattle.wasm_operators_decode_encoding.specs.groups.declared.bulk.BulkOperator.TheVariants as bulk
+use Rattle.wasm_operators_decode_encoding.specs.groups.declared.numeric.NumericOperator.TheVariants as numeric
+use Rattle.wasm_operators_decode_encoding.specs.groups.declared.gc.GcOperator.TheVariants as gc
 use Rattle.wasm_operators_tests.specs.worked.Worked.{none, spells, begins, is_none, breaks_off}
 
 pub record PlainRows : Type 0 where

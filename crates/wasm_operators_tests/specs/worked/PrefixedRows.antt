@@ -9,14 +9,14 @@ use Rattle.wasm_operators_decode_encoding.specs.immediates.declared.memory.Order
 use Rattle.wasm_operators_decode_encoding.specs.immediates.declared.memory.MemArgOrdering.TheVariants.{Op}
 use Rattle.wasm_operators_decode_encoding.specs.decode_immediates.MemoryArguments.{argument}
 use Rattle.wasm_operators_decode_encoding.specs.operator.Op as op
-use Rattle.wasm_operators_decode_encoding.specs.memory.declared.bulk.BulkOperator.TheVariants as bulk
-use Rattle.wasm_operators_decode_encoding.specs.numbers.declared.numeric.NumericOperator.TheVariants as numeric
-use Rattle.wasm_operators_decode_encoding.specs.gc.declared.gc.GcOperator.TheVariants as gc
-use Rattle.wasm_operators_decode_encoding.specs.gc.declared.gc.DescriptorOperator.TheVariants as descriptor
+use Rattle.wasm_operators_decode_encoding.specs.groups.declared.bulk.BulkOperator.TheVariants as bulk
+use Rattle.wasm_operators_decode_encoding.specs.groups.declared.numeric.NumericOperator.TheVariants as numeric
+use Rattle.wasm_operators_decode_encoding.specs.groups.declared.gc.GcOperator.TheVariants as gc
+use Rattle.wasm_operators_decode_encoding.specs.groups.declared.gc.DescriptorOperator.TheVariants as descriptor
 use Rattle.wasm_operators_decode_encoding.specs.vectors.declared.vector.SimdOperator.TheVariants as simd
 use Rattle.wasm_operators_decode_encoding.specs.vectors.declared.vector_numeric.SimdNumericOperator.TheVariants as simd_numeric
-use Rattle.wasm_operators_decode_encoding.specs.threads.declared.atomic.AtomicOperator.TheVariants as atomic
-use Rattle.wasm_operators_decode_encoding.specs.threads.declared.atomic.SharedOperator.TheVariants as shared
+use Rattle.wasm_operators_decode_encoding.specs.groups.declared.atomic.AtomicOperator.TheVariants as atomic
+use Rattle.wasm_operators_decode_encoding.specs.groups.declared.atomic.SharedOperator.TheVariants as shared
 use Rattle.wasm_operators_tests.specs.worked.Worked.{none, spells, is_none, breaks_off}
 
 pub record PrefixedRows : Type 0 where

@@ -15,7 +15,7 @@ use Rattle.wasm_types.specs.externs.declared.table.TableType.{TableType}
 use Rattle.wasm_types.specs.externs.Decode.{limits_flags, table_after, table_type}
 use Rattle.wasm_types.specs.externs.Spells.{SpelledTable}
 use Rattle.wasm_types.specs.externs.DecodeLaws.{lawful-table_type, decides-table_type, lawful-limits_flags, lawful-table_after}
-use Rattle.wasm_sections_items.specs.segments.Tables.{TableTree, IsInitialised, SpelledWith, SpelledTableItem, table_of, plain, zero_after, behind_mark, mark_after, initialised, table_at, table}
+use Rattle.wasm_sections_items.specs.segments.Tables.{TableTree, SpelledInitialised, SpelledWith, SpelledTableItem, table_of, plain, zero_after, behind_mark, mark_after, initialised, table_at, table}
 
 -- ---- with a byte there it does not end here
 
@@ -110,7 +110,7 @@ module _ {C : Type 0} (e : Decoder C) where
     -- with an expression
     abbrev WithInit : TableType → Option C → List ℕ → Type 0
     WithInit t None text = ⊥
-    WithInit t (Some x) text = IsInitialised g t x text
+    WithInit t (Some x) text = SpelledInitialised g t x text
 
     abbrev Initialised : Grammar (TableTree C)
     Initialised x text = WithInit x.ty x.init text

@@ -17,7 +17,7 @@ pub record TableTree (C : Type 0) : Type 0 where
   pub init : Option C
 
 -- 0x40 0x00 tt:tabletype e:expr => (table tt e)
-pub record IsInitialised {C : Type 0} (g : Grammar C) (t : TableType) (x : C) (text : List ℕ) : Type 0 where
+pub record SpelledInitialised {C : Type 0} (g : Grammar C) (t : TableType) (x : C) (text : List ℕ) : Type 0 where
   pub type_text : List ℕ
   pub init_text : List ℕ
   pub typed : SpelledTable t type_text
@@ -27,7 +27,7 @@ pub record IsInitialised {C : Type 0} (g : Grammar C) (t : TableType) (x : C) (t
 -- a type alone, or a type and an expression
 abbrev pub SpelledWith : {C : Type 0} → Grammar C → TableType → Option C → List ℕ → Type 0
 SpelledWith g t None text = SpelledTable t text
-SpelledWith g t (Some x) text = IsInitialised g t x text
+SpelledWith g t (Some x) text = SpelledInitialised g t x text
 
 -- table ::= tt:tabletype => (table tt null) | 0x40 0x00 tt:tabletype e:expr => (table tt e) (binary format, modules, table section)
 abbrev pub SpelledTableItem : {C : Type 0} → Grammar C → Grammar (TableTree C)

@@ -1,23 +1,17 @@
 -- Calls of a parser, one after the other, over a text that comes in pieces.
 use Rattle.std.specs.Prelude.{◌≡◌, ℕ, List, [], ◌∷◌, ◌++◌, drop, Bool, true, Result, Ok}
-use Rattle.wasm_types.specs.limits.Limits.{default_limits}
-use Rattle.wasm_types.specs.limits.Settings.{Settings}
 use Rattle.wasm_types.specs.decoding.Decoder.{State}
 use Rattle.wasm_types.specs.error.ErrorValue.{ErrorValue}
 use Rattle.wasm_sections_parser.specs.declared.frame.Frame.{Frame}
-use Rattle.wasm_sections_parser.specs.declared.parser.Parser.{Parser}
+use Rattle.wasm_sections_parser.specs.Parsers.{Parser}
 use Rattle.wasm_sections_parser.specs.declared.parser.Chunk.{Chunk}
 use Rattle.wasm_sections_parser.specs.declared.parser.Chunk.TheVariants.{Parsed}
 use Rattle.wasm_sections_parser.specs.Steps.{Shape}
 use Rattle.wasm_sections_parser.specs.Parsing.{shape_of, Parses}
 
--- what a parser reads by
-abbrev pub settings_of : Parser → Settings
-settings_of p = record { features = p.features.0; limits = default_limits }
-
 -- where a parser stands in the bytes that are left, which began there
 abbrev pub stands : Parser → List ℕ → ℕ → State
-stands p rest start = record { rest = rest; place = p.offset; settings = settings_of p; start = start }
+stands p rest start = record { rest = rest; place = p.offset; settings = p.settings; start = start }
 
 -- what frames are
 abbrev pub shapes_of : List Frame → List Shape

@@ -3,7 +3,6 @@ use Rattle.std.proofs.Common.{◌≡◌, ◌⊎◌, inl, inr, ℕ, ◌+◌, ◌-
 use Rattle.std.specs.Prelude.{nat_lt, nat_le, ◌==◌}
 use Rattle.std.proofs.lemmas.Bool.{eqb-true}
 use Rattle.std.proofs.lemmas.List.{append_assoc, length-append}
-use Rattle.wasm_types.specs.limits.Limits.{default_limits}
 use Rattle.wasm_types.specs.limits.Settings.{Settings}
 use Rattle.wasm_types.specs.decoding.declared.Refusal.TheVariants.{Other}
 use Rattle.wasm_types.specs.decoding.Decoder.{Outcome, Done, Short, Fault, continue_with, IsBeyond, GoesOn}
@@ -14,7 +13,7 @@ use Rattle.wasm_types.specs.error.declared.error.ErrorKind.TheVariants as kinds
 use Rattle.wasm_types.specs.error.ErrorValue.{ErrorValue}
 use Rattle.wasm_types.specs.error.ErrorText.{hint_of}
 use Rattle.wasm_types.specs.reader.Reading.{FailsAt, IsNotMemory}
-use Rattle.wasm_sections_parser.specs.declared.parser.Parser.{Parser}
+use Rattle.wasm_sections_parser.specs.Parsers.{Parser}
 use Rattle.wasm_sections_parser.specs.declared.parser.Chunk.{Chunk}
 use Rattle.wasm_sections_parser.specs.declared.parser.Chunk.TheVariants.{NeedMoreData, Parsed}
 use Rattle.wasm_sections_parser.specs.declared.progress.Stage.{Stage}
@@ -135,7 +134,7 @@ tail_is c d xs ys i = cc
 
 module _ (p : Parser) (going : is_over p.progress ≡ false) where
   abbrev settings : Settings
-  settings = record { features = p.features.0; limits = default_limits }
+  settings = p.settings
 
   -- what comes next once more bytes stand behind
   goes_on : (text more : List ℕ) (place h : ℕ) → comes p text ≡ short place h

@@ -2,7 +2,7 @@
 use Rattle.std.specs.Prelude.{◌≡◌, ◌⊎◌, ℕ, ◌+◌, ◌-◌, ◌<◌, ◌≤◌, List, [], ◌∷◌, ◌++◌, length, true, false, Result, Ok}
 use Rattle.wasm_types.specs.decoding.Decoder.{Short, IsBeyond}
 use Rattle.wasm_types.specs.error.ErrorValue.{ErrorValue}
-use Rattle.wasm_sections_parser.specs.declared.parser.Parser.{Parser}
+use Rattle.wasm_sections_parser.specs.Parsers.{Parser}
 use Rattle.wasm_sections_parser.specs.declared.parser.Chunk.{Chunk}
 use Rattle.wasm_sections_parser.specs.declared.parser.Chunk.TheVariants.{NeedMoreData}
 use Rattle.wasm_sections_parser.specs.declared.progress.Stage.{Stage}

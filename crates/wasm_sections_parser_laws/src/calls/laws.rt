@@ -3,7 +3,7 @@
 ghost use Rattle.std.specs.Prelude.{◌≡◌, ◌+◌, ◌<◌, ◌≤◌, ℕ, Bool, List, length, false, Ok, Err};
 ghost use Rattle.wasm_types.specs.error.ErrorValue.{ErrorValue};
 ghost use Rattle.wasm_sections_parser.specs.declared.frame.Frame.{Frame};
-ghost use Rattle.wasm_sections_parser.specs.declared.parser.Parser.{Parser};
+ghost use Rattle.wasm_sections_parser.specs.Parsers.{Parser};
 ghost use Rattle.wasm_sections_parser.specs.declared.parser.Chunk.TheVariants.{Parsed};
 ghost use Rattle.wasm_sections_parser.specs.Parsing.{Parses};
 ghost use Rattle.wasm_sections_parser.specs.Steps.{is_over};

@@ -1,7 +1,7 @@
 //! Laws of what is asked for, each the contract of a function that does nothing.
 
 ghost use Rattle.std.specs.Prelude.{◌≡◌, ℕ, List, true, false, Ok};
-ghost use Rattle.wasm_sections_parser.specs.declared.parser.Parser.{Parser};
+ghost use Rattle.wasm_sections_parser.specs.Parsers.{Parser};
 ghost use Rattle.wasm_sections_parser.specs.declared.parser.Chunk.TheVariants.{NeedMoreData};
 ghost use Rattle.wasm_sections_parser.specs.Parsing.{Parses};
 ghost use Rattle.wasm_sections_parser_laws.specs.hints.Hints.{IsLeast};

@@ -2,7 +2,7 @@
 use Rattle.std.proofs.Common.{◌≡◌, ◌∙◌, List, [], ◌∷◌, refl, subst, IsTrue}
 use Rattle.wasm_types_trees.specs.Types.{ValueOf, StorageOf, i8, i16, value, FieldOf, InnerOf, function, array_of, struct_of, continuation, EntryOf}
 use Rattle.wasm_types_trees.specs.Trees.{TypeTree, opened}
-use Rattle.wasm_types_trees.specs.Below.{abstract_of, DeclaredBelow, itself, declared}
+use Rattle.wasm_types_trees.specs.Below.{abstract_above, DeclaredBelow, itself, declared}
 use Rattle.wasm_types_trees.specs.Matches.{StorageMatches, FieldMatches, FieldsMatch, ResultsMatch, InnerMatches, Matches}
 use Rattle.wasm_types_trees.specs.Chains.{IsAlike, IsSound, LinksMatch}
 use Rattle.wasm_types_trees.specs.laws.Below.{below_reflexive, below_transitive, declared_transitive}
@@ -108,7 +108,7 @@ matches_transitive x y z p q = (p.0 ∙ q.0, inner_transitive x.inner y.inner z.
 
 -- ---- chains of links that match
 
-one_constructor : (x y : InnerOf TypeTree) → InnerMatches x y → abstract_of x ≡ abstract_of y
+one_constructor : (x y : InnerOf TypeTree) → InnerMatches x y → abstract_above x ≡ abstract_above y
 one_constructor (function a b) (function c d) p = refl
 one_constructor (function a b) (array_of y) p = absurd p
 one_constructor (function a b) (struct_of ys) p = absurd p

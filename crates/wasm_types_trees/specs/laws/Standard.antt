@@ -6,7 +6,7 @@ use Rattle.wasm_types_trees.specs.Each.{EachHeap, EachValue}
 use Rattle.wasm_types_trees.specs.Trees.{TypeTree}
 use Rattle.wasm_types_trees.specs.AbstractOrder as order
 use Rattle.wasm_types_trees.specs.AbstractOrder.{AbstractBelow, same}
-use Rattle.wasm_types_trees.specs.Below.{expanded, is_shared, supertype, abstract_of, bottom_of, DeclaredBelow, itself, declared, IsBelowAbstract}
+use Rattle.wasm_types_trees.specs.Below.{expanded, is_shared, supertype, abstract_above, bottom_of, DeclaredBelow, itself, declared, IsBelowAbstract}
 use Rattle.wasm_types_trees.specs.Below.{IsAboveAbstract, HeapBelow, Below}
 use Rattle.wasm_types_trees.specs.Chains.{IsSound}
 use Rattle.wasm_types_trees.specs.Standard.{HeapMatches, reflexive, transitive, eq_any, i31_eq, struct_eq, array_eq, expansion, declaration}
@@ -19,7 +19,7 @@ use Rattle.wasm_types_trees.specs.laws.Below.{heap_reflexive, heap_transitive}
 -- what is below the top is above the bottom, among abstract types and among constructors
 record Bounds (bottom top : Abstract) : Type 0 where
   abstracts : (a : Abstract) → AbstractBelow a top → AbstractBelow bottom a
-  constructors : (i : InnerOf TypeTree) → AbstractBelow (abstract_of i) top → bottom ≡ bottom_of i
+  constructors : (i : InnerOf TypeTree) → AbstractBelow (abstract_above i) top → bottom ≡ bottom_of i
 
 any_bounds : Bounds none any
 any_bounds = record { abstracts = abstracts; constructors = constructors }
@@ -32,7 +32,7 @@ any_bounds = record { abstracts = abstracts; constructors = constructors }
     abstracts a order.array_any = order.none_array
     abstracts a order.none_any = same
 
-    constructors : (i : InnerOf TypeTree) → AbstractBelow (abstract_of i) any → none ≡ bottom_of i
+    constructors : (i : InnerOf TypeTree) → AbstractBelow (abstract_above i) any → none ≡ bottom_of i
     constructors (function ps rs) p = elim p [ ]
     constructors (array_of x) p = refl
     constructors (struct_of xs) p = refl
@@ -45,7 +45,7 @@ func_bounds = record { abstracts = abstracts; constructors = constructors }
     abstracts a same = order.nofunc_func
     abstracts a order.nofunc_func = same
 
-    constructors : (i : InnerOf TypeTree) → AbstractBelow (abstract_of i) func → nofunc ≡ bottom_of i
+    constructors : (i : InnerOf TypeTree) → AbstractBelow (abstract_above i) func → nofunc ≡ bottom_of i
     constructors (function ps rs) p = refl
     constructors (array_of x) p = elim p [ ]
     constructors (struct_of xs) p = elim p [ ]
@@ -58,7 +58,7 @@ exn_bounds = record { abstracts = abstracts; constructors = constructors }
     abstracts a same = order.noexn_exn
     abstracts a order.noexn_exn = same
 
-    constructors : (i : InnerOf TypeTree) → AbstractBelow (abstract_of i) exn → noexn ≡ bottom_of i
+    constructors : (i : InnerOf TypeTree) → AbstractBelow (abstract_above i) exn → noexn ≡ bottom_of i
     constructors (function ps rs) p = elim p [ ]
     constructors (array_of x) p = elim p [ ]
     constructors (struct_of xs) p = elim p [ ]
@@ -71,7 +71,7 @@ extern_bounds = record { abstracts = abstracts; constructors = constructors }
     abstracts a same = order.noextern_extern
     abstracts a order.noextern_extern = same
 
-    constructors : (i : InnerOf TypeTree) → AbstractBelow (abstract_of i) extern → noextern ≡ bottom_of i
+    constructors : (i : InnerOf TypeTree) → AbstractBelow (abstract_above i) extern → noextern ≡ bottom_of i
     constructors (function ps rs) p = elim p [ ]
     constructors (array_of x) p = elim p [ ]
     constructors (struct_of xs) p = elim p [ ]
@@ -84,7 +84,7 @@ cont_bounds = record { abstracts = abstracts; constructors = constructors }
     abstracts a same = order.nocont_cont
     abstracts a order.nocont_cont = same
 
-    constructors : (i : InnerOf TypeTree) → AbstractBelow (abstract_of i) cont → nocont ≡ bottom_of i
+    constructors : (i : InnerOf TypeTree) → AbstractBelow (abstract_above i) cont → nocont ≡ bottom_of i
     constructors (function ps rs) p = elim p [ ]
     constructors (array_of x) p = elim p [ ]
     constructors (struct_of xs) p = elim p [ ]
@@ -163,13 +163,13 @@ module _ (V : TypeTree → Type 0) (sound : (t : TypeTree) → V t → IsSound t
       (subst (λ (r : Bool). HeapMatches V (concrete u) (abstract r a)) e (transitive tt expansion (abstract_matches (is_shared u) _ a p)))
 
   -- what is below the abstract type of a constructor is above its bottom
-  bottom_matches : (s : Bool) (i : InnerOf TypeTree) (h : HeapOf TypeTree) → HeapMatches V h (abstract s (abstract_of i)) → HeapMatches V (abstract s (bottom_of i)) h
+  bottom_matches : (s : Bool) (i : InnerOf TypeTree) (h : HeapOf TypeTree) → HeapMatches V h (abstract s (abstract_above i)) → HeapMatches V (abstract s (bottom_of i)) h
   bottom_matches s (function ps rs) h p = nofunc_below p
   bottom_matches s (array_of x) h p = none_below (transitive tt p (transitive tt array_eq eq_any))
   bottom_matches s (struct_of xs) h p = none_below (transitive tt p (transitive tt struct_eq eq_any))
   bottom_matches s (continuation f) h p = nocont_below p
 
-  above_abstract_matches : (u : TypeTree) (s : Bool) (a : Abstract) (h : HeapOf TypeTree) → HeapMatches V h (abstract (is_shared u) (abstract_of (expanded u)))
+  above_abstract_matches : (u : TypeTree) (s : Bool) (a : Abstract) (h : HeapOf TypeTree) → HeapMatches V h (abstract (is_shared u) (abstract_above (expanded u)))
       → IsAboveAbstract u s a → HeapMatches V (abstract s a) h
   above_abstract_matches u s a h m p =
       subst₂ (λ (r : Bool) (b : Abstract). HeapMatches V (abstract r b) h) (sym (p u itself).0) (sym (p u itself).1) (bottom_matches (is_shared u) (expanded u) h m)

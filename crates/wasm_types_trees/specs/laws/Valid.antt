@@ -9,7 +9,7 @@ use Rattle.wasm_types_limits.specs.Settings.{Settings}
 use Rattle.wasm_types_trees.specs.Types.{ValueOf, EntryOf, entry_of_subtype, entry_map}
 use Rattle.wasm_types_trees.specs.Each.{EachOption, EachValue, EachEntry}
 use Rattle.wasm_types_trees.specs.Trees.{GroupTree, local, type_of, group_tree, TypeTree, type_meant, past_the_end, opened}
-use Rattle.wasm_types_trees.specs.Unfold.{Reference, Local, Earlier, Entry, reference_tree, unfolded}
+use Rattle.wasm_types_trees.specs.Unfold.{GroupReference, Local, Earlier, Entry, reference_tree, unfolded}
 use Rattle.wasm_types_trees.specs.Below.{supertype, DeclaredBelow, itself, declared, Below}
 use Rattle.wasm_types_trees.specs.Matches.{Matches}
 use Rattle.wasm_types_trees.specs.ValidGroup.{Written, written_entries, canonical_at, reference_at, type_at, written_tree, types_from, types_of}
@@ -95,7 +95,7 @@ module _ (space : List TypeTree) (g : Written) where
   meant_old : (i : ℕ) → i < length space → Contains all_types (meant i)
   meant_old i lt =
       let e : reference_at (length space) i ≡ Earlier i = rw (lt-ltb i (length space) lt) refl in
-      subst (λ (r : Reference). Contains all_types (type_meant (written_tree space g) (reference_tree (type_at space) r))) (sym e)
+      subst (λ (r : GroupReference). Contains all_types (type_meant (written_tree space g) (reference_tree (type_at space) r))) (sym e)
       (Contains-append_left space (types_of space g) _ (Contains-get_or space i _ lt))
 
   meant_new : (i : ℕ) → length space ≤ i → i < length space + length g.types → Contains all_types (meant i)
@@ -105,7 +105,7 @@ module _ (space : List TypeTree) (g : Written) where
       let t : TypeTree = record { group = written_tree space g; place = k } in
       let at : get_or (types_of space g) k t ≡ t = get_types (written_tree space g) 0 (length g.types) k t (omega arith) ∙ ap
       (λ (p : ℕ). record { group = written_tree space g; place = p }) (omega arith) in
-      subst (λ (r : Reference). Contains all_types (type_meant (written_tree space g) (reference_tree (type_at space) r))) (sym e)
+      subst (λ (r : GroupReference). Contains all_types (type_meant (written_tree space g) (reference_tree (type_at space) r))) (sym e)
       (Contains-append_right space (types_of space g) t
       (subst (Contains (types_of space g)) at (Contains-get_or (types_of space g) k t (omega (arith, length_types (written_tree space g) 0 (length g.types))))))
 

@@ -11,8 +11,19 @@ read = record {
   two = record { taken = refl; named = refl };
   behind_dashes = record { taken = refl; named = refl };
   help = refl;
+  version = refl;
   none = refl;
   unknown = refl;
+  no_list = record { names = record { taken = refl; named = refl }; features_are = refl; limits_are = refl };
+  list = record { names = record { taken = refl; named = refl }; features_are = refl; limits_are = refl };
+  list_behind = record { names = record { taken = refl; named = refl }; features_are = refl; limits_are = refl };
+  list_in_one_word = record { names = record { taken = refl; named = refl }; features_are = refl; limits_are = refl };
+  empty_list = record { names = record { taken = refl; named = refl }; features_are = refl; limits_are = refl };
+  two_lists = refl;
+  list_lacks = refl;
+  limits = record { names = record { taken = refl; named = refl }; features_are = refl; limits_are = refl };
+  limits_in_one_word = record { names = record { taken = refl; named = refl }; features_are = refl; limits_are = refl };
+  two_limits = refl;
 }
 
 pub returns : goal.returns

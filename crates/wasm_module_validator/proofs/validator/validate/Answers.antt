@@ -1,12 +1,12 @@
-use Rattle.std.proofs.Common.{ℕ, subst}
+use Rattle.std.proofs.Common.{subst}
 use Rattle.wasm_types.specs.error.Denials.{Tells}
+use Rattle.wasm_types.specs.limits.Settings.{Settings}
 use Rattle.wasm_module_validator_sharing.specs.reading.progress.standing.steps.contexts.rules.Accepts.{AcceptsUnder}
-use Rattle.wasm_module_validator_sharing.specs.reading.Reading.{under}
 use Rattle.wasm_module_validator.proofs.validator.validate.Goals as goal
 
 pub returns-clause-verdict : goal.returns-clause-verdict
 returns-clause-verdict c =
-    subst (λ (n : ℕ). Tells c.validate_all.result (AcceptsUnder (under n) c.args.bytes.now)) c.new.ensures.features c.validate_all.ensures.verdict
+    subst (λ (z : Settings). Tells c.validate_all.result (AcceptsUnder z c.args.bytes.now)) c.new.ensures.settings c.validate_all.ensures.verdict
 
 pub returns-clause-id : goal.returns-clause-id
 returns-clause-id c = rw c.new.ensures.id at c.validate_all.ensures.id

@@ -1,22 +1,25 @@
-use Rattle.std.proofs.Common.{◌≡◌, ◌∙◌, ℕ, sym, subst, arith}
-use Rattle.wasm_module_validator_functions.specs.Locals.{most, TakesSome}
+use Rattle.std.proofs.Common.{◌≡◌, ◌∙◌, ℕ, sym, ap, subst, arith}
+use Rattle.wasm_types.specs.limits.declared.Limits.{Limits}
+use Rattle.wasm_operator_validator_stacks.specs.Defining.{DefinesLocals}
+use Rattle.wasm_module_validator_functions.specs.Locals.{TakesSome}
 use Rattle.wasm_module_validator_functions.specs.laws.Reading.{takes_none, takes_more, takes_all}
-use Rattle.wasm_module_validator_functions.proofs.Limits.{most_is, within_most}
+use Rattle.wasm_module_validator_functions.proofs.Limits.{within_most}
 use Rattle.wasm_module_validator_functions.proofs.judging.take_numbers.Goals as goal
 
 pub loop-init : goal.loop-init
-loop-init c = λ m. takes_none m c.args.reader.now c.args.validator.now c.in-Some.count c.short_u32.new.self c.in-Some.ensures.found
+loop-init c = λ m. takes_none m c.args.reader.now.settings c.args.reader.now c.args.validator.now c.in-Some.count c.short_u32.new.self c.in-Some.ensures.found
 
 pub loop-preserved : goal.loop-preserved
 loop-preserved c = λ m.
     let step = c.take_group.ensures.taken c.if-not-take_group.false in
-    takes_more m c.args.reader.now c.args.validator.now c.in-Some.count c.loop.counter c.loop.reader c.take_group.new.reader c.loop.validator c.take_group.new.validator step.0
-    (c.loop.invariant m) step.1 (step.2 m)
+    takes_more m c.args.reader.now.settings c.args.reader.now c.args.validator.now c.in-Some.count c.loop.counter c.loop.reader c.take_group.new.reader c.loop.validator c.take_group.new.validator step.0
+    (c.loop.invariant m) step.1
+    (subst (λ (n : ℕ). DefinesLocals m n c.loop.validator step.0.count step.0.type c.take_group.new.validator) (ap (λ (l : Limits). l.locals) c.limits-most.ensures.value) (step.2 m))
 
 pub returns : goal.returns
 returns c = λ yes m.
     let n : c.loop.counter ≡ c.in-Some.count = omega arith in
-    let all = subst (λ (k : ℕ). TakesSome m c.args.reader.now c.args.validator.now c.in-Some.count k c.loop.reader c.loop.validator) n (c.loop.invariant m) in
-    let limit = most_is c.args.reader.now.settings c.limits.result c.most_locals-most.result c.limits.ensures.value c.most_locals-most.ensures in
-    takes_all m c.args.reader.now c.args.validator.now c.in-Some.count c.loop.reader c.loop.validator all
-    (within_most c.loop.validator.given.locals c.local.result c.most_locals-most.result (most c.args.reader.now.settings) limit c.local.ensures (sym c.is_some.ensures ∙ c.if-is_some.false))
+    let all = subst (λ (k : ℕ). TakesSome m c.args.reader.now.settings c.args.reader.now c.args.validator.now c.in-Some.count k c.loop.reader c.loop.validator) n (c.loop.invariant m) in
+    let limit = ap (λ (l : Limits). l.locals) c.limits-most.ensures.value in
+    takes_all m c.args.reader.now.settings c.args.reader.now c.args.validator.now c.in-Some.count c.loop.reader c.loop.validator all
+    (within_most c.loop.validator.given.locals c.local.result c.limits-most.result.locals c.args.reader.now.settings.limits.locals limit c.local.ensures (sym c.is_some.ensures ∙ c.if-is_some.false))

@@ -4,4 +4,4 @@ use Rattle.wasm_module_validator_functions.proofs.judging.take_numbers.Given as 
 
 -- so many groups of those that were counted were taken
 abbrev pub invariant-loop : goal.invariant-loop
-invariant-loop l = (m : Meaning) → TakesSome m l.fn.reader l.fn.validator l.count l.counter l.reader l.validator
+invariant-loop l = (m : Meaning) → TakesSome m l.fn.reader.settings l.fn.reader l.fn.validator l.count l.counter l.reader l.validator

@@ -1,26 +1,31 @@
-use Rattle.std.proofs.Common.{false, ◌≡◌, ◌∙◌, ◌+◌, ◌<◌, ◌^◌, List, [], length, refl, sym, subst, arith, Some, Result}
+use Rattle.std.proofs.Common.{false, ◌≡◌, ◌∙◌, ◌+◌, ◌<◌, ◌^◌, List, [], length, refl, sym, subst, arith, ap, Some, Result}
 use Rattle.wasm_types.specs.error.ErrorValue.{ErrorValue}
 use Rattle.wasm_sections_parser_laws.specs.calls.Runs.{fresh}
-use Rattle.wasm_sections_parser.specs.declared.parser.Parser.{Parser}
+use Rattle.wasm_sections_parser.specs.Parsers.{Parser}
 use Rattle.wasm_sections_payloads.specs.declared.payload.Payload.{Payload}
 use Rattle.wasm_sections_payloads.specs.Walking.{NextPayload}
-use Rattle.wasm_module_validator_judging.specs.progress.functions.declared.code.bodies.Body.{Body}
+use Rattle.wasm_module_validator_judging.specs.progress.adding.declared.bodies.Body.{Body}
 use Rattle.wasm_module_validator_judging.specs.progress.Progress.{Progress, IsAt}
 use Rattle.wasm_module_validator_judging.specs.progress.standing.steps.Steps.{nothing}
 use Rattle.wasm_module_validator_judging.specs.progress.laws.Growing.{grows_by_nothing, grows_further}
-use Rattle.wasm_module_validator_reading.specs.Reading.{under}
 use Rattle.wasm_module_validator_reading.specs.laws.Walking.{Goes, goes_first, goes_on, refused_payload, refused_bytes, is_read, stands_for, nothing_is_at}
 use Rattle.wasm_module_validator_reading.proofs.reading.read_module.Goals as goal
 
 pub loop-payload-init : goal.loop-payload-init
 loop-payload-init c =
-    let p : Parser = record { offset = 0; features = c.args.features; progress = fresh } in
+    let p : Parser = record { offset = 0; settings = c.args.settings.now; progress = fresh } in
     let room : 0 + length c.args.bytes.now < 2 ^ 64 = omega (arith, c) in
-    let made : c.set_features.new.self.frames ≡ p =
-    c.set_features.ensures ∙ (λ i. record { offset = c.new-parser.ensures.offset i; features = c.args.features; progress = c.new-parser.ensures.fresh i }) in
+    let set = λ (f : Parser). record f { settings = record { features = f.settings.features; limits = c.limits.result } } in
+    let made : c.set_limits.new.self.frames ≡ p =
+    c.set_limits.ensures ∙ ap set c.set_features.ensures
+    ∙ (λ i. record {
+      offset = c.new-parser.ensures.offset i;
+      settings = record { features = c.features.ensures i; limits = c.limits.ensures.value i };
+      progress = c.new-parser.ensures.fresh i;
+    }) in
     let here : c.into_iter-payload-iterator.result ≡ record { parser = p; rest = c.args.bytes.now; over = false } =
     c.into_iter-payload-iterator.ensures.into_iter_gives ∙ c.parse_all-payload-items.ensures ∙ (λ i. record { parser = made i; rest = c.args.bytes.now; over = false }) in
-    let at = subst (λ (r : Progress). IsAt (under c.args.features.0) r [] nothing) (sym c.requires) (nothing_is_at c.args.progress.now.kept.groups c.args.features.0) in (
+    let at = subst (λ (r : Progress). IsAt c.args.settings.now r [] nothing) (sym c.requires) (nothing_is_at c.args.progress.now.kept.groups c.args.settings.now) in (
       subst (λ (bs : List Body). Goes p c.args.bytes.now c.into_iter-payload-iterator.result c.args.progress.now bs) (sym c.new-bodies.ensures.items)
           (goes_first p c.args.bytes.now refl room c.into_iter-payload-iterator.result c.args.progress.now here at),
       grows_by_nothing c.args.progress.now.kept,
@@ -28,14 +33,14 @@ loop-payload-init c =
 
 pub returns-in-Err-clause-answer : goal.returns-in-Err-clause-answer
 returns-in-Err-clause-answer c =
-    let p : Parser = record { offset = 0; features = c.args.features; progress = fresh } in
+    let p : Parser = record { offset = 0; settings = c.args.settings.now; progress = fresh } in
     let room : 0 + length c.args.bytes.now < 2 ^ 64 = omega (arith, c) in
     let next = subst (λ (r : Result Payload ErrorValue). NextPayload c.loop-payload.payload-iterator (Some r) c.next.new.self) c.in-Err.is c.in-Some.ensures.steps in
     refused_bytes p c.args.bytes.now refl room c.loop-payload.payload-iterator c.next.new.self c.loop-payload.progress c.loop-payload.bodies.items c.in-Err.error c.loop-payload.invariant.0 next
 
 pub loop-payload-preserved : goal.loop-payload-preserved
 loop-payload-preserved c =
-    let p : Parser = record { offset = 0; features = c.args.features; progress = fresh } in
+    let p : Parser = record { offset = 0; settings = c.args.settings.now; progress = fresh } in
     let room : 0 + length c.args.bytes.now < 2 ^ 64 = omega (arith, c) in
     let next = subst (λ (r : Result Payload ErrorValue). NextPayload c.loop-payload.payload-iterator (Some r) c.next.new.self) c.in-Ok.is c.in-Some.ensures.steps in (
       goes_on p c.args.bytes.now refl room c.loop-payload.payload-iterator c.next.new.self c.loop-payload.progress c.loop-payload.bodies.items c.in-Ok.payload c.loop-payload.invariant.0 next
@@ -45,7 +50,7 @@ loop-payload-preserved c =
 
 pub returns-in-Err-take_payload-clause-answer : goal.returns-in-Err-take_payload-clause-answer
 returns-in-Err-take_payload-clause-answer c =
-    let p : Parser = record { offset = 0; features = c.args.features; progress = fresh } in
+    let p : Parser = record { offset = 0; settings = c.args.settings.now; progress = fresh } in
     let room : 0 + length c.args.bytes.now < 2 ^ 64 = omega (arith, c) in
     let next = subst (λ (r : Result Payload ErrorValue). NextPayload c.loop-payload.payload-iterator (Some r) c.next.new.self) c.in-Ok.is c.in-Some.ensures.steps in
     refused_payload p c.args.bytes.now refl room c.loop-payload.payload-iterator c.next.new.self c.loop-payload.progress c.loop-payload.bodies.items c.in-Ok.payload c.loop-payload.invariant.0 next
@@ -53,13 +58,13 @@ returns-in-Err-take_payload-clause-answer c =
 
 pub returns-clause-answer : goal.returns-clause-answer
 returns-clause-answer c =
-    let p : Parser = record { offset = 0; features = c.args.features; progress = fresh } in
+    let p : Parser = record { offset = 0; settings = c.args.settings.now; progress = fresh } in
     let room : 0 + length c.args.bytes.now < 2 ^ 64 = omega (arith, c) in
     is_read p c.args.bytes.now refl room c.loop-payload.payload-iterator c.next.new.self c.loop-payload.progress c.loop-payload.bodies.items c.loop-payload.invariant.0 c.in-None.ensures.steps
 
 pub returns-clause-stands : goal.returns-clause-stands
 returns-clause-stands c =
-    let p : Parser = record { offset = 0; features = c.args.features; progress = fresh } in
+    let p : Parser = record { offset = 0; settings = c.args.settings.now; progress = fresh } in
     let room : 0 + length c.args.bytes.now < 2 ^ 64 = omega (arith, c) in
     stands_for p c.args.bytes.now refl room c.loop-payload.payload-iterator c.next.new.self c.loop-payload.progress c.loop-payload.bodies.items c.loop-payload.invariant.0 c.in-None.ensures.steps
 

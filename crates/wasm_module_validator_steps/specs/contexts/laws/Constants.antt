@@ -3,18 +3,19 @@ use Rattle.std.proofs.Common.{◌≡◌, ℕ, List, [], ◌∷◌, subst, sym}
 use Rattle.std.proofs.lemmas.Option.{slice_get_within}
 use Rattle.wasm_types.specs.trees.Types.{HeapOf}
 use Rattle.wasm_types.specs.trees.Trees.{TypeTree}
-use Rattle.wasm_module_validator_rules.specs.operator_rules.expression.control.declared.control.ControlOperator.TheVariants as control
-use Rattle.wasm_module_validator_rules.specs.operator_rules.expression.memory.declared.memory.MemoryOperator.{MemoryOperator}
-use Rattle.wasm_module_validator_rules.specs.operator_rules.expression.memory.declared.memory.MemoryOperator.TheVariants as memory
-use Rattle.wasm_module_validator_rules.specs.operator_rules.expression.memory.declared.bulk.BulkOperator.{BulkOperator}
-use Rattle.wasm_module_validator_rules.specs.operator_rules.expression.memory.declared.bulk.BulkOperator.TheVariants as bulk
+use Rattle.wasm_module_validator_rules.specs.operator_rules.expression.immediates.declared.frames.FrameKind.TheVariants.{Block}
+use Rattle.wasm_module_validator_rules.specs.operator_rules.expression.groups.declared.control.ControlOperator.TheVariants as control
+use Rattle.wasm_module_validator_rules.specs.operator_rules.expression.groups.declared.memory.MemoryOperator.{MemoryOperator}
+use Rattle.wasm_module_validator_rules.specs.operator_rules.expression.groups.declared.memory.MemoryOperator.TheVariants as memory
+use Rattle.wasm_module_validator_rules.specs.operator_rules.expression.groups.declared.bulk.BulkOperator.{BulkOperator}
+use Rattle.wasm_module_validator_rules.specs.operator_rules.expression.groups.declared.bulk.BulkOperator.TheVariants as bulk
 use Rattle.wasm_module_validator_rules.specs.operator_rules.expression.operator.Op as op
 use Rattle.wasm_module_validator_rules.specs.operator_rules.expression.operator.Op.{Op}
 use Rattle.wasm_module_validator_rules.specs.operator_rules.expression.Code.{Code, close, plain, nested, turn, walk}
-use Rattle.wasm_module_validator_rules.specs.operator_rules.Operands.{ValueType, Operand, stack}
+use Rattle.wasm_module_validator_rules.specs.operator_rules.Operands.{ValueType, Operand}
 use Rattle.wasm_module_validator_rules.specs.operator_rules.Context.{Module, Context, Initialised, Signature, Frame, inside}
 use Rattle.wasm_module_validator_rules.specs.operator_rules.Row.{Row, MemoryRow, BulkRow, IsReferenceTo, of_type, of_exactly, after}
-use Rattle.wasm_module_validator_rules.specs.operator_rules.Typed.{Steps, Typed, HasType, block_type_of, other_part}
+use Rattle.wasm_module_validator_rules.specs.operator_rules.Typed.{Steps, Typed, HasType, block_type_of}
 use Rattle.wasm_module_validator_rules.specs.operator_rules.constants.Constants.{IsConstantOperator, IsConstantMemory, IsConstantReference, AreConstantOperators, constant_context, IsConstant}
 use Rattle.wasm_module_validator_rules.specs.Spaces.{referred_by, referred_in}
 use Rattle.wasm_module_validator_steps.specs.contexts.Agreement.{AgreeForConstants, MayReferToEach}
@@ -25,6 +26,7 @@ use Rattle.wasm_module_validator_steps.specs.contexts.laws.Types.{type_agrees}
 pub opens_none : (bits : ℕ) (g : Module) (count : ℕ) (c : Context) (o : Op) (b : Signature) → IsConstantOperator bits g count o → HasType c (block_type_of o) b → ⊥
 opens_none bits g count c (op.Control control.End) b k h = h
 opens_none bits g count c (op.Control o) b k h = absurd k
+opens_none bits g count c (op.Exception o) b k h = absurd k
 opens_none bits g count c o b k h = h
 
 module _ (g h : Module) where
@@ -38,7 +40,7 @@ module _ (g h : Module) where
   module _ (bits count : ℕ) (t : ValueType) where
     -- where a constant of this type is typed, in a module
     abbrev within : Module → Context
-    within x = inside (t ∷ []) (constant_context bits x t)
+    within x = inside Block (t ∷ []) (constant_context bits x t)
 
     reference_as : (x : ℕ) (u : TypeTree) (p : HeapOf TypeTree) → IsReferenceTo (within g) x u p → IsReferenceTo (within seen_as) x u p
     reference_as x u p of_type = of_type
@@ -74,11 +76,15 @@ module _ (g h : Module) where
 
     typed_as : (f : Frame) (set : Initialised) (c : Code) (s : List Operand) → AreConstantOperators bits g count (walk c) → MayReferToEach seen_as (referred_in c) → Typed (within g) f set c s
         → Typed (within seen_as) f set c s
-    typed_as f set (close o) s k m y = y
+    typed_as f set (close (op.Control control.End)) s k m y = y
+    typed_as f set (close (op.Exception o)) s k m y = absurd k.0
+    typed_as f set (close o) s k m y = absurd y.2
     typed_as f set (plain o more) s k m y =
         (y.0, steps_as set o s y.0 k.0 (each_left _ (referred_by o) (referred_in more) m) y.1, typed_as f (after o set) more y.0 k.1 (each_right _ (referred_by o) (referred_in more) m) y.2)
     typed_as f set (nested o body more) s k m y = absurd (opens_none bits g count (within g) o y.1 k.0 y.3.1)
-    typed_as f set (turn o more) s k m y = (y.0, typed_as (other_part f) f.before more (stack f.block.params) k.1 (each_right _ (referred_by o) (referred_in more) m) y.1)
+    typed_as f set (turn (op.Control control.Else) more) s k m y = absurd k.0
+    typed_as f set (turn (op.Exception o) more) s k m y = absurd k.0
+    typed_as f set (turn o more) s k m y = absurd y.1
 
     constant_as : (c : Code) → MayReferToEach seen_as (referred_in c) → IsConstant bits g count t c → IsConstant bits seen_as count t c
     constant_as c m k = record { operators = k.operators; typed = record { expression = k.typed.expression; typed = typed_as _ _ c [] k.operators m k.typed.typed } }

@@ -3,13 +3,13 @@ use Rattle.std.proofs.Common.{◌≡◌, ℕ, Bool, true, false, List, [], ◌�
 use Rattle.wasm_types.specs.trees.Types.{Number, i32, i64, number, ref}
 use Rattle.wasm_module_validator_rules.specs.operator_rules.expression.immediates.declared.frames.FrameKind.{FrameKind}
 use Rattle.wasm_module_validator_rules.specs.operator_rules.expression.immediates.declared.frames.FrameKind.TheVariants.{Block}
-use Rattle.wasm_module_validator_rules.specs.operator_rules.expression.control.declared.control.ControlOperator.TheVariants as control
-use Rattle.wasm_module_validator_rules.specs.operator_rules.expression.memory.declared.memory.MemoryOperator.{MemoryOperator}
-use Rattle.wasm_module_validator_rules.specs.operator_rules.expression.memory.declared.memory.MemoryOperator.TheVariants as memory
-use Rattle.wasm_module_validator_rules.specs.operator_rules.expression.memory.declared.bulk.BulkOperator.{BulkOperator}
-use Rattle.wasm_module_validator_rules.specs.operator_rules.expression.memory.declared.bulk.BulkOperator.TheVariants as bulk
-use Rattle.wasm_module_validator_rules.specs.operator_rules.expression.numbers.declared.numeric.NumericOperator.{NumericOperator}
-use Rattle.wasm_module_validator_rules.specs.operator_rules.expression.numbers.declared.numeric.NumericOperator.TheVariants as numeric
+use Rattle.wasm_module_validator_rules.specs.operator_rules.expression.groups.declared.control.ControlOperator.TheVariants as control
+use Rattle.wasm_module_validator_rules.specs.operator_rules.expression.groups.declared.memory.MemoryOperator.{MemoryOperator}
+use Rattle.wasm_module_validator_rules.specs.operator_rules.expression.groups.declared.memory.MemoryOperator.TheVariants as memory
+use Rattle.wasm_module_validator_rules.specs.operator_rules.expression.groups.declared.bulk.BulkOperator.{BulkOperator}
+use Rattle.wasm_module_validator_rules.specs.operator_rules.expression.groups.declared.bulk.BulkOperator.TheVariants as bulk
+use Rattle.wasm_module_validator_rules.specs.operator_rules.expression.groups.declared.numeric.NumericOperator.{NumericOperator}
+use Rattle.wasm_module_validator_rules.specs.operator_rules.expression.groups.declared.numeric.NumericOperator.TheVariants as numeric
 use Rattle.wasm_module_validator_rules.specs.operator_rules.expression.operator.Op as op
 use Rattle.wasm_module_validator_rules.specs.operator_rules.expression.operator.Op.{Op}
 use Rattle.wasm_module_validator_rules.specs.operator_rules.expression.operator.Roles.{role_of, effect}
@@ -17,11 +17,11 @@ use Rattle.wasm_module_validator_rules.specs.operator_rules.expression.operator.
 use Rattle.wasm_module_validator_rules.specs.operator_rules.expression.operator.declared.role.Effect.TheVariants as effects
 use Rattle.wasm_module_validator_rules.specs.operator_rules.expression.Code.{Code, close, plain, nested, turn, walk, IsIn}
 use Rattle.wasm_module_validator_rules.specs.operator_rules.Operands.{ValueType, Operand, bottom, some_reference, known, IsReference, OperandBelow, AllBelow, all_known, stack}
-use Rattle.wasm_module_validator_rules.specs.operator_rules.Context.{Module, Global, Context, Initialised, Frame}
+use Rattle.wasm_module_validator_rules.specs.operator_rules.Context.{Module, Global, Context, Initialised, Frame, may_use}
 use Rattle.wasm_module_validator_rules.specs.operator_rules.Numbers.{numbers, class_of, taken_by}
-use Rattle.wasm_module_validator_rules.specs.operator_rules.InstructionTypes.{InstructionType, ◌⟶◌, named, may_use}
+use Rattle.wasm_module_validator_rules.specs.operator_rules.InstructionTypes.{InstructionType, ◌⟶◌, named}
 use Rattle.wasm_module_validator_rules.specs.operator_rules.Row.{GroupRow, MemoryRow, BulkRow, after}
-use Rattle.wasm_module_validator_rules.specs.operator_rules.Typed.{Typed, other_part}
+use Rattle.wasm_module_validator_rules.specs.operator_rules.Typed.{Typed}
 use Rattle.wasm_module_validator_rules.specs.operator_rules.constants.Constants.{IsConstantOperator, IsConstantNumber, IsConstantMemory, IsConstantReference, AreConstantOperators, IsConstant}
 use Rattle.wasm_module_validator_rules.specs.Spaces.{referred_by, referred_in}
 use Rattle.wasm_module_validator_steps.specs.contexts.laws.Constants.{opens_none}
@@ -116,7 +116,7 @@ module _ (bits : ℕ) (g : Module) (count : ℕ) (c : Context) where
   operator_takes set (op.Gc o) popped pushed k r = absurd (none_some r.0 r.1)
   operator_takes set (op.Descriptor o) popped pushed k r = absurd (none_some r.0 r.1)
   operator_takes set (op.Shared o) popped pushed k r = absurd (none_some r.0 r.1)
-  operator_takes set (op.Control control.End) popped pushed k r = absurd r
+  operator_takes set (op.Control control.End) popped pushed k r = absurd (none_some r.0 r.1)
   operator_takes set o popped pushed k r = absurd k
 
   -- so a reference stays to the end
@@ -128,20 +128,17 @@ module _ (bits : ℕ) (g : Module) (count : ℕ) (c : Context) where
       let kept = reference_behind (reverse popped) rest (operator_takes set o popped pushed k.0 y.1.3.1) (reference_stays s _ y.1.4 h) in
       reference_kept f (after o set) more y.0 k.1 n y.2 (subst HasReference (sym y.1.5) (reference_under (reverse pushed) rest kept))
   reference_kept f set (nested o body more) s k n y h = opens_none bits g count c o y.1 k.0 y.3.1
-  reference_kept f set (turn o more) s k n y h = n (reference_stays s _ y.0 h)
+  reference_kept f set (turn o more) s k n y h = n (reference_stays s _ y.2 h)
 
   -- ---- which functions are named
 
-  -- what closes or turns a frame names none
+  -- what closes a frame names none
   unless_stays : (k : FrameKind) (o : Op) (e : Effect) → effect (role_of o) k ≡ Some e → (effects.Stays ≡ e → ⊥) → referred_by o ≡ []
   unless_stays k (op.Bulk o) e h n = absurd (n (same_some _ e h))
   unless_stays k o e h n = refl
 
   closes_stays : effects.Stays ≡ effects.Closes → ⊥
   closes_stays e = cc
-
-  turns_stays : (j : FrameKind) → effects.Stays ≡ effects.Turns j → ⊥
-  turns_stays j e = cc
 
   plain_names : (set : Initialised) (o : Op) (popped pushed rest : List Operand) → IsConstantOperator bits g count o → GroupRow c set o popped pushed
       → (HasReference (reverse pushed ++ rest) → ⊥) → referred_by o ≡ []
@@ -156,8 +153,9 @@ module _ (bits : ℕ) (g : Module) (count : ℕ) (c : Context) where
       let here = plain_names set o y.1.0 y.1.1 y.1.2 k.0 y.1.3.1 (λ h. reference_kept f (after o set) more y.0 k.1 n y.2 (subst HasReference (sym y.1.5) h)) in
       ap (λ (xs : List ℕ). xs ++ referred_in more) here ∙ names_none j f (after o set) more y.0 i.1 k.1 n y.2
   names_none j f set (nested o body more) s i k n y = absurd (opens_none bits g count c o y.1 k.0 y.3.1)
-  names_none j f set (turn o more) s i k n y =
-      ap (λ (xs : List ℕ). xs ++ referred_in more) (unless_stays j o (effects.Turns i.0) i.1 (turns_stays i.0)) ∙ names_none i.0 (other_part f) f.before more (stack f.block.params) i.2 k.1 n y.1
+  names_none j f set (turn (op.Control control.Else) more) s i k n y = absurd k.0
+  names_none j f set (turn (op.Exception o) more) s i k n y = absurd k.0
+  names_none j f set (turn o more) s i k n y = absurd y.1
 
 one_number : (n : Number) → HasReference (stack (number n ∷ [])) → ⊥
 one_number n (inl h) = h

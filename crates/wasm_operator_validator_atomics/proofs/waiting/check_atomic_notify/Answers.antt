@@ -1,7 +1,7 @@
 use Rattle.std.proofs.Common.{[], ◌∷◌, false}
 use Rattle.wasm_types.specs.values.declared.value.ValType.TheVariants as vals
 use Rattle.wasm_operator_validator_memory.specs.expression.info.declared.proposal.Proposal.TheVariants.{Threads}
-use Rattle.wasm_operator_validator_memory.specs.expression.threads.declared.atomic.AtomicOperator.TheVariants as atomic
+use Rattle.wasm_operator_validator_memory.specs.expression.groups.declared.atomic.AtomicOperator.TheVariants as atomic
 use Rattle.wasm_operator_validator_memory.specs.expression.operator.Op as op
 use Rattle.wasm_operator_validator_memory.specs.state.Refusals.{refused}
 use Rattle.wasm_operator_validator_memory.specs.determined.laws.Determined.{not_begun, refused_here, undetermined, determined}

@@ -1,7 +1,7 @@
 use Rattle.std.proofs.Common.{false, refl, sym}
 use Rattle.wasm_operator_validator_determined.specs.expression.info.declared.proposal.Proposal.TheVariants.{Mvp}
 use Rattle.wasm_operator_validator_determined.specs.expression.immediates.declared.frames.FrameKind.TheVariants as frames
-use Rattle.wasm_operator_validator_determined.specs.expression.control.declared.control.ControlOperator.TheVariants as control
+use Rattle.wasm_operator_validator_determined.specs.expression.groups.declared.control.ControlOperator.TheVariants as control
 use Rattle.wasm_operator_validator_determined.specs.expression.operator.Op as op
 use Rattle.wasm_operator_validator_determined.specs.state.Refusals.{kind_of, refused}
 use Rattle.wasm_operator_validator_determined.specs.state.laws.Checks.{checks_going}
@@ -18,6 +18,6 @@ pub returns : goal.returns
 returns g c =
     let m = g.R.WasmModuleResources.meaning c.args.resources.now in
     checks_going (refused c.open_frame.result) m c.args.validator.now c.open_frame.new.validator (op.Control (control.Loop c.args.blockty)) Mvp false c.in-Ok.ensures.begins
-    (opener (refused c.open_frame.result) m c.args.validator.now c.open_frame.new.validator (op.Control (control.Loop c.args.blockty)) frames.Loop c.args.blockty c.in-Ok-check_block_type.block_type refl refl
+    (opener (refused c.open_frame.result) m c.args.validator.now c.open_frame.new.validator (op.Control (control.Loop c.args.blockty)) frames.Loop c.args.blockty c.in-Ok-check_block_type.block_type refl refl tt
     c.in-Ok.ensures.begins.framed (c.in-Ok-check_block_type.ensures c.args.validator.now.given (sym c.features.ensures)) (λ b. refl) c.open_frame.ensures.does)
     c.open_frame.ensures.given c.open_frame.ensures.failed c.open_frame.ensures.saved

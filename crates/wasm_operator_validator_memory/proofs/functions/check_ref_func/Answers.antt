@@ -1,6 +1,6 @@
 use Rattle.std.proofs.Common.{false}
 use Rattle.wasm_operator_validator_determined.specs.expression.info.declared.proposal.Proposal.TheVariants.{ReferenceTypes}
-use Rattle.wasm_operator_validator_determined.specs.expression.memory.declared.bulk.BulkOperator.TheVariants as bulk
+use Rattle.wasm_operator_validator_determined.specs.expression.groups.declared.bulk.BulkOperator.TheVariants as bulk
 use Rattle.wasm_operator_validator_determined.specs.resources.Meaning.{type_in}
 use Rattle.wasm_operator_validator_determined.specs.state.Refusals.{refused}
 use Rattle.wasm_operator_validator_determined.specs.laws.Determined.{not_begun, refused_here}

@@ -1,6 +1,6 @@
 use Rattle.std.proofs.Common.{None, [], ◌∷◌, false, refl}
 use Rattle.wasm_operator_validator_determined.specs.expression.info.declared.proposal.Proposal.TheVariants.{Mvp}
-use Rattle.wasm_operator_validator_determined.specs.expression.memory.declared.memory.MemoryOperator.TheVariants as memory
+use Rattle.wasm_operator_validator_determined.specs.expression.groups.declared.memory.MemoryOperator.TheVariants as memory
 use Rattle.wasm_operator_validator_determined.specs.expression.operator.Op as op
 use Rattle.wasm_operator_validator_determined.specs.resources.Meaning.{type_in}
 use Rattle.wasm_operator_validator_determined.specs.state.Refusals.{kind_of}

@@ -1,6 +1,6 @@
 use Rattle.std.proofs.Common.{false}
 use Rattle.wasm_operator_validator_determined.specs.expression.info.declared.proposal.Proposal.TheVariants.{BulkMemory}
-use Rattle.wasm_operator_validator_determined.specs.expression.memory.declared.bulk.BulkOperator.TheVariants as bulk
+use Rattle.wasm_operator_validator_determined.specs.expression.groups.declared.bulk.BulkOperator.TheVariants as bulk
 use Rattle.wasm_operator_validator_determined.specs.expression.operator.Op as op
 use Rattle.wasm_operator_validator_determined.specs.laws.Determined.{not_begun, stopped_by_content}
 use Rattle.wasm_operator_validator_memory.proofs.Spaces.{drop_in_table, data_dropped}

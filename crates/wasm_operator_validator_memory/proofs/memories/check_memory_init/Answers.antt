@@ -1,7 +1,7 @@
 use Rattle.std.proofs.Common.{[], ◌∷◌, false}
 use Rattle.wasm_types.specs.values.declared.value.ValType.TheVariants as vals
 use Rattle.wasm_operator_validator_determined.specs.expression.info.declared.proposal.Proposal.TheVariants.{BulkMemory}
-use Rattle.wasm_operator_validator_determined.specs.expression.memory.declared.bulk.BulkOperator.TheVariants as bulk
+use Rattle.wasm_operator_validator_determined.specs.expression.groups.declared.bulk.BulkOperator.TheVariants as bulk
 use Rattle.wasm_operator_validator_determined.specs.expression.operator.Op as op
 use Rattle.wasm_operator_validator_determined.specs.state.Refusals.{refused}
 use Rattle.wasm_operator_validator_determined.specs.state.State.{types_in}

@@ -1,7 +1,7 @@
 use Rattle.std.proofs.Common.{ℕ, [], ◌∷◌, false, refl, subst}
 use Rattle.wasm_types.specs.error.Denials.{Denies}
 use Rattle.wasm_operator_validator_determined.specs.expression.info.declared.proposal.Proposal.TheVariants.{ReferenceTypes}
-use Rattle.wasm_operator_validator_determined.specs.expression.memory.declared.bulk.BulkOperator.TheVariants as bulk
+use Rattle.wasm_operator_validator_determined.specs.expression.groups.declared.bulk.BulkOperator.TheVariants as bulk
 use Rattle.wasm_operator_validator_determined.specs.rules.Context.{IsType}
 use Rattle.wasm_operator_validator_determined.specs.resources.Meaning.{type_in}
 use Rattle.wasm_operator_validator_determined.specs.state.Refusals.{kind_of, refused}

@@ -1,6 +1,6 @@
 use Rattle.std.proofs.Common.{◌∙◌, sym, false}
 use Rattle.wasm_operator_validator_determined.specs.expression.info.declared.proposal.Proposal.TheVariants.{ReferenceTypes}
-use Rattle.wasm_operator_validator_determined.specs.expression.memory.declared.bulk.BulkOperator.TheVariants as bulk
+use Rattle.wasm_operator_validator_determined.specs.expression.groups.declared.bulk.BulkOperator.TheVariants as bulk
 use Rattle.wasm_operator_validator_determined.specs.state.Refusals.{kind_of, refused}
 use Rattle.wasm_operator_validator_determined.specs.state.laws.Accepting.{same_open}
 use Rattle.wasm_operator_validator_determined.specs.laws.Determined.{not_begun}

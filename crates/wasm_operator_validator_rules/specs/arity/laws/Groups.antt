@@ -1,33 +1,36 @@
 -- Each group's rows are counted by the table, and with them all that the rules give.
-use Rattle.std.proofs.Common.{◌≡◌, ◌≤◌, ◌+◌, ◌∙◌, inl, inr, ⊎_elim, ℕ, suc, Bool, true, false, List, [], ◌∷◌, ◌++◌, length, Option, Some, None, slice_get, if◌then◌else◌, refl, sym, ap, subst, arith, length-append, append-nil}
+use Rattle.std.proofs.Common.{◌≡◌, ◌≤◌, ◌+◌, ◌-◌, ◌∙◌, inl, inr, ⊎_elim, ℕ, suc, Bool, true, false, List, [], ◌∷◌, ◌++◌, length, Option, Some, None, slice_get, if◌then◌else◌, refl, sym, ap, subst, arith, length-append, append-nil}
 use Rattle.std.proofs.lemmas.List.{length-map}
 use Rattle.wasm_operator_validator_rules.specs.expression.types.trees.Types.{Number, number, ref}
+use Rattle.wasm_operator_validator_rules.specs.expression.types.trees.Below.{expanded}
 use Rattle.wasm_operator_validator_rules.specs.expression.types.externs.declared.memory.MemoryType.{MemoryType}
 use Rattle.wasm_operator_validator_rules.specs.expression.immediates.declared.block.BlockType.{BlockType}
 use Rattle.wasm_operator_validator_rules.specs.expression.immediates.declared.block.BlockType.TheVariants as block
 use Rattle.wasm_operator_validator_rules.specs.expression.immediates.declared.frames.FrameKind.{FrameKind}
 use Rattle.wasm_operator_validator_rules.specs.expression.immediates.declared.frames.FrameKind.TheVariants as frames
-use Rattle.wasm_operator_validator_rules.specs.expression.control.declared.control.ControlOperator.{ControlOperator}
-use Rattle.wasm_operator_validator_rules.specs.expression.control.declared.control.ControlOperator.TheVariants as control
-use Rattle.wasm_operator_validator_rules.specs.expression.memory.declared.memory.MemoryOperator.{MemoryOperator}
-use Rattle.wasm_operator_validator_rules.specs.expression.memory.declared.memory.MemoryOperator.TheVariants as memory
-use Rattle.wasm_operator_validator_rules.specs.expression.memory.declared.bulk.BulkOperator.{BulkOperator}
-use Rattle.wasm_operator_validator_rules.specs.expression.memory.declared.bulk.BulkOperator.TheVariants as bulk
-use Rattle.wasm_operator_validator_rules.specs.expression.threads.declared.atomic.AtomicOperator.{AtomicOperator}
-use Rattle.wasm_operator_validator_rules.specs.expression.threads.declared.atomic.AtomicOperator.TheVariants as atomic
+use Rattle.wasm_operator_validator_rules.specs.expression.groups.declared.control.ControlOperator.{ControlOperator}
+use Rattle.wasm_operator_validator_rules.specs.expression.groups.declared.control.ControlOperator.TheVariants as control
+use Rattle.wasm_operator_validator_rules.specs.expression.groups.declared.memory.MemoryOperator.{MemoryOperator}
+use Rattle.wasm_operator_validator_rules.specs.expression.groups.declared.memory.MemoryOperator.TheVariants as memory
+use Rattle.wasm_operator_validator_rules.specs.expression.groups.declared.bulk.BulkOperator.{BulkOperator}
+use Rattle.wasm_operator_validator_rules.specs.expression.groups.declared.bulk.BulkOperator.TheVariants as bulk
+use Rattle.wasm_operator_validator_rules.specs.expression.groups.declared.atomic.AtomicOperator.{AtomicOperator}
+use Rattle.wasm_operator_validator_rules.specs.expression.groups.declared.atomic.AtomicOperator.TheVariants as atomic
 use Rattle.wasm_operator_validator_rules.specs.expression.operator.Op as op
-use Rattle.wasm_operator_validator_rules.specs.expression.operator.Op.{Op, ParametricTree, ExceptionTree}
+use Rattle.wasm_operator_validator_rules.specs.expression.operator.Op.{Op, ParametricTree}
 use Rattle.wasm_operator_validator_rules.specs.Operands.{ValueType, Operand, known, all_known}
-use Rattle.wasm_operator_validator_rules.specs.Context.{Context, Table, Global, Initialised, Signature, IsBlockType, address_type}
+use Rattle.wasm_operator_validator_rules.specs.Context.{Context, Table, Global, Initialised, Signature, IsBlockType, may_use, address_type}
 use Rattle.wasm_operator_validator_rules.specs.Numbers.{numbers, class_of, taken_by, given_by, constant_type}
 use Rattle.wasm_operator_validator_rules.specs.Accesses.{AccessOf, access_of, atomic_access_of, operands_of, results_of, may_access}
-use Rattle.wasm_operator_validator_rules.specs.InstructionTypes.{InstructionType, i32_type, shorter, may_use, names_data, memory_at, global_at, table_at, ◌⟶◌, provided, instruction_type, accesses}
-use Rattle.wasm_operator_validator_rules.specs.expression.operator.Roles.{role_of, exception_role}
-use Rattle.wasm_operator_validator_rules.specs.expression.operator.declared.role.Role.TheVariants.{Opens, Else, End}
-use Rattle.wasm_operator_validator_rules.specs.Typed.{OpensFrame, entry_of}
-use Rattle.wasm_operator_validator_rules.specs.Row.{GroupRow, TableRow, ControlRow, ParametricRow, MemoryRow, BulkRow}
+use Rattle.wasm_operator_validator_rules.specs.InstructionTypes.{InstructionType, i32_type, shorter, names_data, memory_at, global_at, table_at, ◌⟶◌, provided, named, instruction_type, accesses, reference_to}
+use Rattle.wasm_operator_validator_rules.specs.expression.operator.declared.role.Role.TheVariants.{Opens}
+use Rattle.wasm_operator_validator_rules.specs.Named.{used_type, as_function}
+use Rattle.wasm_operator_validator_rules.specs.Typed.{OpensFrame, Turns, EndsAt, entry_of}
+use Rattle.wasm_operator_validator_rules.specs.Row.{GroupRow, TableRow, ControlRow, ParametricRow, MemoryRow, BulkRow, not_null}
 use Rattle.wasm_operator_validator_rules.specs.arity.Arity.{Known, Counts, block_counts, frame_counts, access_counts, counts_of, opening}
 use Rattle.wasm_operator_validator_rules.specs.arity.Exchanges.{Standing, CountsAreExact, IsAround, IsShortest, by_row, opened, turned, closed}
+use Rattle.wasm_operator_validator_rules.specs.arity.laws.Exceptions.{tag_counted, exception_counted}
+use Rattle.wasm_operator_validator_rules.specs.arity.laws.Lookups.{named_is, used_is, function_is, one_more}
 use Rattle.wasm_operator_validator_rules.specs.arity.laws.Counting.{known_length, below_length, takes_counted, table_counted, type_counted, label_is, results_are, innermost_is, Counted, Measures, some_measures, provided_measures, named_measures, used_measures}
 
 -- ---- numbers
@@ -49,6 +52,9 @@ numbers_length : (ts : List Number) → length (numbers ts) ≡ length ts
 numbers_length ts = length-map ts number
 
 -- ---- control
+
+no_type : (g : Context) (o : Op) (p q : List Operand) → instruction_type g o ≡ None → TableRow g o p q → ⊥
+no_type g o p q e r = let f : None ≡ Some r.0 = sym e ∙ r.1 in cc
 
 control_counted : (k : Known) (g : Context) (fs : List Standing) → IsAround k g fs → (o : ControlOperator) (p q : List Operand) → ControlRow g o p q
     → Counted (counts_of k (op.Control o)) (ControlRow g o) p q
@@ -94,7 +100,33 @@ control_counted k g fs a (control.ReturnCallIndirect y x) p q r =
       rw (a.«module», type_counted _ r.3.callee r.1 r.3.type r.3.function, known_length ts) (and_one r.1.params (address_type r.0.table64) 0),
       (r.0, r.1, [], r.3, r.4, refl),
     )
-control_counted k g fs a o p q r = absurd r
+control_counted k g fs a (control.CallRef y) p q r =
+    let t = named_is (used_type g y) (λ t. named (as_function (expanded t)) (λ b. Some ((b.params ++ reference_to t ∷ []) ⟶ b.results))) r.0 r.1 in
+    let b = named_is (as_function (expanded t.0)) (λ b. Some ((b.params ++ reference_to t.0 ∷ []) ⟶ b.results)) r.0 t.2 in
+    let m = some_measures ((b.0.params ++ reference_to t.0 ∷ []) ⟶ b.0.results) r.0 b.2 in
+    let n = type_counted _ t.0 b.0 (used_is g y t.0 t.1) (function_is (expanded t.0) b.0 b.1) in
+    inl (takes_counted _ r.0.takes r.0.gives p q r.2 (rw (a.«module», n, m.0, m.1) (and_one b.0.params (reference_to t.0) (length b.0.results))))
+control_counted k g fs a (control.ReturnCallRef y) p q r =
+    let ts = r.1.params ++ reference_to r.0 ∷ [] in
+    inr (
+      r.2,
+      all_known ts,
+      r.6,
+      rw (a.«module», type_counted _ r.0 r.1 (used_is g y r.0 r.3) r.4, known_length ts) (and_one r.1.params (reference_to r.0) 0),
+      (r.0, r.1, [], r.3, r.4, r.5, refl),
+    )
+control_counted k g fs a control.RefAsNonNull p q r = inl (rw (r.2, r.3) refl)
+control_counted k g fs a (control.BrOnNull l) p q r =
+    let one : (t : Operand) → length (all_known r.0 ++ t ∷ []) ≡ length r.0 + 1 =
+    λ t. length-append (all_known r.0) (t ∷ []) ∙ ap (λ (n : ℕ). n + 1) (known_length r.0) in
+    inl (rw (label_is k g fs l r.0 a r.2, r.4, r.5, one r.1, one (not_null r.1)) refl)
+control_counted k g fs a (control.BrOnNonNull l) p q r =
+    let ts = r.0 in
+    let n : length (ts ++ ref r.1 r.2 ∷ []) - 1 ≡ length ts = omega (arith, length-append ts (ref r.1 r.2 ∷ [])) in
+    let label = label_is k g fs l (ts ++ ref r.1 r.2 ∷ []) a r.3 in
+    let same = ap (λ (x : ℕ). just x (length ts)) (one_more ts (ref r.1 r.2) (ref true r.2)) in
+    inl (takes_counted _ (ts ++ ref true r.2 ∷ []) ts p q r.4 (rw (label, n) same))
+control_counted k g fs a o p q r = absurd (no_type g (op.Control o) p q refl r)
 
 -- ---- operands of any type
 
@@ -173,14 +205,11 @@ bulk_counted k g (bulk.MemoryCopy x y) p q r = table_counted g (op.Bulk (bulk.Me
 
 -- ---- all of them
 
-no_type : (g : Context) (o : Op) (p q : List Operand) → instruction_type g o ≡ None → TableRow g o p q → ⊥
-no_type g o p q e r = let f : None ≡ Some r.0 = sym e ∙ r.1 in cc
-
 group_counted : (k : Known) (g : Context) (fs : List Standing) → IsAround k g fs → (set : Initialised) (o : Op) (p q : List Operand) → GroupRow g set o p q
     → Counted (counts_of k o) (GroupRow g set o) p q
 group_counted k g fs a set (op.Control o) p q r = control_counted k g fs a o p q r
 group_counted k g fs a set (op.Parametric o) p q r = inl (parametric_counted k g o p q r)
-group_counted k g fs a set (op.Exception o) p q r = absurd (no_type g (op.Exception o) p q refl r)
+group_counted k g fs a set (op.Exception o) p q r = exception_counted k g fs a o p q r
 group_counted k g fs a set (op.Memory o) p q r = inl (memory_counted k g set o p q r)
 group_counted k g fs a set (op.Const o) p q r = inl (table_counted g (op.Const o) _ 0 1 p q (some_measures ([] ⟶ number (constant_type o) ∷ [])) refl r)
 group_counted k g fs a set (op.Numeric o) p q r =
@@ -236,28 +265,30 @@ opener_counted k g fs (op.Control (control.If t)) kind b a h =
     let r : Opens frames.If ≡ Opens kind = h.0 in
     let e : frames.If ≡ kind = cc in
     subst (λ (x : FrameKind). opening 1 (block_counts k.«module» t) ≡ just (length (entry_of x b)) (length b.params)) e (rw (a.«module», block_type_counted g t b h.1) (and_one b.params i32_type (length b.params)))
+opener_counted k g fs (op.Exception (op.Try t)) kind b a h =
+    let r : Opens frames.LegacyTry ≡ Opens kind = h.0 in
+    let e : frames.LegacyTry ≡ kind = cc in
+    subst (λ (x : FrameKind). opening 0 (block_counts k.«module» t) ≡ just (length (entry_of x b)) (length b.params)) e (rw (a.«module», block_type_counted g t b h.1) (none_more (length b.params) (length b.params)))
+opener_counted k g fs (op.Exception (op.TryTable t)) kind b a h =
+    let r : Opens frames.TryTable ≡ Opens kind = h.0 in
+    let e : frames.TryTable ≡ kind = cc in
+    subst (λ (x : FrameKind). opening 0 (block_counts k.«module» t.ty) ≡ just (length (entry_of x b)) (length b.params)) e (rw (a.«module», block_type_counted g t.ty b h.1) (none_more (length b.params) (length b.params)))
 opener_counted k g fs o kind b a h = absurd h.1
 
-no_exception_turns : (o : ExceptionTree) → exception_role o ≡ Else → ⊥
-no_exception_turns op.ThrowRef e = cc
-no_exception_turns o e = cc
+turner_counted : (k : Known) (g : Context) (o : Op) (b : Signature) (ts : List ValueType) → k.«module» ≡ g.«module»
+    → frame_counts k 0 ≡ just (length b.params) (length b.results) → Turns g b o ts → counts_of k o ≡ just (length b.results) (length ts)
+turner_counted k g (op.Control control.Else) b ts m f e = rw (f, e) refl
+turner_counted k g (op.Exception (op.Catch x)) b ts m f e = rw (f, m, tag_counted g x ts e.1) refl
+turner_counted k g (op.Exception op.CatchAll) b ts m f e = rw (f, e.1) (none_more (length b.results) 0)
+turner_counted k g o b ts m f e = absurd e
 
-no_exception_ends : (o : ExceptionTree) → exception_role o ≡ End → ⊥
-no_exception_ends op.ThrowRef e = cc
-no_exception_ends o e = cc
-
-turner_counted : (k : Known) (o : Op) (n c : ℕ) → frame_counts k 0 ≡ just c n → role_of o ≡ Else → counts_of k o ≡ just n c
-turner_counted k (op.Control control.Else) n c f e = rw f refl
-turner_counted k (op.Exception o) n c f e = absurd (no_exception_turns o e)
-turner_counted k o n c f e = cc
-
-closer_counted : (k : Known) (o : Op) (n c : ℕ) → frame_counts k 0 ≡ just c n → role_of o ≡ End → counts_of k o ≡ just n n
-closer_counted k (op.Control control.End) n c f e = rw f refl
-closer_counted k (op.Exception o) n c f e = absurd (no_exception_ends o e)
-closer_counted k o n c f e = cc
+closer_counted : (k : Known) (g : Context) (o : Op) (n c : ℕ) → frame_counts k 0 ≡ just c n → EndsAt g o → counts_of k o ≡ just n n
+closer_counted k g (op.Control control.End) n c f e = rw f refl
+closer_counted k g (op.Exception (op.Delegate l)) n c f e = rw f refl
+closer_counted k g o n c f e = absurd e
 
 pub counts_are_exact : CountsAreExact
 counts_are_exact k g fs set o n c a (by_row i) = row_counted k g fs set o n c a i
 counts_are_exact k g fs set o n c a (opened kind b h) = opener_counted k g fs o kind b a h
-counts_are_exact k g (f ∷ fs) set o n c a (turned h e) = turner_counted k o _ _ (innermost_is k g f fs a) e
-counts_are_exact k g (f ∷ fs) set o n c a (closed h e) = closer_counted k o _ _ (innermost_is k g f fs a) e
+counts_are_exact k g (f ∷ fs) set o n c a (turned h ts e) = turner_counted k g o f.block ts a.«module» (innermost_is k g f fs a) e
+counts_are_exact k g (f ∷ fs) set o n c a (closed h e) = closer_counted k g o _ _ (innermost_is k g f fs a) e

@@ -1,7 +1,7 @@
 -- Each code has its shape.
 use Rattle.std.proofs.Common.{refl}
-use Rattle.wasm_operator_validator_determined.specs.expression.memory.declared.memory.MemoryOperator.TheVariants as memory
-use Rattle.wasm_operator_validator_determined.specs.expression.numbers.declared.numeric.NumericOperator.TheVariants as numeric
+use Rattle.wasm_operator_validator_determined.specs.expression.groups.declared.memory.MemoryOperator.TheVariants as memory
+use Rattle.wasm_operator_validator_determined.specs.expression.groups.declared.numeric.NumericOperator.TheVariants as numeric
 use Rattle.wasm_operator_validator_running.proofs.Coded.{coded_number, coded_access}
 use Rattle.wasm_operator_validator_running.proofs.shape.shape_of.Goals as goal
 

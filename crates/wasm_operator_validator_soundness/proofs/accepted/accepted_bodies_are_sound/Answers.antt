@@ -6,7 +6,7 @@ use Rattle.wasm_operator_validator_soundness.proofs.accepted.accepted_bodies_are
 
 sound : AcceptedBodiesAreSound
 sound m w b saved s h = let (c, spelled, body) = (bodies_are_expressions m w b saved s).0 h
-    in (c, spelled, λ locals answers k a fit runs answered. activation_sound _ w.params c locals answers k a refl body fit runs answered)
+    in (c, spelled, λ locals answers k a fit runs answered. activation_sound _ w.params c locals answers k a refl refl body fit runs answered)
 
 pub returns : goal.returns
 returns c = sound

@@ -1,9 +1,9 @@
-use Rattle.wasm_operators_control.specs.immediate_equality.{law, tree_law}
-use Rattle.wasm_operators_control.proofs.Equality.{controls, parametrics, exceptions, continuations}
-use Rattle.wasm_operators_memory.proofs.Equality.{memories, consts, bulks}
-use Rattle.wasm_operators_numbers.proofs.Equality.{numerics}
-use Rattle.wasm_operators_gc.proofs.Equality.{gcs, descriptors}
-use Rattle.wasm_operators_threads.proofs.Equality.{atomics, shareds}
+use Rattle.wasm_operators_groups.specs.immediate_equality.{law, tree_law}
+use Rattle.wasm_operators_groups.proofs.ControlEquality.{controls, parametrics, exceptions, continuations}
+use Rattle.wasm_operators_groups.proofs.MemoryEquality.{memories, consts, bulks}
+use Rattle.wasm_operators_groups.proofs.NumbersEquality.{numerics}
+use Rattle.wasm_operators_groups.proofs.GcEquality.{gcs, descriptors}
+use Rattle.wasm_operators_groups.proofs.ThreadsEquality.{atomics, shareds}
 use Rattle.wasm_operators_vectors.proofs.Equality.{simds, simd_numerics}
 use Rattle.wasm_operators_operator.proofs.Equality.{operators}
 use Rattle.wasm_operators_operator.proofs.laws.equal_operators_have_equal_trees.Goals as goal

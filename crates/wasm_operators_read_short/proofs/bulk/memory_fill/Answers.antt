@@ -2,7 +2,7 @@ use Rattle.std.proofs.Common.{refl}
 use Rattle.wasm_operators_decode_immediates.specs.immediates.Kinds as kind
 use Rattle.wasm_operators_decode_immediates.specs.immediates.Immediates.{Index}
 use Rattle.wasm_operators_visit.specs.operator.Op as op
-use Rattle.wasm_operators_visit.specs.memory.declared.bulk.BulkOperator.TheVariants as bulk
+use Rattle.wasm_operators_visit.specs.groups.declared.bulk.BulkOperator.TheVariants as bulk
 use Rattle.wasm_operators_visit_short.proofs.Reading.{is_told_with, prefixed_of}
 use Rattle.wasm_operators_visit_short.proofs.Carried.{index_of}
 use Rattle.wasm_operators_read_short.proofs.bulk.memory_fill.Goals as goal

@@ -1,6 +1,6 @@
 use Rattle.std.proofs.Common.{refl}
 use Rattle.wasm_operators_visit.specs.operator.Op as op
-use Rattle.wasm_operators_visit.specs.control.declared.control.ControlOperator.TheVariants as control
+use Rattle.wasm_operators_visit.specs.groups.declared.control.ControlOperator.TheVariants as control
 use Rattle.wasm_operators_visit.specs.operator.Op.{Drop, Select}
 use Rattle.wasm_operators_visit_short.proofs.Reading.{told_alone}
 use Rattle.wasm_operators_read_short.proofs.control.control_alone.Goals as goal

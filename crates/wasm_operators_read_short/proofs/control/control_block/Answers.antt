@@ -1,7 +1,7 @@
 use Rattle.std.proofs.Common.{refl}
 use Rattle.wasm_operators_decode_immediates.specs.immediates.Immediates.{Block}
 use Rattle.wasm_operators_visit.specs.operator.Op as op
-use Rattle.wasm_operators_visit.specs.control.declared.control.ControlOperator.TheVariants as control
+use Rattle.wasm_operators_visit.specs.groups.declared.control.ControlOperator.TheVariants as control
 use Rattle.wasm_operators_visit.specs.operator.Op.{Drop, Select}
 use Rattle.wasm_operators_visit_short.proofs.Reading.{told_with}
 use Rattle.wasm_operators_visit_short.proofs.Carried.{block_of}

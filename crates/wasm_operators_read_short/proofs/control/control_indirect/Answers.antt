@@ -2,7 +2,7 @@ use Rattle.std.proofs.Common.{refl}
 use Rattle.wasm_operators_decode_immediates.specs.immediates.Kinds as kind
 use Rattle.wasm_operators_decode_immediates.specs.immediates.Immediates.{Index, IndexOrZero}
 use Rattle.wasm_operators_visit.specs.operator.Op as op
-use Rattle.wasm_operators_visit.specs.control.declared.control.ControlOperator.TheVariants as control
+use Rattle.wasm_operators_visit.specs.groups.declared.control.ControlOperator.TheVariants as control
 use Rattle.wasm_operators_visit_short.proofs.Reading.{told_with_two}
 use Rattle.wasm_operators_visit_short.proofs.Carried.{index_of, zero_of}
 use Rattle.wasm_operators_read_short.proofs.control.control_indirect.Goals as goal

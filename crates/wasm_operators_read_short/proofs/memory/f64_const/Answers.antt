@@ -1,7 +1,7 @@
 use Rattle.std.proofs.Common.{refl}
 use Rattle.wasm_operators_decode_immediates.specs.immediates.Immediates.{F64Constant}
 use Rattle.wasm_operators_visit.specs.operator.Op as op
-use Rattle.wasm_operators_visit.specs.memory.declared.constant.ConstOperator.TheVariants as constant
+use Rattle.wasm_operators_visit.specs.groups.declared.constant.ConstOperator.TheVariants as constant
 use Rattle.wasm_operators_visit_short.proofs.Reading.{told_with}
 use Rattle.wasm_operators_visit_short.proofs.Carried.{f64_of}
 use Rattle.wasm_operators_read_short.proofs.memory.f64_const.Goals as goal

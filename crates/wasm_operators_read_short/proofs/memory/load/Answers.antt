@@ -2,8 +2,8 @@ use Rattle.std.proofs.Common.{refl, sym, ap}
 use Rattle.wasm_operators_decode_immediates.specs.immediates.Kinds as kind
 use Rattle.wasm_operators_decode_immediates.specs.immediates.Immediates.{MemoryArgument}
 use Rattle.wasm_operators_visit.specs.operator.Op as op
-use Rattle.wasm_operators_visit.specs.memory.declared.memory.MemoryOperator.{MemoryOperator}
-use Rattle.wasm_operators_visit.specs.memory.declared.memory.MemoryOperator.TheVariants as memory
+use Rattle.wasm_operators_visit.specs.groups.declared.memory.MemoryOperator.{MemoryOperator}
+use Rattle.wasm_operators_visit.specs.groups.declared.memory.MemoryOperator.TheVariants as memory
 use Rattle.wasm_operators_visit_short.proofs.Reading.{told_with}
 use Rattle.wasm_operators_visit_short.proofs.Carried.{access_of}
 use Rattle.wasm_operators_read_short.proofs.memory.load.Goals as goal

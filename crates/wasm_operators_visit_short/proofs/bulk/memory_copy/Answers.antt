@@ -2,7 +2,7 @@ use Rattle.std.proofs.Common.{refl}
 use Rattle.wasm_operators_decode_immediates.specs.immediates.Kinds as kind
 use Rattle.wasm_operators_decode_immediates.specs.immediates.Immediates.{Index}
 use Rattle.wasm_operators_visit_operator.specs.operator.Op as op
-use Rattle.wasm_operators_visit_operator.specs.memory.declared.bulk.BulkOperator.TheVariants as bulk
+use Rattle.wasm_operators_visit_operator.specs.groups.declared.bulk.BulkOperator.TheVariants as bulk
 use Rattle.wasm_operators_visit_short.proofs.Reading.{is_told_with_two, prefixed_of}
 use Rattle.wasm_operators_visit_short.proofs.Carried.{index_of}
 use Rattle.wasm_operators_visit_short.proofs.bulk.memory_copy.Goals as goal

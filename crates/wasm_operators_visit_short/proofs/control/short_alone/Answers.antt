@@ -1,6 +1,6 @@
 use Rattle.std.proofs.Common.{refl}
 use Rattle.wasm_operators_visit_operator.specs.operator.Op as op
-use Rattle.wasm_operators_visit_operator.specs.control.declared.control.ControlOperator.TheVariants as control
+use Rattle.wasm_operators_visit_operator.specs.groups.declared.control.ControlOperator.TheVariants as control
 use Rattle.wasm_operators_visit_operator.specs.operator.Op.{Drop, Select}
 use Rattle.wasm_operators_visit_short.proofs.Reading.{told_alone}
 use Rattle.wasm_operators_visit_short.proofs.control.short_alone.Goals as goal

@@ -1,7 +1,7 @@
 use Rattle.std.proofs.Common.{rules, ◌≡◌, refl, to_z, of_z, w64}
 use Rattle.wasm_operators_decode_immediates.specs.immediates.Immediates.{I64Constant}
 use Rattle.wasm_operators_visit_operator.specs.operator.Op as op
-use Rattle.wasm_operators_visit_operator.specs.memory.declared.constant.ConstOperator.TheVariants as constant
+use Rattle.wasm_operators_visit_operator.specs.groups.declared.constant.ConstOperator.TheVariants as constant
 use Rattle.wasm_operators_visit_short.proofs.Reading.{told_with}
 use Rattle.wasm_operators_visit_short.proofs.Carried.{i64_of}
 use Rattle.wasm_operators_visit_short.proofs.memory.short_i64_const.Goals as goal

@@ -2,7 +2,7 @@ use Rattle.std.proofs.Common.{refl}
 use Rattle.wasm_operators_decode_immediates.specs.immediates.Kinds as kind
 use Rattle.wasm_operators_decode_immediates.specs.immediates.Immediates.{MemoryArgument}
 use Rattle.wasm_operators_visit_operator.specs.operator.Op as op
-use Rattle.wasm_operators_visit_operator.specs.memory.declared.memory.MemoryOperator.TheVariants as memory
+use Rattle.wasm_operators_visit_operator.specs.groups.declared.memory.MemoryOperator.TheVariants as memory
 use Rattle.wasm_operators_visit_short.proofs.Reading.{told_with}
 use Rattle.wasm_operators_visit_short.proofs.Carried.{access_of}
 use Rattle.wasm_operators_visit_short.proofs.memory.short_load.Goals as goal

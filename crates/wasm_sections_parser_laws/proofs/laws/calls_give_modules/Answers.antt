@@ -1,7 +1,7 @@
 -- By the laws of modules and of refusals.
 use Rattle.wasm_sections_parser_laws.specs.ModuleLaws.{calls_front, end_given}
 use Rattle.wasm_sections_parser_laws.specs.FrontLaws.{front_spelled}
-use Rattle.wasm_sections_parser_laws.specs.calls.Calls.{settings_of, shapes_of, stands}
+use Rattle.wasm_sections_parser_laws.specs.calls.Calls.{shapes_of, stands}
 use Rattle.wasm_sections_parser.specs.Parsing.{reads}
 use Rattle.wasm_sections_parser_laws.specs.RefusalLaws.{refused_stuck, asked_stuck, front_first, not_refused}
 use Rattle.wasm_sections_parser_laws.proofs.laws.calls_give_modules.Goals as goal
@@ -18,7 +18,7 @@ returns-clause-before c = λ p q text rest fs. calls_front fs p q text rest
 
 pub returns-clause-spelled : goal.returns-clause-spelled
 returns-clause-spelled c = λ p q text rest fs first calls going.
-    let k = front_spelled (settings_of p) (reads p text) (stands q rest p.offset) (shapes_of fs) q.progress (calls_front fs p q text rest first calls going) in
+    let k = front_spelled p.settings (reads p text) (stands q rest p.offset) (shapes_of fs) q.progress (calls_front fs p q text rest first calls going) in
     (k.0, k.1, k.2.parts, k.3)
 
 pub returns-clause-refused : goal.returns-clause-refused

@@ -20,14 +20,14 @@ take_body-requires c =
 pub returns-in-Ok-Some : goal.returns-in-Ok-Some
 returns-in-Ok-Some c =
     let v = c.args.self.now in
-    let next = subst (λ (o : Option Handed). IsNextFunction v.reached v.features.0 c.args.body.now (Ok o) c.take_body.new.self) c.in-Ok-Some.field-0-is c.in-Ok-Some.ensures in
+    let next = subst (λ (o : Option Handed). IsNextFunction v.reached v.settings c.args.body.now (Ok o) c.take_body.new.self) c.in-Ok-Some.field-0-is c.in-Ok-Some.ensures in
     let left = next.follows in
     in_turn (refusal v.state (is_some v.reached.code)) v _ _ _ _ (c.in-Ok.ensures ∙ ap (refusal v.state) c.has_code.ensures) next.told (left.0, refl, left.1, left.2, left.3)
 
 pub returns-in-Ok-None : goal.returns-in-Ok-None
 returns-in-Ok-None c =
     let v = c.args.self.now in
-    let next = subst (λ (o : Option Handed). IsNextFunction v.reached v.features.0 c.args.body.now (Ok o) c.take_body.new.self) c.in-Ok-None.field-0-is c.in-Ok-None.ensures in
+    let next = subst (λ (o : Option Handed). IsNextFunction v.reached v.settings c.args.body.now (Ok o) c.take_body.new.self) c.in-Ok-None.field-0-is c.in-Ok-None.ensures in
     let left = next.follows in
     in_turn (refusal v.state (is_some v.reached.code)) v _ _ _ _ (c.in-Ok.ensures ∙ ap (refusal v.state) c.has_code.ensures)
     (λ z p reached same. denies c.too_many_bodies.result.kind _ (next.told z p reached same))

@@ -2,41 +2,41 @@ use Rattle.std.proofs.Common.{◌≡◌, List, length, sym, subst}
 use Rattle.wasm_types.specs.error.Denials.{Tells}
 use Rattle.wasm_types.specs.error.DenialLaws.{denies_from}
 use Rattle.wasm_types.specs.limits.Settings.{Settings}
-use Rattle.wasm_module_validator_sharing.specs.reading.progress.functions.declared.code.bodies.Body.{Body}
+use Rattle.wasm_module_validator_sharing.specs.reading.progress.adding.declared.bodies.Body.{Body}
 use Rattle.wasm_module_validator_sharing.specs.reading.progress.standing.steps.contexts.rules.Accepts.{AcceptsUnder}
 use Rattle.wasm_module_validator_sharing.specs.reading.progress.standing.steps.Steps.{SoFar}
 use Rattle.wasm_module_validator_sharing.specs.reading.progress.Progress.{Kept, Progress, IsAt}
 use Rattle.wasm_module_validator_sharing.specs.reading.judging.Bodies.{AreBodies}
-use Rattle.wasm_module_validator_sharing.specs.reading.Reading.{under, IsReadAs}
+use Rattle.wasm_module_validator_sharing.specs.reading.Reading.{IsReadAs}
 use Rattle.wasm_module_validator.specs.Accepts.{IsShown}
 use Rattle.wasm_module_validator.specs.laws.Verdict.{accepted_is_read, tells_accepted, stands_for_module}
 use Rattle.wasm_module_validator.proofs.validator.Validator.validate_all.Goals as goal
 
 pub returns-in-Err-clause-verdict : goal.returns-in-Err-clause-verdict
 returns-in-Err-clause-verdict c =
-    let z : Settings = under c.args.self.now.features.0 in
+    let z : Settings = c.args.self.now.settings in
     denies_from c.in-Err.error.kind ((q : SoFar) × IsReadAs z c.args.bytes.now q) (AcceptsUnder z c.args.bytes.now)
     (λ a. let h = accepted_is_read z c.args.bytes.now a in (h.0, h.1)) c.in-Err.ensures.answer
 
 pub returns-in-Err-judge-clause-verdict : goal.returns-in-Err-judge-clause-verdict
 returns-in-Err-judge-clause-verdict c =
-    let z : Settings = under c.args.self.now.features.0 in
+    let z : Settings = c.args.self.now.settings in
     let r : Progress = c.read.new.self.progress in
     subst (λ answer. Tells answer (AcceptsUnder z c.args.bytes.now)) c.in-Err-judge.is
     (tells_accepted z c.args.bytes.now r c.in-Ok.bodies.items c.in-Ok.ensures.answer c.in-Ok.ensures.stands c.judge.result
-    (subst (λ (xs : List Body). (q : SoFar) → IsAt z r xs q → length q.bodies ≡ length q.tree.functions → Tells c.judge.result (AreBodies z q)) c.as_slice.ensures.value c.judge.ensures))
+    (subst (λ (xs : List Body). (q : SoFar) → IsAt z r xs q → length q.bodies ≡ length q.tree.functions → Tells c.judge.result (AreBodies z q)) c.as_slice.ensures.value (c.judge.ensures z)))
 
 pub returns-in-Ok-finish-clause-verdict : goal.returns-in-Ok-finish-clause-verdict
 returns-in-Ok-finish-clause-verdict c =
-    let z : Settings = under c.args.self.now.features.0 in
+    let z : Settings = c.args.self.now.settings in
     let r : Progress = c.read.new.self.progress in
     subst (λ answer. Tells answer (AcceptsUnder z c.args.bytes.now)) c.in-Ok-judge.is
     (tells_accepted z c.args.bytes.now r c.in-Ok.bodies.items c.in-Ok.ensures.answer c.in-Ok.ensures.stands c.judge.result
-    (subst (λ (xs : List Body). (q : SoFar) → IsAt z r xs q → length q.bodies ≡ length q.tree.functions → Tells c.judge.result (AreBodies z q)) c.as_slice.ensures.value c.judge.ensures))
+    (subst (λ (xs : List Body). (q : SoFar) → IsAt z r xs q → length q.bodies ≡ length q.tree.functions → Tells c.judge.result (AreBodies z q)) c.as_slice.ensures.value (c.judge.ensures z)))
 
 pub returns-in-Ok-finish-clause-shown : goal.returns-in-Ok-finish-clause-shown
 returns-in-Ok-finish-clause-shown c =
-    let z : Settings = under c.args.self.now.features.0 in
+    let z : Settings = c.args.self.now.settings in
     let r : Progress = c.read.new.self.progress in
     let a : AcceptsUnder z c.args.bytes.now = returns-in-Ok-finish-clause-verdict c in
     subst (λ (k : Kept). IsShown z c.args.bytes.now (record { id = c.args.self.now.id; kept = k })) (sym c.in-Ok-finish.ensures.finished)

@@ -4,5 +4,5 @@ use Rattle.wasm_module_validator_progress.proofs.collected.Collected.new.Goals a
 
 pub invariant_of-result : goal.invariant_of-result
 invariant_of-result c =
-    nothing_is_over c.new-2.result.groups c.new-2.result.can_intern c.new.result (settings_of c.args.features.0 c.default.result) c.new-2.ensures.groups c.new-2.ensures.can_intern c.new.ensures
-    c.default.ensures
+    nothing_is_over c.new-2.result c.new.result (settings_of c.features.result.0 c.limits-limits.result) c.new-2.ensures.groups c.new-2.ensures.can_intern c.new-2.ensures.limits c.new.ensures
+    c.limits-limits.ensures.within

@@ -2,7 +2,7 @@ use Rattle.std.proofs.Common.{◌≡◌, ◌∙◌, ◌+◌, ◌≤◌, ℕ, Lis
 use Rattle.std.specs.Prelude.{option_map}
 use Rattle.wasm_types.specs.error.Denials.{Denies}
 use Rattle.wasm_module_validator_module.specs.declared.module.Function.{Function}
-use Rattle.wasm_module_validator_functions.specs.declared.code.bodies.Body.{Body}
+use Rattle.wasm_module_validator_adding.specs.declared.bodies.Body.{Body}
 use Rattle.wasm_module_validator_standing.specs.steps.Sections.{code_place}
 use Rattle.wasm_module_validator_progress.specs.Progress.{Progress, IsAt}
 use Rattle.wasm_module_validator_progress.specs.laws.Bodies.{function_is, judges, body_behind, fits, not_fitting}

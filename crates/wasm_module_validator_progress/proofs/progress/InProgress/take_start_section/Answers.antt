@@ -4,7 +4,7 @@ use Rattle.wasm_types.specs.decoding.Decoder.{State, Done}
 use Rattle.wasm_types.specs.error.Denials.{Tells}
 use Rattle.wasm_types.specs.limits.Settings.{Settings}
 use Rattle.wasm_sections_payloads.specs.Payloads.{only_number}
-use Rattle.wasm_module_validator_functions.specs.declared.code.bodies.Body.{Body}
+use Rattle.wasm_module_validator_adding.specs.declared.bodies.Body.{Body}
 use Rattle.wasm_module_validator_standing.specs.steps.contexts.rules.Syntax.{ModuleTree}
 use Rattle.wasm_module_validator_standing.specs.steps.Sections as section
 use Rattle.wasm_module_validator_standing.specs.steps.Adding.{Adds}

@@ -2,7 +2,7 @@ use Rattle.std.proofs.Common.{IfOk, sym, ap, subst}
 use Rattle.std.specs.Prelude.{option_map}
 use Rattle.wasm_module_validator_reading.specs.progress.standing.steps.Steps.{SoFar}
 use Rattle.wasm_module_validator_reading.specs.progress.Progress.{IsAt}
-use Rattle.wasm_module_validator_reading.specs.Reading.{under, IsReadAs}
+use Rattle.wasm_module_validator_reading.specs.Reading.{IsReadAs}
 use Rattle.wasm_module_validator_sharing.specs.Sharing.{Reached}
 use Rattle.wasm_module_validator_sharing.proofs.Keeping.{not_shared, own_reached}
 use Rattle.wasm_module_validator_sharing.proofs.sharing.SharedProgress.read.Goals as goal
@@ -13,5 +13,5 @@ returns-clause-stands c =
     let o = option_map (λ p. p.value) i.shared in
     let none = not_shared c.renew.new.self i.own i.last i.bodies o c.self.view_is (ap (λ (r : Reached). r.code) c.renew.ensures) in
     let left = own_reached c.read_module.new.progress o i.last i.bodies none in
-    subst (λ (r : Reached). IfOk c.read_module.result (λ bodies. (q : SoFar) → IsReadAs (under c.args.features.0) c.args.bytes.now q → IsAt (under c.args.features.0) r.progress bodies.items q)) (sym left)
+    subst (λ (r : Reached). IfOk c.read_module.result (λ bodies. (q : SoFar) → IsReadAs c.args.settings.now c.args.bytes.now q → IsAt c.args.settings.now r.progress bodies.items q)) (sym left)
     c.read_module.ensures.stands

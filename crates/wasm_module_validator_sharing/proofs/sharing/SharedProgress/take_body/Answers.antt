@@ -56,12 +56,12 @@ returns c =
     let found = subst (λ (s : Kept). type_at s (s.items.spaces.imported_functions + i.bodies) ≡ Some ty) c.deref-2.ensures (sym c.in-Some-function_behind.ensures.typed) in
     let place = subst (λ (s : Kept). index ≡ s.items.spaces.imported_functions + i.bodies) c.deref-2.ensures c.in-Some-function_behind.ensures.index in
     let fits = subst (λ (s : Kept). FitsBehind (record { kept = s; last = i.last }) c.args.body.now.rest) c.deref.ensures c.in-Ok.ensures in
-    let f : Handed = record { resources = c.new-resources.result; index = index; ty = ty; features = c.args.features } in
+    let f : Handed = record { resources = c.new-resources.result; index = index; ty = ty; features = c.features.result; limits = c.limits.result } in
     let left = shared_left v i.own i.last i.bodies o shared is i.last (i.bodies + 1) in
     record {
       told = λ z p reached set. body_may_come v here i.bodies same code c.args.body.now index ty found fits z p reached;
       follows = (
-        is_handed_out v shared i.last i.bodies c.args.features.0 f same code (c.new-resources.ensures ∙ c.in_ok-clone.ensures.cases) place found refl,
+        is_handed_out v shared i.last i.bodies c.args.settings.now f same code (c.new-resources.ensures ∙ c.in_ok-clone.ensures.cases) place found c.features.ensures c.limits.ensures.value c.limits.ensures.within,
         ap (λ (r : Reached). r.code) left ∙ ap (λ (m : ℕ). Some (m + 1)) (sym code),
         ap (λ (r : Reached). r.progress.kept) left ∙ sym (ap (λ (p : Progress). p.kept) same),
         body_follows v here i.bodies same code c.args.body.now index ty found _ left,

@@ -1,6 +1,6 @@
 use Rattle.std.proofs.Common.{List, sym, ap, subst}
 use Rattle.std.specs.Prelude.{OnOk, option_map}
-use Rattle.wasm_module_validator_reading.specs.progress.functions.declared.code.bodies.Body.{Body}
+use Rattle.wasm_module_validator_reading.specs.progress.adding.declared.bodies.Body.{Body}
 use Rattle.wasm_module_validator_reading.specs.progress.Progress.{Progress, Grows, IsAt}
 use Rattle.wasm_module_validator_reading.proofs.Counting.{on_ok}
 use Rattle.wasm_module_validator_sharing.specs.Sharing.{Reached}

@@ -57,7 +57,7 @@ returns-clause-ok c =
 
 pub returns-clause-depths : goal.returns-clause-depths
 returns-clause-depths c =
-    depths_kept c.self.inside.known c.self.inside.lists c.reserve.new.self c.append.new.self c.args.self.now (length c.in_ok-types.types.items) c.self.view_is c.self.invariant
+    depths_kept c.self.inside.known c.self.inside.limits c.self.inside.lists c.reserve.new.self c.append.new.self c.args.self.now (length c.in_ok-types.types.items) c.self.view_is c.self.invariant
     c.reserve.ensures.depths c.append.ensures.depths
 
 pub invariant_of-self : goal.invariant_of-self

@@ -1,27 +1,23 @@
-use Rattle.std.proofs.Common.{List, sym, subst, arith}
-use Rattle.wasm_types_limits.specs.Limits.{default_limits}
+use Rattle.std.proofs.Common.{◌+◌, ◌<◌, ◌^◌, List, sym, subst, arith}
 use Rattle.wasm_types.specs.values.declared.value.ValType.{ValType}
 use Rattle.wasm_operator_validator_locals.specs.Locals.{IsFront}
 use Rattle.wasm_operator_validator_locals.proofs.Runs.{run_fits, taken_back}
 use Rattle.wasm_operator_validator_locals.proofs.locals.Locals.put.Goals as goal
 
 pub invariant_of-self-else-not-grow_first : goal.invariant_of-self-else-not-grow_first
-unfolding default_limits
 invariant_of-self-else-not-grow_first c =
-    let fits = run_fits _ _ _ c.args.count c.args.ty.now c.self.invariant.0 c.self.view_is c.len_locals-defined.ensures.value c.if-count-defined.false c.len_locals-defined.ensures.within in
+    let room : c.len_locals-defined.result + c.args.count < 2 ^ 32 = omega (arith, c.may_define.ensures.0 c.if-not-may_define.false, c.len_locals-defined.ensures, c) in
+    let fits = run_fits _ _ _ c.args.count c.args.ty.now c.self.invariant.0 c.self.view_is c.len_locals-defined.ensures room in
     let f = subst (λ (xs : List ValType). IsFront c.self.inside.first.items xs) c.self.view_is c.self.invariant.1 in
-    let g = c.grow_first.ensures.front c.args.self.now (sym c.len_locals-defined.ensures.value) f in
+    let g = c.grow_first.ensures.front c.args.self.now (sym c.len_locals-defined.ensures) f in
     rw c.in-Ok.ensures.items (fits.0, subst (λ (xs : List ValType). IsFront c.grow_first.new.first.items xs) (sym fits.1) g, c.grow_first.ensures.within)
 
 pub returns-clause-put : goal.returns-clause-put
-unfolding default_limits
 returns-clause-put c = λ _.
-    let e = (run_fits _ _ _ c.args.count c.args.ty.now c.self.invariant.0 c.self.view_is c.len_locals-defined.ensures.value c.if-count-defined.false c.len_locals-defined.ensures.within).1 in
-    rw c.in-Ok.ensures.items (e, omega (arith, c.if-count-defined.false, c.len_locals-defined.ensures.value, c.len_locals-defined.ensures.within))
-
-pub overflow_sub-defined : goal.overflow_sub-defined
-unfolding default_limits
-overflow_sub-defined c = c.len_locals-defined.ensures.within
+    let within = c.may_define.ensures.0 c.if-not-may_define.false in
+    let room : c.len_locals-defined.result + c.args.count < 2 ^ 32 = omega (arith, within, c.len_locals-defined.ensures, c) in
+    let e = (run_fits _ _ _ c.args.count c.args.ty.now c.self.invariant.0 c.self.view_is c.len_locals-defined.ensures room).1 in
+    rw c.in-Ok.ensures.items (e, within)
 
 pub invariant_of-self-then-not-grow_first : goal.invariant_of-self-then-not-grow_first
 invariant_of-self-then-not-grow_first c =

@@ -14,7 +14,7 @@ are_first ts n first e f = rw (f, e) (all_first ts, (let h : length ts ≤ lengt
 
 pub invariant_of-self : goal.invariant_of-self
 invariant_of-self c =
-    let first = are_first c.put_params-done.new.locals c.len_locals-self-inside.result c.put_params-done.new.inits.first c.len_locals-self-inside.ensures.value
+    let first = are_first c.put_params-done.new.locals c.len_locals-self-inside.result c.put_params-done.new.inits.first c.len_locals-self-inside.ensures
     (ap (λ (l : Inits). l.first) c.put_params-done.ensures.first) in
     (search rules, search rules, first)
 

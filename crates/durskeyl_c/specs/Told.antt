@@ -1,0 +1,29 @@
+-- What the number that a call answers tells C.
+use Rattle.std.specs.Prelude.{◌≡◌, ◌≤◌, ℕ, List, slice_index_or}
+use Rattle.wasm_types.specs.error.declared.error.ErrorKind.{ErrorKind}
+use Rattle.wasm_types.specs.error.declared.error.ErrorKind.TheVariants.{EndOfData, MissingFeature, OutOfMemory, Failed, Other}
+use Rattle.wasm_module_validator_rules.specs.Accepts.{AcceptsUnder}
+use Rattle.durskeyl_c.specs.declared.settings.DurskeylSettings.{DurskeylSettings}
+use Rattle.durskeyl_c.specs.declared.fault.DurskeylFault.{DurskeylFault}
+use Rattle.durskeyl_c.specs.Settings.{settings_in, AreSettings}
+
+-- 0 only if the bytes spell a valid module by the settings; 3 if there was no memory, and 6 exactly if the settings are none: these two are
+-- no verdict; any other number only if the bytes do not spell a valid module
+pub record Told (code : ℕ) (s : DurskeylSettings) (bytes : List ℕ) : Type 0 where
+  pub valid : code ≡ 0 → AcceptsUnder (settings_in s) bytes
+  pub invalid : ¬ (code ≡ 0) → ¬ (code ≡ 3) → ¬ (code ≡ 6) → ¬ AcceptsUnder (settings_in s) bytes
+  pub settings : code ≡ 6 → ¬ AreSettings s
+  pub judged : ¬ AreSettings s → code ≡ 6
+
+-- the kinds of errors by their numbers, from 1
+abbrev pub number_of : ErrorKind → ℕ
+number_of (EndOfData h) = 1
+number_of (MissingFeature f) = 2
+number_of OutOfMemory = 3
+number_of Failed = 4
+number_of Other = 5
+
+-- the text has at most 256 bytes, and a 0 after them
+pub record IsEnded (f : DurskeylFault) : Type 0 where
+  pub short : f.text_length ≤ 256
+  pub ended : slice_index_or f.text f.text_length 1 ≡ 0

@@ -1,0 +1,80 @@
+//! Why bytes were refused, as C sees it.
+
+ghost use Rattle.std.specs.Prelude.{◌≡◌, ◌≤◌, length, slice_index_or};
+ghost use Rattle.durskeyl_c.specs.Told.{number_of, IsEnded};
+
+use bitflags::Flags;
+use wasm_types::{Error, ErrorKind};
+
+/// How many bytes the text has room for, its closing 0 included: a message has 256 at most.
+const ROOM: usize = 264;
+
+/// Why bytes were refused.
+#[repr(C)]
+#[derive(Drop)]
+pub struct DurskeylFault {
+    /// What `durskeyl_validate` answered.
+    pub kind: u32,
+    /// How many bytes the text has.
+    pub text_length: u32,
+    /// The offset in the bytes.
+    pub offset: u64,
+    /// At kind 1 how many bytes more would be wanted at least, at kind 2 the bits of the missing feature, else 0.
+    pub detail: u64,
+    /// What is wrong, for people: UTF-8, with a 0 after it.
+    pub text: [u8; ROOM],
+}
+
+/// The number of an error's kind, and what it carries.
+fn number(kind: ErrorKind) -> (u32, u64)
+    ensures { result.0 ≡ number_of kind }
+{
+    match kind {
+        ErrorKind::EndOfData { needed_hint } => (1, needed_hint as u64),
+        ErrorKind::MissingFeature(feature) => (2, feature.bits() as u64),
+        ErrorKind::OutOfMemory => (3, 0),
+        ErrorKind::Failed => (4, 0),
+        ErrorKind::Other => (5, 0),
+    }
+}
+
+/// The fault of bytes that are valid: none.
+pub(crate) fn no_fault() -> DurskeylFault
+    ensures kind { result.kind ≡ 0 }
+    ensures text { IsEnded result }
+{
+    DurskeylFault {
+        kind: 0,
+        text_length: 0,
+        offset: 0,
+        detail: 0,
+        text: [0; ROOM],
+    }
+}
+
+/// The fault of settings that are none: a feature that is not known, or a limit above its ceiling.
+pub(crate) fn bad_settings(fault: &mut DurskeylFault)
+    ensures kind { fault.new.kind ≡ 6 }
+    ensures text { IsEnded fault.new }
+{
+    *fault = no_fault();
+    fault.kind = 6;
+}
+
+/// Writes an error as a fault.
+pub(crate) fn write_error(error: &Error, fault: &mut DurskeylFault)
+    ensures kind { fault.new.kind ≡ number_of error.now.kind }
+    ensures offset { fault.new.offset ≡ error.now.offset }
+    ensures text { IsEnded fault.new }
+{
+    *fault = no_fault();
+    let (kind, detail) = number(error.kind());
+    let text = error.message().as_bytes();
+    let count = text.len();
+    fault.text[..count].copy_from_slice(text);
+    fault.text[count] = 0;
+    fault.kind = kind;
+    fault.text_length = count as u32;
+    fault.offset = error.offset();
+    fault.detail = detail;
+}

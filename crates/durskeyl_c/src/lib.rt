@@ -1,0 +1,14 @@
+//! The validator for callers in C, C++, Rust, Go and Python: a static library.
+//!
+//! Whole bytes go in; a number and a fault come out (`include/durskeyl.h` says the same in C's words). No call keeps anything, none
+//! depends on an earlier one, and nothing has to be freed, so any number of threads may call at once. `specs/Told.antt` says what
+//! the number tells.
+#![tactic(auto)]
+
+mod fault;
+mod settings;
+mod validate;
+
+pub use fault::DurskeylFault;
+pub use settings::{DurskeylSettings, durskeyl_features, durskeyl_settings_default};
+pub use validate::{durskeyl_validate, durskeyl_version};

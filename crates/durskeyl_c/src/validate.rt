@@ -1,0 +1,56 @@
+//! The verdict on whole bytes.
+
+ghost use Rattle.std.specs.Prelude.{◌≡◌};
+ghost use Rattle.durskeyl_c.specs.Told.{Told, IsEnded};
+
+use crate::fault::{DurskeylFault, bad_settings, no_fault, write_error};
+use crate::settings::{DurskeylSettings, features_of, limits_of};
+use std::alloc::Global;
+use wasm_module_validator::{Validator, ValidatorId};
+
+/// The version of this interface: its first number times 2^16, and its second.
+const VERSION: u32 = 1 << 16;
+
+/// The version of this interface.
+#[unsafe(no_mangle)]
+pub extern "C" fn durskeyl_version() -> u32
+    ensures { result ≡ 65536 }
+{
+    VERSION
+}
+
+/// Says of these bytes whether they are a valid module by these settings (WebAssembly 3.0, binary format and validation, modules): 0 if
+/// so; 3 if there was no memory and 6 if the settings name an unknown feature or a limit above its ceiling, which are no verdicts; else
+/// the number of the kind of fault that was found. The fault has the same number, the offset and a text.
+#[unsafe(no_mangle)]
+pub extern "C" fn durskeyl_validate(
+    alloc: Global,
+    settings: &DurskeylSettings,
+    bytes: &[u8],
+    fault: &mut DurskeylFault,
+) -> u32
+    ensures verdict { Told result settings.now bytes.now }
+    ensures kind { fault.new.kind ≡ result }
+    ensures text { IsEnded fault.new }
+{
+    let limits = limits_of(&settings.limits);
+    let Some(features) = features_of(settings.features) else {
+        bad_settings(fault);
+        return 6;
+    };
+    if !limits.is_within_ceilings() {
+        bad_settings(fault);
+        return 6;
+    }
+    let mut validator = Validator::new_with_limits(alloc, ValidatorId::new(0), features, limits);
+    match validator.validate_all(bytes) {
+        Ok(_types) => {
+            *fault = no_fault();
+            0
+        }
+        Err(error) => {
+            write_error(&error, fault);
+            fault.kind
+        }
+    }
+}

@@ -1,0 +1,103 @@
+-- What a list of `--features` stands for: words between commas, which are applied from left to right to the default set.
+use Rattle.std.specs.Prelude.{ℕ, ◌==◌, map, List, [], ◌∷◌, Option, Some, None, Result, codes, bytes_eq, take, drop, option_map, option_and_then, if◌then◌else◌}
+use Rattle.std.specs.Char.{to_ascii_lowercase}
+use Rattle.std.specs.Option.{ok_or}
+use Rattle.std.specs.Int.RustNames.{bit_or}
+use Rattle.bitflags.specs.Sets.{without}
+use Rattle.wasm_types.specs.features.Features.{mask, MutableGlobal, SaturatingFloatToInt, SignExtension, ReferenceTypes, MultiValue, BulkMemory}
+use Rattle.wasm_types.specs.features.Features.{Simd, RelaxedSimd, Threads, SharedEverythingThreads, TailCall, Floats, MultiMemory, Exceptions}
+use Rattle.wasm_types.specs.features.Features.{Memory64, ExtendedConst, ComponentModel, FunctionReferences, MemoryControl, Gc, CustomPageSizes}
+use Rattle.wasm_types.specs.features.Features.{LegacyExceptions, GcTypes, StackSwitching, WideArithmetic, CallIndirectOverlong, BulkMemoryOpt}
+use Rattle.wasm_types.specs.features.Features.{CustomDescriptors}
+use Rattle.wasm_types.specs.features.Sets.{bits_of, mvp, wasm1, wasm2, wasm3, lime1, default_features}
+use Rattle.wasm_check_command.specs.Lists.{Place, words_of, through}
+
+-- the sets that have a name
+abbrev pub set_words : List (List ℕ × ℕ)
+set_words = (codes "mvp", bits_of mvp)
+    ∷ (codes "wasm1", bits_of wasm1)
+    ∷ (codes "wasm2", bits_of wasm2)
+    ∷ (codes "wasm3", bits_of wasm3)
+    ∷ (codes "lime1", bits_of lime1)
+    ∷ (codes "default", bits_of default_features)
+    ∷ []
+
+-- the features, each with all bits that its name stands for
+unfoldable pub feature_words : List (List ℕ × ℕ)
+feature_words = (codes "mutable-global", mask MutableGlobal)
+    ∷ (codes "saturating-float-to-int", mask SaturatingFloatToInt)
+    ∷ (codes "sign-extension", mask SignExtension)
+    ∷ (codes "reference-types", mask ReferenceTypes)
+    ∷ (codes "multi-value", mask MultiValue)
+    ∷ (codes "bulk-memory", mask BulkMemory)
+    ∷ (codes "simd", mask Simd)
+    ∷ (codes "relaxed-simd", mask RelaxedSimd)
+    ∷ (codes "threads", mask Threads)
+    ∷ (codes "shared-everything-threads", mask SharedEverythingThreads)
+    ∷ (codes "tail-call", mask TailCall)
+    ∷ (codes "floats", mask Floats)
+    ∷ (codes "multi-memory", mask MultiMemory)
+    ∷ (codes "exceptions", mask Exceptions)
+    ∷ (codes "memory64", mask Memory64)
+    ∷ (codes "extended-const", mask ExtendedConst)
+    ∷ (codes "component-model", mask ComponentModel)
+    ∷ (codes "function-references", mask FunctionReferences)
+    ∷ (codes "memory-control", mask MemoryControl)
+    ∷ (codes "gc", mask Gc)
+    ∷ (codes "custom-page-sizes", mask CustomPageSizes)
+    ∷ (codes "legacy-exceptions", mask LegacyExceptions)
+    ∷ (codes "gc-types", mask GcTypes)
+    ∷ (codes "stack-switching", mask StackSwitching)
+    ∷ (codes "wide-arithmetic", mask WideArithmetic)
+    ∷ (codes "call-indirect-overlong", mask CallIndirectOverlong)
+    ∷ (codes "bulk-memory-opt", mask BulkMemoryOpt)
+    ∷ (codes "custom-descriptors", mask CustomDescriptors)
+    ∷ []
+
+-- The name of a constant as a word: in lower case, with hyphens (45) for underscores (95). So the words of the features are the names of
+-- the constants of `WasmFeatures`.
+abbrev pub hyphened : ℕ → ℕ
+hyphened b = if b == 95 then 45 else to_ascii_lowercase b
+
+abbrev pub word_of : List ℕ → List ℕ
+word_of name = map hyphened name
+
+-- the bits that stand beside this word
+abbrev pub named : List (List ℕ × ℕ) → List ℕ → Option ℕ
+named [] word = None
+named (row ∷ rows) word = if bytes_eq word row.0 then Some row.1 else named rows word
+
+-- what a word does to the set so far
+pub data Change : Type 0 where
+  Replace : ℕ → Change
+  Add : ℕ → Change
+  Remove : ℕ → Change
+
+abbrev pub changed : Change → ℕ → ℕ
+changed (Replace set) bits = set
+changed (Add feature) bits = bit_or bits feature
+changed (Remove feature) bits = without 32 bits feature
+
+-- what follows `no-`
+abbrev pub after_no : List ℕ → Option (List ℕ)
+after_no word = if bytes_eq (take 3 word) (codes "no-") then Some (drop 3 word) else None
+
+-- the word is a set's name, or a feature's, or `no-` and a feature's name; any other is unknown, the empty one too
+abbrev pub first_known : Option ℕ → Option ℕ → Option ℕ → Option Change
+first_known (Some set) added removed = Some (Replace set)
+first_known None (Some feature) removed = Some (Add feature)
+first_known None None removed = option_map Remove removed
+
+abbrev pub change_of : List ℕ → Option Change
+change_of word = first_known (named set_words word) (named feature_words word) (option_and_then (named feature_words) (after_no word))
+
+-- what it makes of a set
+abbrev pub set_after : List ℕ → ℕ → Option ℕ
+set_after word bits = option_map (λ change. changed change bits) (change_of word)
+
+abbrev pub feature_step : Place → List ℕ → ℕ → Result ℕ Place
+feature_step place word bits = ok_or (set_after word bits) place
+
+-- the set that a list stands for, or where its first unknown word is
+unfoldable pub features_of : List ℕ → Result ℕ Place
+features_of list = through feature_step 0 (words_of list) (bits_of default_features)

@@ -1,0 +1,55 @@
+-- By which features and limits files are judged: those that the options of the command line give.
+use Rattle.std.specs.Prelude.{◌≡◌, ℕ, List, Option, Some, None, Result, Ok, Err}
+use Rattle.wasm_types.specs.limits.Settings.{Settings}
+use Rattle.wasm_types.specs.limits.Limits.{default_limits}
+use Rattle.wasm_types.specs.limits.declared.Limits.{Limits}
+use Rattle.wasm_types.specs.features.Sets.{bits_of, default_features}
+use Rattle.wasm_check_command.specs.Lists.{Place, IsWordAt, place_of}
+use Rattle.wasm_check_command.specs.FeatureLists.{features_of}
+use Rattle.wasm_check_command.specs.declared.judging.Chosen.{Chosen}
+use Rattle.wasm_check_command.specs.declared.limits.Wrong.{Wrong}
+use Rattle.wasm_check_command.specs.LimitLists.{ListFault, limits_of}
+use Rattle.wasm_check_command.specs.Words.{features_list, limits_list}
+
+-- the features by the list of `--features`; those by default if it is not there
+abbrev pub features_by : Option (List ℕ) → Result ℕ Place
+features_by None = Ok (bits_of default_features)
+features_by (Some list) = features_of list
+
+-- the limits by the list of `--limits`; those by default if it is not there
+abbrev pub limits_by : Option (List ℕ) → Result Limits ListFault
+limits_by None = Ok default_limits
+limits_by (Some list) = limits_of list
+
+-- the settings of these features and limits
+abbrev pub settings_by : ℕ → Limits → Settings
+settings_by features limits = record { features = features; limits = limits }
+
+-- what the program judges by
+abbrev pub settings_of : Chosen → Settings
+settings_of c = settings_by c.features.0 c.limits
+
+-- the lists of the options, where they are there
+pub record Asked : Type 0 where
+  pub features : Option (List ℕ)
+  pub limits : Option (List ℕ)
+
+-- those that the words have
+abbrev pub asked_by : List (List ℕ) → Asked
+asked_by words = record { features = features_list words; limits = limits_list words }
+
+-- these settings are asked for
+pub record IsGiven (asked : Asked) (z : Settings) : Type 0 where
+  pub features : features_by asked.features ≡ Ok z.features
+  pub limits : limits_by asked.limits ≡ Ok z.limits
+
+-- the list is there, and this is its first unknown word
+abbrev pub IsUnknownIn : Option (List ℕ) → List ℕ → Type 0
+IsUnknownIn None word = ⊥
+IsUnknownIn (Some list) word = (start : ℕ) × IsWordAt list start word × (features_of list ≡ Err (place_of start word))
+
+-- the list is there, and this is its first word at fault, by what is wrong with it
+abbrev pub IsWrongIn : Option (List ℕ) → Wrong → List ℕ → Type 0
+IsWrongIn None wrong word = ⊥
+IsWrongIn (Some list) wrong word =
+    (start : ℕ) × IsWordAt list start word × (limits_of list ≡ Err (record { wrong = wrong; place = place_of start word }))

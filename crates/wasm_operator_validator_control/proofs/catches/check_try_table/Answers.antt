@@ -1,0 +1,39 @@
+use Rattle.std.proofs.Common.{false, refl, sym}
+use Rattle.wasm_operator_validator_determined.specs.expression.immediates.Tables.{catch_table_of}
+use Rattle.wasm_operator_validator_determined.specs.expression.immediates.declared.frames.FrameKind.TheVariants as frames
+use Rattle.wasm_operator_validator_determined.specs.expression.info.declared.proposal.Proposal.TheVariants.{Exceptions}
+use Rattle.wasm_operator_validator_determined.specs.state.Refusals.{kind_of, refused}
+use Rattle.wasm_operator_validator_determined.specs.state.laws.Entering.{enabled}
+use Rattle.wasm_operator_validator_determined.specs.state.laws.Checks.{checks_going}
+use Rattle.wasm_operator_validator_control.proofs.Opening.{opener, not_opened}
+use Rattle.wasm_operator_validator_control.proofs.TryClauses.{stopped_unless, try_table, try_table_needs, not_caught}
+use Rattle.wasm_operator_validator_control.proofs.catches.check_try_table.Goals as goal
+
+pub returns-in-Err : goal.returns-in-Err
+returns-in-Err g c =
+    let m = g.R.WasmModuleResources.meaning c.args.resources.now in
+    let t = catch_table_of c.args.try_table.now in
+    stopped_unless c.in-Err.refusal m c.args.validator.now (try_table t) Exceptions false (refl, refl) (try_table_needs m c.args.validator.now t) c.in-Err.ensures.begins c.in-Err.ensures.stops
+
+pub returns-in-Err-check_block_type : goal.returns-in-Err-check_block_type
+returns-in-Err-check_block_type g c =
+    let m = g.R.WasmModuleResources.meaning c.args.resources.now in
+    let t = catch_table_of c.args.try_table.now in
+    not_opened (kind_of c.in-Err-check_block_type.refusal) m c.args.validator.now (try_table t) frames.TryTable t.ty Exceptions refl refl c.in-Ok.ensures.begins
+    (c.in-Err-check_block_type.ensures c.args.validator.now.given (sym c.features.ensures))
+
+pub returns-in-Err-check_clauses : goal.returns-in-Err-check_clauses
+returns-in-Err-check_clauses g c =
+    let m = g.R.WasmModuleResources.meaning c.args.resources.now in
+    not_caught (kind_of c.in-Err-check_clauses.refusal) m c.args.validator.now (catch_table_of c.args.try_table.now) c.in-Ok.ensures.begins
+    (rw c.as_slice.ensures.value at c.in-Err-check_clauses.ensures)
+
+pub returns : goal.returns
+returns g c =
+    let m = g.R.WasmModuleResources.meaning c.args.resources.now in
+    let t = catch_table_of c.args.try_table.now in
+    checks_going (refused c.open_frame.result) m c.args.validator.now c.open_frame.new.validator (try_table t) Exceptions false c.in-Ok.ensures.begins
+    (opener (refused c.open_frame.result) m c.args.validator.now c.open_frame.new.validator (try_table t) frames.TryTable t.ty c.in-Ok-check_block_type.block_type refl refl
+    (enabled c.args.validator.now (try_table t) Exceptions false (refl, refl) c.in-Ok.ensures.begins, (rw c.as_slice.ensures.value at c.in-Ok-check_clauses.ensures))
+    c.in-Ok.ensures.begins.framed (c.in-Ok-check_block_type.ensures c.args.validator.now.given (sym c.features.ensures)) (λ b. refl) c.open_frame.ensures.does)
+    c.open_frame.ensures.given c.open_frame.ensures.failed c.open_frame.ensures.saved

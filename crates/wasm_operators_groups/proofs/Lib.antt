@@ -1,0 +1,10 @@
+pub mod ControlCodes
+pub mod ControlEquality
+pub mod MemoryCodes
+pub mod MemoryEquality
+pub mod NumbersCodes
+pub mod NumbersEquality
+pub mod GcCodes
+pub mod GcEquality
+pub mod ThreadsCodes
+pub mod ThreadsEquality

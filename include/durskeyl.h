@@ -1,0 +1,96 @@
+/* durskeyl.h: a validator of WebAssembly core modules that is proved right. Interface 1.0. The library needs the C library alone.
+ *
+ * PROVED, of the library's source: durskeyl_validate answers DURSKEYL_VALID only if the bytes spell a module that is valid by the written
+ * rules under the settings (docs/SPECIFICATION.md names them), and a kind that is a verdict only if they do not; fault->kind is that
+ * answer; the text ends in a 0. It ends on all bytes, reads only what it is given, and writes only the fault. No call depends on an
+ * earlier one, keeps anything, or leaves anything to free.
+ * NOT PROVED: which of several faults is told, its kind, offset and text; time, memory and stack; this header; the C library.
+ *
+ * THE CALLER PROMISES, and nothing checks it:
+ *   - settings and fault are not null, and aligned; bytes may be null only with length 0; length is at most PTRDIFF_MAX, and so many
+ *     bytes can be read during the whole call. Nobody writes them meanwhile: no other thread, and no process, so no file mapped as shared.
+ *   - the fault overlaps neither the bytes nor the settings.
+ *   - malloc, realloc and free belong together and align to 16; there are 64 KiB of stack; no call comes from a signal handler, nor
+ *     after fork in the child of a process with threads, before exec.
+ * Any number of threads may call at once. */
+#ifndef DURSKEYL_H
+#define DURSKEYL_H
+#include <stddef.h>
+#include <stdint.h>
+#ifdef __cplusplus
+extern "C" {
+#endif
+
+/* The first number times 2^16, and the second: a new second number only adds functions, features or limits. */
+#define DURSKEYL_VERSION UINT32_C(0x10000)
+
+enum durskeyl_kind {
+    DURSKEYL_VALID = 0,
+    DURSKEYL_END_OF_DATA = 1,     /* invalid: the bytes end too early; detail: at least so many more would be asked for */
+    DURSKEYL_MISSING_FEATURE = 2, /* invalid under these features; detail: the bits of a feature that would allow what is there */
+    DURSKEYL_OUT_OF_MEMORY = 3,   /* NO VERDICT: malloc refused. Never take it for invalid */
+    DURSKEYL_FAILED = 4,          /* not answered by durskeyl_validate today */
+    DURSKEYL_INVALID = 5,         /* invalid: any other fault */
+    DURSKEYL_BAD_SETTINGS = 6     /* NO VERDICT: a bit that is no feature's, or a limit above its ceiling */
+};
+
+/* The places in limits: the most that a module may have of each. The last three are kept for later. */
+enum durskeyl_limit {
+    DURSKEYL_TYPES,
+    DURSKEYL_PARAMS,
+    DURSKEYL_RESULTS,
+    DURSKEYL_FIELDS,
+    DURSKEYL_STRING_BYTES,
+    DURSKEYL_IMPORTS,
+    DURSKEYL_EXPORTS,
+    DURSKEYL_FUNCTIONS,
+    DURSKEYL_GLOBALS,
+    DURSKEYL_TAGS,
+    DURSKEYL_TABLES,
+    DURSKEYL_MEMORIES,
+    DURSKEYL_ELEMENT_SEGMENTS,
+    DURSKEYL_DATA_SEGMENTS,
+    DURSKEYL_SEGMENT_ITEMS,
+    DURSKEYL_BODY_BYTES,
+    DURSKEYL_SELECT_TYPES,
+    DURSKEYL_LOCALS,
+    DURSKEYL_CATCHES,
+    DURSKEYL_SUBTYPING_DEPTH,
+    DURSKEYL_TYPE_SIZE,
+    DURSKEYL_LIMITS = 24
+};
+
+/* Named sets of features, for durskeyl_features; any other number gives the set by default, WebAssembly 3.0 with threads. */
+enum durskeyl_set {
+    DURSKEYL_ALL = 0,             /* all that this library knows, proposals too */
+    DURSKEYL_MVP = 1,
+    DURSKEYL_WASM1 = 2,
+    DURSKEYL_WASM2 = 3,
+    DURSKEYL_WASM3 = 4,
+    DURSKEYL_LIME1 = 5,
+    DURSKEYL_DEFAULT = 6
+};
+
+typedef struct {
+    uint64_t features;            /* a bit for each feature, as in wasmparser's WasmFeatures */
+    uint32_t limits[DURSKEYL_LIMITS];
+} durskeyl_settings;
+
+typedef struct {
+    uint32_t kind;                /* the answer, an enum durskeyl_kind */
+    uint32_t text_length;         /* at most 256 */
+    uint64_t offset;              /* in the bytes */
+    uint64_t detail;              /* see the kinds; else 0 */
+    char text[264];               /* for people, in UTF-8, with a 0 after it; no stable wording. It may hold a name of the module, with
+                                   * any characters: escape it before it is printed to a terminal or a log */
+} durskeyl_fault;
+
+uint32_t durskeyl_version(void);
+uint64_t durskeyl_features(uint32_t set);
+void durskeyl_settings_default(durskeyl_settings *settings);
+uint32_t durskeyl_validate(const durskeyl_settings *settings, const uint8_t *bytes, size_t length, durskeyl_fault *fault);
+
+#ifdef __cplusplus
+}
+#endif
+#endif
