@@ -55,7 +55,3 @@ row(
 )
 row("br-on-non-null-to-nothing", by_reference("0240", "2000", AT, "d600", E, E), SM + "br_on_non_null target has no label types")
 row("br-on-non-null-of-number", by_reference("026400", i32(0), AT, "d600", "00", E, "1a", E), mis("(ref null $type)", "i32"))
-
-# ---- operators that have no rule yet, by their names
-
-row("without-a-rule-ref-eq", fn(AT, "d3", E), "ref.eq is not supported yet")

@@ -4,10 +4,8 @@ use Rattle.wasm_types.specs.indices.declared.index.CoreTypeId.{CoreTypeId}
 use Rattle.wasm_types.specs.indices.declared.index.UnpackedIndex.{UnpackedIndex}
 use Rattle.wasm_types.specs.indices.declared.index.UnpackedIndex.TheVariants as index
 use Rattle.wasm_types.specs.trees.Types as tree
-use Rattle.wasm_types.specs.trees.Types.{Abstract, HeapOf, abstract, concrete, exact, heap_map, value_map, InnerOf, inner_map, EntryOf, entry_map}
+use Rattle.wasm_types.specs.trees.Types.{HeapOf, heap_map, value_map, InnerOf, inner_map, EntryOf, entry_map}
 use Rattle.wasm_types.specs.trees.Trees.{TypeTree}
-use Rattle.wasm_types.specs.trees.AbstractOrder.{top_of}
-use Rattle.wasm_types.specs.trees.Below.{abstract_above, expanded, heap_is_shared}
 use Rattle.wasm_types.specs.trees.ValidGroup.{type_at}
 use Rattle.wasm_types.specs.values.declared.heap.HeapType.{HeapType}
 use Rattle.wasm_types.specs.values.declared.value.ValType.{ValType}
@@ -22,6 +20,8 @@ use Rattle.wasm_types.specs.externs.declared.global.GlobalType.{GlobalType}
 use Rattle.wasm_types.specs.externs.declared.table.TableType.{TableType}
 use Rattle.wasm_operator_validator_rules.specs.Operands.{ValueType}
 use Rattle.wasm_operator_validator_rules.specs.Context.{Module, Global, Table}
+-- the top of a hierarchy
+pub use Rattle.wasm_operator_validator_rules.specs.Aggregates.{top_above, top_heap}
 
 -- what a look-up means: the module of the rules, and the type behind each id
 pub record Meaning : Type 0 where
@@ -69,14 +69,3 @@ global_in m g = record { content = type_in m g.content_type; mutable = g.mutable
 
 abbrev pub table_in : Meaning → TableType → Table
 table_in m t = record { element = reference_in m t.element_type; table64 = t.table64; shared = t.shared }
-
--- ---- the top of a hierarchy (validation, matching, heap types)
-
-abbrev pub top_above : HeapOf TypeTree → Abstract
-top_above (abstract s a) = top_of a
-top_above (concrete t) = top_of (abstract_above (expanded t))
-top_above (exact t) = top_of (abstract_above (expanded t))
-
--- the type above all types of its hierarchy, and as shared
-abbrev pub top_heap : HeapOf TypeTree → HeapOf TypeTree
-top_heap h = abstract (heap_is_shared h) (top_above h)

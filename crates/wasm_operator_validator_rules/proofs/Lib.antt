@@ -2,6 +2,7 @@ pub mod WorkedTypes
 pub mod WorkedOperators
 pub mod WorkedReferences
 pub mod WorkedExceptions
+pub mod WorkedObjects
 pub mod WorkedCodes
 pub mod WorkedClauses
 mod WorkedCounts

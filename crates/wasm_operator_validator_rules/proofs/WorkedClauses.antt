@@ -83,7 +83,9 @@ clauses_worked x = record {
       (let f : b.results ≡ number i32 ∷ [] = ap (λ (v : Signature). v.results) e ∙ ap (λ (v : ValueType). v ∷ []) i.is in
       no_number ts t (subst (λ (v : List ValueType). AllBelow (stack ts) (stack v)) f y.0));
   caught_gives = λ (k, b, rest, op, below, (m, st, (ts, (en, t), c, y)), z). gives_back ts t;
+  try_without = search rules;
   caught_without = search rules;
+  all_caught_without = search rules;
   body_missing = search rules;
   all_caught = (frames.LegacyTry, gives_none, [], (refl, refl, search rules), tt, ([], (search rules, refl), tt, (tt, tt, tt)), (tt, tt, tt));
   all_caught_nothing = search rules;
@@ -135,6 +137,7 @@ clauses_worked x = record {
   thrown_in_try = search rules;
   delegated = (frames.LegacyTry, gives_none, [], (refl, refl, search rules), tt, (tt, tt, (search rules, number i32 ∷ [], refl)), (tt, tt, tt));
   delegated_outside = search rules;
+  delegated_without = search rules;
   delegated_missing = search rules;
   table = (
     frames.TryTable,

@@ -1,10 +1,12 @@
 -- The instruction types that the module alone determines, as one table (WebAssembly 3.0, validation, instructions): numbers,
 -- constants, globals, memories, tables, atomic accesses and calls of references. An operator whose type is free in something has a row of its own
 -- (`Row.antt`), and none here.
-use Rattle.std.specs.Prelude.{ℕ, Bool, true, false, List, [], ◌∷◌, ◌++◌, ◌&&◌, Option, Some, None, slice_get, nat_lt, if◌then◌else◌}
-use Rattle.wasm_operators_expression.specs.types.trees.Types.{i32, number, ref, concrete}
-use Rattle.wasm_operators_expression.specs.types.trees.Trees.{TypeTree}
+use Rattle.std.specs.Prelude.{ℕ, Bool, true, false, not, List, [], ◌∷◌, ◌++◌, ◌&&◌, replicate, is_some, Option, Some, None, slice_get, nat_lt, if◌then◌else◌}
+use Rattle.wasm_operators_expression.specs.types.features.Features.{CustomDescriptors, has}
+use Rattle.wasm_operators_expression.specs.types.trees.Types.{i32, i31, number, ref, HeapOf, abstract, concrete, exact}
+use Rattle.wasm_operators_expression.specs.types.trees.Trees.{TypeTree, opened}
 use Rattle.wasm_operators_expression.specs.types.trees.Below.{expanded}
+use Rattle.wasm_operators_expression.specs.types.values.declared.heap.HeapType.{HeapType}
 use Rattle.wasm_operators_expression.specs.types.externs.declared.memory.MemoryType.{MemoryType}
 use Rattle.wasm_operators_expression.specs.groups.declared.control.ControlOperator.{ControlOperator}
 use Rattle.wasm_operators_expression.specs.groups.declared.control.ControlOperator.TheVariants as control
@@ -14,11 +16,15 @@ use Rattle.wasm_operators_expression.specs.groups.declared.bulk.BulkOperator.{Bu
 use Rattle.wasm_operators_expression.specs.groups.declared.bulk.BulkOperator.TheVariants as bulk
 use Rattle.wasm_operators_expression.specs.groups.declared.atomic.AtomicOperator.{AtomicOperator}
 use Rattle.wasm_operators_expression.specs.groups.declared.atomic.AtomicOperator.TheVariants as atomic
+use Rattle.wasm_operators_expression.specs.groups.declared.gc.GcOperator.{GcOperator}
+use Rattle.wasm_operators_expression.specs.groups.declared.gc.GcOperator.TheVariants as gc
 use Rattle.wasm_operators_expression.specs.operator.Op as op
 use Rattle.wasm_operators_expression.specs.operator.Op.{Op}
 use Rattle.wasm_operator_validator_rules.specs.Operands.{ValueType}
 use Rattle.wasm_operator_validator_rules.specs.Context.{Context, Table, Global, Signature, may_use, address_type}
 use Rattle.wasm_operator_validator_rules.specs.Named.{used_type, as_function}
+use Rattle.wasm_operator_validator_rules.specs.Aggregates.{Struct, Array, struct_named, array_named, heap_named, top_heap, is_castable}
+use Rattle.wasm_operator_validator_rules.specs.Places.{unpacked, is_packed, is_of_bytes, has_default, have_defaults, operands_for, Place, field_place, element_place}
 use Rattle.wasm_operator_validator_rules.specs.Numbers.{numbers, class_of, taken_by, given_by, constant_type}
 use Rattle.wasm_operator_validator_rules.specs.Accesses.{AccessOf, access_of, atomic_access_of, operands_of, results_of, may_access}
 
@@ -82,6 +88,41 @@ function_at g y f = named (used_type g y) (λ t. named (as_function (expanded t)
 abbrev pub reference_to : TypeTree → ValueType
 reference_to t = ref true (concrete t)
 
+-- ---- structs and arrays (validation, aggregate instructions)
+
+abbrev pub struct_at : Context → ℕ → (Struct → Option InstructionType) → Option InstructionType
+struct_at g x f = named (struct_named g x) f
+
+abbrev pub array_at : Context → ℕ → (Array → Option InstructionType) → Option InstructionType
+array_at g x f = named (array_named g x) f
+
+-- what an allocation gives: exactly the type, by the proposal on custom descriptors
+abbrev pub allocated : Context → TypeTree → ValueType
+allocated g t = ref false (if has CustomDescriptors g.bits then exact t else concrete t)
+
+-- a struct with a descriptor is made with it alone (the same proposal)
+abbrev pub is_described : Struct → Bool
+is_described s = is_some (opened s.type).descriptor
+
+abbrev pub element_of : Array → ValueType
+element_of a = unpacked a.element.storage
+
+-- a place is read: what is stored there, or a packed type, which is extended; it is written, if it may be
+abbrev pub read : Place → Option InstructionType
+read p = provided (not (is_packed p.storage)) (p.reached_by ⟶ unpacked p.storage ∷ [])
+
+abbrev pub read_packed : Place → Option InstructionType
+read_packed p = provided (is_packed p.storage) (p.reached_by ⟶ i32_type ∷ [])
+
+abbrev pub written : Place → Option InstructionType
+written p = provided p.mutable ((p.reached_by ++ unpacked p.storage ∷ []) ⟶ [])
+
+-- ---- tests and casts (validation, reference instructions)
+
+-- of a reference of the hierarchy of the type that is named
+abbrev pub cast_at : Context → HeapType → (HeapOf TypeTree → ValueType) → Option InstructionType
+cast_at g h f = named (heap_named g h) (λ k. provided (is_castable k) (ref true (top_heap k) ∷ [] ⟶ f k ∷ []))
+
 -- ---- the tables of the groups
 
 abbrev pub control_type_of : Context → ControlOperator → Option InstructionType
@@ -113,6 +154,33 @@ abbrev pub atomic_type_of : Context → AtomicOperator → Option InstructionTyp
 atomic_type_of g atomic.AtomicFence = Some ([] ⟶ [])
 atomic_type_of g o = accesses g true (atomic_access_of o)
 
+abbrev pub gc_type_of : Context → GcOperator → Option InstructionType
+gc_type_of g (gc.StructNew x) = struct_at g x (λ s. provided (not (is_described s)) (operands_for s.fields ⟶ allocated g s.type ∷ []))
+gc_type_of g (gc.StructNewDefault x) = struct_at g x (λ s. provided (not (is_described s) && have_defaults s.fields) ([] ⟶ allocated g s.type ∷ []))
+gc_type_of g (gc.StructGet x i) = named (field_place g x i) read
+gc_type_of g (gc.StructGetS x i) = named (field_place g x i) read_packed
+gc_type_of g (gc.StructGetU x i) = named (field_place g x i) read_packed
+gc_type_of g (gc.StructSet x i) = named (field_place g x i) written
+gc_type_of g (gc.ArrayNew x) = array_at g x (λ a. Some (element_of a ∷ i32_type ∷ [] ⟶ allocated g a.type ∷ []))
+gc_type_of g (gc.ArrayNewDefault x) = array_at g x (λ a. provided (has_default a.element) (i32_type ∷ [] ⟶ allocated g a.type ∷ []))
+gc_type_of g (gc.ArrayNewFixed x n) = array_at g x (λ a. Some (replicate n (element_of a) ⟶ allocated g a.type ∷ []))
+gc_type_of g (gc.ArrayNewData x d) = array_at g x
+    (λ a. provided (is_of_bytes a.element.storage && names_data g.«module».data_count d) (i32_type ∷ i32_type ∷ [] ⟶ allocated g a.type ∷ []))
+gc_type_of g (gc.ArrayGet x) = named (element_place g x) read
+gc_type_of g (gc.ArrayGetS x) = named (element_place g x) read_packed
+gc_type_of g (gc.ArrayGetU x) = named (element_place g x) read_packed
+gc_type_of g (gc.ArraySet x) = named (element_place g x) written
+gc_type_of g (gc.ArrayFill x) = array_at g x (λ a. provided a.element.mutable (reference_to a.type ∷ i32_type ∷ element_of a ∷ i32_type ∷ [] ⟶ []))
+gc_type_of g (gc.ArrayInitData x d) = array_at g x
+    (λ a. provided (a.element.mutable && (is_of_bytes a.element.storage && names_data g.«module».data_count d))
+    (reference_to a.type ∷ i32_type ∷ i32_type ∷ i32_type ∷ [] ⟶ []))
+gc_type_of g (gc.RefTestNonNull h) = cast_at g h (λ k. i32_type)
+gc_type_of g (gc.RefTestNullable h) = cast_at g h (λ k. i32_type)
+gc_type_of g (gc.RefCastNonNull h) = cast_at g h (λ k. ref false k)
+gc_type_of g (gc.RefCastNullable h) = cast_at g h (λ k. ref true k)
+gc_type_of g gc.RefI31 = Some (i32_type ∷ [] ⟶ ref false (abstract false i31) ∷ [])
+gc_type_of g o = None
+
 -- what an operator takes and gives, where the module determines it
 abbrev pub instruction_type : Context → Op → Option InstructionType
 instruction_type g (op.Control o) = control_type_of g o
@@ -121,4 +189,5 @@ instruction_type g (op.Const o) = Some ([] ⟶ number (constant_type o) ∷ [])
 instruction_type g (op.Numeric o) = Some (numbers (taken_by (class_of o)) ⟶ numbers (given_by (class_of o)))
 instruction_type g (op.Bulk o) = bulk_type_of g o
 instruction_type g (op.Atomic o) = atomic_type_of g o
+instruction_type g (op.Gc o) = gc_type_of g o
 instruction_type g o = None

@@ -4,9 +4,12 @@ pub mod Context
 pub mod Named
 pub mod Numbers
 pub mod Accesses
+pub mod Aggregates
+pub mod Places
 pub mod InstructionTypes
 pub mod Taken
 pub mod Exceptions
+pub mod Objects
 pub mod Row
 pub mod Typed
 -- Worked operators: rows that hold and rows that do not, a pair at least for each kind.

@@ -26,6 +26,7 @@ use Rattle.wasm_operator_validator_rules.specs.Named.{used_type}
 use Rattle.wasm_operator_validator_rules.specs.InstructionTypes.{i32_type, shorter, reference_to}
 pub use Rattle.wasm_operator_validator_rules.specs.Taken.{Takes, TableRow, IsLabel}
 use Rattle.wasm_operator_validator_rules.specs.Exceptions.{ExceptionRow}
+use Rattle.wasm_operator_validator_rules.specs.Objects.{GcRow}
 
 -- ---- control (validation, control instructions); where the next place is not reached, what is given is free
 
@@ -160,6 +161,7 @@ GroupRow g set (op.Parametric o) popped pushed = ParametricRow g o popped pushed
 GroupRow g set (op.Memory o) popped pushed = MemoryRow g set o popped pushed
 GroupRow g set (op.Bulk o) popped pushed = BulkRow g o popped pushed
 GroupRow g set (op.Exception o) popped pushed = ExceptionRow g o popped pushed
+GroupRow g set (op.Gc o) popped pushed = GcRow g o popped pushed
 GroupRow g set o popped pushed = TableRow g o popped pushed
 
 -- what an operator takes off the operands and puts on, the last on top

@@ -2,6 +2,9 @@ pub mod Contexts
 pub mod InstructionTypes
 pub mod Operators
 pub mod References
+pub mod Objects
+pub mod ObjectTypes
+pub mod ObjectRows
 pub mod Codes
 pub mod Exceptions
 pub mod Clauses

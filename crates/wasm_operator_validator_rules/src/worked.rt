@@ -4,6 +4,8 @@ ghost use Rattle.std.specs.Prelude.{ℤ};
 ghost use Rattle.wasm_operator_validator_rules.specs.worked.InstructionTypes.{NumbersWorked, AccessesWorked, SpacesWorked};
 ghost use Rattle.wasm_operator_validator_rules.specs.worked.Operators.{ControlWorked, OperandsWorked, VariablesWorked, ReferencesWorked, FeaturesWorked};
 ghost use Rattle.wasm_operator_validator_rules.specs.worked.References.{CallsWorked, NullsWorked};
+ghost use Rattle.wasm_operator_validator_rules.specs.worked.ObjectTypes.{StructsWorked, ArraysWorked, CastsWorked};
+ghost use Rattle.wasm_operator_validator_rules.specs.worked.ObjectRows.{GcRowsWorked, ObjectOperandsWorked, CastBranchesWorked};
 ghost use Rattle.wasm_operator_validator_rules.specs.worked.Codes.{CodesWorked, PartsWorked};
 ghost use Rattle.wasm_operator_validator_rules.specs.worked.Exceptions.{ExceptionsWorked, CatchesWorked};
 ghost use Rattle.wasm_operator_validator_rules.specs.worked.Clauses.{ClausesWorked};
@@ -50,4 +52,15 @@ pub fn exceptions_are_worked()
 /// Code with clauses that catch exceptions.
 pub fn clauses_are_worked()
     ensures { (x : ℤ) → ClausesWorked x }
+{}
+
+/// Operators on structs, arrays and references: instruction types by the table, rows that hold and rows that do not.
+#[tactic(auto, using(crate::proofs::WorkedObjects::structs_worked, crate::proofs::WorkedObjects::arrays_worked, crate::proofs::WorkedObjects::casts_worked, crate::proofs::WorkedObjects::gc_rows_worked, crate::proofs::WorkedObjects::object_operands_worked, crate::proofs::WorkedObjects::cast_branches_worked))]
+pub fn objects_are_worked()
+    ensures structs { StructsWorked }
+    ensures arrays { ArraysWorked }
+    ensures casts { CastsWorked }
+    ensures rows { GcRowsWorked }
+    ensures operands { ObjectOperandsWorked }
+    ensures branches { CastBranchesWorked }
 {}

@@ -53,6 +53,12 @@ pub enum Space {
     Type,
     /// A type that is a function type.
     FunctionType,
+    /// A type that is a struct type.
+    StructType,
+    /// A type that is an array type.
+    ArrayType,
+    /// A field of a struct.
+    Field,
     /// A function.
     Function,
     /// A table.
@@ -106,6 +112,28 @@ pub enum Reason {
     UndeclaredFunction,
     /// The elements don't fit the table.
     ElementTypes,
+    /// The field is constant.
+    ImmutableField,
+    /// The array's elements are constant.
+    ImmutableArray,
+    /// A packed field or element is read as if it were not.
+    PackedStorage,
+    /// A field or element is read as if it were packed.
+    UnpackedStorage,
+    /// A field or element has no default value.
+    NotDefaultable,
+    /// The array's elements are references, which bytes do not hold.
+    ElementsOfReferences,
+    /// The struct has a descriptor, and is made with it alone.
+    NeedsDescriptor,
+    /// A cast or a test is of continuations.
+    NotCastable,
+    /// A branch on a cast casts to a type that is not below the first.
+    CastTypes,
+    /// A branch on a cast goes to a label that takes nothing.
+    NoCastLabel,
+    /// The label of a branch on a cast takes another type on top.
+    CastLabel,
     /// A choice without a type is between references.
     SelectOfReferences,
     /// A choice is between operands of two types.

@@ -118,6 +118,15 @@ pub fn unknown(offset: u64, space: Space, index: u32) -> Error
             format_args!("expected func type at index {index}"),
             offset,
         ),
+        Space::StructType => Error::fmt(
+            format_args!("expected struct type at index {index}"),
+            offset,
+        ),
+        Space::ArrayType => Error::fmt(
+            format_args!("expected array type at index {index}"),
+            offset,
+        ),
+        Space::Field => Error::new("unknown field: field index out of bounds", offset),
         Space::Function => unknown_in(offset, "function", index, ": function index out of bounds"),
         Space::Table => unknown_in(offset, "table", index, ": table index out of bounds"),
         Space::Memory => unknown_in(offset, "memory", index, ""),
@@ -277,6 +286,21 @@ pub fn reason_text(reason: Reason) -> &'static str {
         Reason::NoDataCount => "data count section required",
         Reason::UndeclaredFunction => "undeclared function reference",
         Reason::ElementTypes => "type mismatch",
+        Reason::ImmutableField => "invalid struct modification: struct field is immutable",
+        Reason::ImmutableArray => "invalid array modification: array is immutable",
+        Reason::PackedStorage => "can only get a packed storage type with an extension to 32 bits",
+        Reason::UnpackedStorage => "cannot extend a non-packed storage type to 32 bits",
+        Reason::NotDefaultable => "a field or an element is not defaultable",
+        Reason::ElementsOfReferences => {
+            "array data can only hold elements of numeric, vector or packed types"
+        }
+        Reason::NeedsDescriptor => {
+            "a type with a descriptor requires an allocation with the descriptor"
+        }
+        Reason::NotCastable => "cannot cast or test continuation types",
+        Reason::CastTypes => "type mismatch: the cast is not to a subtype of its first type",
+        Reason::NoCastLabel => "type mismatch: br_on_cast target has no label types",
+        Reason::CastLabel => "type mismatch: br_on_cast target does not end with the type it takes",
         Reason::SelectOfReferences => "type mismatch: select only takes integral types",
         Reason::SelectOfTypes => "type mismatch: select operands have different types",
         Reason::SelectArity => "invalid result arity",

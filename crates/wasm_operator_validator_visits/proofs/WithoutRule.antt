@@ -8,7 +8,6 @@ use Rattle.wasm_operator_validator_control.specs.expression.operator.Op as op
 use Rattle.wasm_operator_validator_control.specs.expression.operator.Table.{info_of}
 use Rattle.wasm_operator_validator_control.specs.expression.operator.declared.role.Role.TheVariants as role
 use Rattle.wasm_operator_validator_control.specs.expression.operator.Roles.{role_of}
-use Rattle.wasm_operators_visit.specs.groups.declared.gc.GcOperator.{GcOperator}
 use Rattle.wasm_operators_visit.specs.groups.declared.gc.DescriptorOperator.{DescriptorOperator}
 use Rattle.wasm_operators_visit.specs.groups.declared.atomic.SharedOperator.{SharedOperator}
 use Rattle.wasm_operator_validator_control.specs.rules.Operands.{Operand}
@@ -42,9 +41,6 @@ never_plain o r n m σ os x = by_cases σ.opens refl
 
 no_type : (g : Context) (o : Op) (popped pushed : List Operand) → instruction_type g o ≡ None → TableRow g o popped pushed → ⊥
 no_type g o popped pushed n (t, e, k) = cc
-
-pub gc_without : (m : Meaning) (σ : State) (o : GcOperator) (p : Proposal) → (info_of (op.Gc o)).proposal ≡ p → IsWithoutRule m σ (op.Gc o) p
-gc_without m σ o p e = record { of = e; never = never_plain (op.Gc o) refl (λ g set popped pushed r. no_type g (op.Gc o) popped pushed refl r) m σ }
 
 pub descriptor_without : (m : Meaning) (σ : State) (o : DescriptorOperator) (p : Proposal) → (info_of (op.Descriptor o)).proposal ≡ p → IsWithoutRule m σ (op.Descriptor o) p
 descriptor_without m σ o p e = record {

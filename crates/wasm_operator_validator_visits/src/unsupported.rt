@@ -6,7 +6,7 @@ ghost use Rattle.wasm_operator_validator_visits.specs.Unsupported.{IsWithoutRule
 
 use crate::{AnswerAs, ValidatingVisitor};
 use wasm_operator_validator_control::{Proposal, WasmModuleResources};
-use wasm_operators_visit::{ContinuationOperator, DescriptorOperator, GcOperator, SharedOperator};
+use wasm_operators_visit::{ContinuationOperator, DescriptorOperator, SharedOperator};
 
 impl<'v, 'r, R: WasmModuleResources, A: AnswerAs> ValidatingVisitor<'v, 'r, R, A> {
     /// Refuses an operator of this proposal and name that has no rule, behind what is asked of each operator.
@@ -24,17 +24,6 @@ impl<'v, 'r, R: WasmModuleResources, A: AnswerAs> ValidatingVisitor<'v, 'r, R, A
             }
             Err(refusal) => self.tell(Err(refusal)),
         }
-    }
-
-    /// Refuses an operator on aggregates, or a cast.
-    #[cold]
-    pub(crate) fn gc(&mut self, op: GcOperator) -> A::Output
-        ensures tells { A.tells (R.meaning self.old.resources.now) self.old.inner.now self.old.answer (Op.Gc op) result self.new.inner.now self.new.answer }
-        ensures lent { self.new.inner.ghost_name ≡ self.old.inner.ghost_name }
-        ensures resources { self.new.resources.now ≡ self.old.resources.now }
-    {
-        let info = op.info();
-        self.without_rule(info.proposal, info.name)
     }
 
     /// Refuses an operator on descriptors.

@@ -49,7 +49,7 @@ pub may : (g : Context) (s : Bool) → MayUse g s → may_use g s ≡ true
 may g true u = refl
 may g false u = if_inside g.shared u
 
-may_not : (g : Context) (s : Bool) → (MayUse g s → ⊥) → may_use g s ≡ false
+pub may_not : (g : Context) (s : Bool) → (MayUse g s → ⊥) → may_use g s ≡ false
 may_not g true n = absurd (n (λ x. refl))
 may_not g false n = if_not_inside g.shared n
 

@@ -1,4 +1,5 @@
 pub mod Counting
 pub mod Lookups
 pub mod Exceptions
+pub mod Objects
 pub mod Groups

@@ -64,7 +64,9 @@ pub record ClausesWorked (x : ℤ) : Type 0 where
   pub caught : Goes one (nested try_i32 (plain (constant x) (turn (catch 0) end)) end)
   pub caught_other : GoesNot one (nested try_i32 (plain (constant x) (turn (catch 3) end)) end)
   pub caught_gives : GoesNot one (nested try_i32 (plain (constant x) (turn (catch 1) (plain unreachable end))) end)
-  pub caught_without : Typed without_older one at_first (nested try_i32 (plain (constant x) (turn (catch 0) end)) end) [] → ⊥
+  pub try_without : Typed without_older nothing at_first (nested try_empty end end) [] → ⊥
+  pub caught_without : Typed without_older one at_first (plain (constant x) (turn (catch 0) end)) [] → ⊥
+  pub all_caught_without : Typed without_older nothing at_first (turn catch_all end) [] → ⊥
   pub body_missing : GoesNot one (nested try_i32 (turn (catch 0) end) end)
   pub all_caught : Goes nothing (nested try_empty (turn catch_all end) end)
   pub all_caught_nothing : GoesNot one (nested try_i32 (plain (constant x) (turn catch_all end)) end)
@@ -76,6 +78,7 @@ pub record ClausesWorked (x : ℤ) : Type 0 where
   pub thrown_in_try : GoesNot nothing (nested try_empty (plain (rethrow 0) end) end)
   pub delegated : Goes nothing (nested try_empty (delegate 1) end)
   pub delegated_outside : GoesNot nothing (nested try_empty (delegate 2) end)
+  pub delegated_without : Typed without_older nothing at_first (delegate 0) [] → ⊥
   pub delegated_missing : GoesNot nothing (nested try_i32 (delegate 1) (plain drop end))
   pub table : Goes nothing (nested (try_table (clause.One 0 1 ∷ [])) end end)
   pub table_ref_other : GoesNot nothing (nested (try_table (clause.One 0 1 ∷ clause.AllRef 1 ∷ [])) end end)

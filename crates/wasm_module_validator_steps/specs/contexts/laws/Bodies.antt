@@ -5,6 +5,7 @@ use Rattle.wasm_types.specs.limits.Settings.{Settings}
 use Rattle.wasm_types.specs.trees.Types.{HeapOf}
 use Rattle.wasm_types.specs.trees.Trees.{TypeTree}
 use Rattle.wasm_types.specs.values.declared.value.ValType.{ValType}
+use Rattle.wasm_types.specs.values.Reference.{Reference}
 use Rattle.wasm_module_validator_rules.specs.operator_rules.expression.immediates.declared.block.BlockType.{BlockType}
 use Rattle.wasm_module_validator_rules.specs.operator_rules.expression.immediates.declared.block.BlockType.TheVariants as block
 use Rattle.wasm_module_validator_rules.specs.operator_rules.expression.immediates.declared.handlers.Catch.{Catch}
@@ -15,12 +16,15 @@ use Rattle.wasm_module_validator_rules.specs.operator_rules.expression.groups.de
 use Rattle.wasm_module_validator_rules.specs.operator_rules.expression.groups.declared.memory.MemoryOperator.TheVariants as memory
 use Rattle.wasm_module_validator_rules.specs.operator_rules.expression.groups.declared.bulk.BulkOperator.{BulkOperator}
 use Rattle.wasm_module_validator_rules.specs.operator_rules.expression.groups.declared.bulk.BulkOperator.TheVariants as bulk
+use Rattle.wasm_module_validator_rules.specs.operator_rules.expression.operator.groups.declared.gc.GcOperator.{GcOperator}
+use Rattle.wasm_module_validator_rules.specs.operator_rules.expression.operator.groups.declared.gc.GcOperator.TheVariants as gc
 use Rattle.wasm_module_validator_rules.specs.operator_rules.expression.operator.Op as op
 use Rattle.wasm_module_validator_rules.specs.operator_rules.expression.operator.Op.{Op, ParametricTree, ExceptionTree}
 use Rattle.wasm_module_validator_rules.specs.operator_rules.expression.Code.{Code, close, plain, nested, turn}
 use Rattle.wasm_module_validator_rules.specs.operator_rules.Operands.{ValueType, Operand, stack}
 use Rattle.wasm_module_validator_rules.specs.operator_rules.Context.{Module, Table, Context, Initialised, Signature, Frame, IsType, IsBlockType, is_catch, label_of, marked}
 use Rattle.wasm_module_validator_rules.specs.operator_rules.Exceptions.{ExceptionRow, EachCatches}
+use Rattle.wasm_module_validator_rules.specs.operator_rules.Objects.{IsCast, GcRow}
 use Rattle.wasm_module_validator_rules.specs.operator_rules.Row.{Row, ControlRow, ParametricRow, MemoryRow, BulkRow, IsIndirect, IsLocal, IsReferenceTo, of_type, of_exactly, after, IsOneOf}
 use Rattle.wasm_module_validator_rules.specs.operator_rules.Typed.{Steps, Typed, HasType, MayNest, block_type_of, other_part, IsBody}
 use Rattle.wasm_module_validator_rules.specs.Syntax.{Function}
@@ -88,12 +92,27 @@ module _ (g : Module) (rs : List ℕ) (more_of : (x : ℕ) → x < length g.func
       exception_as op.ThrowRef popped pushed r = r
       exception_as o popped pushed r = absurd r
 
+      cast_as : (from to : Reference) (p q : HeapOf TypeTree) → IsCast (at g ls cs) from to p q → IsCast (at referring ls cs) from to p q
+      cast_as from to p q k = record {
+        from_named = k.from_named;
+        to_named = k.to_named;
+        from_castable = k.from_castable;
+        to_castable = k.to_castable;
+        below = k.below;
+      }
+
+      gc_as : (o : GcOperator) (popped pushed : List Operand) → GcRow (at g ls cs) o popped pushed → GcRow (at referring ls cs) o popped pushed
+      gc_as (gc.BrOnCast l from to) popped pushed r = (r.0, r.1, cast_as from to r.0 r.1 r.2, r.3)
+      gc_as (gc.BrOnCastFail l from to) popped pushed r = (r.0, r.1, cast_as from to r.0 r.1 r.2, r.3)
+      gc_as o popped pushed r = r
+
       row_as : (set : Initialised) (o : Op) (popped pushed : List Operand) → Row (at g ls cs) set o popped pushed → Row (at referring ls cs) set o popped pushed
       row_as set (op.Control o) popped pushed r = (r.0, control_as o popped pushed r.1)
       row_as set (op.Parametric o) popped pushed r = (r.0, parametric_as o popped pushed r.1)
       row_as set (op.Memory o) popped pushed r = (r.0, memory_as set o popped pushed r.1)
       row_as set (op.Bulk o) popped pushed r = (r.0, bulk_as o popped pushed r.1)
       row_as set (op.Exception o) popped pushed r = (r.0, exception_as o popped pushed r.1)
+      row_as set (op.Gc o) popped pushed r = (r.0, gc_as o popped pushed r.1)
       row_as set o popped pushed r = r
 
       steps_as : (set : Initialised) (o : Op) (s u : List Operand) → Steps (at g ls cs) set o s u → Steps (at referring ls cs) set o s u

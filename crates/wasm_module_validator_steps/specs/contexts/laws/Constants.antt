@@ -9,14 +9,17 @@ use Rattle.wasm_module_validator_rules.specs.operator_rules.expression.groups.de
 use Rattle.wasm_module_validator_rules.specs.operator_rules.expression.groups.declared.memory.MemoryOperator.TheVariants as memory
 use Rattle.wasm_module_validator_rules.specs.operator_rules.expression.groups.declared.bulk.BulkOperator.{BulkOperator}
 use Rattle.wasm_module_validator_rules.specs.operator_rules.expression.groups.declared.bulk.BulkOperator.TheVariants as bulk
+use Rattle.wasm_module_validator_rules.specs.operator_rules.expression.operator.groups.declared.gc.GcOperator.{GcOperator}
+use Rattle.wasm_module_validator_rules.specs.operator_rules.expression.operator.groups.declared.gc.GcOperator.TheVariants as gc
 use Rattle.wasm_module_validator_rules.specs.operator_rules.expression.operator.Op as op
 use Rattle.wasm_module_validator_rules.specs.operator_rules.expression.operator.Op.{Op}
 use Rattle.wasm_module_validator_rules.specs.operator_rules.expression.Code.{Code, close, plain, nested, turn, walk}
 use Rattle.wasm_module_validator_rules.specs.operator_rules.Operands.{ValueType, Operand}
 use Rattle.wasm_module_validator_rules.specs.operator_rules.Context.{Module, Context, Initialised, Signature, Frame, inside}
+use Rattle.wasm_module_validator_rules.specs.operator_rules.Objects.{GcRow}
 use Rattle.wasm_module_validator_rules.specs.operator_rules.Row.{Row, MemoryRow, BulkRow, IsReferenceTo, of_type, of_exactly, after}
 use Rattle.wasm_module_validator_rules.specs.operator_rules.Typed.{Steps, Typed, HasType, block_type_of}
-use Rattle.wasm_module_validator_rules.specs.operator_rules.constants.Constants.{IsConstantOperator, IsConstantMemory, IsConstantReference, AreConstantOperators, constant_context, IsConstant}
+use Rattle.wasm_module_validator_rules.specs.operator_rules.constants.Constants.{IsConstantOperator, IsConstantObject, IsConstantMemory, IsConstantReference, AreConstantOperators, constant_context, IsConstant}
 use Rattle.wasm_module_validator_rules.specs.Spaces.{referred_by, referred_in}
 use Rattle.wasm_module_validator_steps.specs.contexts.Agreement.{AgreeForConstants, MayReferToEach}
 use Rattle.wasm_module_validator_steps.specs.contexts.laws.Lists.{each_left, each_right}
@@ -58,13 +61,25 @@ module _ (g h : Module) where
     memory_as set (memory.GlobalGet x) popped pushed k r = r
     memory_as set o popped pushed k r = absurd k
 
+    -- types are the same in both, and a constant asks nothing else
+    gc_as : (o : GcOperator) (popped pushed : List Operand) → IsConstantObject bits o → GcRow (within g) o popped pushed → GcRow (within seen_as) o popped pushed
+    gc_as (gc.StructNew x) popped pushed k r = r
+    gc_as (gc.StructNewDefault x) popped pushed k r = r
+    gc_as (gc.ArrayNew x) popped pushed k r = r
+    gc_as (gc.ArrayNewDefault x) popped pushed k r = r
+    gc_as (gc.ArrayNewFixed x n) popped pushed k r = r
+    gc_as gc.RefI31 popped pushed k r = r
+    gc_as gc.AnyConvertExtern popped pushed k r = r
+    gc_as gc.ExternConvertAny popped pushed k r = r
+    gc_as o popped pushed k r = absurd k
+
     row_as : (set : Initialised) (o : Op) (popped pushed : List Operand) → IsConstantOperator bits g count o → MayReferToEach seen_as (referred_by o) → Row (within g) set o popped pushed
         → Row (within seen_as) set o popped pushed
     row_as set (op.Const o) popped pushed k m r = r
     row_as set (op.Numeric o) popped pushed k m r = r
     row_as set (op.Memory o) popped pushed k m r = (r.0, memory_as set o popped pushed k r.1)
     row_as set (op.Bulk o) popped pushed k m r = (r.0, bulk_as o popped pushed k m r.1)
-    row_as set (op.Gc o) popped pushed k m r = r
+    row_as set (op.Gc o) popped pushed k m r = (r.0, gc_as o popped pushed k r.1)
     row_as set (op.Descriptor o) popped pushed k m r = r
     row_as set (op.Shared o) popped pushed k m r = r
     row_as set (op.Control control.End) popped pushed k m r = r

@@ -1,5 +1,5 @@
--- A constant that gives a number names no function: a reference that it made would stay on the stack.
-use Rattle.std.proofs.Common.{◌≡◌, ℕ, Bool, true, false, List, [], ◌∷◌, ◌++◌, reverse, Option, Some, None, slice_get, ◌⊎◌, inl, inr, refl, sym, ap, ◌∙◌, subst, if◌then◌else◌}
+-- A constant that gives a number names no function: a reference that it made would stay on the stack, or another one that takes it.
+use Rattle.std.proofs.Common.{◌≡◌, ℕ, Bool, true, false, not, ◌&&◌, List, [], ◌∷◌, ◌++◌, reverse, Option, Some, None, slice_get, ◌⊎◌, inl, inr, refl, sym, ap, ◌∙◌, subst, if◌then◌else◌}
 use Rattle.wasm_types.specs.trees.Types.{Number, i32, i64, number, ref}
 use Rattle.wasm_module_validator_rules.specs.operator_rules.expression.immediates.declared.frames.FrameKind.{FrameKind}
 use Rattle.wasm_module_validator_rules.specs.operator_rules.expression.immediates.declared.frames.FrameKind.TheVariants.{Block}
@@ -10,6 +10,8 @@ use Rattle.wasm_module_validator_rules.specs.operator_rules.expression.groups.de
 use Rattle.wasm_module_validator_rules.specs.operator_rules.expression.groups.declared.bulk.BulkOperator.TheVariants as bulk
 use Rattle.wasm_module_validator_rules.specs.operator_rules.expression.groups.declared.numeric.NumericOperator.{NumericOperator}
 use Rattle.wasm_module_validator_rules.specs.operator_rules.expression.groups.declared.numeric.NumericOperator.TheVariants as numeric
+use Rattle.wasm_module_validator_rules.specs.operator_rules.expression.operator.groups.declared.gc.GcOperator.{GcOperator}
+use Rattle.wasm_module_validator_rules.specs.operator_rules.expression.operator.groups.declared.gc.GcOperator.TheVariants as gc
 use Rattle.wasm_module_validator_rules.specs.operator_rules.expression.operator.Op as op
 use Rattle.wasm_module_validator_rules.specs.operator_rules.expression.operator.Op.{Op}
 use Rattle.wasm_module_validator_rules.specs.operator_rules.expression.operator.Roles.{role_of, effect}
@@ -19,10 +21,13 @@ use Rattle.wasm_module_validator_rules.specs.operator_rules.expression.Code.{Cod
 use Rattle.wasm_module_validator_rules.specs.operator_rules.Operands.{ValueType, Operand, bottom, some_reference, known, IsReference, OperandBelow, AllBelow, all_known, stack}
 use Rattle.wasm_module_validator_rules.specs.operator_rules.Context.{Module, Global, Context, Initialised, Frame, may_use}
 use Rattle.wasm_module_validator_rules.specs.operator_rules.Numbers.{numbers, class_of, taken_by}
-use Rattle.wasm_module_validator_rules.specs.operator_rules.InstructionTypes.{InstructionType, ◌⟶◌, named}
+use Rattle.wasm_module_validator_rules.specs.operator_rules.Aggregates.{struct_named, array_named}
+use Rattle.wasm_module_validator_rules.specs.operator_rules.Places.{has_default, have_defaults}
+use Rattle.wasm_module_validator_rules.specs.operator_rules.InstructionTypes.{InstructionType, ◌⟶◌, named, provided, is_described}
+use Rattle.wasm_module_validator_rules.specs.operator_rules.Objects.{GcRow}
 use Rattle.wasm_module_validator_rules.specs.operator_rules.Row.{GroupRow, MemoryRow, BulkRow, after}
 use Rattle.wasm_module_validator_rules.specs.operator_rules.Typed.{Typed}
-use Rattle.wasm_module_validator_rules.specs.operator_rules.constants.Constants.{IsConstantOperator, IsConstantNumber, IsConstantMemory, IsConstantReference, AreConstantOperators, IsConstant}
+use Rattle.wasm_module_validator_rules.specs.operator_rules.constants.Constants.{IsConstantOperator, IsConstantNumber, IsConstantObject, IsConstantMemory, IsConstantReference, AreConstantOperators, IsConstant}
 use Rattle.wasm_module_validator_rules.specs.Spaces.{referred_by, referred_in}
 use Rattle.wasm_module_validator_steps.specs.contexts.laws.Constants.{opens_none}
 
@@ -47,16 +52,22 @@ reference_stays (s ∷ ss) [] k h = absurd k
 reference_stays (s ∷ ss) (u ∷ us) k (inl h) = inl (reference_above s u h k.0)
 reference_stays (s ∷ ss) (u ∷ us) k (inr h) = inr (reference_stays ss us k.1 h)
 
-reference_behind : (ss us : List Operand) → (HasReference ss → ⊥) → HasReference (ss ++ us) → HasReference us
-reference_behind [] us n h = h
-reference_behind (s ∷ ss) us n (inl h) = absurd (n (inl h))
-reference_behind (s ∷ ss) us n (inr h) = reference_behind ss us (λ k. n (inr k)) h
+reference_on : (ss us : List Operand) → HasReference ss → HasReference (ss ++ us)
+reference_on [] us h = absurd h
+reference_on (s ∷ ss) us (inl h) = inl h
+reference_on (s ∷ ss) us (inr h) = inr (reference_on ss us h)
 
 reference_under : (ss us : List Operand) → HasReference us → HasReference (ss ++ us)
 reference_under [] us h = h
 reference_under (s ∷ ss) us h = inr (reference_under ss us h)
 
--- ---- what a constant operator takes: numbers alone
+-- a reference among what is taken is one among what is given, so one stays
+reference_moves : (ss us rest : List Operand) → (HasReference ss → HasReference us) → HasReference (ss ++ rest) → HasReference (us ++ rest)
+reference_moves [] us rest n h = reference_under us rest h
+reference_moves (s ∷ ss) us rest n (inl h) = reference_on us rest (n (inl h))
+reference_moves (s ∷ ss) us rest n (inr h) = reference_moves ss us rest (λ k. n (inr k)) h
+
+-- ---- what a constant operator takes: numbers alone, unless it gives a reference
 
 -- these are no references
 abbrev AreNumbers : List Operand → Type 0
@@ -96,7 +107,41 @@ global_takes : (c : Context) (v : Option Global) (t : InstructionType) → named
 global_takes c None t e = absurd (none_some t e)
 global_takes c (Some v) t e = chosen_takes (may_use c v.shared) (v.content ∷ []) t e
 
+abbrev GivesReference : List Operand → Type 0
+GivesReference pushed = HasReference (reverse pushed)
+
+abbrev TypeGivesReference : InstructionType → Type 0
+TypeGivesReference t = GivesReference (all_known t.gives)
+
+provided_gives : (b : Bool) (u t : InstructionType) → TypeGivesReference u → provided b u ≡ Some t → TypeGivesReference t
+provided_gives true u t h e = subst TypeGivesReference (same_some u t e) h
+provided_gives false u t h e = absurd (none_some t e)
+
+named_gives : {A : Type 0} (v : Option A) (f : A → Option InstructionType) (t : InstructionType) → ((x : A) → f x ≡ Some t → TypeGivesReference t) → named v f ≡ Some t
+    → TypeGivesReference t
+named_gives None f t h e = absurd (none_some t e)
+named_gives (Some x) f t h e = h x e
+
+gives : (us : List ValueType) (pushed : List Operand) → GivesReference (all_known us) → pushed ≡ all_known us → GivesReference pushed
+gives us pushed h e = subst GivesReference (sym e) h
+
 module _ (bits : ℕ) (g : Module) (count : ℕ) (c : Context) where
+  object_gives : (o : GcOperator) (popped pushed : List Operand) → IsConstantObject bits o → GcRow c o popped pushed → GivesReference pushed
+  object_gives (gc.StructNew x) popped pushed k r =
+      gives r.0.gives pushed (named_gives (struct_named c x) _ r.0 (λ s e. provided_gives (not (is_described s)) _ r.0 (inl tt) e) r.1) r.2.1
+  object_gives (gc.StructNewDefault x) popped pushed k r =
+      gives r.0.gives pushed (named_gives (struct_named c x) _ r.0 (λ s e. provided_gives (not (is_described s) && have_defaults s.fields) _ r.0 (inl tt) e) r.1) r.2.1
+  object_gives (gc.ArrayNew x) popped pushed k r =
+      gives r.0.gives pushed (named_gives (array_named c x) _ r.0 (λ a e. subst TypeGivesReference (same_some _ r.0 e) (inl tt)) r.1) r.2.1
+  object_gives (gc.ArrayNewDefault x) popped pushed k r =
+      gives r.0.gives pushed (named_gives (array_named c x) _ r.0 (λ a e. provided_gives (has_default a.element) _ r.0 (inl tt) e) r.1) r.2.1
+  object_gives (gc.ArrayNewFixed x n) popped pushed k r =
+      gives r.0.gives pushed (named_gives (array_named c x) _ r.0 (λ a e. subst TypeGivesReference (same_some _ r.0 e) (inl tt)) r.1) r.2.1
+  object_gives gc.RefI31 popped pushed k r = gives r.0.gives pushed (subst TypeGivesReference (same_some _ r.0 r.1) (inl tt)) r.2.1
+  object_gives gc.AnyConvertExtern popped pushed k r = subst GivesReference (sym r.2.1) (inl tt)
+  object_gives gc.ExternConvertAny popped pushed k r = subst GivesReference (sym r.2.1) (inl tt)
+  object_gives o popped pushed k r = absurd k
+
   memory_takes : (set : Initialised) (o : MemoryOperator) (popped pushed : List Operand) → IsConstantMemory bits g count o → MemoryRow c set o popped pushed → AreNumbers popped
   memory_takes set (memory.GlobalGet x) popped pushed k r = takes_none r.0 popped (global_takes c (slice_get c.«module».globals x) r.0 r.1) r.2.0
   memory_takes set o popped pushed k r = absurd k
@@ -106,18 +151,20 @@ module _ (bits : ℕ) (g : Module) (count : ℕ) (c : Context) where
   bulk_takes (bulk.RefFunc x) popped pushed k r = no_operands popped r.6.0
   bulk_takes o popped pushed k r = absurd k
 
-  operator_takes : (set : Initialised) (o : Op) (popped pushed : List Operand) → IsConstantOperator bits g count o → GroupRow c set o popped pushed → AreNumbers popped
-  operator_takes set (op.Const o) popped pushed k r = takes_none r.0 popped (sym (ap (λ (x : InstructionType). x.takes) (same_some _ r.0 r.1))) r.2.0
-  operator_takes set (op.Numeric o) popped pushed k r =
+  operator_keeps : (set : Initialised) (o : Op) (popped pushed : List Operand) → IsConstantOperator bits g count o → GroupRow c set o popped pushed
+      → HasReference (reverse popped) → GivesReference pushed
+  operator_keeps set (op.Const o) popped pushed k r h =
+      absurd (takes_none r.0 popped (sym (ap (λ (x : InstructionType). x.takes) (same_some _ r.0 r.1))) r.2.0 h)
+  operator_keeps set (op.Numeric o) popped pushed k r h =
       let e = ap (λ (x : InstructionType). all_known x.takes) (same_some _ r.0 r.1) in
-      subst AreNumbers (e ∙ sym r.2.0) (sum_takes bits o k)
-  operator_takes set (op.Memory o) popped pushed k r = memory_takes set o popped pushed k r
-  operator_takes set (op.Bulk o) popped pushed k r = bulk_takes o popped pushed k r
-  operator_takes set (op.Gc o) popped pushed k r = absurd (none_some r.0 r.1)
-  operator_takes set (op.Descriptor o) popped pushed k r = absurd (none_some r.0 r.1)
-  operator_takes set (op.Shared o) popped pushed k r = absurd (none_some r.0 r.1)
-  operator_takes set (op.Control control.End) popped pushed k r = absurd (none_some r.0 r.1)
-  operator_takes set o popped pushed k r = absurd k
+      absurd (subst AreNumbers (e ∙ sym r.2.0) (sum_takes bits o k) h)
+  operator_keeps set (op.Memory o) popped pushed k r h = absurd (memory_takes set o popped pushed k r h)
+  operator_keeps set (op.Bulk o) popped pushed k r h = absurd (bulk_takes o popped pushed k r h)
+  operator_keeps set (op.Gc o) popped pushed k r h = object_gives o popped pushed k r
+  operator_keeps set (op.Descriptor o) popped pushed k r h = absurd (none_some r.0 r.1)
+  operator_keeps set (op.Shared o) popped pushed k r h = absurd (none_some r.0 r.1)
+  operator_keeps set (op.Control control.End) popped pushed k r h = absurd (none_some r.0 r.1)
+  operator_keeps set o popped pushed k r h = absurd k
 
   -- so a reference stays to the end
   reference_kept : (f : Frame) (set : Initialised) (x : Code) (s : List Operand) → AreConstantOperators bits g count (walk x) → (HasReference (stack f.block.results) → ⊥) → Typed c f set x s
@@ -125,8 +172,8 @@ module _ (bits : ℕ) (g : Module) (count : ℕ) (c : Context) where
   reference_kept f set (close o) s k n y h = n (reference_stays s _ y.0 h)
   reference_kept f set (plain o more) s k n y h =
       let popped = y.1.0 in let pushed = y.1.1 in let rest = y.1.2 in
-      let kept = reference_behind (reverse popped) rest (operator_takes set o popped pushed k.0 y.1.3.1) (reference_stays s _ y.1.4 h) in
-      reference_kept f (after o set) more y.0 k.1 n y.2 (subst HasReference (sym y.1.5) (reference_under (reverse pushed) rest kept))
+      let kept = reference_moves (reverse popped) (reverse pushed) rest (operator_keeps set o popped pushed k.0 y.1.3.1) (reference_stays s _ y.1.4 h) in
+      reference_kept f (after o set) more y.0 k.1 n y.2 (subst HasReference (sym y.1.5) kept)
   reference_kept f set (nested o body more) s k n y h = opens_none bits g count c o y.1 k.0 y.3.1
   reference_kept f set (turn o more) s k n y h = n (reference_stays s _ y.2 h)
 

@@ -31,6 +31,7 @@ use Rattle.wasm_operator_validator_rules.specs.arity.Arity.{Known, Counts, block
 use Rattle.wasm_operator_validator_rules.specs.arity.Exchanges.{Standing, CountsAreExact, IsAround, IsShortest, by_row, opened, turned, closed}
 use Rattle.wasm_operator_validator_rules.specs.arity.laws.Exceptions.{tag_counted, exception_counted}
 use Rattle.wasm_operator_validator_rules.specs.arity.laws.Lookups.{named_is, used_is, function_is, one_more}
+use Rattle.wasm_operator_validator_rules.specs.arity.laws.Objects.{gc_counted}
 use Rattle.wasm_operator_validator_rules.specs.arity.laws.Counting.{known_length, below_length, takes_counted, table_counted, type_counted, label_is, results_are, innermost_is, Counted, Measures, some_measures, provided_measures, named_measures, used_measures}
 
 -- ---- numbers
@@ -218,7 +219,7 @@ group_counted k g fs a set (op.Numeric o) p q r =
     let e : just (length ts) (length us) ≡ just (length (numbers ts)) (length (numbers us)) = rw (numbers_length ts, numbers_length us) refl in
     inl (table_counted g (op.Numeric o) (just (length ts) (length us)) (length (numbers ts)) (length (numbers us)) p q (some_measures (numbers ts ⟶ numbers us)) e r)
 group_counted k g fs a set (op.Bulk o) p q r = inl (bulk_counted k g o p q r)
-group_counted k g fs a set (op.Gc o) p q r = absurd (no_type g (op.Gc o) p q refl r)
+group_counted k g fs a set (op.Gc o) p q r = inl (gc_counted k g fs a o p q r)
 group_counted k g fs a set (op.Descriptor o) p q r = absurd (no_type g (op.Descriptor o) p q refl r)
 group_counted k g fs a set (op.Simd o) p q r = absurd (no_type g (op.Simd o) p q refl r)
 group_counted k g fs a set (op.SimdNumeric o) p q r = absurd (no_type g (op.SimdNumeric o) p q refl r)

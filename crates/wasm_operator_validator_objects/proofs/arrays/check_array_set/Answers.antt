@@ -1,0 +1,31 @@
+use Rattle.std.proofs.Common.{[], ◌∷◌}
+use Rattle.wasm_operators_visit.specs.groups.declared.gc.GcOperator.TheVariants as gc
+use Rattle.wasm_types.specs.values.declared.value.ValType.TheVariants as vals
+use Rattle.wasm_operator_validator_determined.specs.state.State.{types_in}
+use Rattle.wasm_operator_validator_determined.specs.rules.Places.{element_place}
+use Rattle.wasm_operator_validator_determined.specs.rules.InstructionTypes.{written}
+use Rattle.wasm_operator_validator_objects.specs.Rows.{here}
+use Rattle.wasm_operator_validator_objects.proofs.Tables.{refused_typed, row_typed}
+use Rattle.wasm_operator_validator_objects.proofs.Storing.{nothing_named, place_written, place_unwritten}
+use Rattle.wasm_operator_validator_objects.proofs.arrays.check_array_set.Goals as goal
+
+pub returns-in-Err-element_at : goal.returns-in-Err-element_at
+returns-in-Err-element_at g c =
+    let m = g.R.WasmModuleResources.meaning c.args.resources.now in
+    let σ = c.args.validator.now in
+    let x = c.args.type_index in
+    refused_typed _ m σ (gc.ArraySet x) (λ g popped pushed. (λ r. r, λ r. r)) c.in-Ok.ensures (nothing_named (element_place (here m σ) x) written c.in-Err-element_at.ensures)
+
+pub returns-then-not-field : goal.returns-then-not-field
+returns-then-not-field g c =
+    let m = g.R.WasmModuleResources.meaning c.args.resources.now in
+    let σ = c.args.validator.now in
+    let x = c.args.type_index in
+    refused_typed _ m σ (gc.ArraySet x) (λ g popped pushed. (λ r. r, λ r. r)) c.in-Ok.ensures (place_unwritten m (element_place (here m σ) x) (c.in-Ok-element_at.found.0 ∷ vals.I32 ∷ []) c.in-Ok-element_at.found.1 c.in-Ok-element_at.ensures c.if-not-field.true)
+
+pub exchange-requires-clause-row : goal.exchange-requires-clause-row
+exchange-requires-clause-row g c =
+    let m = g.R.WasmModuleResources.meaning c.args.resources.now in
+    let σ = c.args.validator.now in
+    let x = c.args.type_index in
+    row_typed m σ (gc.ArraySet x) (types_in m (c.in-Ok-element_at.found.0 ∷ vals.I32 ∷ c.unpack-element.result ∷ [])) (types_in m []) (λ g popped pushed. (λ r. r, λ r. r)) (rw c.unpack-element.ensures (place_written m (element_place (here m σ) x) (c.in-Ok-element_at.found.0 ∷ vals.I32 ∷ []) c.in-Ok-element_at.found.1 c.in-Ok-element_at.ensures c.if-not-field.false))

@@ -1,0 +1,30 @@
+use Rattle.std.proofs.Common.{[], ◌∷◌}
+use Rattle.wasm_operator_validator_determined.specs.state.State.{types_in}
+use Rattle.wasm_operator_validator_determined.specs.rules.Places.{field_place}
+use Rattle.wasm_operator_validator_determined.specs.rules.InstructionTypes.{named}
+use Rattle.wasm_operator_validator_objects.specs.Rows.{here, reading}
+use Rattle.wasm_operator_validator_determined.specs.laws.Usable.{fails}
+use Rattle.wasm_operator_validator_objects.proofs.Tables.{refused_named, typed_row}
+use Rattle.wasm_operator_validator_objects.proofs.Storing.{nothing_named, place_read, place_unread}
+use Rattle.wasm_operator_validator_objects.proofs.structs.check_struct_get.Goals as goal
+
+pub returns-in-Err-field_at : goal.returns-in-Err-field_at
+returns-in-Err-field_at g c =
+    let m = g.R.WasmModuleResources.meaning c.args.resources.now in
+    let σ = c.args.validator.now in
+    let x = c.args.type_index in
+    refused_named _ m σ c.args.op (λ h. named (field_place h x c.args.field_index) (reading c.args.packed)) c.requires c.in-Ok.ensures (nothing_named (field_place (here m σ) x c.args.field_index) (reading c.args.packed) c.in-Err-field_at.ensures)
+
+pub returns-then-not-is_read_so : goal.returns-then-not-is_read_so
+returns-then-not-is_read_so g c =
+    let m = g.R.WasmModuleResources.meaning c.args.resources.now in
+    let σ = c.args.validator.now in
+    let x = c.args.type_index in
+    refused_named _ m σ c.args.op (λ h. named (field_place h x c.args.field_index) (reading c.args.packed)) c.requires c.in-Ok.ensures (place_unread m (field_place (here m σ) x c.args.field_index) (c.in-Ok-field_at.found.0 ∷ []) c.in-Ok-field_at.found.1 c.args.packed c.in-Ok-field_at.ensures (fails c.is_read_so.result c.is_read_so.ensures c.if-not-is_read_so.true))
+
+pub exchange-requires-clause-row : goal.exchange-requires-clause-row
+exchange-requires-clause-row g c =
+    let m = g.R.WasmModuleResources.meaning c.args.resources.now in
+    let σ = c.args.validator.now in
+    let x = c.args.type_index in
+    typed_row m σ c.args.op (λ h. named (field_place h x c.args.field_index) (reading c.args.packed)) (types_in m (c.in-Ok-field_at.found.0 ∷ [])) (types_in m (c.unpack-read.result ∷ [])) c.requires (rw c.unpack-read.ensures (place_read m (field_place (here m σ) x c.args.field_index) (c.in-Ok-field_at.found.0 ∷ []) c.in-Ok-field_at.found.1 c.args.packed c.in-Ok-field_at.ensures (c.is_read_so.ensures.0 c.if-not-is_read_so.false)))

@@ -1,0 +1,38 @@
+use Rattle.std.proofs.Common.{[], ◌∷◌}
+use Rattle.wasm_operators_visit.specs.groups.declared.gc.GcOperator.TheVariants as gc
+use Rattle.wasm_operator_validator_determined.specs.state.State.{types_in}
+use Rattle.wasm_operator_validator_objects.specs.Found.{unpacked_fields}
+use Rattle.wasm_operator_validator_determined.specs.rules.Aggregates.{struct_named}
+use Rattle.wasm_operator_validator_objects.specs.Rows.{here}
+use Rattle.wasm_operator_validator_objects.proofs.Tables.{refused_typed, row_typed}
+use Rattle.wasm_operator_validator_objects.proofs.Looking.{struct_index}
+use Rattle.wasm_operator_validator_objects.proofs.Storing.{nothing_named, struct_new, struct_new_described}
+use Rattle.wasm_operator_validator_objects.proofs.structs.check_struct_new.Goals as goal
+
+pub returns-in-Err-struct_at : goal.returns-in-Err-struct_at
+returns-in-Err-struct_at g c =
+    let m = g.R.WasmModuleResources.meaning c.args.resources.now in
+    let σ = c.args.validator.now in
+    let x = c.args.type_index in
+    refused_typed _ m σ (gc.StructNew x) (λ g popped pushed. (λ r. r, λ r. r)) c.in-Ok.ensures (nothing_named (struct_named (here m σ) x) _ c.in-Err-struct_at.ensures)
+
+pub returns-then-described : goal.returns-then-described
+returns-then-described g c =
+    let m = g.R.WasmModuleResources.meaning c.args.resources.now in
+    let σ = c.args.validator.now in
+    let x = c.args.type_index in
+    refused_typed _ m σ (gc.StructNew x) (λ g popped pushed. (λ r. r, λ r. r)) c.in-Ok.ensures (struct_new_described m σ x c.in-Ok-struct_at.found.0.now c.in-Ok-struct_at.found.1 c.in-Ok-struct_at.ensures c.if-described.true)
+
+pub allocated-made-requires : goal.allocated-made-requires
+allocated-made-requires g c =
+    let m = g.R.WasmModuleResources.meaning c.args.resources.now in
+    let σ = c.args.validator.now in
+    let x = c.args.type_index in
+    struct_index m σ x c.in-Ok-struct_at.found.0.now c.in-Ok-struct_at.found.1 c.in-Ok-struct_at.ensures
+
+pub make-requires-clause-row : goal.make-requires-clause-row
+make-requires-clause-row g c =
+    let m = g.R.WasmModuleResources.meaning c.args.resources.now in
+    let σ = c.args.validator.now in
+    let x = c.args.type_index in
+    row_typed m σ (gc.StructNew x) (types_in m (unpacked_fields c.in-Ok-struct_at.found.0.now)) (types_in m (c.allocated-made.result ∷ [])) (λ g popped pushed. (λ r. r, λ r. r)) (struct_new m σ x c.in-Ok-struct_at.found.0.now c.in-Ok-struct_at.found.1 c.allocated-made.result c.in-Ok-struct_at.ensures c.if-described.false c.allocated-made.ensures)

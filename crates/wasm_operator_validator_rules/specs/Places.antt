@@ -1,0 +1,59 @@
+-- Places that operators on structs and arrays read and write: fields and elements (WebAssembly 3.0, validation, aggregate
+-- instructions).
+use Rattle.std.specs.Prelude.{ℕ, Bool, true, false, List, [], ◌∷◌, ◌&&◌, Option, option_map, option_and_then, slice_get}
+use Rattle.wasm_operators_expression.specs.types.trees.Types.{i32, number, ref, concrete, StorageOf, i8, i16, value, FieldOf}
+use Rattle.wasm_operators_expression.specs.types.trees.Trees.{TypeTree}
+use Rattle.wasm_operator_validator_rules.specs.Operands.{ValueType}
+use Rattle.wasm_operator_validator_rules.specs.Context.{Context, defaultable}
+use Rattle.wasm_operator_validator_rules.specs.Aggregates.{struct_named, array_named}
+
+-- ---- what is stored (validation, types, field types)
+
+-- the value type of what is stored: packed types are numbers as operands
+abbrev pub unpacked : StorageOf TypeTree → ValueType
+unpacked i8 = number i32
+unpacked i16 = number i32
+unpacked (value t) = t
+
+abbrev pub is_packed : StorageOf TypeTree → Bool
+is_packed i8 = true
+is_packed i16 = true
+is_packed (value t) = false
+
+-- bytes can be read as it: a number, a vector or a packed type
+abbrev pub is_of_bytes : StorageOf TypeTree → Bool
+is_of_bytes i8 = true
+is_of_bytes i16 = true
+is_of_bytes (value (number n)) = true
+is_of_bytes (value (ref n h)) = false
+
+-- it has a default value
+abbrev pub has_default : FieldOf TypeTree → Bool
+has_default x = defaultable (unpacked x.storage)
+
+abbrev pub have_defaults : List (FieldOf TypeTree) → Bool
+have_defaults [] = true
+have_defaults (x ∷ xs) = has_default x && have_defaults xs
+
+-- the operands of which a struct with these fields is made
+abbrev pub operands_for : List (FieldOf TypeTree) → List ValueType
+operands_for [] = []
+operands_for (x ∷ xs) = unpacked x.storage ∷ operands_for xs
+
+-- ---- places
+
+-- the operands by which a place is reached, what is stored there, and whether it may be written
+pub record Place : Type 0 where
+  pub reached_by : List ValueType
+  pub storage : StorageOf TypeTree
+  pub mutable : Bool
+
+abbrev pub field_place : Context → ℕ → ℕ → Option Place
+field_place g x i = option_and_then
+    (λ s. option_map (λ y. record { reached_by = ref true (concrete s.type) ∷ []; storage = y.storage; mutable = y.mutable }) (slice_get s.fields i))
+    (struct_named g x)
+
+abbrev pub element_place : Context → ℕ → Option Place
+element_place g x = option_map
+    (λ a. record { reached_by = ref true (concrete a.type) ∷ number i32 ∷ []; storage = a.element.storage; mutable = a.element.mutable })
+    (array_named g x)
