@@ -18,7 +18,7 @@ use Rattle.wasm_operator_validator_runs.specs.Machine.{operate, end, execute}
 use Rattle.wasm_operator_validator_runs.specs.Soundness.{HasValidBody, IsValidProgram, step, Runs, EndsWell, IsNeverStuck, ProgramsAreSound, StepsAreSound, StartsAreValid, evaluated, ConstantsAreSound, AncestorsAreSound}
 use Rattle.wasm_operator_validator_runs.proofs.Fitting.{all_below}
 use Rattle.wasm_operator_validator_runs.specs.ValidStates.{AreSet, Around, around_of}
-use Rattle.wasm_operator_validator_runs.proofs.Invariant.{none_is_some, some_same}
+use Rattle.wasm_operator_validator_runs.proofs.Invariant.{some_same}
 use Rattle.wasm_operator_validator_runs.specs.ValidStates.{IsValidState, IsValidOutcome}
 use Rattle.wasm_operator_validator_runs.proofs.Invariant.{IsOkay}
 use Rattle.wasm_operator_validator_runs.proofs.Objects.{field_through, matches_along}
@@ -82,8 +82,8 @@ module _ (p : Program) (valid : IsValidProgram p) (final : List ValueType) (a : 
   operate_okay (op.Gc o) more popped pushed rest m n r b e t = gc_okay p valid final a act acts h o more popped pushed rest m r b e t
   operate_okay (op.Const o) more popped pushed rest m n r b e t = table_okay p valid final a act acts h (op.Const o) more popped pushed rest m r b e t
   operate_okay (op.Numeric o) more popped pushed rest m n r b e t = table_okay p valid final a act acts h (op.Numeric o) more popped pushed rest m r b e t
-  operate_okay (op.Simd o) more popped pushed rest m n r b e t = absurd (none_is_some r.0 r.1)
-  operate_okay (op.SimdNumeric o) more popped pushed rest m n r b e t = absurd (none_is_some r.0 r.1)
+  operate_okay (op.Simd o) more popped pushed rest m n r b e t = table_okay p valid final a act acts h (op.Simd o) more popped pushed rest m r b e t
+  operate_okay (op.SimdNumeric o) more popped pushed rest m n r b e t = table_okay p valid final a act acts h (op.SimdNumeric o) more popped pushed rest m r b e t
   operate_okay (op.Atomic o) more popped pushed rest m n r b e t = table_okay p valid final a act acts h (op.Atomic o) more popped pushed rest m r b e t
   operate_okay (op.Descriptor o) more popped pushed rest m n r b e t = absurd (no_descriptors p.bits valid.standard o n)
   operate_okay (op.Shared o) more popped pushed rest m n r b e t = absurd (no_sharing p.bits valid.standard o n)

@@ -1,6 +1,6 @@
 -- How a module runs (WebAssembly 3.0, execution), over all activations at once. Whatever the standard computes from bits, memories
 -- or contents is an answer that comes from outside, and has to fit the type that it is said to have. Each operator says which
--- values it takes, which answers fit, and what comes of it; numbers, constants, memories, atomic accesses and segments that
+-- values it takes, which answers fit, and what comes of it; numbers, vectors, constants, memories, atomic accesses and segments that
 -- are dropped have one rule, by the table of instruction types.
 use Rattle.std.specs.Prelude.{All, flat_map, ◌≡◌, ◌<◌, ℕ, zero, suc, Bool, true, false, IsTrue, not, ◌&&◌, List, [], ◌∷◌, ◌++◌, length, map, reverse, take, drop, replicate, get_or, Option, Some, None, option_map, slice_get, slice_set, if◌then◌else◌}
 use Rattle.wasm_operator_validator_rules.specs.expression.types.trees.Types.{number, StorageOf, i8, i16, value, i32, Abstract, extern, any, none, eq, array, i31, exn, HeapOf, abstract, concrete, ref, exact, ValueOf}
@@ -361,7 +361,7 @@ module _ (p : Program) (a : Answer) where
     abbrev pub exchange : List ValueType → List ValueType → Code → Move
     exchange ts us more = takes ts vs (λ xs ws. may_trap (gives us (λ rs. goes (rs ++ ws) more)))
 
-    -- an operator of the table of instruction types: numbers, constants, memories, atomic accesses, segments that are dropped
+    -- an operator of the table of instruction types: numbers, vectors, constants, memories, atomic accesses, segments that are dropped
     abbrev pub by_table : Op → Code → Move
     by_table o more = found (instruction_type here o) (λ t. exchange t.takes t.gives more)
 
@@ -629,7 +629,7 @@ module _ (p : Program) (a : Answer) where
     operate_gc gc.I31GetS more = number_from i31 more
     operate_gc gc.I31GetU more = number_from i31 more
 
-    -- ---- all of them; operators of the three proposals that are not standard have no rule, and those on vectors have no row
+    -- ---- all of them; operators of the three proposals that are not standard have no rule
 
     abbrev pub operate : Op → Code → Move
     operate (op.Control o) more = operate_control o more
@@ -641,6 +641,8 @@ module _ (p : Program) (a : Answer) where
     operate (op.Const o) more = by_table (op.Const o) more
     operate (op.Numeric o) more = by_table (op.Numeric o) more
     operate (op.Atomic o) more = by_table (op.Atomic o) more
+    operate (op.Simd o) more = by_table (op.Simd o) more
+    operate (op.SimdNumeric o) more = by_table (op.SimdNumeric o) more
     operate o more = stop
 
     -- the end of a block's instructions, or of a part of them
