@@ -361,7 +361,8 @@ module _ (p : Program) (a : Answer) where
     abbrev pub exchange : List ValueType → List ValueType → Code → Move
     exchange ts us more = takes ts vs (λ xs ws. may_trap (gives us (λ rs. goes (rs ++ ws) more)))
 
-    -- an operator of the table of instruction types: numbers, vectors, constants, memories, atomic accesses, segments that are dropped
+    -- an operator of the table of instruction types: numbers, vectors, constants, memories, atomic accesses, segments that are
+    -- dropped
     abbrev pub by_table : Op → Code → Move
     by_table o more = found (instruction_type here o) (λ t. exchange t.takes t.gives more)
 
@@ -565,7 +566,8 @@ module _ (p : Program) (a : Answer) where
     cast_from from to f = found (meant_heap p.«module» from.heap) (λ h. found (meant_heap p.«module» to.heap) (λ k.
         pops vs (λ v ws. asks (Fits p v (ref from.nullable h)) (cast to.nullable k v (λ b. f b v ws)))))
 
-    -- a value below an abstract type, of which a number is made; or a value of another hierarchy, as shared, a null exactly for a null
+    -- a value below an abstract type, of which a number is made; or a value of another hierarchy, as shared, and a null exactly for a
+    -- null
     abbrev pub IsOf : Abstract → Value → Type 0
     IsOf h v = (s : Bool) × Fits p v (ref true (abstract s h))
 
@@ -613,8 +615,7 @@ module _ (p : Program) (a : Answer) where
     operate_gc (gc.ArrayInitData x d) more = object_under array_operands (i32_type ∷ i32_type ∷ i32_type ∷ []) x vs
         (λ ts ws. asks (FromData d ts) (goes ws more))
     operate_gc (gc.ArrayInitElem x e) more = object_under array_operands (i32_type ∷ i32_type ∷ i32_type ∷ []) x vs
-        (λ ts ws.
-        segment_there e (λ s. found (slice_get ts 0) (λ t. copies s t (goes ws more))))
+        (λ ts ws. segment_there e (λ s. found (slice_get ts 0) (λ t. copies s t (goes ws more))))
     operate_gc (gc.RefTestNonNull h) more = cast_top false h (λ b v ws. goes (number_value i32 ∷ ws) more)
     operate_gc (gc.RefTestNullable h) more = cast_top true h (λ b v ws. goes (number_value i32 ∷ ws) more)
     operate_gc (gc.RefCastNonNull h) more = cast_top false h (λ b v ws. choose b (goes (v ∷ ws) more) (done trapped))
