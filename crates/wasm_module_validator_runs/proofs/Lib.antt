@@ -1,0 +1,2 @@
+pub mod Validity
+pub mod WorkedModule

@@ -1,0 +1,8 @@
+-- Rules: how modules run, and that they are never stuck, in the order in which they are read.
+pub mod Values
+pub mod States
+pub mod Machine
+pub mod ValidStates
+pub mod Soundness
+-- Worked runs, and states that are stuck.
+pub mod worked

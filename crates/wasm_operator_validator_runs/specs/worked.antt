@@ -1,0 +1,4 @@
+pub mod Runs
+pub mod Stuck
+pub mod Sums
+pub mod Caught
