@@ -4,6 +4,7 @@ ghost use Rattle.std.specs.Prelude.{◌≡◌, ◌↔◌, IsTrue, IfOk};
 ghost use Rattle.wasm_types.specs.error.Denials.{Tells};
 ghost use Rattle.wasm_types.specs.limits.Limits.{default_limits, IsWithinCeilings};
 ghost use Rattle.wasm_module_validator_sharing.specs.reading.progress.standing.steps.contexts.rules.Accepts.{AcceptsUnder};
+ghost use Rattle.wasm_module_validator_runs.specs.Soundness.{RunsSoundly};
 ghost use Rattle.wasm_module_validator_sharing.specs.Sharing.{nothing_reached};
 ghost use Rattle.wasm_module_validator.specs.declared.validator.State.TheVariants as states;
 ghost use Rattle.wasm_module_validator.specs.Accepts.{Accepts, IsShown, default_settings};
@@ -109,6 +110,9 @@ impl Validator {
 
     /// Validates a module that is all of these bytes, by the validator's features and limits (WebAssembly 3.0, validation, modules).
     ///
+    /// An accepted module runs soundly: under the features of the standard no run of it is stuck, and what it returns or throws fits
+    /// (`RunsSoundly`; WebAssembly 3.0, appendix, soundness).
+    ///
     /// # Errors
     ///
     /// The bytes are no module; or a section is not valid behind those before it; or, where each is, a body is not valid: the first of
@@ -119,6 +123,7 @@ impl Validator {
     pub fn validate_all(&mut self, bytes: &[u8]) -> Result<Types>
         requires { self.old.state ≡ states.Unparsed }
         ensures verdict { Tells result (AcceptsUnder self.old.settings bytes.now) }
+        ensures sound { IfOk result (λ _. RunsSoundly self.old.settings bytes.now) }
         ensures shown { IfOk result (IsShown self.old.settings bytes.now) }
         ensures id { IfOk result (λ t. t.id ≡ self.old.id) }
         ensures state { Leaves self.old.settings bytes.now result self.new.state }
@@ -161,13 +166,15 @@ fn state_after(kind: ErrorKind) -> State
     }
 }
 
-/// Validates a module that is all of these bytes, with the default features and limits (WebAssembly 3.0, validation, modules).
+/// Validates a module that is all of these bytes, with the default features and limits (WebAssembly 3.0, validation, modules). An
+/// accepted module runs soundly, as with `Validator::validate_all`.
 ///
 /// # Errors
 ///
 /// As `Validator::validate_all`.
 pub fn validate(alloc: Global, id: ValidatorId, bytes: &[u8]) -> Result<Types>
     ensures verdict { Tells result (Accepts bytes.now) }
+    ensures sound { IfOk result (λ _. RunsSoundly default_settings bytes.now) }
     ensures shown { IfOk result (IsShown default_settings bytes.now) }
     ensures id { IfOk result (λ t. t.id ≡ id) }
 {

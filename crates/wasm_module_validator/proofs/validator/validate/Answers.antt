@@ -1,7 +1,9 @@
 use Rattle.std.proofs.Common.{subst}
+use Rattle.std.specs.Prelude.{IfOk}
 use Rattle.wasm_types.specs.error.Denials.{Tells}
 use Rattle.wasm_types.specs.limits.Settings.{Settings}
 use Rattle.wasm_module_validator_sharing.specs.reading.progress.standing.steps.contexts.rules.Accepts.{AcceptsUnder}
+use Rattle.wasm_module_validator_runs.specs.Soundness.{RunsSoundly}
 use Rattle.wasm_module_validator.proofs.validator.validate.Goals as goal
 
 pub returns-clause-verdict : goal.returns-clause-verdict
@@ -10,3 +12,7 @@ returns-clause-verdict c =
 
 pub returns-clause-id : goal.returns-clause-id
 returns-clause-id c = rw c.new.ensures.id at c.validate_all.ensures.id
+
+pub returns-clause-sound : goal.returns-clause-sound
+returns-clause-sound c =
+    subst (λ (z : Settings). IfOk c.validate_all.result (λ _. RunsSoundly z c.args.bytes.now)) c.new.ensures.settings c.validate_all.ensures.sound

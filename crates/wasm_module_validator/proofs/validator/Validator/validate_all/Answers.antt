@@ -10,6 +10,7 @@ use Rattle.wasm_module_validator_sharing.specs.reading.judging.Bodies.{AreBodies
 use Rattle.wasm_module_validator_sharing.specs.reading.Reading.{IsReadAs}
 use Rattle.wasm_module_validator.specs.Accepts.{IsShown}
 use Rattle.wasm_module_validator.specs.laws.Verdict.{accepted_is_read, tells_accepted, stands_for_module}
+use Rattle.wasm_module_validator_runs.proofs.Validity.{accepted_sound}
 use Rattle.wasm_module_validator.proofs.validator.Validator.validate_all.Goals as goal
 
 pub returns-in-Err-clause-verdict : goal.returns-in-Err-clause-verdict
@@ -41,3 +42,6 @@ returns-in-Ok-finish-clause-shown c =
     let a : AcceptsUnder z c.args.bytes.now = returns-in-Ok-finish-clause-verdict c in
     subst (λ (k : Kept). IsShown z c.args.bytes.now (record { id = c.args.self.now.id; kept = k })) (sym c.in-Ok-finish.ensures.finished)
     (a.0, a.1, stands_for_module z c.args.bytes.now r c.in-Ok.bodies.items c.in-Ok.ensures.answer c.in-Ok.ensures.stands a.0 a.1)
+
+pub returns-in-Ok-finish-clause-sound : goal.returns-in-Ok-finish-clause-sound
+returns-in-Ok-finish-clause-sound c = accepted_sound c.args.self.now.settings c.args.bytes.now (returns-in-Ok-finish-clause-verdict c)
