@@ -2,7 +2,6 @@
 use Rattle.std.specs.Prelude.{pos}
 use Rattle.std.proofs.Common.{[], ◌∷◌, refl}
 use Rattle.wasm_types.specs.features.Features.{has}
-use Rattle.wasm_types.specs.trees.Types.{f32, number}
 use Rattle.wasm_types.specs.trees.Trees.{opened}
 use Rattle.wasm_types.specs.trees.ValidGroup.{types_from}
 use Rattle.wasm_module_validator_rules.proofs.WorkedReleases.{releases_worked}
