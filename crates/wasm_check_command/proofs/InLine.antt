@@ -17,6 +17,10 @@ use Rattle.wasm_check_command.specs.Files.{stopped_text, fault_text}
 use Rattle.wasm_check_command.specs.declared.error.CheckError.{CheckError}
 use Rattle.wasm_check_command.specs.declared.error.CheckError.TheVariants.{Read, TooLong, OutOfMemory, Write}
 use Rattle.wasm_check_command.specs.declared.limits.Wrong.TheVariants.{Unknown, BadValue}
+use Rattle.wasm_check_command.specs.declared.reason.Reason.{Reason}
+use Rattle.wasm_check_command.specs.declared.reason.Reason.TheVariants.{NotFound, PermissionDenied, IsADirectory, NotADirectory, FilesystemLoop, InvalidFilename}
+use Rattle.wasm_check_command.specs.declared.reason.Reason.TheVariants as reasons
+use Rattle.wasm_check_command.specs.Reasons.{reason_text}
 use Rattle.wasm_check_command.specs.declared.command.Fault.{Fault}
 use Rattle.wasm_check_command.specs.declared.command.Fault.TheVariants as faults
 
@@ -108,18 +112,31 @@ told_of : (name after : List ℕ) → StaysInLine after → StaysInLine (codes "
 told_of name after h =
     both (codes "wasm-check: " ++ shown name) after (both (codes "wasm-check: ") (shown name) (literal (codes "wasm-check: ") refl) (shown_stays name)) h
 
-stopped_told : (e : CheckError) (name : List ℕ) → StaysInLine (stopped_text e name)
-stopped_told (Read i) name = told_of name (codes ": cannot read") (literal (codes ": cannot read") refl)
-stopped_told (TooLong i) name = told_of name (codes ": too long") (literal (codes ": too long") refl)
-stopped_told (OutOfMemory i) name = told_of name (codes ": out of memory") (literal (codes ": out of memory") refl)
-stopped_told Write name = literal (codes "wasm-check: cannot write") refl
+-- a reason
+reason_stays : (r : Reason) → StaysInLine (reason_text r)
+reason_stays NotFound = literal (codes " (no such file)") refl
+reason_stays PermissionDenied = literal (codes " (permission denied)") refl
+reason_stays IsADirectory = literal (codes " (is a directory)") refl
+reason_stays NotADirectory = literal (codes " (not a directory)") refl
+reason_stays FilesystemLoop = literal (codes " (too many links)") refl
+reason_stays InvalidFilename = literal (codes " (name too long)") refl
+reason_stays reasons.Unknown = nothing
+
+stopped_told : (e : CheckError) (name : List ℕ) (r : Reason) → StaysInLine (stopped_text e name r)
+stopped_told (Read i) name r =
+    told_of name (codes ": cannot read" ++ reason_text r) (both (codes ": cannot read") (reason_text r) (literal (codes ": cannot read") refl) (reason_stays r))
+stopped_told (TooLong i) name r = told_of name (codes ": too long") (literal (codes ": too long") refl)
+stopped_told (OutOfMemory i) name r = told_of name (codes ": out of memory") (literal (codes ": out of memory") refl)
+stopped_told Write name r = literal (codes "wasm-check: cannot write") refl
 
 quoted : (before word : List ℕ) → StaysInLine before → StaysInLine (before ++ shown word ++ codes "`")
 quoted before word h = both (before ++ shown word) (codes "`") (both before (shown word) h (shown_stays word)) (literal (codes "`") refl)
 
 fault_told : (f : Fault) → StaysInLine (fault_text f)
-fault_told (faults.CannotOpen name) = told_of name.now (codes ": cannot open") (literal (codes ": cannot open") refl)
-fault_told (faults.Stopped error name) = stopped_told error name.now
+fault_told (faults.CannotOpen name reason) =
+    told_of name.now (codes ": cannot open" ++ reason_text reason)
+    (both (codes ": cannot open") (reason_text reason) (literal (codes ": cannot open") refl) (reason_stays reason))
+fault_told (faults.Stopped error name reason) = stopped_told error name.now reason
 fault_told (faults.UnknownFeature word) = quoted (codes "wasm-check: unknown feature `") word.now (literal (codes "wasm-check: unknown feature `") refl)
 fault_told (faults.WrongLimit Unknown word) = quoted (codes "wasm-check: unknown limit `") word.now (literal (codes "wasm-check: unknown limit `") refl)
 fault_told (faults.WrongLimit BadValue word) = quoted (codes "wasm-check: bad limit `") word.now (literal (codes "wasm-check: bad limit `") refl)

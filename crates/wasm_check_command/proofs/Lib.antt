@@ -2,6 +2,7 @@ pub mod ShownLemmas
 pub mod InLine
 pub mod LineLemmas
 pub mod ReportLemmas
+pub mod FileReports
 pub mod FileLemmas
 pub mod ListLemmas
 pub mod FeatureLemmas

@@ -1,5 +1,5 @@
 -- What the program does with the files that it is given.
-use Rattle.std.specs.Prelude.{◌≡◌, ℕ, ◌<◌, ◌⊎◌, codes, length, List, ◌++◌, map, Contains, slice_get, option_map, Option, Some, Result, Ok, Err}
+use Rattle.std.specs.Prelude.{◌≡◌, ℕ, Bool, true, false, ◌<◌, ◌≤◌, ◌⊎◌, codes, length, List, ◌++◌, map, take, Contains, slice_get, option_map, Option, Some, Result, Ok, Err}
 use Rattle.std.specs.Borrow.{Bor}
 use Rattle.std.specs.Io.KnownBytes.{Appends, Keeps}
 use Rattle.clap.specs.declared.error.kind.ErrorKind.{ErrorKind}
@@ -10,23 +10,20 @@ use Rattle.wasm_check_command.specs.declared.judging.Status.TheVariants.{AllVali
 use Rattle.wasm_check_command.specs.declared.command.Fault.{Fault}
 use Rattle.wasm_check_command.specs.declared.command.Options.{Options}
 use Rattle.wasm_check_command.specs.declared.command.Fault.TheVariants as faults
+use Rattle.wasm_check_command.specs.declared.reason.Reason.{Reason}
+use Rattle.wasm_check_command.specs.Reasons.{reason_text}
 use Rattle.wasm_check_command.specs.Shown.{shown}
 use Rattle.wasm_types.specs.limits.Settings.{Settings}
 use Rattle.wasm_check_command.specs.Words.{files_of, IsHelp, AsksForHelp, NamesNoFiles}
 use Rattle.wasm_check_command.specs.Settings.{Asked, IsGiven, IsUnknownIn, IsWrongIn, asked_by, features_by}
 use Rattle.wasm_check_command.specs.declared.limits.Wrong.TheVariants.{Unknown, BadValue}
+use Rattle.wasm_check_command.specs.Opened.{kept_open}
+use Rattle.wasm_check_command.specs.Verdict.{IsJudged, FailsAt}
 use Rattle.wasm_check_command.specs.Reports.{Source, IsReported, Stops}
 
 -- what some texts say
 abbrev pub texts : List (Bor (List ℕ)) → List (List ℕ)
 texts names = map (λ n. n.now) names
-
--- the error's place, where it has one, is below this
-abbrev pub IsPlaced : ℕ → CheckError → Type 0
-IsPlaced count (Read i) = i < count
-IsPlaced count (TooLong i) = i < count
-IsPlaced count (OutOfMemory i) = i < count
-IsPlaced count Write = Unit {0}
 
 -- the name that stands at the error's place, where it has one
 abbrev pub IsNamed : List (List ℕ) → CheckError → List ℕ → Type 0
@@ -35,31 +32,68 @@ IsNamed names (TooLong i) name = slice_get names i ≡ Some name
 IsNamed names (OutOfMemory i) name = slice_get names i ≡ Some name
 IsNamed names Write name = Unit {0}
 
+-- the status of files and of one more
+abbrev pub joined : Status → Bool → Status
+joined status true = status
+joined status false = SomeInvalid
+
 -- These files were judged: a line was written for each, and the status says whether all are valid.
 pub record ReportsFiles (accepts : List ℕ → Type 0) (names : List (List ℕ)) (old new : Option (List ℕ)) (status : Status) : Type 0 where
   pub sources : List Source
   pub named : map (λ s. s.name) sources ≡ names
   pub reported : IsReported accepts sources old new status
 
--- The judging of these files stopped at the error's place: exactly the lines before it were written.
+-- The file of this name was judged: its line was written, and the answer is its verdict.
+abbrev pub JudgesFile : (List ℕ → Type 0) → List ℕ → Option (List ℕ) → Option (List ℕ) → Bool → Type 0
+JudgesFile accepts name old new valid = (said : Option (List ℕ)) × IsJudged accepts name said valid old new
+
+-- The judging of these files stopped at the error's place: exactly the lines before it were written. The sources are those of the files up
+-- to there.
 pub record StopsChecking (accepts : List ℕ → Type 0) (names : List (List ℕ)) (old new : Option (List ℕ)) (error : CheckError) (name : List ℕ) : Type 0 where
   pub sources : List Source
-  pub named : map (λ s. s.name) sources ≡ names
+  pub named : map (λ s. s.name) sources ≡ take (length sources) names
   pub stopped : Stops accepts sources old new error
   pub place : IsNamed names error name
 
+-- A file past those that are kept open could not be opened again in its turn: the files before it were judged.
+pub record StopsOpening (accepts : List ℕ → Type 0) (names : List (List ℕ)) (old new : Option (List ℕ)) (name : List ℕ) : Type 0 where
+  pub index : ℕ
+  pub found : slice_get names index ≡ Some name
+  pub past : kept_open ≤ index
+  pub status : Status
+  pub before : ReportsFiles accepts (take index names) old new status
+
+-- The file of this name, at this place, came to no verdict: it could not be opened again, and nothing was written of it; or what was read of
+-- it was not judged, or its line not written.
+abbrev pub FailsFile : (List ℕ → Type 0) → ℕ → List ℕ → Option (List ℕ) → Option (List ℕ) → Fault → Type 0
+FailsFile accepts index name old new (faults.CannotOpen told reason) = (told.now ≡ name) × (kept_open ≤ index) × Keeps old new
+FailsFile accepts index name old new (faults.Stopped error told reason) =
+    (told.now ≡ name) × ((said : Option (List ℕ)) × FailsAt accepts index name said old new error)
+FailsFile accepts index name old new faults.OutOfMemory = ⊥
+FailsFile accepts index name old new (faults.UnknownFeature word) = ⊥
+FailsFile accepts index name old new (faults.WrongLimit wrong word) = ⊥
+
+-- this file could not be opened
+abbrev pub CannotOpen : List ℕ → Fault → Type 0
+CannotOpen name (faults.CannotOpen told reason) = told.now ≡ name
+CannotOpen name (faults.Stopped error told reason) = ⊥
+CannotOpen name faults.OutOfMemory = ⊥
+CannotOpen name (faults.UnknownFeature word) = ⊥
+CannotOpen name (faults.WrongLimit wrong word) = ⊥
+
 -- opening these files failed
 abbrev pub FailsOpening : List (List ℕ) → Fault → Type 0
-FailsOpening names (faults.CannotOpen name) = Contains names name.now
-FailsOpening names (faults.Stopped error name) = ⊥
+FailsOpening names (faults.CannotOpen name reason) = Contains names name.now
+FailsOpening names (faults.Stopped error name reason) = ⊥
 FailsOpening names faults.OutOfMemory = Unit {0}
 FailsOpening names (faults.UnknownFeature word) = ⊥
 FailsOpening names (faults.WrongLimit wrong word) = ⊥
 
--- What a fault leaves: where a file could not be opened, nothing was written.
+-- What a fault leaves: where a file could not be opened before the first was judged, nothing was written.
 abbrev pub StopsFiles : (List ℕ → Type 0) → List (List ℕ) → Option (List ℕ) → Option (List ℕ) → Fault → Type 0
-StopsFiles accepts names old new (faults.CannotOpen name) = Contains names name.now × Keeps old new
-StopsFiles accepts names old new (faults.Stopped error name) = StopsChecking accepts names old new error name.now
+StopsFiles accepts names old new (faults.CannotOpen name reason) =
+    (Contains names name.now × Keeps old new) ⊎ StopsOpening accepts names old new name.now
+StopsFiles accepts names old new (faults.Stopped error name reason) = StopsChecking accepts names old new error name.now
 StopsFiles accepts names old new faults.OutOfMemory = Keeps old new
 StopsFiles accepts names old new (faults.UnknownFeature word) = ⊥
 StopsFiles accepts names old new (faults.WrongLimit wrong word) = ⊥
@@ -68,16 +102,16 @@ StopsFiles accepts names old new (faults.WrongLimit wrong word) = ⊥
 abbrev pub RefusesFeatures : Option (List ℕ) → Fault → Type 0
 RefusesFeatures list (faults.UnknownFeature word) = IsUnknownIn list word.now
 RefusesFeatures list (faults.WrongLimit wrong word) = ⊥
-RefusesFeatures list (faults.CannotOpen name) = ⊥
-RefusesFeatures list (faults.Stopped error name) = ⊥
+RefusesFeatures list (faults.CannotOpen name reason) = ⊥
+RefusesFeatures list (faults.Stopped error name reason) = ⊥
 RefusesFeatures list faults.OutOfMemory = ⊥
 
 -- this list of `--limits` is
 abbrev pub RefusesLimits : Option (List ℕ) → Fault → Type 0
 RefusesLimits list (faults.UnknownFeature word) = ⊥
 RefusesLimits list (faults.WrongLimit wrong word) = IsWrongIn list wrong word.now
-RefusesLimits list (faults.CannotOpen name) = ⊥
-RefusesLimits list (faults.Stopped error name) = ⊥
+RefusesLimits list (faults.CannotOpen name reason) = ⊥
+RefusesLimits list (faults.Stopped error name reason) = ⊥
 RefusesLimits list faults.OutOfMemory = ⊥
 
 -- The run stopped before any file was opened: the list of `--features` is refused; or it is not, and that of `--limits` is; or memory ran
@@ -139,16 +173,16 @@ abbrev pub IsUnshown : ErrorKind → Option (List ℕ) → Option (List ℕ) →
 IsUnshown kind old new = Keeps old new ⊎ (IsHelp kind × Grows old new)
 
 -- what is written of a file at which the judging stopped
-abbrev pub stopped_text : CheckError → List ℕ → List ℕ
-stopped_text (Read i) name = codes "wasm-check: " ++ shown name ++ codes ": cannot read"
-stopped_text (TooLong i) name = codes "wasm-check: " ++ shown name ++ codes ": too long"
-stopped_text (OutOfMemory i) name = codes "wasm-check: " ++ shown name ++ codes ": out of memory"
-stopped_text Write name = codes "wasm-check: cannot write"
+abbrev pub stopped_text : CheckError → List ℕ → Reason → List ℕ
+stopped_text (Read i) name reason = codes "wasm-check: " ++ shown name ++ (codes ": cannot read" ++ reason_text reason)
+stopped_text (TooLong i) name reason = codes "wasm-check: " ++ shown name ++ codes ": too long"
+stopped_text (OutOfMemory i) name reason = codes "wasm-check: " ++ shown name ++ codes ": out of memory"
+stopped_text Write name reason = codes "wasm-check: cannot write"
 
 -- what a fault writes
 abbrev pub fault_text : Fault → List ℕ
-fault_text (faults.CannotOpen name) = codes "wasm-check: " ++ shown name.now ++ codes ": cannot open"
-fault_text (faults.Stopped error name) = stopped_text error name.now
+fault_text (faults.CannotOpen name reason) = codes "wasm-check: " ++ shown name.now ++ (codes ": cannot open" ++ reason_text reason)
+fault_text (faults.Stopped error name reason) = stopped_text error name.now reason
 fault_text (faults.UnknownFeature word) = codes "wasm-check: unknown feature `" ++ shown word.now ++ codes "`"
 fault_text (faults.WrongLimit Unknown word) = codes "wasm-check: unknown limit `" ++ shown word.now ++ codes "`"
 fault_text (faults.WrongLimit BadValue word) = codes "wasm-check: bad limit `" ++ shown word.now ++ codes "`"

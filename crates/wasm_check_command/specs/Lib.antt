@@ -2,6 +2,7 @@
 pub mod Shown
 pub mod Lines
 pub mod Faults
+pub mod Reasons
 pub mod Verdict
 pub mod Reports
 pub mod Lists
@@ -10,6 +11,7 @@ pub mod LimitLists
 pub mod Words
 pub mod Settings
 pub mod Commands
+pub mod Opened
 pub mod Files
 pub mod LineLaws
 pub mod ShownRows

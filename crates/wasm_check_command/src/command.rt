@@ -1,5 +1,5 @@
 //! The command line: its words, its files, its faults and its statuses.
-ghost use Rattle.std.specs.Prelude.{◌≡◌, ℕ, ◌<◌, ◌≤◌, ◌⊎◌, false, List, codes, map, length, option_map, Ok, IfOk, IfErr, MatchResult};
+ghost use Rattle.std.specs.Prelude.{◌≡◌, ◌<◌, ◌≤◌, ◌⊎◌, false, map, option_map, Ok, IfOk, IfErr};
 ghost use Rattle.std.specs.Io.KnownBytes.{Keeps};
 ghost use Rattle.wasm_check_command.specs.declared.judging.Status.TheVariants.{AllValid, SomeInvalid};
 ghost use Rattle.clap.specs.Words.{app_of, found_of, kind_of, rows_of, rule_of, FailsBy};
@@ -8,21 +8,22 @@ ghost use Rattle.wasm_check_command.specs.Words.{IsHelp, matches_on, refusals_of
 ghost use Rattle.wasm_check_command.specs.Commands.{AreRead};
 ghost use Rattle.wasm_types.specs.limits.Limits.{IsWithinCeilings};
 ghost use Rattle.wasm_check_command.specs.Settings.{IsGiven, features_by, limits_by, settings_of};
-ghost use Rattle.wasm_check_command.specs.Files.{texts, code_of, IsPlaced, IsNamed, FailsOpening, ReportsFiles, StopsFiles, Reports, Grows, ShowsHelp, HasNoStatus, IsUnshown};
+ghost use Rattle.wasm_check_command.specs.Files.{texts, code_of, Reports, Grows, ShowsHelp, HasNoStatus, IsUnshown};
 ghost use Rattle.wasm_check_command.specs.Files.{asked_of, RefusesFeatures, RefusesLimits, StopsEarly, ReportsBy, StopsBy};
 
 use crate::error::CheckError;
 use crate::features::find_features;
-use crate::judging::{Chosen, Input, Judge, Status, check_by, write_text};
+use crate::files::judge_files;
+use crate::judging::{Chosen, Judge, Status, write_text};
 use crate::limits::{Wrong, find_limits};
+use crate::reason::Reason;
 use crate::shown::Shown;
 use clap::error::ErrorKind;
 use clap::{Arg, ArgAction, ArgMatches, Command};
 use std::alloc::{AllocError, Global};
 use std::convert::AsStr;
 use std::fmt;
-use std::fs::File;
-use std::io::Write;
+use std::io::{Input, Write};
 use std::rt::Files;
 use wasm_types::{Limits, WasmFeatures};
 
@@ -40,15 +41,22 @@ struct Options<'a> {
 
 /// Why a run came to no status of its files.
 #[derive(Debug, Drop)]
-enum Fault<'a> {
+pub(crate) enum Fault<'a> {
     /// The list of `--features` has this word, which is unknown.
     UnknownFeature(&'a str),
     /// The list of `--limits` has this word, with which this is wrong.
     WrongLimit(Wrong, &'a str),
-    /// This file could not be opened.
-    CannotOpen(&'a str),
-    /// The judging stopped, at the file of this name where the error has a place.
-    Stopped { error: CheckError, name: &'a str },
+    /// This file could not be opened, for this reason.
+    CannotOpen {
+        name: &'a str,
+        reason: Reason,
+    },
+    /// The judging stopped, at the file of this name where the error has a place; and where a read failed, for this reason.
+    Stopped {
+        error: CheckError,
+        name: &'a str,
+        reason: Reason,
+    },
     /// Memory ran out outside a file.
     OutOfMemory,
 }
@@ -72,14 +80,18 @@ impl fmt::Display for Fault<'_> {
                     Wrong::BadValue => write!(f, "wasm-check: bad limit `{word}`"),
                 }
             }
-            Fault::CannotOpen(name) => {
+            Fault::CannotOpen { name, reason } => {
                 let name = Shown(*name);
-                write!(f, "wasm-check: {name}: cannot open")
+                write!(f, "wasm-check: {name}: cannot open{reason}")
             }
-            Fault::Stopped { error, name } => {
+            Fault::Stopped {
+                error,
+                name,
+                reason,
+            } => {
                 let name = Shown(*name);
                 match error {
-                    CheckError::Read(_) => write!(f, "wasm-check: {name}: cannot read"),
+                    CheckError::Read(_) => write!(f, "wasm-check: {name}: cannot read{reason}"),
                     CheckError::TooLong(_) => write!(f, "wasm-check: {name}: too long"),
                     CheckError::OutOfMemory(_) => write!(f, "wasm-check: {name}: out of memory"),
                     CheckError::Write => write!(f, "wasm-check: cannot write"),
@@ -183,73 +195,8 @@ fn read_options<'a>(options: &Options<'a>) -> Result<Chosen, Fault<'a>>
     Ok(Chosen { features, limits })
 }
 
-/// Opens all files, in order.
-fn open_all<'a, F: Files>(
-    alloc: Global,
-    rt: &F,
-    names: &[&'a str],
-) -> Result<Vec<Input<'a, F::File>>, Fault<'a>>
-    ensures ok { IfOk result (λ inputs. map (λ i. i.name.now) inputs.items ≡ texts names.now) }
-    ensures err { IfErr result (FailsOpening (texts names.now)) }
-{
-    let mut inputs = Vec::new(alloc);
-    for name in names {
-        let Ok(reader) = File::open(rt, *name) else {
-            return Err(Fault::CannotOpen(*name));
-        };
-        if inputs
-            .push(Input {
-                name: *name,
-                reader,
-            })
-            .is_err()
-        {
-            return Err(Fault::OutOfMemory);
-        }
-    }
-    Ok(inputs)
-}
-
-/// The name of the file at which the judging stopped, or none.
-fn name_of<'a>(error: CheckError, names: &[&'a str]) -> &'a str
-    requires { IsPlaced (length names.now) error }
-    ensures { IsNamed (texts names.now) error result.now }
-{
-    match error {
-        CheckError::Read(index) | CheckError::TooLong(index) | CheckError::OutOfMemory(index) => {
-            names[index]
-        }
-        CheckError::Write => "",
-    }
-}
-
-/// Opens all files, and judges them by what was chosen.
-fn judge_files<'a, J: Judge, F: Files, W: Write>(
-    judge: &J,
-    alloc: Global,
-    rt: &F,
-    names: &[&'a str],
-    chosen: Chosen,
-    out: &mut W,
-) -> Result<Status, Fault<'a>>
-    requires within { IsWithinCeilings chosen.limits }
-    ensures ok { IfOk result (ReportsFiles (J.accepts (settings_of chosen)) (texts names.now)
-        (W.contents out.old) (W.contents out.new)) }
-    ensures err { IfErr result (StopsFiles (J.accepts (settings_of chosen)) (texts names.now)
-        (W.contents out.old) (W.contents out.new)) }
-{
-    let inputs = open_all(alloc, rt, names)?;
-    match check_by(judge, alloc, inputs, chosen.features, chosen.limits, out) {
-        Ok(status) => Ok(status),
-        Err(error) => Err(Fault::Stopped {
-            error,
-            name: name_of(error, names),
-        }),
-    }
-}
-
 /// Reads the lists of the options, and then opens all files and judges them.
-fn judge_by_options<'a, J: Judge, F: Files, W: Write>(
+fn judge_by_options<'a, J: Judge, F: Files + Input, W: Write>(
     judge: &J,
     alloc: Global,
     rt: &F,
@@ -326,8 +273,12 @@ fn show<S: AsStr, W: Write, E: Write>(
         return report(&Fault::OutOfMemory, err);
     };
     if show_help(text.as_str(), out).is_err() {
-        let error = CheckError::Write;
-        return report(&Fault::Stopped { error, name: "" }, err);
+        let fault = Fault::Stopped {
+            error: CheckError::Write,
+            name: "",
+            reason: Reason::Unknown,
+        };
+        return report(&fault, err);
     }
     0
 }
@@ -359,11 +310,12 @@ fn conclude<E: Write>(judged: &Result<Status, Fault<'_>>, err: &mut E) -> u8
 /// 0 if all files are valid, or if `clap` answers the words with the help or the version and it was shown; 1 if some file is invalid; 2 if
 /// the words name no files by `clap`'s reading or have a list that is refused, and then nothing is written to `out`, or if a
 /// fault stopped the judging or the help. The files are judged by the features and limits that the words ask for. All files
-/// are opened before the first is judged.
+/// are opened before the first is judged; those past the first hundred are then closed, and opened again in their turn. The
+/// file `-` is standard input.
 pub fn run_by<'a, J, F, S, W, E>(judge: &J, rt: &F, words: &'a [S], out: &mut W, err: &mut E) -> u8
 where
     J: Judge,
-    F: Files + AllocGlobal,
+    F: Files + Input + AllocGlobal,
     S: AsStr,
     W: Write,
     E: Write,

@@ -12,6 +12,7 @@ ghost use Rattle.wasm_check_command.specs.declared.error.CheckError.TheVariants.
 ghost use Rattle.wasm_check_command.specs.Reports.{sources_of, IsReported, Stops};
 
 use crate::error::CheckError;
+use crate::reason::Reason;
 use crate::shown::Shown;
 use std::alloc::{AllocError, Global};
 use std::io::{self, Read, Write};
@@ -72,25 +73,54 @@ pub enum Status {
     SomeInvalid,
 }
 
+/// Why an input was not read: the error, and where a read failed the reason that it gave.
+#[derive(Clone, Copy, Debug)]
+pub(crate) struct Unread {
+    /// The error.
+    pub(crate) error: CheckError,
+    /// The reason.
+    pub(crate) reason: Reason,
+}
+
+/// This error, without a reason.
+fn without_reason(error: CheckError) -> Unread
+    ensures { result.error ≡ error }
+{
+    Unread {
+        error,
+        reason: Reason::Unknown,
+    }
+}
+
 /// Puts what a reader has left into the buffer, in place of what stood there.
-fn read_whole<R: Read>(index: usize, reader: &mut R, buffer: &mut Vec<u8>) -> Result<(), CheckError>
+pub(crate) fn read_whole<R: Read>(
+    index: usize,
+    reader: &mut R,
+    buffer: &mut Vec<u8>,
+) -> Result<(), Unread>
     ensures ok { OnOk result (HasBytes (R.remaining reader.old) buffer.new.items) }
-    ensures err { IfErr result (FailsReading index (R.remaining reader.old)) }
+    ensures err { IfErr result (λ u. FailsReading index (R.remaining reader.old) u.error) }
 {
     buffer.clear();
     let mut chunk = [0u8; CHUNK];
     for _turn in 0..=MAX_BYTES {
-        let Ok(count) = reader.read(&mut chunk) else {
-            return Err(CheckError::Read(index));
+        let count = match reader.read(&mut chunk) {
+            Ok(count) => count,
+            Err(error) => {
+                return Err(Unread {
+                    error: CheckError::Read(index),
+                    reason: Reason::of(&error),
+                });
+            }
         };
         if count == 0 {
             return Ok(());
         }
         if count > MAX_BYTES - buffer.len() {
-            return Err(CheckError::TooLong(index));
+            return Err(without_reason(CheckError::TooLong(index)));
         }
         if buffer.extend_from_slice(&chunk[..count]).is_err() {
-            return Err(CheckError::OutOfMemory(index));
+            return Err(without_reason(CheckError::OutOfMemory(index)));
         }
     }
     unreachable!()
@@ -165,7 +195,7 @@ pub(crate) fn write_text<W: Write>(text: &[u8], out: &mut W) -> Result<(), Check
 }
 
 /// Judges these bytes, writes their line, and says whether they spell a valid module.
-fn judge_bytes<J: Judge, W: Write>(
+pub(crate) fn judge_bytes<J: Judge, W: Write>(
     judge: &J,
     alloc: Global,
     chosen: Chosen,
@@ -203,7 +233,10 @@ fn judge_input<J: Judge, R: Read + Drop, W: Write>(
     ensures err { IfErr result (FailsAt (J.accepts (settings_of chosen)) index input.entry.name.now
         (R.remaining input.entry.reader) (W.contents out.old) (W.contents out.new)) }
 {
-    read_whole(index, &mut input.reader, buffer)?;
+    match read_whole(index, &mut input.reader, buffer) {
+        Ok(()) => (),
+        Err(unread) => return Err(unread.error),
+    }
     judge_bytes(
         judge,
         alloc,

@@ -9,9 +9,11 @@
 mod command;
 mod error;
 mod features;
+mod files;
 mod judging;
 mod limits;
 mod lists;
+mod reason;
 mod shown;
 
 pub use command::{VERSION, reads_worked_words, run_by};

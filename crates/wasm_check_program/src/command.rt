@@ -7,7 +7,7 @@ ghost use Rattle.wasm_check_command.specs.Files.{Reports, ShowsHelp, HasNoStatus
 
 use crate::judging::Validating;
 use std::convert::AsStr;
-use std::io::Write;
+use std::io::{Input, Write};
 use std::rt::Files;
 use wasm_check_command::run_by;
 
@@ -15,10 +15,11 @@ use wasm_check_command::run_by;
 /// 0 if all files are valid, or if `clap` answers the words with the help or the version and it was shown; 1 if some file is invalid; 2 if
 /// the words name no files by `clap`'s reading or have a list that is refused, and then nothing is written to `out`, or if a
 /// fault stopped the judging or the help. The files are judged by the features and limits that the words ask for. All files
-/// are opened before the first is judged.
+/// are opened before the first is judged; those past the first hundred are then closed, and opened again in their turn. The
+/// file `-` is standard input.
 pub fn run<'a, F, S, W, E>(rt: &F, words: &'a [S], out: &mut W, err: &mut E) -> u8
 where
-    F: Files + AllocGlobal,
+    F: Files + Input + AllocGlobal,
     S: AsStr,
     W: Write,
     E: Write,

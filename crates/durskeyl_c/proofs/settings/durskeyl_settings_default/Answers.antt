@@ -1,9 +1,13 @@
 use Rattle.std.proofs.Common.{◌≡◌, sym, subst, arith, ◌∙◌}
-use Rattle.wasm_types.specs.features.Sets.{bits_of, default_features}
-use Rattle.wasm_types.specs.limits.Limits.{default_limits, IsWithinCeilings}
+use Rattle.wasm_types.specs.limits.Limits.{IsWithinCeilings}
 use Rattle.wasm_types.specs.limits.RowLaws.{default_within}
-use Rattle.durskeyl_c.specs.Settings.{limits_in, AreSettings}
 use Rattle.durskeyl_c.proofs.settings.durskeyl_settings_default.Goals as goal
+
+pub returns-clause-features : goal.returns-clause-features
+returns-clause-features c = c.bits.ensures tt ∙ c.default.ensures
+
+pub returns-clause-limits : goal.returns-clause-limits
+returns-clause-limits c = c.default-limits.ensures
 
 -- src/settings.rt:28:1
 pub returns-clause-taken : goal.returns-clause-taken

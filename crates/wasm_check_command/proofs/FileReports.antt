@@ -1,0 +1,251 @@
+-- On files that are judged one after another.
+use Rattle.std.proofs.Common.{◌≡◌, ℕ, suc, ◌<◌, ◌≤◌, List, [], ◌∷◌, ◌++◌, Bool, true, false, IfOk, IfErr, Some, Option, Result, Ok, Err, inl, inr}
+use Rattle.std.proofs.Common.{length, take, map, min, slice_get, get_or, option_map, refl, sym, ap, subst, ◌+◌, ◌∙◌, arith}
+use Rattle.std.specs.Borrow.{Bor}
+use Rattle.std.specs.Prelude.{Contains}
+use Rattle.std.specs.Io.KnownBytes.{Keeps}
+use Rattle.std.proofs.KnownBytes.{Appends-kept, Keeps-trans}
+use Rattle.std.proofs.Math.Seq.{take-suc, take-append_seam, get_or-append_seam}
+use Rattle.std.proofs.lemmas.List.{length-map, length-take, length-take-le, length_push, map-append, map-id, take-map, take-take, take_all, take_min, get_or-take}
+use Rattle.std.proofs.lemmas.List.Elements.{Contains-append_left, Contains-append_right}
+use Rattle.std.proofs.lemmas.Option.{slice_get-map, slice_get_read, slice_get_within, get_or_from_slice_get}
+use Rattle.wasm_check_command.specs.declared.error.CheckError.{CheckError}
+use Rattle.wasm_check_command.specs.declared.error.CheckError.TheVariants.{Read, TooLong, OutOfMemory, Write}
+use Rattle.wasm_check_command.specs.declared.judging.Input.{Input}
+use Rattle.wasm_check_command.specs.declared.judging.Status.{Status}
+use Rattle.wasm_check_command.specs.declared.judging.Status.TheVariants.{AllValid, SomeInvalid}
+use Rattle.wasm_check_command.specs.declared.command.Fault.{Fault}
+use Rattle.wasm_check_command.specs.declared.command.Fault.TheVariants as faults
+use Rattle.wasm_check_command.specs.Opened.{kept_open}
+use Rattle.wasm_check_command.specs.Verdict.{IsJudged, FailsAt}
+use Rattle.wasm_check_command.specs.Reports.{Source, IsReported}
+use Rattle.wasm_check_command.specs.Files.{texts, joined, IsNamed, FailsOpening, JudgesFile, FailsFile, ReportsFiles, StopsChecking, StopsFiles}
+use Rattle.wasm_check_command.proofs.ReportLemmas.{IsReported-none, IsReported-valid, IsReported-invalid, Stops-after, Stops-kept, flush_failed}
+
+-- a file as a contract sees it
+abbrev source : List ℕ → Option (List ℕ) → Source
+source name said = record { name = name; said = said }
+
+-- the last of a list that one was put behind
+last_is : {X : Type 0} (xs : List X) (x : X) → slice_get (xs ++ x ∷ []) (length xs) ≡ Some x
+last_is xs x =
+    slice_get_read (xs ++ x ∷ []) (length (xs ++ x ∷ [])) (length xs) x refl (omega (arith, length_push xs x)) (sym (get_or-append_seam xs x [] x))
+
+-- a front and the one behind it
+one_more : (all : List (List ℕ)) (index : ℕ) (name : List ℕ) → slice_get all index ≡ Some name → take index all ++ name ∷ [] ≡ take (index + 1) all
+one_more all index name found =
+    let there : get_or all index name ≡ name = get_or_from_slice_get all index name name found in
+    let on : suc index ≡ index + 1 = omega arith in
+    ap (λ x. take index all ++ x ∷ []) (sym there) ∙ sym (take-suc all index name (slice_get_within all index name found)) ∙ ap (λ n. take n all) on
+
+-- the name of an input
+abbrev name_of : {R : Type 0} → Input R → List ℕ
+name_of i = i.name.now
+
+-- where the inputs are those of the first files, the names so far are the first names
+pub names_so_far : {R : Type 0} (yielded inputs : List (Input R)) (all : List (List ℕ)) (n index : ℕ)
+    → index ≡ length yielded → map (λ x. x) yielded ≡ take (length yielded) inputs → length yielded < length inputs
+    → map (λ (i : Input R). i.name.now) inputs ≡ take n all → map (λ (i : Input R). i.name.now) yielded ≡ take index all
+names_so_far yielded inputs all n index counted front inside kept =
+    let short : length inputs ≤ n = fits inputs all n kept in
+    let here : map name_of yielded ≡ take index (map name_of inputs) = rw (counted, take-map name_of (length yielded) inputs, ← front, map-id) in
+    here ∙ ap (take index) kept ∙ take-take index n all (omega (arith, counted, inside, short))
+  where
+    fits : {R : Type 0} (inputs : List (Input R)) (all : List (List ℕ)) (n : ℕ) → map name_of inputs ≡ take n all → length inputs ≤ n
+    fits inputs all n e = omega (arith, length-map inputs name_of, ap length e, length-take n all)
+
+-- and that of this turn is the next
+pub name_at : {R : Type 0} (yielded inputs : List (Input R)) (all : List (List ℕ)) (n index : ℕ) (i : Input R)
+    → index ≡ length yielded → (length yielded < length inputs) × (i ≡ get_or inputs (length yielded) i)
+    → map (λ (j : Input R). j.name.now) inputs ≡ take n all → slice_get all index ≡ Some i.name.now
+name_at yielded inputs all n index i counted turn kept =
+    let front : slice_get (take n all) (length yielded) ≡ Some (name_of i)
+    = subst (λ ns. slice_get ns (length yielded) ≡ Some (name_of i)) kept
+    (slice_get-map name_of inputs (length yielded) ∙ ap (option_map name_of) (slice_get_read inputs (length inputs) (length yielded) i refl turn.0 turn.1)) in
+    rw counted (behind all n (length yielded) (name_of i) front)
+  where
+    behind : (all : List (List ℕ)) (n k : ℕ) (name : List ℕ) → slice_get (take n all) k ≡ Some name → slice_get all k ≡ Some name
+    behind all n k name found =
+        let size = length-take n all in
+        let inside : k < length (take n all) = slice_get_within (take n all) k name found in
+        let there : get_or all k name ≡ name = sym (get_or-take n all k name (omega (arith, size, inside))) ∙ get_or_from_slice_get (take n all) k name name found in
+        slice_get_read all (length all) k name refl (omega (arith, size, inside)) (sym there)
+
+-- a file that cannot be opened is one of all
+pub fails_among : (some all : List (List ℕ)) (f : Fault) → ((name : List ℕ) → Contains some name → Contains all name) → FailsOpening some f → FailsOpening all f
+fails_among some all (faults.CannotOpen name reason) among h = among name.now h
+fails_among some all (faults.Stopped error name reason) among h = absurd h
+fails_among some all faults.OutOfMemory among h = tt
+fails_among some all (faults.UnknownFeature word) among h = absurd h
+fails_among some all (faults.WrongLimit wrong word) among h = absurd h
+
+-- the same of the first and of the other ones
+pub fails_first : (first others all : List (Bor (List ℕ))) (f : Fault) → all ≡ first ++ others → FailsOpening (texts first) f → FailsOpening (texts all) f
+fails_first first others all f e = fails_among (texts first) (texts all) f (λ name h.
+    subst (λ (l : List (Bor (List ℕ))). Contains (texts l) name) (sym e)
+    (subst (λ ns. Contains ns name) (sym (map-append (λ (n : Bor (List ℕ)). n.now) first others)) (Contains-append_left (texts first) (texts others) name h)))
+
+pub fails_others : (first others all : List (Bor (List ℕ))) (f : Fault) → all ≡ first ++ others → FailsOpening (texts others) f → FailsOpening (texts all) f
+fails_others first others all f e = fails_among (texts others) (texts all) f (λ name h.
+    subst (λ (l : List (Bor (List ℕ))). Contains (texts l) name) (sym e)
+    (subst (λ ns. Contains ns name) (sym (map-append (λ (n : Bor (List ℕ)). n.now) first others)) (Contains-append_right (texts first) (texts others) name h)))
+
+-- the texts of the first names
+pub first_texts : (first all : List (Bor (List ℕ))) (n : ℕ) → first ≡ take (min n (length all)) all → texts first ≡ take n (texts all)
+first_texts first all n e = ap texts (e ∙ take_min n all) ∙ sym (take-map (λ (n : Bor (List ℕ)). n.now) n all)
+
+-- ---- over any judge of bytes
+module _ (accepts : List ℕ → Type 0) where
+  -- no file was judged yet
+  pub reports_none : (known : Option (List ℕ)) → ReportsFiles accepts [] known known AllValid
+  reports_none known = record { sources = []; named = refl; reported = IsReported-none accepts known }
+
+  -- one file more
+  pub reports_more : (names : List (List ℕ)) (name : List ℕ) (old mid new : Option (List ℕ)) (status : Status) (valid : Bool)
+      → ReportsFiles accepts names old mid status → JudgesFile accepts name mid new valid → ReportsFiles accepts (names ++ name ∷ []) old new (joined status valid)
+  reports_more names name old mid new status true r j = record {
+    sources = r.sources ++ source name j.0 ∷ [];
+    named = map-append (λ (s : Source). s.name) r.sources (source name j.0 ∷ []) ∙ ap (λ ns. ns ++ name ∷ []) r.named;
+    reported = IsReported-valid accepts r.sources (source name j.0) old mid new status status true r.reported j.1 refl refl;
+  }
+  reports_more names name old mid new status false r j = record {
+    sources = r.sources ++ source name j.0 ∷ [];
+    named = map-append (λ (s : Source). s.name) r.sources (source name j.0 ∷ []) ∙ ap (λ ns. ns ++ name ∷ []) r.named;
+    reported = IsReported-invalid accepts r.sources (source name j.0) old mid new status SomeInvalid false r.reported j.1 refl refl;
+  }
+
+  -- the file at the next place
+  pub reports_next : (all : List (List ℕ)) (name : List ℕ) (index : ℕ) (old mid new : Option (List ℕ)) (status next : Status) (valid : Bool)
+      → ReportsFiles accepts (take index all) old mid status → slice_get all index ≡ Some name → JudgesFile accepts name mid new valid → next ≡ joined status valid
+      → ReportsFiles accepts (take (index + 1) all) old new next
+  reports_next all name index old mid new status next valid r found j same =
+      rw same (subst (λ ns. ReportsFiles accepts ns old new (joined status valid)) (one_more all index name found)
+      (reports_more (take index all) name old mid new status valid r j))
+
+  -- all files
+  pub reports_all : (all : List (List ℕ)) (index : ℕ) (old new : Option (List ℕ)) (status : Status) → ReportsFiles accepts (take index all) old new status
+      → length all ≤ index → ReportsFiles accepts all old new status
+  reports_all all index old new status r past = subst (λ ns. ReportsFiles accepts ns old new status) (take_all index all past) r
+
+  -- nothing more was written
+  pub reports_kept : (names : List (List ℕ)) (old mid new : Option (List ℕ)) (status : Status)
+      → ReportsFiles accepts names old mid status → Keeps mid new → ReportsFiles accepts names old new status
+  reports_kept names old mid new status r kept = record {
+    sources = r.sources;
+    named = r.named;
+    reported = record {
+      contents = r.reported.contents;
+      written = record {
+        text = r.reported.written.text;
+        lines = r.reported.written.lines;
+        appended = Appends-kept old mid new r.reported.written.text r.reported.written.appended kept;
+      };
+      sums = r.reported.sums;
+    };
+  }
+
+  -- as many sources as names
+  counted_by : (all : List (List ℕ)) (index : ℕ) (old mid : Option (List ℕ)) (status : Status) (r : ReportsFiles accepts (take index all) old mid status)
+      → index ≤ length all → length r.sources ≡ index
+  counted_by all index old mid status r h =
+      sym (length-map r.sources (λ (s : Source). s.name)) ∙ ap length r.named ∙ length-take-le index all h
+
+  -- a fault is placed where its file is
+  placed : (all : List (List ℕ)) (name told : List ℕ) (index : ℕ) (said mid new : Option (List ℕ)) (e : CheckError) → told ≡ name
+      → slice_get all index ≡ Some name → FailsAt accepts index name said mid new e → IsNamed all e told
+  placed all name told index said mid new (Read i) same found h = rw (h.0, same) found
+  placed all name told index said mid new (TooLong i) same found h = rw (h.0, same) found
+  placed all name told index said mid new (OutOfMemory i) same found h = rw (h.0, same) found
+  placed all name told index said mid new Write same found h = tt
+
+  -- the file after those that were judged came to no verdict
+  pub stops_at : (all : List (List ℕ)) (name : List ℕ) (index : ℕ) (old mid new : Option (List ℕ)) (status : Status) (f : Fault)
+      → ReportsFiles accepts (take index all) old mid status → slice_get all index ≡ Some name → FailsFile accepts index name mid new f
+      → StopsFiles accepts all old new f
+  stops_at all name index old mid new status (faults.CannotOpen told reason) r found h = inr (record {
+    index = index;
+    found = rw h.0 found;
+    past = h.1;
+    status = status;
+    before = reports_kept (take index all) old mid new status r h.2;
+  })
+  stops_at all name index old mid new status (faults.Stopped e told reason) r found h =
+      let s = source name h.1.0 in
+      let inside : index < length all = slice_get_within all index name found in
+      let counted : length r.sources ≡ index = counted_by all index old mid status r (omega (arith, inside)) in
+      let more : length (r.sources ++ s ∷ []) ≡ index + 1 = length_push r.sources s ∙ ap (λ n. n + 1) counted in
+      record {
+        sources = r.sources ++ s ∷ [];
+        named = map-append (λ (x : Source). x.name) r.sources (s ∷ []) ∙ ap (λ ns. ns ++ name ∷ []) r.named ∙ one_more all index name found
+            ∙ ap (λ n. take n all) (sym more);
+        stopped = Stops-after accepts (r.sources ++ s ∷ []) r.sources s index old mid new status e r.reported
+            (sym (take-append_seam r.sources (s ∷ [])) ∙ ap (λ n. take n (r.sources ++ s ∷ [])) counted) (subst (λ n. slice_get (r.sources ++ s ∷ []) n ≡ Some s) counted (last_is r.sources s)) h.1.1;
+        place = placed all name told.now index h.1.0 mid new e h.0 found h.1.1;
+      }
+  stops_at all name index old mid new status faults.OutOfMemory r found h = absurd h
+  stops_at all name index old mid new status (faults.UnknownFeature word) r found h = absurd h
+  stops_at all name index old mid new status (faults.WrongLimit wrong word) r found h = absurd h
+
+  -- ---- a flush
+  -- a flush that fails after files were judged
+  after_files : (names front : List (List ℕ)) (n : ℕ) (old mid new : Option (List ℕ)) (status : Status) (told : List ℕ) → ReportsFiles accepts front old mid status
+      → front ≡ take n names → n ≡ length front → Keeps mid new → StopsChecking accepts names old new Write told
+  after_files names front n old mid new status told r same counted kept =
+      let size : length r.sources ≡ n = sym (length-map r.sources (λ (s : Source). s.name)) ∙ ap length r.named ∙ sym counted in
+      record {
+        sources = r.sources;
+        named = r.named ∙ same ∙ ap (λ k. take k names) (sym size);
+        stopped = flush_failed accepts (Ok status) r.sources old mid new r.reported tt kept;
+        place = tt;
+      }
+
+  -- a flush that fails where nothing was written
+  after_nothing : (names : List (List ℕ)) (old mid new : Option (List ℕ)) (told : List ℕ) → Keeps old mid → Keeps mid new → StopsChecking accepts names old new Write told
+  after_nothing names old mid new told before kept =
+      after_files names [] 0 old mid new AllValid told (reports_kept [] old old mid AllValid (reports_none old) before) refl refl kept
+
+  -- whatever was answered before a flush failed
+  pub files_unflushed : (r : Result Status Fault) (names : List (List ℕ)) (old mid new : Option (List ℕ)) (told : List ℕ)
+      → IfOk r (ReportsFiles accepts names old mid) → IfErr r (StopsFiles accepts names old mid) → Keeps mid new → StopsChecking accepts names old new Write told
+  files_unflushed (Ok status) names old mid new told h e kept =
+      after_files names names (length names) old mid new status told h (sym (take_all (length names) names (omega arith))) refl kept
+  files_unflushed (Err (faults.CannotOpen name reason)) names old mid new told h (inl e) kept = after_nothing names old mid new told e.1 kept
+  files_unflushed (Err (faults.CannotOpen name reason)) names old mid new told h (inr e) kept =
+      let inside : e.index < length names = slice_get_within names e.index name.now e.found in
+      after_files names (take e.index names) e.index old mid new e.status told e.before refl (sym (length-take-le e.index names (omega (arith, inside)))) kept
+  files_unflushed (Err (faults.Stopped error name reason)) names old mid new told h e kept = record {
+    sources = e.sources;
+    named = e.named;
+    stopped = flush_failed accepts (Err error) e.sources old mid new tt e.stopped kept;
+    place = tt;
+  }
+  files_unflushed (Err faults.OutOfMemory) names old mid new told h e kept = after_nothing names old mid new told e kept
+  files_unflushed (Err (faults.UnknownFeature word)) names old mid new told h e kept = absurd e
+  files_unflushed (Err (faults.WrongLimit wrong word)) names old mid new told h e kept = absurd e
+
+  -- a flush changes nothing
+  pub files_flushed : (r : Result Status Fault) (names : List (List ℕ)) (old mid new : Option (List ℕ))
+      → IfOk r (ReportsFiles accepts names old mid) → Keeps mid new → IfOk r (ReportsFiles accepts names old new)
+  files_flushed (Ok status) names old mid new h kept = reports_kept names old mid new status h kept
+  files_flushed (Err f) names old mid new h kept = tt
+
+  pub faults_flushed : (r : Result Status Fault) (names : List (List ℕ)) (old mid new : Option (List ℕ))
+      → IfErr r (StopsFiles accepts names old mid) → Keeps mid new → IfErr r (StopsFiles accepts names old new)
+  faults_flushed (Ok status) names old mid new h kept = tt
+  faults_flushed (Err (faults.CannotOpen name reason)) names old mid new (inl h) kept = inl (h.0, Keeps-trans old mid new h.1 kept)
+  faults_flushed (Err (faults.CannotOpen name reason)) names old mid new (inr h) kept = inr (record {
+    index = h.index;
+    found = h.found;
+    past = h.past;
+    status = h.status;
+    before = reports_kept (take h.index names) old mid new h.status h.before kept;
+  })
+  faults_flushed (Err (faults.Stopped error name reason)) names old mid new h kept = record {
+    sources = h.sources;
+    named = h.named;
+    stopped = Stops-kept accepts h.sources old mid new error h.stopped kept;
+    place = h.place;
+  }
+  faults_flushed (Err faults.OutOfMemory) names old mid new h kept = Keeps-trans old mid new h kept
+  faults_flushed (Err (faults.UnknownFeature word)) names old mid new h kept = absurd h
+  faults_flushed (Err (faults.WrongLimit wrong word)) names old mid new h kept = absurd h

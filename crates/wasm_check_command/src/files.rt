@@ -1,0 +1,319 @@
+//! The files that the words name are opened, and judged one after another.
+ghost use Rattle.std.specs.Prelude.{◌≡◌, ℕ, ◌<◌, ◌≤◌, IsTrue, false, List, length, min, map, take, slice_get, Some, IfOk, IfErr};
+ghost use Rattle.wasm_types.specs.limits.Limits.{IsWithinCeilings};
+ghost use Rattle.wasm_check_command.specs.Settings.{settings_of};
+ghost use Rattle.wasm_check_command.specs.Opened.{is_stdin, names_stdin, kept_open};
+ghost use Rattle.wasm_check_command.specs.Files.{texts, joined, CannotOpen, FailsOpening, JudgesFile, FailsFile, ReportsFiles, StopsFiles};
+
+use crate::command::Fault;
+use crate::error::CheckError;
+use crate::judging::{Chosen, Input, Judge, MAX_BYTES, Status, judge_bytes, read_whole};
+use crate::reason::Reason;
+use std::alloc::Global;
+use std::fs::{File, OpenFile};
+use std::io::{self, Input as Standard, Read, Write};
+use std::rt::Files;
+
+/// How many files are kept open until their turn.
+const KEPT: usize = 100;
+
+/// What a file's bytes are read from.
+#[derive(Debug, Drop)]
+pub(crate) enum Opened<F, I> {
+    /// A file.
+    File(F),
+    /// Standard input.
+    Stdin(I),
+}
+
+impl<F: Read, I: Read> Read for Opened<F, I> {
+    ghost use Rattle.wasm_check_command.specs.Opened.{said_by};
+
+    ghost remaining = { said_by F.remaining I.remaining };
+
+    fn read(&mut self, buf: &mut [u8]) -> io::Result<usize> {
+        match self {
+            Opened::File(file) => file.read(buf),
+            Opened::Stdin(stdin) => stdin.read(buf),
+        }
+    }
+}
+
+/// Opens the file of this name; `-` is standard input.
+fn open<F: Files + Standard>(rt: &F, name: &str) -> io::Result<Opened<F::File, F::Reader>>
+    ensures { IfOk result (λ o. is_stdin o ≡ names_stdin name.now) }
+{
+    if name == "-" {
+        return Ok(Opened::Stdin(rt.reader()));
+    }
+    match File::open(rt, name) {
+        Ok(file) => Ok(Opened::File(file)),
+        Err(error) => Err(error),
+    }
+}
+
+/// The same, with the fault of a file that cannot be opened.
+fn open_named<'a, F: Files + Standard>(
+    rt: &F,
+    name: &'a str,
+) -> Result<Opened<F::File, F::Reader>, Fault<'a>>
+    ensures ok { IfOk result (λ o. is_stdin o ≡ names_stdin name.entry.now) }
+    ensures err { IfErr result (CannotOpen name.entry.now) }
+{
+    match open(rt, name) {
+        Ok(reader) => Ok(reader),
+        Err(error) => Err(Fault::CannotOpen {
+            name,
+            reason: Reason::of(&error),
+        }),
+    }
+}
+
+/// Opens these files in order, and keeps them open.
+fn open_kept<'a, F: Files + Standard>(
+    alloc: Global,
+    rt: &F,
+    names: &[&'a str],
+) -> Result<Vec<Input<'a, Opened<F::File, F::Reader>>>, Fault<'a>>
+    ensures ok { IfOk result (λ inputs. map (λ i. i.name.now) inputs.items ≡ texts names.now) }
+    ensures err { IfErr result (FailsOpening (texts names.now)) }
+{
+    let mut inputs = Vec::new(alloc);
+    for name in names {
+        let reader = open_named(rt, *name)?;
+        if inputs
+            .push(Input {
+                name: *name,
+                reader,
+            })
+            .is_err()
+        {
+            return Err(Fault::OutOfMemory);
+        }
+    }
+    Ok(inputs)
+}
+
+/// Opens these files in order, and closes each at once.
+fn try_to_open<'a, F: Files + Standard>(rt: &F, names: &[&'a str]) -> Result<(), Fault<'a>>
+    ensures { IfErr result (FailsOpening (texts names.now)) }
+{
+    for name in names {
+        let _closed = open_named(rt, *name)?;
+    }
+    Ok(())
+}
+
+/// How many of so many files are kept open.
+fn kept_of(count: usize) -> usize
+    ensures { result ≡ min kept_open count }
+{
+    if count < KEPT {
+        return count;
+    }
+    KEPT
+}
+
+/// Opens all files in order, and keeps the first hundred open.
+fn open_all<'a, F: Files + Standard>(
+    alloc: Global,
+    rt: &F,
+    names: &[&'a str],
+) -> Result<Vec<Input<'a, Opened<F::File, F::Reader>>>, Fault<'a>>
+    ensures ok { IfOk result (λ inputs. map (λ i. i.name.now) inputs.items ≡ take kept_open (texts names.now)) }
+    ensures err { IfErr result (FailsOpening (texts names.now)) }
+{
+    let (first, others) = names.split_at(kept_of(names.len()));
+    let inputs = match open_kept(alloc, rt, first) {
+        Ok(inputs) => inputs,
+        Err(fault) => return Err(fault),
+    };
+    match try_to_open(rt, others) {
+        Ok(()) => Ok(inputs),
+        Err(fault) => Err(fault),
+    }
+}
+
+/// Whether the system says of a file that it is longer than an input may be. It says so of no standard input.
+fn is_too_long<R: OpenFile, I>(opened: &Opened<R, I>) -> bool
+    ensures { IsTrue result → is_stdin opened.now ≡ false }
+{
+    match opened {
+        Opened::File(file) => match file.metadata() {
+            Ok(metadata) => metadata.len() > MAX_BYTES as u64,
+            Err(_) => false,
+        },
+        Opened::Stdin(_) => false,
+    }
+}
+
+/// Judges a file, writes its line, and says whether it is a valid module. A file that the system says is too long is not read.
+fn judge_opened<'a, J: Judge, R: Read + OpenFile + Drop, I: Read + Drop, W: Write>(
+    judge: &J,
+    alloc: Global,
+    chosen: Chosen,
+    index: usize,
+    mut input: Input<'a, Opened<R, I>>,
+    buffer: &mut Vec<u8>,
+    out: &mut W,
+) -> Result<bool, Fault<'a>>
+    requires within { IsWithinCeilings chosen.limits }
+    ensures ok { IfOk result (JudgesFile (J.accepts (settings_of chosen)) input.entry.name.now (W.contents out.old) (W.contents out.new)) }
+    ensures err { IfErr result (FailsFile (J.accepts (settings_of chosen)) index input.entry.name.now
+        (W.contents out.old) (W.contents out.new)) }
+{
+    let name = input.name;
+    if is_too_long(&input.reader) {
+        return Err(Fault::Stopped {
+            error: CheckError::TooLong(index),
+            name,
+            reason: Reason::Unknown,
+        });
+    }
+    if let Err(unread) = read_whole(index, &mut input.reader, buffer) {
+        return Err(Fault::Stopped {
+            error: unread.error,
+            name,
+            reason: unread.reason,
+        });
+    }
+    match judge_bytes(judge, alloc, chosen, index, name, buffer.as_slice(), out) {
+        Ok(is_valid) => Ok(is_valid),
+        Err(error) => Err(Fault::Stopped {
+            error,
+            name,
+            reason: Reason::Unknown,
+        }),
+    }
+}
+
+/// Opens a file again, judges it, writes its line, and says whether it is a valid module.
+fn judge_again<'a, J: Judge, F: Files + Standard, W: Write>(
+    judge: &J,
+    alloc: Global,
+    rt: &F,
+    chosen: Chosen,
+    index: usize,
+    name: &'a str,
+    buffer: &mut Vec<u8>,
+    out: &mut W,
+) -> Result<bool, Fault<'a>>
+    requires within { IsWithinCeilings chosen.limits }
+    requires past { kept_open ≤ index }
+    ensures ok { IfOk result (JudgesFile (J.accepts (settings_of chosen)) name.entry.now (W.contents out.old) (W.contents out.new)) }
+    ensures err { IfErr result (FailsFile (J.accepts (settings_of chosen)) index name.entry.now
+        (W.contents out.old) (W.contents out.new)) }
+{
+    let reader = open_named(rt, name)?;
+    let input = Input { name, reader };
+    judge_opened(judge, alloc, chosen, index, input, buffer, out)
+}
+
+/// The name at this place.
+fn name_at<'a>(names: &[&'a str], place: usize) -> &'a str
+    requires { place < length names.now }
+    ensures { slice_get (texts names.now) place ≡ Some result.now }
+{
+    names[place]
+}
+
+/// The status of files that have this one, and of one more.
+fn joined(status: Status, is_valid: bool) -> Status
+    ensures { result ≡ joined status is_valid }
+{
+    if is_valid {
+        return status;
+    }
+    Status::SomeInvalid
+}
+
+/// Judges the files that were kept open, in order, and writes their lines, through the first fault.
+fn judge_kept<'a, J: Judge, R: Read + OpenFile + Drop, I: Read + Drop, W: Write>(
+    judge: &J,
+    alloc: Global,
+    chosen: Chosen,
+    inputs: Vec<Input<'a, Opened<R, I>>>,
+    buffer: &mut Vec<u8>,
+    out: &mut W,
+) -> Result<Status, Fault<'a>>
+    requires within { IsWithinCeilings chosen.limits }
+    ensures ok { IfOk result (ReportsFiles (J.accepts (settings_of chosen)) (map (λ i. i.name.now) inputs.entry.items)
+        (W.contents out.old) (W.contents out.new)) }
+    ensures err { (all : List (List ℕ)) → map (λ i. i.name.now) inputs.entry.items ≡ take kept_open all
+        → IfErr result (StopsFiles (J.accepts (settings_of chosen)) all (W.contents out.old) (W.contents out.new)) }
+{
+    let mut status = Status::AllValid;
+    let mut index = 0;
+    for input in inputs {
+        let is_valid = match judge_opened(judge, alloc, chosen, index, input, buffer, out) {
+            Ok(is_valid) => is_valid,
+            Err(fault) => return Err(fault),
+        };
+        status = joined(status, is_valid);
+        index += 1;
+    }
+    Ok(status)
+}
+
+/// Judges the files in order: first those that were kept open, and then each other one, which is opened again.
+fn judge_in_turn<'a, J: Judge, F: Files + Standard, W: Write>(
+    judge: &J,
+    alloc: Global,
+    rt: &F,
+    chosen: Chosen,
+    inputs: Vec<Input<'a, Opened<F::File, F::Reader>>>,
+    names: &[&'a str],
+    out: &mut W,
+) -> Result<Status, Fault<'a>>
+    requires within { IsWithinCeilings chosen.limits }
+    requires kept { map (λ i. i.name.now) inputs.items ≡ take kept_open (texts names.now) }
+    ensures ok { IfOk result (ReportsFiles (J.accepts (settings_of chosen)) (texts names.now)
+        (W.contents out.old) (W.contents out.new)) }
+    ensures err { IfErr result (StopsFiles (J.accepts (settings_of chosen)) (texts names.now)
+        (W.contents out.old) (W.contents out.new)) }
+{
+    let mut buffer = Vec::new(alloc);
+    let mut status = match judge_kept(judge, alloc, chosen, inputs, &mut buffer, out) {
+        Ok(status) => status,
+        Err(fault) => return Err(fault),
+    };
+    for place in KEPT..names.len() {
+        let name = name_at(names, place);
+        let is_valid = match judge_again(judge, alloc, rt, chosen, place, name, &mut buffer, out) {
+            Ok(is_valid) => is_valid,
+            Err(fault) => return Err(fault),
+        };
+        status = joined(status, is_valid);
+    }
+    Ok(status)
+}
+
+/// Opens all files, and judges them by what was chosen.
+pub(crate) fn judge_files<'a, J: Judge, F: Files + Standard, W: Write>(
+    judge: &J,
+    alloc: Global,
+    rt: &F,
+    names: &[&'a str],
+    chosen: Chosen,
+    out: &mut W,
+) -> Result<Status, Fault<'a>>
+    requires within { IsWithinCeilings chosen.limits }
+    ensures ok { IfOk result (ReportsFiles (J.accepts (settings_of chosen)) (texts names.now)
+        (W.contents out.old) (W.contents out.new)) }
+    ensures err { IfErr result (StopsFiles (J.accepts (settings_of chosen)) (texts names.now)
+        (W.contents out.old) (W.contents out.new)) }
+{
+    let inputs = match open_all(alloc, rt, names) {
+        Ok(inputs) => inputs,
+        Err(fault) => return Err(fault),
+    };
+    let judged = judge_in_turn(judge, alloc, rt, chosen, inputs, names, out);
+    if out.flush().is_err() {
+        return Err(Fault::Stopped {
+            error: CheckError::Write,
+            name: "",
+            reason: Reason::Unknown,
+        });
+    }
+    judged
+}
