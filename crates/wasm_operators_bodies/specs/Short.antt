@@ -1,10 +1,10 @@
 -- Constant expressions of one operator (WebAssembly 3.0, validation, instructions, constant expressions).
-use Rattle.std.specs.Prelude.{◌≡◌, ℤ, List}
+use Rattle.std.specs.Prelude.{◌≡◌, ℕ, ℤ, List}
 use Rattle.wasm_types.specs.limits.Settings.{Settings}
-use Rattle.wasm_operators_reader.specs.groups.declared.control.ControlOperator.TheVariants as control
-use Rattle.wasm_operators_reader.specs.groups.declared.constant.ConstOperator.TheVariants as constant
-use Rattle.wasm_operators_reader.specs.groups.declared.memory.MemoryOperator.TheVariants as memory
-use Rattle.wasm_operators_reader.specs.groups.declared.bulk.BulkOperator.TheVariants as bulk
+use Rattle.wasm_operators_reader.specs.operator.groups.declared.control.ControlOperator.TheVariants as control
+use Rattle.wasm_operators_reader.specs.operator.groups.declared.constant.ConstOperator.TheVariants as constant
+use Rattle.wasm_operators_reader.specs.operator.groups.declared.memory.MemoryOperator.TheVariants as memory
+use Rattle.wasm_operators_reader.specs.operator.groups.declared.bulk.BulkOperator.TheVariants as bulk
 use Rattle.wasm_operators_reader.specs.operator.Op as op
 use Rattle.wasm_operators_reader.specs.operator.Op.{Op}
 use Rattle.wasm_operators_reader.specs.expression.Code.{Code}

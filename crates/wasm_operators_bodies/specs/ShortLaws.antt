@@ -5,7 +5,7 @@ use Rattle.wasm_types.specs.limits.Settings.{Settings}
 use Rattle.wasm_types.specs.decoding.Decoder.{State, Takes}
 use Rattle.wasm_types_numbers.specs.Numbers.{behind, GivesAt}
 use Rattle.wasm_operators_reader.specs.immediates.declared.frames.FrameKind.TheVariants.{Block}
-use Rattle.wasm_operators_reader.specs.groups.declared.control.ControlOperator.TheVariants as control
+use Rattle.wasm_operators_reader.specs.operator.groups.declared.control.ControlOperator.TheVariants as control
 use Rattle.wasm_operators_reader.specs.operator.Op as op
 use Rattle.wasm_operators_reader.specs.operator.Op.{Op}
 use Rattle.wasm_operators_reader.specs.operator.Immediates.{is_canonical}
@@ -36,6 +36,7 @@ module _ (z : Settings) (text : List ℕ) where
 
   part_of : (i j : ℕ) (o : Op) → IsTrue (is_canonical o) → GivesAt (operator z) text i (coded_of o) j
       → (front : List ℕ) × SpelledOperator z o front × (drop i text ≡ front ++ drop (j - i) (drop i text)) × (length front ≡ j - i)
+  unfolding at_offset
   part_of i j o canonical g =
       let (front, takes, spelled) = read_spelled z (at_offset i) (behind (j - i) (at_offset i)) o (g.gives _ refl) canonical in
       (front, spelled, takes.parts, omega (arith, takes.place))
@@ -53,7 +54,8 @@ module _ (c : ShortConstant) (text : List ℕ) (i : ℕ) where
       let b = last z.features in
       let (xs, spelled_a, parts_a, long_a) = part_of z text 0 i a.op a.canonical (a.reads z.limits) in
       let (ys, spelled_b, parts_b, long_b) = part_of z text i (i + 1) b.op b.canonical (b.reads z.limits) in
-      let parts : text ≡ (xs ++ ys) ++ drop (i + 1 - i) (drop i text) = parts_a ∙ ap (λ (r : List ℕ). xs ++ r) parts_b ∙ sym (append_assoc xs ys (drop (i + 1 - i) (drop i text))) in
+      let off : i - 0 ≡ i = omega arith in
+      let parts : text ≡ (xs ++ ys) ++ drop (i + 1 - i) (drop i text) = parts_a ∙ ap (λ (k : ℕ). xs ++ drop k text) off ∙ ap (λ (r : List ℕ). xs ++ r) parts_b ∙ sym (append_assoc xs ys (drop (i + 1 - i) (drop i text))) in
       let long : length (xs ++ ys) ≡ i + 1 = length-append xs ys ∙ omega (arith, long_a, long_b) in
       let ended : SpelledOperator z (op.Control control.End) ys = subst (λ (o : Op). SpelledOperator z o ys) b.told spelled_b in
       let expression : IsExpression (alone a.op) = (rw (plain_of c a.op a.told) refl, refl) in
