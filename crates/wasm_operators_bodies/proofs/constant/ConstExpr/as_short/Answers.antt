@@ -6,5 +6,5 @@ use Rattle.wasm_operators_bodies.proofs.constant.ConstExpr.as_short.Goals as goa
 pub returns : goal.returns
 returns c z =
     let whole : take c.in-Some.length c.bytes-bytes.result.now ≡ c.args.self.now.rest =
-        take_all c.in-Some.length c.bytes-bytes.result.now (omega (arith, c.if-length-bytes.false)) ∙ c.bytes-bytes.ensures in
+    take_all c.in-Some.length c.bytes-bytes.result.now (omega (arith, c.if-length-bytes.false)) ∙ c.bytes-bytes.ensures in
     subst (λ (text : List ℕ). SpellsShort c.in-Some.constant text) whole c.in-Some.ensures.spelled z

@@ -18,6 +18,9 @@ pub returns-in-Some-clause-read : goal.returns-in-Some-clause-read
 returns-in-Some-clause-read c =
     let s : State = c.args.reader.now in
     let spelled : SpellsShort c.in-Some._constant (take c.in-Some.length s.rest) =
-        subst (λ (bytes : List ℕ). SpellsShort c.in-Some._constant (take c.in-Some.length bytes)) c.left.ensures c.in-Some.ensures.spelled in
-    (take c.in-Some.length s.rest, short_is_constant c.in-Some._constant (take c.in-Some.length s.rest) spelled s.settings, c.take_front.ensures.taken,
-    c.new.ensures ∙ c.take_front.ensures.part)
+    subst (λ (bytes : List ℕ). SpellsShort c.in-Some._constant (take c.in-Some.length bytes)) c.left.ensures c.in-Some.ensures.spelled in (
+      take c.in-Some.length s.rest,
+      short_is_constant c.in-Some._constant (take c.in-Some.length s.rest) spelled s.settings,
+      c.take_front.ensures.taken,
+      c.new.ensures ∙ c.take_front.ensures.part,
+    )
