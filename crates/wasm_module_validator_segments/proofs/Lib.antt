@@ -1,2 +1,3 @@
+mod Numbers
 mod Parts
 pub mod Worked

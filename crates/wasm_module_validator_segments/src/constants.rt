@@ -1,16 +1,17 @@
 //! Constant expressions of items.
 
-ghost use Rattle.std.specs.Prelude.{◌≡◌, IfErr};
+ghost use Rattle.std.specs.Prelude.{◌≡◌, ℕ, IfErr, IsTrue};
 ghost use Rattle.wasm_types.specs.error.Denials.{Tells, UnlessMemory};
 ghost use Rattle.wasm_types.specs.limits.Limits.{IsWithinCeilings};
-ghost use Rattle.wasm_operator_validator_constants.specs.resources.Meaning.{type_in};
+ghost use Rattle.wasm_types.specs.limits.Settings.{Settings};
+ghost use Rattle.wasm_operator_validator_constants.specs.resources.Meaning.{Meaning, type_in};
 ghost use Rattle.wasm_module_validator_segments.specs.Judged.{IsConstantText};
 ghost use Rattle.wasm_module_validator_segments.specs.Refusals.{StopsText, read_by};
 
 use std::alloc::Global;
 use wasm_module_validator_checks::externs::Settings;
 use wasm_operator_validator_constants::{
-    ConstExpr, OperatorValidatorAllocations, WasmModuleResources, check_const_expr,
+    ConstExpr, OperatorValidatorAllocations, ShortConstant, WasmModuleResources, check_const_expr,
 };
 use wasm_types::{BinaryReader, Result, ValType};
 
@@ -23,6 +24,18 @@ pub fn reader_by<'a>(expr: &ConstExpr<'a>, settings: &Settings) -> BinaryReader<
     reader.set_features(settings.features());
     reader.set_limits(settings.limits());
     reader
+}
+
+/// Whether an expression is a number of this type, as its bytes alone tell.
+#[inline(always)]
+fn is_number(expr: &ConstExpr<'_>, ty: &ValType) -> bool
+    ensures { IsTrue result → (z : Settings) (m : Meaning) (count : ℕ) → IsConstantText z m.«module» count (type_in m ty.now) expr.now.rest }
+{
+    match expr.as_short() {
+        Some(ShortConstant::I32) => matches!(ty, ValType::I32),
+        Some(ShortConstant::I64) => matches!(ty, ValType::I64),
+        _ => false,
+    }
 }
 
 /// Checks the bytes of an expression, by the settings that the module is judged by: Ok exactly where they spell a constant of this
@@ -45,6 +58,9 @@ pub fn check_constant<R: WasmModuleResources>(
     ensures answer { Tells result (IsConstantText settings.now (R.meaning resources.now).«module» imported_globals (type_in (R.meaning resources.now) ty) expr.now.rest) }
     ensures refused { IfErr result (λ e. UnlessMemory e.kind (StopsText settings.now (R.meaning resources.now) imported_globals (type_in (R.meaning resources.now) ty) expr.now e)) }
 {
+    if is_number(expr, &ty) {
+        return Ok(());
+    }
     let judged = ConstExpr::new(alloc, reader_by(expr, settings));
     check_const_expr(
         alloc,

@@ -22,4 +22,4 @@ pub use operators::is_constant_operator;
 pub use refusal::ConstantRefusal;
 pub use walk::ConstantWalk;
 pub use wasm_operator_validator_stacks::{OperatorValidatorAllocations, WasmModuleResources};
-pub use wasm_operators_bodies::ConstExpr;
+pub use wasm_operators_bodies::{ConstExpr, ShortConstant};

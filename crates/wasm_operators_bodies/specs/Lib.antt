@@ -3,6 +3,7 @@ pub mod Locals
 pub mod Groups
 pub mod Bodies
 pub mod Constants
+pub mod Short
 -- Decoders: how constant expressions are read.
 pub mod Until
 pub mod ConstantDecoder
@@ -14,5 +15,6 @@ pub mod ConstantLaws
 pub mod UntilLaws
 pub mod ConstantDecoderLaws
 pub mod ConstantStopLaws
+pub mod ShortLaws
 -- The rules and laws of the crate below, under its name: crates above cite them here.
 pub use Rattle.wasm_operators_reader.specs as reader

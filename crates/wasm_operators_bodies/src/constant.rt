@@ -1,17 +1,19 @@
 //! Constant expressions, as they stand among other bytes.
 
-ghost use Rattle.std.specs.Prelude.{◌≡◌, ℕ, List, false, true, IfOk, IfErr};
+ghost use Rattle.std.specs.Prelude.{◌≡◌, ℕ, List, false, true, IfOk, IfErr, IfSome};
 ghost use Rattle.wasm_types.specs.decoding.Decoder.{State, Takes, Reaches};
 ghost use Rattle.wasm_types.specs.error.declared.error.ErrorKind.TheVariants.{Other};
 ghost use Rattle.wasm_types.specs.reader.Parts.{part_at};
 ghost use Rattle.wasm_types.specs.reader.Reading.{Gives, IsNotMemory, MemoryOnlyIf, NeedsNoMemory};
 ghost use Rattle.wasm_operators_reader.specs.operator.Op.{Op, op_of};
 ghost use Rattle.wasm_operators_reader.specs.Standing.{at_start, Reads, Refuses, WantsMemory};
+ghost use Rattle.wasm_operators_bodies.specs.Short.{SpellsShort};
 ghost use Rattle.wasm_operators_bodies.specs.Constants.{is_end, IsConstantText, PassesTo, StopsConstant, same_bytes};
 ghost use Rattle.wasm_operators_bodies.specs.ConstantLaws.{same_bytes_equal};
 ghost use Rattle.wasm_operators_bodies.specs.ConstantDecoder.{constant};
 
-use crate::part::front;
+use crate::part::{front, left, take_front};
+use crate::short::{ShortConstant, short_constant};
 use std::alloc::Global;
 use std::marker::Model;
 use wasm_operators_reader::{FrameStack, Operator, OperatorsReader, Role};
@@ -53,6 +55,9 @@ impl<'a> ConstExpr<'a> {
         ensures stops { IfErr result (λ e. StopsConstant (at_start reader.old) e) }
         ensures stays { IfErr result (λ _. reader.new ≡ reader.old) }
     {
+        if let Some((_constant, length)) = short_constant(left(reader)) {
+            return Ok(ConstExpr::new(alloc, take_front(reader, length)));
+        }
         let behind = pass_constant(alloc, reader.clone())?;
         let passed = reader.bytes_remaining() - behind.bytes_remaining();
         let part = front(reader, passed);
@@ -78,11 +83,21 @@ impl<'a> ConstExpr<'a> {
     fn bytes(&self) -> &'a [u8]
         ensures { result.now ≡ self.now.rest }
     {
-        let mut reader = self.reader.clone();
-        let Ok(bytes) = reader.read_bytes(reader.bytes_remaining()) else {
-            unreachable!()
+        left(&self.reader)
+    }
+
+    /// What the whole expression is, if it is one operator that can be told from its bytes alone.
+    pub fn as_short(&self) -> Option<ShortConstant>
+        ensures { IfSome result (λ c. SpellsShort c self.now.rest) }
+    {
+        let bytes = self.bytes();
+        let Some((constant, length)) = short_constant(bytes) else {
+            return None;
         };
-        bytes
+        if length < bytes.len() {
+            return None;
+        }
+        Some(constant)
     }
 }
 

@@ -13,7 +13,9 @@ mod constant;
 pub mod laws;
 mod locals;
 mod part;
+mod short;
 
 pub use body::FunctionBody;
 pub use constant::ConstExpr;
 pub use locals::{LocalsIterator, LocalsReader};
+pub use short::{ShortConstant, short_constant};

@@ -1,0 +1,87 @@
+//! Constant expressions of one operator, straight from their bytes.
+//!
+//! Nearly all constants of a module are one number, one global or one function. [`short_constant`] tells these from their first bytes,
+//! with no reader of operators; of all others it says nothing.
+
+ghost use Rattle.std.specs.Prelude.{◌≡◌, ◌≤◌, ℕ, length, take, IfSome};
+ghost use Rattle.wasm_operators_visit_short.specs.Short.{Begins, IsTold};
+ghost use Rattle.wasm_operators_bodies.specs.Short.{IsOf, SpellsShort};
+
+use wasm_types_numbers::{short_i32_at, short_i64_at, short_u32_at};
+
+/// The one operator of a constant expression.
+#[derive(Clone, Copy, Debug)]
+pub enum ShortConstant {
+    /// `i32.const`
+    I32,
+    /// `i64.const`
+    I64,
+    /// `global.get` of this global
+    Global(u32),
+    /// `ref.func` of this function
+    Function(u32),
+}
+
+/// A number, which begins behind the first byte, and where it ends.
+#[inline(always)]
+fn number_at(bytes: &[u8], code: u8) -> Option<(ShortConstant, usize)>
+    requires { Begins bytes.now 0 code }
+    ensures { IfSome result (λ r. (features : ℕ) → IsTold features bytes.now 0 r.1 (IsOf r.0)) }
+{
+    match code {
+        0x41 => match short_i32_at(bytes, 1) {
+            Some((_value, end)) => Some((ShortConstant::I32, end)),
+            None => None,
+        },
+        0x42 => match short_i64_at(bytes, 1) {
+            Some((_value, end)) => Some((ShortConstant::I64, end)),
+            None => None,
+        },
+        _ => None,
+    }
+}
+
+/// A global or a function, whose index begins behind the first byte, and where it ends.
+#[inline(always)]
+fn index_at(bytes: &[u8], code: u8) -> Option<(ShortConstant, usize)>
+    requires { Begins bytes.now 0 code }
+    ensures { IfSome result (λ r. (features : ℕ) → IsTold features bytes.now 0 r.1 (IsOf r.0)) }
+{
+    let Some((index, end)) = short_u32_at(bytes, 1) else {
+        return None;
+    };
+    match code {
+        0x23 => Some((ShortConstant::Global(index), end)),
+        0xd2 => Some((ShortConstant::Function(index), end)),
+        _ => None,
+    }
+}
+
+/// The operator at the front, and where it ends.
+#[inline(always)]
+fn operator_at(bytes: &[u8]) -> Option<(ShortConstant, usize)>
+    ensures { IfSome result (λ r. (features : ℕ) → IsTold features bytes.now 0 r.1 (IsOf r.0)) }
+{
+    if bytes.is_empty() {
+        return None;
+    }
+    let code = bytes[0];
+    if code == 0x41 || code == 0x42 {
+        return number_at(bytes, code);
+    }
+    index_at(bytes, code)
+}
+
+/// The constant expression of one operator at the front of these bytes, and how long it is, if it is one that is known here.
+pub fn short_constant(bytes: &[u8]) -> Option<(ShortConstant, usize)>
+    ensures inside { IfSome result (λ r. r.1 ≤ length bytes.now) }
+    ensures spelled { IfSome result (λ r. SpellsShort r.0 (take r.1 bytes.now)) }
+{
+    let Some((constant, end)) = operator_at(bytes) else {
+        return None;
+    };
+    if end >= bytes.len() || bytes[end] != 0x0b {
+        return None;
+    }
+    Some((constant, end + 1))
+}
