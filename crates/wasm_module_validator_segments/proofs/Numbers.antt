@@ -33,7 +33,7 @@ is_constant : (bits : ℕ) (g : Module) (count : ℕ) (o : ConstOperator) → (i
 is_constant bits g count o e f =
     let t = number (constant_type o) in
     record {
-      operators = (tt, tt, tt);
+      operators = (tt, (tt, tt));
       typed = record {
         expression = (refl, refl);
         typed = (

@@ -3,7 +3,7 @@
 ghost use Rattle.std.specs.Prelude.{◌≡◌, ℕ, IfErr, IsTrue};
 ghost use Rattle.wasm_types.specs.error.Denials.{Tells, UnlessMemory};
 ghost use Rattle.wasm_types.specs.limits.Limits.{IsWithinCeilings};
-ghost use Rattle.wasm_types.specs.limits.Settings.{Settings};
+ghost use Rattle.wasm_types.specs.limits.Settings.{Settings as Given};
 ghost use Rattle.wasm_operator_validator_constants.specs.resources.Meaning.{Meaning, type_in};
 ghost use Rattle.wasm_module_validator_segments.specs.Judged.{IsConstantText};
 ghost use Rattle.wasm_module_validator_segments.specs.Refusals.{StopsText, read_by};
@@ -29,7 +29,7 @@ pub fn reader_by<'a>(expr: &ConstExpr<'a>, settings: &Settings) -> BinaryReader<
 /// Whether an expression is a number of this type, as its bytes alone tell.
 #[inline(always)]
 fn is_number(expr: &ConstExpr<'_>, ty: &ValType) -> bool
-    ensures { IsTrue result → (z : Settings) (m : Meaning) (count : ℕ) → IsConstantText z m.«module» count (type_in m ty.now) expr.now.rest }
+    ensures { IsTrue result → (z : Given) (m : Meaning) (count : ℕ) → IsConstantText z m.«module» count (type_in m ty.now) expr.now.rest }
 {
     match expr.as_short() {
         Some(ShortConstant::I32) => matches!(ty, ValType::I32),
