@@ -179,9 +179,13 @@ stopped_text (TooLong i) name reason = codes "wasm-check: " ++ shown name ++ cod
 stopped_text (OutOfMemory i) name reason = codes "wasm-check: " ++ shown name ++ codes ": out of memory"
 stopped_text Write name reason = codes "wasm-check: cannot write"
 
+-- what is written of a file that could not be opened
+abbrev pub unopened_text : List ℕ → Reason → List ℕ
+unopened_text name reason = codes "wasm-check: " ++ shown name ++ (codes ": cannot open" ++ reason_text reason)
+
 -- what a fault writes
 abbrev pub fault_text : Fault → List ℕ
-fault_text (faults.CannotOpen name reason) = codes "wasm-check: " ++ shown name.now ++ (codes ": cannot open" ++ reason_text reason)
+fault_text (faults.CannotOpen name reason) = unopened_text name.now reason
 fault_text (faults.Stopped error name reason) = stopped_text error name.now reason
 fault_text (faults.UnknownFeature word) = codes "wasm-check: unknown feature `" ++ shown word.now ++ codes "`"
 fault_text (faults.WrongLimit Unknown word) = codes "wasm-check: unknown limit `" ++ shown word.now ++ codes "`"

@@ -8,7 +8,8 @@ ghost use Rattle.wasm_check_command.specs.Words.{IsHelp, matches_on, refusals_of
 ghost use Rattle.wasm_check_command.specs.Commands.{AreRead};
 ghost use Rattle.wasm_types.specs.limits.Limits.{IsWithinCeilings};
 ghost use Rattle.wasm_check_command.specs.Settings.{IsGiven, features_by, limits_by, settings_of};
-ghost use Rattle.wasm_check_command.specs.Files.{texts, code_of, Reports, Grows, ShowsHelp, HasNoStatus, IsUnshown};
+ghost use Rattle.std.specs.Fmt.{WritesOnOk};
+ghost use Rattle.wasm_check_command.specs.Files.{texts, unopened_text, code_of, Reports, Grows, ShowsHelp, HasNoStatus, IsUnshown};
 ghost use Rattle.wasm_check_command.specs.Files.{asked_of, RefusesFeatures, RefusesLimits, StopsEarly, ReportsBy, StopsBy};
 
 use crate::error::CheckError;
@@ -80,10 +81,7 @@ impl fmt::Display for Fault<'_> {
                     Wrong::BadValue => write!(f, "wasm-check: bad limit `{word}`"),
                 }
             }
-            Fault::CannotOpen { name, reason } => {
-                let name = Shown(*name);
-                write!(f, "wasm-check: {name}: cannot open{reason}")
-            }
+            Fault::CannotOpen { name, reason } => write_unopened(f, *name, *reason),
             Fault::Stopped {
                 error,
                 name,
@@ -100,6 +98,18 @@ impl fmt::Display for Fault<'_> {
             Fault::OutOfMemory => write!(f, "wasm-check: out of memory"),
         }
     }
+}
+
+// What is told of a file that could not be opened.
+fn write_unopened<W: fmt::Write>(
+    f: &mut fmt::Formatter<W>,
+    name: &str,
+    reason: Reason,
+) -> fmt::Result
+    ensures { WritesOnOk W.write_str_gives f.old result (unopened_text name.now reason) f.new }
+{
+    let name = Shown(name);
+    write!(f, "wasm-check: {name}: cannot open{reason}")
 }
 
 /// The files, of which there is at least one.

@@ -147,7 +147,8 @@ fn is_too_long<R: OpenFile, I>(opened: &Opened<R, I>) -> bool
     }
 }
 
-/// Judges a file, writes its line, and says whether it is a valid module. A file that the system says is too long is not read.
+/// Judges a file, writes its line, and says whether it is a valid module. A file that is too long by what the system says is not
+/// read.
 fn judge_opened<'a, J: Judge, R: Read + OpenFile + Drop, I: Read + Drop, W: Write>(
     judge: &J,
     alloc: Global,
@@ -158,7 +159,8 @@ fn judge_opened<'a, J: Judge, R: Read + OpenFile + Drop, I: Read + Drop, W: Writ
     out: &mut W,
 ) -> Result<bool, Fault<'a>>
     requires within { IsWithinCeilings chosen.limits }
-    ensures ok { IfOk result (JudgesFile (J.accepts (settings_of chosen)) input.entry.name.now (W.contents out.old) (W.contents out.new)) }
+    ensures ok { IfOk result (JudgesFile (J.accepts (settings_of chosen)) input.entry.name.now
+        (W.contents out.old) (W.contents out.new)) }
     ensures err { IfErr result (FailsFile (J.accepts (settings_of chosen)) index input.entry.name.now
         (W.contents out.old) (W.contents out.new)) }
 {
@@ -200,7 +202,8 @@ fn judge_again<'a, J: Judge, F: Files + Standard, W: Write>(
 ) -> Result<bool, Fault<'a>>
     requires within { IsWithinCeilings chosen.limits }
     requires past { kept_open ≤ index }
-    ensures ok { IfOk result (JudgesFile (J.accepts (settings_of chosen)) name.entry.now (W.contents out.old) (W.contents out.new)) }
+    ensures ok { IfOk result (JudgesFile (J.accepts (settings_of chosen)) name.entry.now
+        (W.contents out.old) (W.contents out.new)) }
     ensures err { IfErr result (FailsFile (J.accepts (settings_of chosen)) index name.entry.now
         (W.contents out.old) (W.contents out.new)) }
 {
