@@ -1,6 +1,8 @@
 -- Rules: the locals of a body, and its function, in the order in which they are read.
 pub mod Locals
 pub mod Functions
+-- Definitions: the beginning of a body that is judged in one loop.
+pub mod Plain
 -- Definitions: what an attempt leaves, and what is lent.
 pub mod Trying
 pub mod Lent

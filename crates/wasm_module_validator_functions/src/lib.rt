@@ -27,6 +27,7 @@ mod judging;
 pub mod laws;
 mod locals;
 mod operators;
+mod plain;
 mod validator;
 mod visiting;
 

@@ -1,13 +1,17 @@
 //! Bodies judged in turn.
 
-ghost use Rattle.std.specs.Prelude.{◌≡◌};
+ghost use Rattle.std.specs.Prelude.{◌≡◌, true};
 ghost use Rattle.wasm_types.specs.limits.Limits.{IsWithinCeilings};
 ghost use Rattle.wasm_types.specs.limits.Settings.{Settings};
 ghost use Rattle.wasm_types.specs.error.Denials.{Tells};
 ghost use Rattle.wasm_module_validator_rules.specs.Valid.{Each};
 ghost use Rattle.wasm_module_validator_adding.specs.Bodies.{IsReadBy};
+ghost use Rattle.wasm_module_validator_functions.specs.Locals.{judged_by};
+ghost use Rattle.wasm_module_validator_functions.specs.Functions.{SpellsValidFunction};
+ghost use Rattle.wasm_module_validator_functions.specs.Plain.{IsJudgeOf};
 ghost use Rattle.wasm_module_validator_functions.specs.code.Code.{IsFunctionOf};
 
+use crate::plain::PlainJudge;
 use crate::{BodyJudge, FuncToValidate, FuncValidatorAllocations, WasmModuleResources};
 use std::alloc::Global;
 use wasm_module_validator_adding::Body;
@@ -33,9 +37,10 @@ pub fn judge_bodies<R: WasmModuleResources>(
         → Tells result (Each (λ b. IsFunctionOf z (R.meaning resources.now).«module» b.type_index b.body.rest) bodies.now) }
 {
     let mut judge = BodyJudge::new(alloc, features);
+    let mut plain = PlainJudge::new(alloc, resources, features, entries_for(bodies.len()));
     for i in 0..bodies.len() {
         let body = &bodies[i];
-        if !judge.accepts(resources, body.type_index, features, limits, &body.body) {
+        if !accepts(&mut plain, &mut judge, resources, features, limits, body) {
             match judge_body(alloc, resources, features, limits, body) {
                 Ok(()) => (),
                 Err(error) => return Err(error),
@@ -43,6 +48,35 @@ pub fn judge_bodies<R: WasmModuleResources>(
         }
     }
     Ok(())
+}
+
+/// How many entries of each table are made for so many bodies: so the tables of a module take no longer than its bodies do.
+fn entries_for(bodies: usize) -> u32 {
+    if bodies < 1_000_000 {
+        return bodies as u32 * 16;
+    }
+    16_000_000
+}
+
+/// Whether one of two judges says that a body is valid.
+fn accepts<R: WasmModuleResources>(
+    plain: &mut PlainJudge,
+    judge: &mut BodyJudge,
+    resources: &R,
+    features: WasmFeatures,
+    limits: Limits,
+    body: &Body<'_>,
+) -> bool
+    requires within { IsWithinCeilings limits }
+    requires plain { IsJudgeOf (R.meaning resources.now).«module» features.0 plain.old }
+    ensures valid { result ≡ true
+        → SpellsValidFunction (judged_by features.0 limits) (R.meaning resources.now).«module» body.now.type_index body.now.body.rest }
+    ensures stays { IsJudgeOf (R.meaning resources.now).«module» features.0 plain.new }
+{
+    if plain.accepts(resources, body.type_index, features, limits, &body.body) {
+        return true;
+    }
+    judge.accepts(resources, body.type_index, features, limits, &body.body)
 }
 
 /// Judges a body by a validator of its own.

@@ -26,12 +26,14 @@ loop-i-preserved g c =
     let one : (z : Settings) → z.limits ≡ c.args.limits → IsReadBy z c.args.features.0 b.body → IsFunctionOf z m.«module» b.type_index b.body.rest
     = elim c.if-not-accepts.branch [
       | then-not-accepts+in-Ok w ↦ w.in-Ok.ensures
-      | else-not-accepts w ↦ (λ z held r. accepted z m c.args.features.0 c.args.limits b.type_index b.body held r (c.accepts.ensures w.if-not-accepts.false))
-    ] in
-    λ z held read rest. c.loop-i.invariant z held read
-    (each_next (λ (b : Body). IsFunctionOf z m.«module» b.type_index b.body.rest) c.args.bodies.now c.loop-i.i b at
-    (one z held (each_at (λ (b : Body). IsReadBy z c.args.features.0 b.body) c.args.bodies.now c.loop-i.i b at read)) rest)
+      | else-not-accepts w ↦ (λ z held r. accepted z m c.args.features.0 c.args.limits b.type_index b.body held r (c.accepts.ensures.valid w.if-not-accepts.false))
+    ] in (
+      c.accepts.ensures.stays,
+      λ z held read rest. c.loop-i.invariant.1 z held read
+          (each_next (λ (b : Body). IsFunctionOf z m.«module» b.type_index b.body.rest) c.args.bodies.now c.loop-i.i b at
+          (one z held (each_at (λ (b : Body). IsReadBy z c.args.features.0 b.body) c.args.bodies.now c.loop-i.i b at read)) rest),
+    )
 
 pub returns : goal.returns
-returns g c = λ z held read. c.loop-i.invariant z held read
+returns g c = λ z held read. c.loop-i.invariant.1 z held read
     (each_none (λ (b : Body). IsFunctionOf z (g.R.WasmModuleResources.meaning c.args.resources.now).«module» b.type_index b.body.rest) c.args.bodies.now c.loop-i.i c.loop-i-test.false)

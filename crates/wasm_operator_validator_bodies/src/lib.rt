@@ -1,0 +1,31 @@
+//! Whole bodies judged in one loop.
+//!
+//! A body of real code has operands that are numbers, and few operators. [`Room::accepts`] goes over its bytes once, with the operands
+//! as codes of one byte and the frames at hand, and says yes or nothing: whatever it does not know, it leaves to the validator of operators.
+//! What it asks of the module stands in tables ([`Known`]) that [`known_of`] makes once for all bodies.
+//!
+//! The operands are exact. Behind a branch, where any operands may lie, it takes those that the innermost frame gives: so what follows
+//! there in real code, an `end` or an `else`, finds what it wants, and no operand is unknown.
+#![tactic(auto)]
+
+mod blocks;
+mod constants;
+mod control;
+mod judge;
+mod known;
+mod labels;
+mod lookups;
+mod memory;
+mod numbers;
+mod pile;
+mod shape;
+mod stack;
+mod tables;
+mod variables;
+
+pub use judge::Room;
+pub use known::known_of;
+pub use lookups::part;
+pub use pile::Pile;
+pub use stack::Stack;
+pub use tables::{Held, Known, Open, Opens, Sig, Tables};
