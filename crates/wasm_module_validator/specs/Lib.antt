@@ -4,6 +4,7 @@ pub mod Accepts
 pub mod States
 pub mod Methods
 pub mod Payloads
+pub mod Lists
 -- Laws, with the proofs. `StateRows` there has worked rows.
 pub mod laws
 -- The rules of modules, under their name: crates above cite them here.

@@ -2,3 +2,5 @@ pub mod Beginning
 pub mod Verdict
 pub mod StateRows
 pub mod Ids
+pub mod Lists
+pub mod ListRows

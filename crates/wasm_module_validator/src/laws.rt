@@ -2,10 +2,14 @@
 
 ghost use Rattle.wasm_types.specs.limits.Settings.{Settings};
 ghost use Rattle.std.specs.Prelude.{◌≡◌, ◌<◌, ℕ, List};
+ghost use Rattle.wasm_types.specs.error.ErrorValue.{ErrorValue};
+ghost use Rattle.wasm_module_validator_module.specs.declared.view.validator_id.ValidatorId.{ValidatorId};
 ghost use Rattle.wasm_module_validator_sharing.specs.reading.progress.standing.Standing.{IsGrown};
 ghost use Rattle.wasm_module_validator_sharing.specs.reading.progress.standing.steps.Steps.{nothing};
 ghost use Rattle.wasm_module_validator_sharing.specs.reading.progress.standing.type_trees.Groups.{Group, count, tree_of};
 ghost use Rattle.wasm_module_validator_sharing.specs.Sharing.{Reached, renewed_behind, IsReached};
+ghost use Rattle.wasm_module_validator.specs.Shown.{Learned};
+ghost use Rattle.wasm_module_validator.specs.laws.ListRows.{ListRows};
 ghost use Rattle.wasm_module_validator.specs.laws.StateRows.{LeftRows, AcceptedRows, RenewedRows};
 
 /// How far a validator is behind a module that is accepted, and behind one of whose bodies one is refused; and which list of types a module
@@ -14,6 +18,12 @@ pub const fn states_are_worked()
     ensures left { LeftRows }
     ensures accepted { (z : Settings) → (bytes : List ℕ) → AcceptedRows z bytes }
     ensures renewed { (groups : List Group) → RenewedRows groups }
+{}
+
+/// Lists of verdicts, and how far a validator is behind them.
+#[tactic(auto, using(crate::specs::laws::ListRows::list_rows))]
+pub const fn lists_are_worked()
+    ensures { (z : Settings) (id : ValidatorId) (x y : List ℕ) (t : Learned) (e : ErrorValue) → ListRows z id x y t e }
 {}
 
 /// A validator behind a header stands for a module of which nothing was judged, whatever it read before.

@@ -12,12 +12,14 @@
 #![tactic(auto)]
 
 mod laws;
+mod lists;
 mod methods;
 mod payloads;
 mod types;
 mod validator;
 
-pub use laws::{ids_stay, states_are_worked, validators_begin};
+pub use laws::{ids_stay, lists_are_worked, states_are_worked, validators_begin};
+pub use lists::Verdict;
 pub use payloads::ValidPayload;
 pub use types::Types;
 pub use validator::{State, Validator, validate};

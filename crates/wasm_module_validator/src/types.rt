@@ -1,6 +1,7 @@
 //! What a validator learned of a module.
 
 ghost use Rattle.std.specs.Prelude.{◌≡◌};
+ghost use Rattle.wasm_module_validator.specs.Lists.{AreToldUnder};
 ghost use Rattle.wasm_module_validator.specs.Shown.{shown, shown_of};
 
 use std::marker::Model;
@@ -31,6 +32,13 @@ impl Types {
         ensures { result ≡ shown self.now }
     {
         look_up(self.id, self.module.state(), self.module.types())
+    }
+
+    // Two ids of its list are the same exactly where their types are, if types are kept in canonical form. It does nothing.
+    pub(crate) fn tell_ids(&self)
+        ensures { AreToldUnder self.now.kept.items.spaces.settings self.now.kept.groups self.now.kept.groups }
+    {
+        let _count = self.module.types().type_count();
     }
 }
 

@@ -1,5 +1,5 @@
 -- An id means the same type for as long as the list of a validator grows.
-use Rattle.std.proofs.Common.{◌≡◌, ◌∙◌, ◌+◌, ◌<◌, ◌≤◌, ◌++◌, ℕ, List, [], ◌∷◌, ap, refl, arith}
+use Rattle.std.proofs.Common.{◌≡◌, ◌∙◌, ◌+◌, ◌<◌, ◌≤◌, ◌++◌, ℕ, List, [], ◌∷◌, ap, refl, sym, subst, arith}
 use Rattle.wasm_module_validator_sharing.specs.reading.progress.standing.type_trees.Groups.{Group, count, tree_of}
 use Rattle.wasm_module_validator_sharing.specs.reading.progress.standing.type_trees.laws.Unrolled.{tree_old, count_push}
 use Rattle.wasm_module_validator_sharing.specs.reading.progress.standing.Standing.{IsGrown}
@@ -7,6 +7,9 @@ use Rattle.wasm_module_validator_sharing.specs.reading.progress.standing.Standin
 counts_on : (more old : List Group) → count old ≤ count (more ++ old)
 counts_on [] old = omega arith
 counts_on (g ∷ gs) old = let k = count_push g (gs ++ old) in let h = counts_on gs old in omega (arith, k, h)
+
+pub counts_stay : (old new : List Group) → IsGrown old new → count old ≤ count new
+counts_stay old new (more, e) = subst (λ gs. count old ≤ count gs) (sym e) (counts_on more old)
 
 still : (more old : List Group) (id : ℕ) → id < count old → tree_of (more ++ old) id ≡ tree_of old id
 still [] old id h = refl

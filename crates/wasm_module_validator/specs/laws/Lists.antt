@@ -1,0 +1,276 @@
+-- Modules that are validated one after the other: a verdict more, and what its list of types leaves of those before it.
+use Rattle.std.proofs.Common.{◌≡◌, ◌∙◌, ◌⊎◌, ◌↔◌, ◌<◌, ◌≤◌, ◌+◌, ℕ, zero, suc, Bool, true, false, IsTrue, List, [], ◌∷◌, ◌++◌, length, drop, Some, Err, slice_get, get_or, refl, sym, ap, subst, inl, inr, arith, append_assoc, add-one}
+use Rattle.std.specs.Prelude.{Contains, ◌==◌, ◌&&◌, if◌then◌else◌}
+use Rattle.std.proofs.lemmas.List.{append-nil}
+use Rattle.std.proofs.lemmas.Cmp.{nat_eq_equiv}
+use Rattle.wasm_types.specs.limits.contracts.LimitsEq.TheImpl.Laws as limits_laws
+use Rattle.wasm_types.specs.limits.contracts.LimitsPartialEq.TheImpl as limits
+use Rattle.wasm_types.specs.limits.Settings.{Settings}
+use Rattle.wasm_types.specs.error.Denials.{Denies}
+use Rattle.wasm_types.specs.error.ErrorValue.{ErrorValue}
+use Rattle.wasm_types.specs.error.declared.error.ErrorKind.{ErrorKind}
+use Rattle.wasm_types.specs.error.declared.error.ErrorKind.TheVariants.{EndOfData, MissingFeature, OutOfMemory, Failed as FailedKind, Other}
+use Rattle.wasm_types.specs.reader.Reading.{IsNotMemory}
+use Rattle.wasm_sections_parser.specs.Parsing.{one_of}
+use Rattle.wasm_module_validator_module.specs.declared.view.validator_id.ValidatorId.{ValidatorId}
+use Rattle.wasm_module_validator_sharing.specs.Sharing.{renewed_behind}
+use Rattle.wasm_module_validator_sharing.specs.reading.progress.Progress.{are_same}
+use Rattle.wasm_module_validator_sharing.specs.reading.progress.standing.Standing.{IsGrown}
+use Rattle.wasm_module_validator_sharing.specs.reading.progress.standing.steps.contexts.rules.Accepts.{AcceptsUnder}
+use Rattle.wasm_module_validator_sharing.specs.reading.progress.standing.type_trees.Groups.{Group, count, tree_of}
+use Rattle.wasm_module_validator_sharing.specs.reading.progress.standing.type_trees.Formed.{IsFormed, AreCanonical}
+use Rattle.wasm_module_validator_sharing.specs.reading.progress.standing.type_trees.laws.Apart.{apart}
+use Rattle.wasm_module_validator.specs.declared.lists.Verdict.{Verdict}
+use Rattle.wasm_module_validator.specs.declared.lists.Verdict.TheVariants.{Accepted, Refused}
+use Rattle.wasm_module_validator.specs.declared.validator.State.{State}
+use Rattle.wasm_module_validator.specs.declared.validator.State.TheVariants.{Unparsed, Ended, Failed}
+use Rattle.wasm_module_validator.specs.declared.validator.Validator.{Validator}
+use Rattle.wasm_module_validator.specs.Lists.{IsVerdict, goes_on, AreVerdicts, state_behind, state_after, AreTold, AreToldUnder, ShareIds, next_groups, LeavesGroups}
+use Rattle.wasm_module_validator.specs.Methods.{can_reset}
+use Rattle.wasm_module_validator.specs.Shown.{Learned}
+use Rattle.wasm_module_validator.specs.States.{Keeps, KeepsWhere, Leaves}
+use Rattle.wasm_module_validator.specs.laws.Ids.{ids_stay, counts_stay}
+
+-- ---- lists of verdicts
+
+drop_there : {A : Type 0} (xs : List A) (i : ℕ) (x : A) → slice_get xs i ≡ Some x → drop i xs ≡ x ∷ drop (suc i) xs
+drop_there [] i x e = absurd cc
+drop_there {A} (y ∷ xs) zero x e = ap (λ (z : A). z ∷ xs) (some_is y x e)
+  where
+    some_is : (a b : A) → Some a ≡ Some b → a ≡ b
+    some_is a b h = cc
+drop_there (y ∷ xs) (suc i) x e = drop_there xs i x e
+
+drop_all : {A : Type 0} (xs : List A) (i : ℕ) → length xs ≤ i → drop i xs ≡ []
+drop_all [] zero h = refl
+drop_all [] (suc i) h = refl
+drop_all (x ∷ xs) zero h = absurd (omega (arith, h))
+drop_all (x ∷ xs) (suc i) h = drop_all xs i (omega (arith, h))
+
+module _ (z : Settings) (id : ValidatorId) (xs : List (List ℕ)) where
+  -- with any verdicts on the inputs from here on, these are the verdicts on all
+  abbrev pub Goes : ℕ → List Verdict → Type 0
+  Goes i vs = (ws : List Verdict) → AreVerdicts z id (drop i xs) ws → AreVerdicts z id xs (vs ++ ws)
+
+  pub goes_first : Goes zero []
+  goes_first ws h = h
+
+  behind : (i : ℕ) (x : List ℕ) (v : Verdict) (ws : List Verdict) → slice_get xs i ≡ Some x → IsVerdict z id x v
+      → one_of (goes_on v) (AreVerdicts z id (drop (suc i) xs) ws) (ws ≡ []) → AreVerdicts z id (drop i xs) (v ∷ ws)
+  behind i x v ws at is rest = subst (λ (ys : List (List ℕ)). AreVerdicts z id ys (v ∷ ws)) (sym (drop_there xs i x at)) (is, rest)
+
+  pub goes_further : (i : ℕ) (vs : List Verdict) (x : List ℕ) (v : Verdict) → Goes i vs → slice_get xs i ≡ Some x → IsVerdict z id x v → goes_on v ≡ true → Goes (i + 1) (vs ++ v ∷ [])
+  goes_further i vs x v g at is on ws h =
+      let rest : one_of (goes_on v) (AreVerdicts z id (drop (suc i) xs) ws) (ws ≡ []) =
+      subst (λ (b : Bool). one_of b (AreVerdicts z id (drop (suc i) xs) ws) (ws ≡ [])) (sym on) (subst (λ (n : ℕ). AreVerdicts z id (drop n xs) ws) (add-one i) h) in
+      subst (AreVerdicts z id xs) (sym (append_assoc vs (v ∷ []) ws)) (g (v ∷ ws) (behind i x v ws at is rest))
+
+  pub goes_to_last : (i : ℕ) (vs : List Verdict) (x : List ℕ) (v : Verdict) → Goes i vs → slice_get xs i ≡ Some x → IsVerdict z id x v → goes_on v ≡ false → AreVerdicts z id xs (vs ++ v ∷ [])
+  goes_to_last i vs x v g at is off =
+      g (v ∷ []) (behind i x v [] at is (subst (λ (b : Bool). one_of b (AreVerdicts z id (drop (suc i) xs) []) (◌≡◌ {A = List Verdict} [] [])) (sym off) refl))
+
+  pub goes_to_end : (i : ℕ) (vs : List Verdict) → Goes i vs → length xs ≤ i → AreVerdicts z id xs vs
+  goes_to_end i vs g h =
+      subst (AreVerdicts z id xs) (append-nil vs) (g [] (subst (λ (ys : List (List ℕ)). AreVerdicts z id ys []) (sym (drop_all xs i h)) tt))
+
+-- ---- how far the validator is
+
+pub last_counts : (vs : List Verdict) (v : Verdict) → state_after (vs ++ v ∷ []) ≡ state_behind v
+last_counts [] v = refl
+last_counts (w ∷ []) v = refl
+last_counts (w ∷ (u ∷ vs)) v = last_counts (u ∷ vs) v
+
+pub may_go_on : (v : Verdict) → goes_on v ≡ true → can_reset (state_behind v) ≡ true
+may_go_on (Accepted t) e = refl
+may_go_on (Refused e true) h = refl
+may_go_on (Refused e false) h = absurd cc
+
+-- ---- a module that is refused
+
+denied : (k : ErrorKind) (P : Type 0) → IsNotMemory k → Denies k P → P → ⊥
+denied (EndOfData h) P m d = d
+denied (MissingFeature f) P m d = d
+denied OutOfMemory P m d = absurd m
+denied FailedKind P m d = d
+denied Other P m d = d
+
+module _ (z : Settings) (bytes : List ℕ) (e : ErrorValue) (s : State) where
+  -- it has ended exactly where the module is valid outside its bodies
+  pub refused_verdict : (id : ValidatorId) → IsNotMemory e.kind → Denies e.kind (AcceptsUnder z bytes) → Leaves {X = Learned} z bytes (Err e) s → IsVerdict z id bytes (Refused e (can_reset s))
+  refused_verdict id m d (inl (is, n, read)) = (denied e.kind _ m d, m, ((λ h. read), λ h. ap can_reset is))
+  refused_verdict id m d (inr (is, none)) = (denied e.kind _ m d, m, ((λ h. absurd (not_both (can_reset s) h (ap can_reset is))), λ h. absurd (denied e.kind _ m none h)))
+    where
+      not_both : (b : Bool) → b ≡ true → b ≡ false → ⊥
+      not_both true h k = cc
+      not_both false h k = cc
+
+  pub refused_state : IsNotMemory e.kind → Leaves {X = Learned} z bytes (Err e) s → s ≡ state_behind (Refused e (can_reset s))
+  refused_state m (inl (is, n, read)) = is ∙ ap (λ t. state_behind (Refused e (can_reset t))) (sym is)
+  refused_state m (inr (is, none)) = is ∙ ap (λ t. state_behind (Refused e (can_reset t))) (sym is)
+
+  pub memory_fails : e.kind ≡ OutOfMemory → Leaves {X = Learned} z bytes (Err e) s → s ≡ Failed
+  memory_fails k (inl (is, n, read)) = absurd (subst IsNotMemory k n)
+  memory_fails k (inr (is, none)) = is
+
+-- ---- the list of types
+
+same_settings : (y z : Settings) → y ≡ z → are_same y z ≡ true
+same_settings y z e = subst (λ (w : Settings). are_same y w ≡ true) e
+    (ap (λ b. b && limits.ghosts.eq y.limits y.limits) (nat_eq_equiv.refl y.features) ∙ limits_laws.laws-law.refl y.limits)
+
+module _ (v r w : Validator) (reset : r ≡ record v { state = Unparsed; reached = renewed_behind v.settings v.reached })
+    (others : w ≡ record r { state = w.state; reached = w.reached }) where
+  -- a module begins over the list of those before it
+  groups_begun : next_groups r ≡ next_groups v
+  groups_begun = ap next_groups reset ∙ ap (λ b. if b then next_groups v else []) (same_settings v.settings v.settings refl)
+
+  groups_kept : w.reached.progress.kept.items.spaces.settings ≡ r.settings → next_groups w ≡ w.reached.progress.kept.groups
+  groups_kept e =
+      ap (λ b. if b then w.reached.progress.kept.groups else [])
+      (same_settings w.reached.progress.kept.items.spaces.settings w.settings (e ∙ sym (ap (λ (u : Validator). u.settings) others)))
+
+  pub groups_grown : w.state ≡ Ended → Keeps r w → IsGrown (next_groups v) (next_groups w) × (w.reached.progress.kept.groups ≡ next_groups w)
+  groups_grown is keeps =
+      let k : KeepsWhere Ended r w = subst (λ (s : State). KeepsWhere s r w) is keeps in
+      let same = sym (groups_kept k.1) in
+      (subst (λ (gs : List Group). IsGrown gs (next_groups w)) groups_begun (subst (IsGrown (next_groups r)) same k.0), same)
+
+  pub refused_leaves : (e : ErrorValue) (b : Bool) → Keeps r w → w.state ≡ state_behind (Refused e b) → LeavesGroups v (Refused e b) w
+  refused_leaves e true keeps is = (groups_grown is keeps).0
+  refused_leaves e false keeps is = tt
+
+-- ---- ids
+
+told_after : (gs hs : List Group) → IsGrown gs hs → AreTold hs hs → AreTold gs hs
+told_after gs hs grown told i j a b =
+    let more = counts_stay gs hs grown in
+    let same = ids_stay gs hs grown i a in
+    let t = told i j (omega (arith, a, more)) b in
+    (λ e. sym same ∙ t.0 e, λ e. t.1 (same ∙ e))
+
+told_turned : (gs hs : List Group) → AreTold gs hs → AreTold hs gs
+told_turned gs hs told i j a b = let t = told j i b a in (λ e. sym (t.0 (sym e)), λ e. sym (t.1 (sym e)))
+
+-- a list in canonical form has each type once
+pub told_apart : (groups : List Group) → IsFormed groups → AreCanonical groups → AreTold groups groups
+told_apart groups formed canonical i j a b = (λ e. ap (tree_of groups) e, λ e. apart groups formed canonical i j a b e)
+
+grown_further : (a b c : List Group) → IsGrown a b → IsGrown b c → IsGrown a c
+grown_further a b c (more, e) (others, f) = (others ++ more, f ∙ ap (λ gs. others ++ gs) e ∙ sym (append_assoc others more a))
+
+contains_push : (vs : List Verdict) (d x : Verdict) (k : ℕ) → k < length (vs ++ d ∷ []) → get_or (vs ++ d ∷ []) k x ≡ x → Contains vs x ⊎ (d ≡ x)
+contains_push [] d x zero l e = inr e
+contains_push [] d x (suc k) l e = absurd (omega (arith, l))
+contains_push (w ∷ vs) d x zero l e = inl (zero, omega arith, e)
+contains_push (w ∷ vs) d x (suc k) l e = later (contains_push vs d x k (omega (arith, l)) e)
+  where
+    later : Contains vs x ⊎ (d ≡ x) → Contains (w ∷ vs) x ⊎ (d ≡ x)
+    later (inl (n, m, f)) = inl (suc n, omega (arith, m), f)
+    later (inr f) = inr f
+
+accepted_is : (t u : Learned) → Accepted t ≡ Accepted u → t ≡ u
+accepted_is t u e = ap got e
+  where
+    got : Verdict → Learned
+    got (Accepted x) = x
+    got (Refused k b) = t
+
+not_accepted : (e : ErrorValue) (b : Bool) (t : Learned) → Refused e b ≡ Accepted t → ⊥
+not_accepted e b t h = cc
+
+abbrev AreKnown : List Verdict → List Group → Type 0
+AreKnown vs g = (t : Learned) → Contains vs (Accepted t) → IsGrown t.kept.groups g
+
+module _ (z : Settings) (vs : List Verdict) (ids : ShareIds z vs) where
+  ids_refused : (e : ErrorValue) (b : Bool) → ShareIds z (vs ++ Refused e b ∷ [])
+  ids_refused e b t u (i, l, at) (j, m, by) = go (contains_push vs (Refused e b) (Accepted t) i l at) (contains_push vs (Refused e b) (Accepted u) j m by)
+    where
+      go : Contains vs (Accepted t) ⊎ (Refused e b ≡ Accepted t) → Contains vs (Accepted u) ⊎ (Refused e b ≡ Accepted u) → AreToldUnder z t.kept.groups u.kept.groups
+      go (inl c) (inl d) = ids t u c d
+      go (inl c) (inr d) = absurd (not_accepted e b u d)
+      go (inr c) d = absurd (not_accepted e b t c)
+
+  ids_accepted : (n : Learned) → AreKnown vs n.kept.groups → AreToldUnder z n.kept.groups n.kept.groups → ShareIds z (vs ++ Accepted n ∷ [])
+  ids_accepted n known own t u (i, l, at) (j, m, by) = go (contains_push vs (Accepted n) (Accepted t) i l at) (contains_push vs (Accepted n) (Accepted u) j m by)
+    where
+      go : Contains vs (Accepted t) ⊎ (Accepted n ≡ Accepted t) → Contains vs (Accepted u) ⊎ (Accepted n ≡ Accepted u) → AreToldUnder z t.kept.groups u.kept.groups
+      go (inl c) (inl d) = ids t u c d
+      go (inl c) (inr d) = λ on. subst (λ (x : Learned). AreTold t.kept.groups x.kept.groups) (accepted_is n u d) (told_after t.kept.groups n.kept.groups (known t c) (own on))
+      go (inr c) (inl d) = λ on. subst (λ (x : Learned). AreTold x.kept.groups u.kept.groups) (accepted_is n t c)
+          (told_turned u.kept.groups n.kept.groups (told_after u.kept.groups n.kept.groups (known u d) (own on)))
+      go (inr c) (inr d) = λ on. subst (λ (x : Learned). AreTold x.kept.groups u.kept.groups) (accepted_is n t c)
+          (subst (λ (x : Learned). AreTold n.kept.groups x.kept.groups) (accepted_is n u d) (own on))
+
+-- ---- a verdict more
+
+module _ (v w : Validator) (vs : List Verdict) (ids : ShareIds v.settings vs) (known : AreKnown vs (next_groups w)) (settings : w.settings ≡ v.settings) where
+  later_groups : (g : List Group) → IsGrown (next_groups w) g → AreKnown vs g
+  later_groups g grown t c = grown_further t.kept.groups (next_groups w) g (known t c) grown
+
+  pub ids_further : (d : Verdict) (u : Validator) → LeavesGroups w d u → ShareIds v.settings (vs ++ d ∷ [])
+  ids_further (Accepted n) u (grown, same, own) =
+      ids_accepted v.settings vs ids n (later_groups n.kept.groups (subst (IsGrown (next_groups w)) (sym same) grown))
+      (subst (λ (z : Settings). AreToldUnder z n.kept.groups n.kept.groups) settings own)
+  ids_further (Refused e b) u left = ids_refused v.settings vs ids e b
+
+  pub known_further : (d : Verdict) (u : Validator) → LeavesGroups w d u → goes_on d ≡ true → AreKnown (vs ++ d ∷ []) (next_groups u)
+  known_further (Accepted n) u (grown, same, own) on t (i, l, at) = go (contains_push vs (Accepted n) (Accepted t) i l at)
+    where
+      go : Contains vs (Accepted t) ⊎ (Accepted n ≡ Accepted t) → IsGrown t.kept.groups (next_groups u)
+      go (inl c) = later_groups (next_groups u) grown t c
+      go (inr c) = ([], sym same ∙ ap (λ (x : Learned). x.kept.groups) (accepted_is n t c))
+  known_further (Refused e true) u grown on t (i, l, at) = go (contains_push vs (Refused e true) (Accepted t) i l at)
+    where
+      go : Contains vs (Accepted t) ⊎ (Refused e true ≡ Accepted t) → IsGrown t.kept.groups (next_groups u)
+      go (inl c) = later_groups (next_groups u) grown t c
+      go (inr c) = absurd (not_accepted e true t c)
+  known_further (Refused e false) u left on t c = absurd cc
+
+-- ---- all of them
+
+module _ (v : Validator) (xs : List (List ℕ)) where
+  -- the first i inputs have these verdicts, behind which the validator is so
+  pub record Stands (i : ℕ) (w : Validator) (vs : List Verdict) : Type 0 where
+    pub ready : can_reset w.state ≡ true
+    pub state : w.state ≡ state_after vs
+    pub others : w ≡ record v { state = w.state; reached = w.reached }
+    pub verdicts : Goes v.settings v.id xs i vs
+    pub ids : ShareIds v.settings vs
+    pub known : (t : Learned) → Contains vs (Accepted t) → IsGrown t.kept.groups (next_groups w)
+
+  pub stands_first : v.state ≡ Unparsed → Stands zero v []
+  stands_first is = record {
+    ready = ap can_reset is;
+    state = is;
+    others = refl;
+    verdicts = goes_first v.settings v.id xs;
+    ids = λ t u (i, l, at) d. absurd (omega (arith, l));
+    known = λ t (i, l, at). absurd (omega (arith, l));
+  }
+
+  module _ (i : ℕ) (w u : Validator) (vs : List Verdict) (x : List ℕ) (d : Verdict) (s : Stands i w vs) (at : slice_get xs i ≡ Some x)
+      (is : IsVerdict w.settings w.id x d) (left : LeavesGroups w d u) (next : u ≡ record w { state = u.state; reached = u.reached }) where
+    same_settings_as : w.settings ≡ v.settings
+    same_settings_as = ap (λ (y : Validator). y.settings) s.others
+
+    verdict : IsVerdict v.settings v.id x d
+    verdict = subst (λ (y : Validator). IsVerdict y.settings y.id x d) s.others is
+
+    pub others_stay : u ≡ record v { state = u.state; reached = u.reached }
+    others_stay = next ∙ ap (λ (y : Validator). record y { state = u.state; reached = u.reached }) s.others
+
+    pub ids_are : ShareIds v.settings (vs ++ d ∷ [])
+    ids_are = ids_further v w vs s.ids s.known same_settings_as d u left
+
+    pub verdicts_are : goes_on d ≡ false → AreVerdicts v.settings v.id xs (vs ++ d ∷ [])
+    verdicts_are off = goes_to_last v.settings v.id xs i vs x d s.verdicts at verdict off
+
+    pub stands_further : u.state ≡ state_behind d → goes_on d ≡ true → Stands (i + 1) u (vs ++ d ∷ [])
+    stands_further st on = record {
+      ready = ap can_reset st ∙ may_go_on d on;
+      state = st ∙ sym (last_counts vs d);
+      others = others_stay;
+      verdicts = goes_further v.settings v.id xs i vs x d s.verdicts at verdict on;
+      ids = ids_are;
+      known = known_further v w vs s.ids s.known same_settings_as d u left on;
+    }
