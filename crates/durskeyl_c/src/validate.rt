@@ -1,12 +1,16 @@
 //! The verdict on whole bytes.
 
 ghost use Rattle.std.specs.Prelude.{◌≡◌};
+ghost use Rattle.wasm_types.specs.error.Denials.{Tells};
+ghost use Rattle.wasm_types.specs.limits.Limits.{IsWithinCeilings};
+ghost use Rattle.wasm_module_validator_rules.specs.Accepts.{AcceptsUnder};
 ghost use Rattle.durskeyl_c.specs.Told.{Told, IsEnded};
 
 use crate::fault::{DurskeylFault, bad_settings, no_fault, write_error};
 use crate::settings::{DurskeylSettings, features_of, limits_of};
 use std::alloc::Global;
 use wasm_module_validator::{Validator, ValidatorId};
+use wasm_types::{Error, Limits, WasmFeatures};
 
 /// The version of this interface: its first number times 2^16, and its second.
 const VERSION: u32 = 1 << 16;
@@ -17,6 +21,18 @@ pub extern "C" fn durskeyl_version() -> u32
     ensures { result ≡ 65536 }
 {
     VERSION
+}
+
+/// Judges bytes by a validator of their own.
+fn judge(alloc: Global, features: WasmFeatures, limits: Limits, bytes: &[u8]) -> Result<(), Error>
+    requires within { IsWithinCeilings limits }
+    ensures { Tells result (AcceptsUnder (record { features = features.0; limits = limits }) bytes.now) }
+{
+    let mut validator = Validator::new_with_limits(alloc, ValidatorId::new(0), features, limits);
+    match validator.validate_all(bytes) {
+        Ok(_types) => Ok(()),
+        Err(error) => Err(error),
+    }
 }
 
 /// Says of these bytes whether they are a valid module by these settings (WebAssembly 3.0, binary format and validation, modules): 0 if
@@ -42,9 +58,8 @@ pub extern "C" fn durskeyl_validate(
         bad_settings(fault);
         return 6;
     }
-    let mut validator = Validator::new_with_limits(alloc, ValidatorId::new(0), features, limits);
-    match validator.validate_all(bytes) {
-        Ok(_types) => {
+    match judge(alloc, features, limits, bytes) {
+        Ok(()) => {
             *fault = no_fault();
             0
         }
