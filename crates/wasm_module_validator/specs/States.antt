@@ -6,6 +6,9 @@ use Rattle.wasm_types.specs.error.declared.error.ErrorKind.{ErrorKind}
 use Rattle.wasm_types.specs.error.declared.error.ErrorKind.TheVariants.{OutOfMemory}
 use Rattle.wasm_types.specs.limits.Settings.{Settings}
 use Rattle.wasm_types.specs.reader.Reading.{IsNotMemory}
+use Rattle.wasm_module_validator_sharing.specs.reading.progress.declaring.Total.{IsPastTotal}
+use Rattle.wasm_module_validator_sharing.specs.reading.progress.standing.items.Items.{no_items}
+use Rattle.wasm_module_validator_sharing.specs.reading.progress.standing.type_trees.Groups.{Group}
 use Rattle.wasm_module_validator_sharing.specs.reading.progress.standing.steps.Steps.{SoFar}
 use Rattle.wasm_module_validator_sharing.specs.reading.progress.standing.Standing.{IsGrown}
 use Rattle.wasm_module_validator_sharing.specs.reading.progress.Progress.{kept_groups}
@@ -19,16 +22,20 @@ abbrev pub IsLeft : ErrorKind → State → Type 0
 IsLeft k s = ((s ≡ Ended) × IsNotMemory k) ⊎ ((s ≡ Failed) × (k ≡ OutOfMemory))
 
 -- It has ended where the module was accepted, and where its sections were read and only a function is refused. It has failed where they
--- were not read, or there was no memory.
-abbrev pub Leaves : {X : Type 0} → Settings → List ℕ → Result X ErrorValue → State → Type 0
-Leaves z bytes (Ok types) s = s ≡ Ended
-Leaves z bytes (Err e) s = ((s ≡ Ended) × IsNotMemory e.kind × ((q : SoFar) × IsReadAs z bytes q))
-    ⊎ ((s ≡ Failed) × Denies e.kind ((q : SoFar) × IsReadAs z bytes q))
+-- were not read, or the total of types was passed behind the types of these groups, or there was no memory.
+abbrev pub Leaves : {X : Type 0} → List Group → Settings → List ℕ → Result X ErrorValue → State → Type 0
+Leaves groups z bytes (Ok types) s = s ≡ Ended
+Leaves groups z bytes (Err e) s = ((s ≡ Ended) × IsNotMemory e.kind × ((q : SoFar) × IsReadAs z bytes q))
+    ⊎ ((s ≡ Failed) × (IsPastTotal groups (no_items z) e ⊎ Denies e.kind ((q : SoFar) × IsReadAs z bytes q)))
+
+-- the groups that the list of types has where a validator begins with a module
+abbrev pub held_by : Validator → List Group
+held_by v = kept_groups v.settings v.reached.progress.kept
 
 -- Behind a module that was accepted, or of which a function alone was refused, the list of types has what it had, with further groups or
 -- none; and the module was read by the validator's features and limits.
 abbrev pub KeepsWhere : State → Validator → Validator → Type 0
-KeepsWhere Ended v w = IsGrown (kept_groups v.settings v.reached.progress.kept) w.reached.progress.kept.groups
+KeepsWhere Ended v w = IsGrown (held_by v) w.reached.progress.kept.groups
     × (w.reached.progress.kept.items.spaces.settings ≡ v.settings)
 KeepsWhere Failed v w = Unit {0}
 KeepsWhere Unparsed v w = ⊥

@@ -16,7 +16,7 @@ ghost use Rattle.wasm_module_validator.specs.laws.StateRows.{LeftRows, AcceptedR
 /// begins with behind another.
 pub const fn states_are_worked()
     ensures left { LeftRows }
-    ensures accepted { (z : Settings) → (bytes : List ℕ) → AcceptedRows z bytes }
+    ensures accepted { (groups : List Group) → (z : Settings) → (bytes : List ℕ) → AcceptedRows groups z bytes }
     ensures renewed { (groups : List Group) → RenewedRows groups }
 {}
 

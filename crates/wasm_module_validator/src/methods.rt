@@ -176,7 +176,8 @@ impl Validator {
     /// # Errors
     ///
     /// No header came, the module has ended or its code has begun, and the validator stays as it is; or the section is out of order, not
-    /// one by the binary format, or not valid, or there is no memory, and the validator has failed. So it is with each section.
+    /// one by the binary format, or not valid, or there is no memory, and the validator has failed. So it is with each section. A type
+    /// section is refused too with whose types the list of the validator would have more than 2^20.
     pub fn type_section(&mut self, section: TypeSectionReader<'_>) -> Result<()>
         ensures { Takes (payloads.TypeSection section.entry) self.old result self.new }
     {

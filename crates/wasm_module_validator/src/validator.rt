@@ -1,14 +1,16 @@
 //! The validator of whole modules.
 
-ghost use Rattle.std.specs.Prelude.{◌≡◌, ◌↔◌, IsTrue, IfOk};
+ghost use Rattle.std.specs.Prelude.{◌≡◌, ◌↔◌, [], IsTrue, IfOk};
 ghost use Rattle.wasm_types.specs.error.Denials.{Tells};
 ghost use Rattle.wasm_types.specs.limits.Limits.{default_limits, IsWithinCeilings};
+ghost use Rattle.wasm_module_validator_sharing.specs.reading.progress.declaring.Total.{TellsWithinTotal};
+ghost use Rattle.wasm_module_validator_sharing.specs.reading.progress.standing.items.Items.{no_items};
 ghost use Rattle.wasm_module_validator_sharing.specs.reading.progress.standing.steps.contexts.rules.Accepts.{AcceptsUnder};
 ghost use Rattle.wasm_module_validator_runs.specs.Soundness.{RunsSoundly};
 ghost use Rattle.wasm_module_validator_sharing.specs.Sharing.{nothing_reached};
 ghost use Rattle.wasm_module_validator.specs.declared.validator.State.TheVariants as states;
 ghost use Rattle.wasm_module_validator.specs.Accepts.{Accepts, IsShown, default_settings};
-ghost use Rattle.wasm_module_validator.specs.States.{IsLeft, Keeps, Leaves};
+ghost use Rattle.wasm_module_validator.specs.States.{IsLeft, Keeps, Leaves, held_by};
 
 use crate::types::Types;
 use std::alloc::Global;
@@ -48,6 +50,7 @@ impl Validator {
         ensures id { result.id ≡ id }
         ensures settings { result.settings ≡ default_settings }
         ensures reached { result.reached ≡ nothing_reached default_settings }
+        ensures empty { result.reached.progress.kept.groups ≡ [] }
     {
         Validator::new_with_features(alloc, id, WasmFeatures::default())
     }
@@ -58,6 +61,7 @@ impl Validator {
         ensures id { result.id ≡ id }
         ensures settings { result.settings ≡ record { features = features.0; limits = default_limits } }
         ensures reached { result.reached ≡ nothing_reached (record { features = features.0; limits = default_limits }) }
+        ensures empty { result.reached.progress.kept.groups ≡ [] }
     {
         Validator::new_with_limits(alloc, id, features, Limits::default())
     }
@@ -74,6 +78,7 @@ impl Validator {
         ensures id { result.id ≡ id }
         ensures settings { result.settings ≡ record { features = features.0; limits = limits } }
         ensures reached { result.reached ≡ nothing_reached (record { features = features.0; limits = limits }) }
+        ensures empty { result.reached.progress.kept.groups ≡ [] }
     {
         let settings = HeldSettings::new(features, limits);
         let reached = SharedProgress::new(alloc, &settings);
@@ -115,22 +120,26 @@ impl Validator {
     ///
     /// # Errors
     ///
-    /// The bytes are no module; or a section is not valid behind those before it; or, where each is, a body is not valid: the first of
-    /// these. Or there is no memory. Where only a function is refused the validator has ended, and else it has failed.
+    /// The bytes are no module; or a section is not valid behind those before it, or a group of types has no room in the validator's list; or,
+    /// where each is, a body is not valid: the first of these. Or there is no memory. Where only a function is refused the validator has
+    /// ended, and else it has failed.
     ///
-    /// The module's types go into the validator's list, where those of modules before it stay (`reset`). The list has 2^20 types at most: a
-    /// group for which it has no room is answered as where there is no memory.
+    /// The module's types go into the validator's list, where those of modules before it stay (`reset`). The list has 2^20 types at most, so
+    /// a module may be refused behind others that is accepted by itself: the error of that, of kind `Other`, says `too many core types`. A
+    /// list with no types has room for each module that is within the limit of types.
     pub fn validate_all(&mut self, bytes: &[u8]) -> Result<Types>
         requires { self.old.state ≡ states.Unparsed }
-        ensures verdict { Tells result (AcceptsUnder self.old.settings bytes.now) }
+        ensures verdict { TellsWithinTotal (held_by self.old) (no_items self.old.settings) result (AcceptsUnder self.old.settings bytes.now) }
+        ensures alone { self.old.reached.progress.kept.groups ≡ [] → Tells result (AcceptsUnder self.old.settings bytes.now) }
         ensures sound { IfOk result (λ _. RunsSoundly self.old.settings bytes.now) }
         ensures shown { IfOk result (IsShown self.old.settings bytes.now) }
         ensures id { IfOk result (λ t. t.id ≡ self.old.id) }
-        ensures state { Leaves self.old.settings bytes.now result self.new.state }
+        ensures state { Leaves (held_by self.old) self.old.settings bytes.now result self.new.state }
         ensures others { self.new ≡ record self.old { state = self.new.state; reached = self.new.reached } }
         ensures types { IfOk result (λ t. t.kept.groups ≡ self.new.reached.progress.kept.groups) }
         ensures kept { Keeps self.old self.new }
     {
+        let _limits = self.settings.limits();
         self.state = State::Failed;
         let bodies = match self.reached.read(&self.settings, bytes) {
             Ok(bodies) => bodies,
@@ -171,7 +180,7 @@ fn state_after(kind: ErrorKind) -> State
 ///
 /// # Errors
 ///
-/// As `Validator::validate_all`.
+/// As `Validator::validate_all`. Its list of types is new, and has room for each module.
 pub fn validate(alloc: Global, id: ValidatorId, bytes: &[u8]) -> Result<Types>
     ensures verdict { Tells result (Accepts bytes.now) }
     ensures sound { IfOk result (λ _. RunsSoundly default_settings bytes.now) }

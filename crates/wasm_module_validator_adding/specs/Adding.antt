@@ -2,7 +2,7 @@
 --
 -- `adds` says what is read with an item more: it is a relation, since of a constant expression the bytes are an item and the code is
 -- what is added. An item that may not be added stands in it to nothing.
-use Rattle.std.specs.Prelude.{◌≡◌, ◌⊎◌, ◌<◌, ℕ, List, [], ◌∷◌, length}
+use Rattle.std.specs.Prelude.{◌≡◌, ◌⊎◌, ◌<◌, ℕ, List, [], ◌∷◌, length, Result, Ok, Err}
 use Rattle.wasm_types.specs.decoding.Decoder.{State, Done, Decoder, Grammar, Many}
 use Rattle.wasm_types.specs.error.declared.error.ErrorKind.TheVariants.{Other}
 use Rattle.wasm_types.specs.error.ErrorValue.{ErrorValue}
@@ -22,6 +22,13 @@ pub record AreAdded {M A : Type 0} (g : Grammar A) (adds : M → A → M → Typ
   pub items : List A
   pub spelled : Many g n items text
   pub each : AddsEach adds before items after
+
+-- ---- what is full
+
+-- An answer of what may be full: where it is, the refusal is one of these, and says nothing of what was to be added. Else this holds.
+abbrev pub UnlessFull : {X : Type 0} → (ErrorValue → Type 0) → Result X ErrorValue → Type 0 → Type 0
+UnlessFull Full (Ok x) P = P
+UnlessFull Full (Err e) P = Full e ⊎ P
 
 -- ---- why a section is refused
 

@@ -4,3 +4,4 @@ pub mod Adding
 pub mod Bodies
 -- Laws.
 pub mod AddingLaws
+pub mod FullLaws

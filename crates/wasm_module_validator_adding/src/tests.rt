@@ -33,6 +33,8 @@ impl<'a> AddItem<'a, u32> for Total {
 
     ghost grows = { λ s t. s.most ≡ t.most };
 
+    ghost full = { λ s e. ⊥ };
+
     fn add(&mut self, item: u32, offset: u64) -> Result<()> {
         if self.most < self.sum || self.most - self.sum < item {
             return Err(Error::new("more than the most", offset));
@@ -46,6 +48,8 @@ impl<'a> AddItem<'a, u32> for Total {
     ghost grows_by_nothing = { λ s. refl };
 
     ghost grows_further = { λ r s t a b. a ∙ b };
+
+    ghost full_before = { λ r s e a b. b };
 }
 
 impl<'a> AddLent<'a, u32> for Total {

@@ -16,9 +16,9 @@ use Rattle.wasm_module_validator_standing.specs.steps.Sections.{Section, Item, u
 use Rattle.wasm_module_validator_standing.specs.steps.Adding.{Adds}
 use Rattle.wasm_module_validator_standing.specs.Standing.{Stands, IsReading, IsBefore, AddsItem}
 use Rattle.wasm_module_validator_standing.specs.laws.Beginning.{unread_is_last}
-use Rattle.wasm_module_validator_standing.specs.laws.Behind.{still_last, functions_stand, memories_stand, tags_stand, exports_stand, starts_stand, data_counts_stand, kept_settings}
+use Rattle.wasm_module_validator_standing.specs.laws.Behind.{still_last, functions_stand, memories_stand, tags_stand, exports_stand, starts_stand, data_counts_stand, kept_settings, kept_types}
 use Rattle.wasm_module_validator_standing.specs.laws.Growing.{groups_stand}
-use Rattle.wasm_module_validator_standing.specs.laws.Importing.{imports_stand, settings_stay}
+use Rattle.wasm_module_validator_standing.specs.laws.Importing.{imports_stand, settings_stay, types_stay}
 
 -- ---- answers
 
@@ -96,3 +96,11 @@ module _ (groups : List Group) (i : Items) where
 
   pub export_settings : (x : ExportTree) (j : Items) → IsExported groups x.name x.kind x.index i j → j.spaces.settings ≡ i.spaces.settings
   export_settings x j k = ap (λ (l : Items). l.spaces.settings) k.added ∙ kept_settings x.kind x.index i.spaces
+
+  -- ---- types
+
+  pub import_types : (x : ImportTree) (j : Items) → IsImported groups x i j → j.spaces.types ≡ i.spaces.types
+  import_types x j k = ap (λ (l : Items). l.spaces.types) k.added ∙ types_stay k.type i.spaces
+
+  pub export_types : (x : ExportTree) (j : Items) → IsExported groups x.name x.kind x.index i j → j.spaces.types ≡ i.spaces.types
+  export_types x j k = ap (λ (l : Items). l.spaces.types) k.added ∙ kept_types x.kind x.index i.spaces

@@ -1,2 +1,5 @@
--- Laws of groups as they are read. The rules are those of the crates below.
+-- Rules: the total of types. All others are those of the crates below.
+pub mod Total
+-- Laws of groups as they are read, and of the total.
 pub mod GroupLaws
+pub mod TotalLaws

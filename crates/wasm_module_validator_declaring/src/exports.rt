@@ -29,6 +29,7 @@ pub fn add_export_item(
         types.now.groups state.new) }
     ensures read { IsReadOver types.now.groups state.new.spaces }
     ensures settings { state.new.spaces.settings ≡ state.old.spaces.settings }
+    ensures types { state.new.spaces.types ≡ state.old.spaces.types }
     ensures code { state.new.next_code ≡ state.old.next_code }
     ensures stays { OnErr result (state.new ≡ state.old) }
     ensures refused { IfErr result (λ e. UnlessMemory e.kind (e.offset ≡ offset)) }

@@ -1,19 +1,22 @@
 //! Groups of types.
 
-ghost use Rattle.std.specs.Prelude.{◌≡◌, ◌↔◌, ◌+◌, ◌<◌, ◌≤◌, IfErr, IsTrue, OnErr, OnOk, length};
+ghost use Rattle.std.specs.Prelude.{◌≡◌, ◌↔◌, ◌+◌, ◌<◌, ◌≤◌, ◌^◌, IfErr, IsTrue, OnErr, OnOk, codes, false, length};
 ghost use Rattle.wasm_types.specs.error.Denials.{Tells, RefusedAt};
 ghost use Rattle.wasm_types.specs.error.declared.error.ErrorKind.TheVariants.{Other};
 ghost use Rattle.wasm_types.specs.groups.Entries.{declared_types};
 ghost use Rattle.wasm_types.specs.limits.Limits.{IsWithinCeilings};
 ghost use Rattle.wasm_types.specs.limits.Settings.{Settings};
-ghost use Rattle.wasm_module_validator_types.specs.List.{max_types, HasRoom};
+ghost use Rattle.wasm_module_validator_types.specs.List.{max_types};
+ghost use Rattle.wasm_module_validator_adding.specs.Adding.{UnlessFull};
 ghost use Rattle.wasm_module_validator_standing.specs.canonical.Written.{AreModuleIndices};
 ghost use Rattle.wasm_module_validator_standing.specs.interning.Interned.{written_group};
+ghost use Rattle.wasm_module_validator_standing.specs.type_trees.Groups.{count};
 ghost use Rattle.wasm_module_validator_standing.specs.resources.Named.{IsReadOver};
 ghost use Rattle.wasm_module_validator_standing.specs.steps.contexts.rules.Syntax.{ModuleTree};
 ghost use Rattle.wasm_module_validator_standing.specs.steps.Sections as section;
 ghost use Rattle.wasm_module_validator_standing.specs.steps.Texts.{AddsRead};
-ghost use Rattle.wasm_module_validator_standing.specs.Standing.{AddsItem, IsGrown, IsReading};
+ghost use Rattle.wasm_module_validator_standing.specs.Standing.{AddsItem, GrowsWith, IsReading};
+ghost use Rattle.wasm_module_validator_declaring.specs.Total.{IsPastTotal};
 
 use wasm_module_validator_standing::ModuleState;
 use wasm_module_validator_types::{MAX_TYPES, TypeList};
@@ -41,20 +44,36 @@ fn check_fit(state: &ModuleState, groups: u32, further: usize, offset: u64) -> R
     Ok(())
 }
 
-// Whether a list has room for a group of so many types.
-fn has_room(types: &TypeList, further: usize) -> bool
-    ensures { IsTrue result ↔ HasRoom types.now.groups further }
+// The refusal of a group with which the list would have more types than it may.
+#[cold]
+fn past_total(offset: u64) -> Error
+    ensures { result ≡ record { kind = Other; offset = offset; message = codes "implementation limit: too many core types" } }
 {
-    further <= MAX_TYPES - types.type_count() && types.group_count() < 1 << 32
+    Error::new("implementation limit: too many core types", offset)
+}
+
+// Whether a list may have so many types more.
+fn is_within_total(types: &TypeList, further: usize) -> bool
+    ensures within { IsTrue result → count types.now.groups + further ≤ max_types }
+    ensures past { result ≡ false → max_types < count types.now.groups + further }
+{
+    further <= MAX_TYPES - types.type_count()
+}
+
+// Whether there is a number for a group more.
+fn has_number(types: &TypeList) -> bool
+    ensures { IsTrue result ↔ (length types.now.groups < 2 ^ 32) }
+{
+    types.group_count() < 1 << 32
 }
 
 /// Adds a group of types, behind so many groups of the module.
 ///
 /// # Errors
 ///
-/// There are as many groups as the limit of types, or more types with the group than that; or the group is not valid behind the types of the
-/// module: the first of these in that order, at `offset`; or there is no memory, or no room in the list, which has 2^20 types at most.
-/// The state stays then; the list may have the group.
+/// There are as many groups as the limit of types, or more types with the group than that; or the list, which has 2^20 types at most, would
+/// have more with the group, whether it has the group already or not; or the group is not valid behind the types of the module: the first
+/// of these in that order, at `offset`; or there is no memory. The state stays then; the list may have the group.
 pub fn add_group(
     state: &mut ModuleState,
     types: &mut TypeList,
@@ -66,8 +85,8 @@ pub fn add_group(
     requires read { IsReadOver types.old.groups state.old.spaces }
     requires within { IsWithinCeilings state.old.spaces.settings.limits }
     requires indices { AreModuleIndices (declared_types rec_group) }
-    ensures answer { (z : Settings) (m : ModuleTree) → IsReading section.types types.old.groups state.old z m → groups ≡ length m.types
-        → Tells result ((n : ModuleTree) × AddsRead z section.types m (written_group rec_group) n) }
+    ensures answer { UnlessFull (IsPastTotal types.old.groups state.old) result ((z : Settings) (m : ModuleTree) → IsReading section.types types.old.groups state.old z m → groups ≡ length m.types
+        → Tells result ((n : ModuleTree) × AddsRead z section.types m (written_group rec_group) n)) }
     ensures added { OnOk result (AddsItem section.types types.old.groups state.old (written_group rec_group) types.new.groups state.new) }
     ensures fewer { OnOk result (groups < state.old.spaces.settings.limits.types) }
     ensures small { OnOk result (groups < max_types) }
@@ -78,14 +97,17 @@ pub fn add_group(
     ensures refused { RefusedAt offset result }
     ensures can_intern { IsTrue types.new.can_intern }
     ensures limits { types.new.limits ≡ types.old.limits }
-    ensures grown { OnOk result (IsGrown types.old.groups types.new.groups) }
+    ensures grown { OnOk result (GrowsWith types.old.groups state.old.spaces types.new.groups state.new.spaces) }
 {
     let further = rec_group.types().len();
     match check_fit(state, groups, further, offset) {
         Ok(()) => (),
         Err(error) => return Err(error),
     }
-    if !has_room(types, further) {
+    if !is_within_total(types, further) {
+        return Err(past_total(offset));
+    }
+    if !has_number(types) {
         return Err(Error::out_of_memory(offset));
     }
     state.add_types(rec_group, types, offset, true)

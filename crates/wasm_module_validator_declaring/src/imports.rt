@@ -32,6 +32,7 @@ pub fn add_import_item(
         types.now.groups state.new) }
     ensures read { IsReadOver types.now.groups state.new.spaces }
     ensures settings { state.new.spaces.settings ≡ state.old.spaces.settings }
+    ensures types { state.new.spaces.types ≡ state.old.spaces.types }
     ensures code { state.new.next_code ≡ state.old.next_code }
     ensures stays { IfErr result (λ e. UnlessMemory e.kind (state.new ≡ state.old)) }
     ensures left { OnErr result (IsLeft (record { module_name = import.now.«module».now; field_name = import.now.name.now; ty = import.now.ty }) state.old state.new) }

@@ -1,18 +1,35 @@
-//! Laws of groups as they are read, on the contract of a function that does nothing.
+//! Laws of groups as they are read, and of the total of types, each on the contract of a function that does nothing.
 
-ghost use Rattle.std.specs.Prelude.{◌≡◌};
+ghost use Rattle.std.specs.Prelude.{◌≡◌, ◌≤◌, [], List, codes};
 ghost use Rattle.wasm_types.specs.decoding.Decoder.{State, Done};
+ghost use Rattle.wasm_types.specs.error.ErrorValue.{ErrorValue};
+ghost use Rattle.wasm_types.specs.error.declared.error.ErrorKind.TheVariants.{Failed, Other};
+ghost use Rattle.wasm_types.specs.limits.Limits.{IsWithinCeilings};
 ghost use Rattle.wasm_types.specs.limits.Settings.{Settings};
 ghost use Rattle.wasm_types.specs.groups.declared.rec_group.RecGroup.{RecGroup as Group};
 ghost use Rattle.wasm_types.specs.groups.Entries.{declared_types};
 ghost use Rattle.wasm_types.specs.groups.SpellsTypes.{group_value};
 ghost use Rattle.wasm_types.specs.groups.DecodeTypes.{rec_group};
+ghost use Rattle.wasm_module_validator_types.specs.List.{max_types};
 ghost use Rattle.wasm_module_validator_standing.specs.canonical.Written.{AreModuleIndices};
 ghost use Rattle.wasm_module_validator_standing.specs.interning.Interned.{written_group};
+ghost use Rattle.wasm_module_validator_standing.specs.items.Items.{Items, no_items};
+ghost use Rattle.wasm_module_validator_standing.specs.type_trees.Groups.{Group as Interned, count};
+ghost use Rattle.wasm_module_validator_declaring.specs.Total.{IsPastTotal};
 
 /// Groups whose bytes are read alike are the same groups for the rules, and have indices of their module alone, as [`crate::add_group`]
 /// asks for.
 pub fn groups_are_read_alike()
     ensures alike { (x y : Group) → group_value x ≡ group_value y → written_group x ≡ written_group y }
     ensures indices { (z : Settings) (s t : State) (g : Group) → rec_group z s ≡ Done (group_value g) t → AreModuleIndices (declared_types g) }
+{}
+
+/// The total of types: over a list that is full a module may pass it with one type, and over a list with none no module may; and no refusal
+/// of another kind or text is of it.
+pub fn totals_are_worked()
+    ensures full { (groups : List Interned) (z : Settings) → count groups ≡ max_types → 1 ≤ z.limits.types
+        → IsPastTotal groups (no_items z) (record { kind = Other; offset = 7; message = codes "implementation limit: too many core types" }) }
+    ensures none { (z : Settings) → IsWithinCeilings z.limits → (e : ErrorValue) → IsPastTotal [] (no_items z) e → ⊥ }
+    ensures otherwise { (groups : List Interned) (s : Items) (e : ErrorValue) → e.kind ≡ Failed → IsPastTotal groups s e → ⊥ }
+    ensures unsaid { (groups : List Interned) (s : Items) (e : ErrorValue) → e.message ≡ [] → IsPastTotal groups s e → ⊥ }
 {}

@@ -42,6 +42,7 @@ pub fn take_data_count(state: &mut ModuleState, count: u32, offset: u64) -> Resu
         → IsReading section.data_count groups state.new z n) }
     ensures read { (groups : List Group) → IsReadOver groups state.old.spaces → IsReadOver groups state.new.spaces }
     ensures settings { state.new.spaces.settings ≡ state.old.spaces.settings }
+    ensures types { state.new.spaces.types ≡ state.old.spaces.types }
     ensures code { state.new.next_code ≡ state.old.next_code }
     ensures stays { OnErr result (state.new ≡ state.old) }
     ensures refused { IfErr result (λ e. (e.kind ≡ Other) × (e.offset ≡ offset)) }

@@ -27,6 +27,7 @@ pub fn add_function_item(
     ensures added { OnOk result (AddsItem section.functions types.now.groups state.old type_index types.now.groups state.new) }
     ensures read { IsReadOver types.now.groups state.new.spaces }
     ensures settings { state.new.spaces.settings ≡ state.old.spaces.settings }
+    ensures types { state.new.spaces.types ≡ state.old.spaces.types }
     ensures code { state.new.next_code ≡ state.old.next_code }
     ensures stays { OnErr result (state.new ≡ state.old) }
     ensures refused { IfErr result (λ e. UnlessMemory e.kind (e.offset ≡ offset)) }
@@ -45,6 +46,7 @@ pub fn add_memory_item(state: &mut ModuleState, ty: MemoryType, offset: u64) -> 
     ensures added { OnOk result ((groups : List Group) → AddsItem section.memories groups state.old ty groups state.new) }
     ensures read { (groups : List Group) → IsReadOver groups state.old.spaces → IsReadOver groups state.new.spaces }
     ensures settings { state.new.spaces.settings ≡ state.old.spaces.settings }
+    ensures types { state.new.spaces.types ≡ state.old.spaces.types }
     ensures code { state.new.next_code ≡ state.old.next_code }
     ensures stays { OnErr result (state.new ≡ state.old) }
     ensures refused { IfErr result (λ e. UnlessMemory e.kind (e.offset ≡ offset)) }
@@ -69,6 +71,7 @@ pub fn add_tag_item(
     ensures added { OnOk result (AddsItem section.tags types.now.groups state.old ty types.now.groups state.new) }
     ensures read { IsReadOver types.now.groups state.new.spaces }
     ensures settings { state.new.spaces.settings ≡ state.old.spaces.settings }
+    ensures types { state.new.spaces.types ≡ state.old.spaces.types }
     ensures code { state.new.next_code ≡ state.old.next_code }
     ensures stays { OnErr result (state.new ≡ state.old) }
     ensures refused { IfErr result (λ e. UnlessMemory e.kind (e.offset ≡ offset)) }

@@ -1,3 +1,4 @@
+mod Inside
 mod Walks
 mod Trees
 mod Names

@@ -38,10 +38,10 @@ RefusesMode z m count offset t (element_kind.Active x s) e = ((slice_get m.«mod
 abbrev pub RefusesFunction : Module → Walk → ErrorValue → Type 0
 RefusesFunction g w e = (x : ℕ) × (t : State) × (function_index w.reader.settings w.reader ≡ Done x t) × (IsFunction g x → ⊥) × IsFault w.reader.place e
 
--- the next expression is refused, somewhere in its bytes
+-- the next expression is refused, somewhere in its bytes, which begin where it does
 abbrev pub RefusesConstant : Settings → Meaning → ℕ → ValueType → Walk → ErrorValue → Type 0
 RefusesConstant z m count t w e = (text : List ℕ) × (u : State) × (constant w.reader.settings w.reader ≡ Done text u)
-    × ((s : State) × (s.rest ≡ text) × StopsText z m count t s e)
+    × ((s : State) × (s.rest ≡ text) × (s.place ≡ w.reader.place) × StopsText z m count t s e)
 
 -- there are more elements than the limit; or some are so, and behind them none is read or the next one is refused
 abbrev pub RefusesItems : Settings → Meaning → ℕ → ℕ → ValueType → ElementItemsOf State → ErrorValue → Type 0

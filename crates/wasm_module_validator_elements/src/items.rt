@@ -1,6 +1,6 @@
 //! The elements of a segment, one by one.
 
-ghost use Rattle.std.specs.Prelude.{◌≡◌, ◌≤◌, ◌<◌, IfErr, IfOk};
+ghost use Rattle.std.specs.Prelude.{◌≡◌, ◌≤◌, ◌<◌, ◌+◌, IfErr, IfOk, length};
 ghost use Rattle.wasm_types.specs.error.Denials.{Tells, UnlessMemory};
 ghost use Rattle.wasm_types.specs.limits.Limits.{IsWithinCeilings};
 ghost use Rattle.wasm_operators_bodies.specs.ConstantDecoder.{constant};
@@ -20,7 +20,7 @@ use wasm_module_validator_segments::{
 };
 use wasm_sections_items::elements::ElementItemsOf;
 use wasm_sections_limited::SectionLimited;
-use wasm_types::{Error, Result, ValType};
+use wasm_types::{BinaryReader, Error, Result, ValType};
 
 // Refuses more elements than the limit.
 fn check_count(count: u32, settings: &Settings, offset: u64) -> Result<()>
@@ -57,6 +57,24 @@ fn check_functions<R: WasmModuleResources>(
     Ok(())
 }
 
+// The same expression, whose first byte stands at this offset of the input.
+fn standing_at<'a>(alloc: Global, expr: &ConstExpr<'a>, offset: u64, end: u64) -> ConstExpr<'a>
+    requires { offset + length expr.now.rest ≤ end }
+    ensures rest { result.rest ≡ expr.now.rest }
+    ensures place { result.place ≡ offset }
+{
+    let mut reader = expr.get_binary_reader();
+    let features = reader.features();
+    let limits = reader.limits();
+    let Ok(bytes) = reader.read_bytes(reader.bytes_remaining()) else {
+        unreachable!()
+    };
+    ConstExpr::new(
+        alloc,
+        BinaryReader::new_limited(bytes, offset, features, limits),
+    )
+}
+
 // The constants, by their expressions.
 fn check_constants<'a, R: WasmModuleResources>(
     alloc: Global,
@@ -75,11 +93,13 @@ fn check_constants<'a, R: WasmModuleResources>(
     ensures refused { IfErr result (λ e. UnlessMemory e.kind (StopsAmong (IsConstantText settings.now (R.meaning resources.now).«module» imported_globals (type_in (R.meaning resources.now) ty.now)) constant
         (RefusesConstant settings.now (R.meaning resources.now) imported_globals (type_in (R.meaning resources.now) ty.now)) (fresh constants.entry.count constants.entry.reader) e)) }
 {
-    for found in constants {
-        let expr = match found {
-            Ok(expr) => expr,
+    let end = constants.range().end;
+    for found in constants.into_iter_with_offsets() {
+        let item = match found {
+            Ok(item) => item,
             Err(error) => return Err(error),
         };
+        let expr = standing_at(alloc, &item.1, item.0, end);
         match take_constant(
             alloc,
             &expr,

@@ -22,6 +22,7 @@ use Rattle.wasm_module_validator_standing.specs.steps.contexts.rules.Syntax.{Mod
 use Rattle.wasm_module_validator_standing.specs.steps.Sections as section
 use Rattle.wasm_module_validator_standing.specs.steps.Sections.{up_to}
 use Rattle.wasm_module_validator_standing.specs.steps.Texts.{SpelledInit, AddsRead}
+use Rattle.wasm_module_validator_standing.specs.so_far.SoFar.{sizes_of}
 use Rattle.wasm_module_validator_standing.specs.Standing.{constants_of, Stands, IsReading, TellsItem, AddsItem, marking}
 use Rattle.wasm_module_validator_standing.specs.laws.Deciding.{tables_decided}
 use Rattle.wasm_module_validator_standing.specs.laws.Behind.{still_last, tables_stand}
@@ -90,13 +91,14 @@ module _ (groups : List Group) (s : Items) (t : TableTree (List ℕ)) where
 
   -- and what it leaves
   pub table_added : (kept : TableType) (names : List ℕ) (j : Items)
-      → table_in (constants_of groups s.spaces) kept ≡ table_written (constants_of groups s.spaces).«module».types t.ty → NamesInit s.spaces.settings t.init [] names
+      → table_in (constants_of groups s.spaces) kept ≡ table_written (constants_of groups s.spaces).«module».types t.ty → sizes_of kept ≡ sizes_of t.ty
+      → NamesInit s.spaces.settings t.init [] names
       → j ≡ record s { spaces = marking names (adding_table kept s.spaces) } → AddsItem section.tables groups s t groups j
-  table_added kept names j named more e z m n r (x, (ty, spelled), adds) =
+  table_added kept names j named sizes more e z m n r (x, (ty, spelled), adds) =
       let all : names ≡ referred_in_option x.init
       = init_named s.spaces.settings t.init x.init names more (subst (λ (y : Settings). SpelledInit y t.init x.init) (sym r.stands.settings) spelled) in
       let means = named ∙ ap (table_written (constants_of groups s.spaces).«module».types) (sym ty) in
-      let stands = tables_stand groups s z m r.stands r.last x kept means n adds in
+      let stands = tables_stand groups s z m r.stands r.last x kept means (sizes ∙ ap sizes_of (sym ty)) n adds in
       let k : j ≡ record s { spaces = marking (referred_in_option x.init) (adding_table kept s.spaces) }
       = e ∙ ap (λ (xs : List ℕ). record s { spaces = marking xs (adding_table kept s.spaces) }) all in
       record {

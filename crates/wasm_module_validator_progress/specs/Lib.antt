@@ -7,3 +7,4 @@ pub use Rattle.wasm_module_validator_standing.specs as standing
 pub use Rattle.wasm_module_validator_standing.specs.so_far as so_far
 pub use Rattle.wasm_module_validator_fronts.specs as fronts
 pub use Rattle.wasm_module_validator_adding.specs as adding
+pub use Rattle.wasm_module_validator_declaring.specs as declaring

@@ -1,9 +1,12 @@
 -- A module that is being read, as contracts see it, and when it stands for what was judged (WebAssembly 3.0, validation, modules).
-use Rattle.std.specs.Prelude.{◌≡◌, ◌==◌, ◌&&◌, if◌then◌else◌, Bool, ℕ, List, [], length, map, take}
+use Rattle.std.specs.Prelude.{◌≡◌, ◌==◌, ◌+◌, ◌≤◌, ◌&&◌, if◌then◌else◌, Bool, ℕ, List, [], length, map, take}
+use Rattle.wasm_types.specs.error.ErrorValue.{ErrorValue}
 use Rattle.wasm_types.specs.limits.contracts.LimitsPartialEq.TheImpl as limits
 use Rattle.wasm_types.specs.limits.Limits.{IsWithinCeilings}
 use Rattle.wasm_types.specs.limits.Settings.{Settings}
-use Rattle.wasm_module_validator_type_trees.specs.Groups.{Group}
+use Rattle.wasm_sections_payloads.specs.declared.payload.Payload.{Payload}
+use Rattle.wasm_sections_payloads.specs.declared.payload.Payload.TheVariants as payloads
+use Rattle.wasm_module_validator_type_trees.specs.Groups.{Group, count}
 use Rattle.wasm_module_validator_types.specs.List.{Types}
 use Rattle.wasm_module_validator_module.specs.Spaces.{Spaces}
 use Rattle.wasm_module_validator_resources.specs.Named.{IsReadOver}
@@ -11,8 +14,10 @@ use Rattle.wasm_module_validator_standing.specs.items.Items.{Items, no_items}
 use Rattle.wasm_module_validator_standing.specs.steps.contexts.rules.Syntax.{ModuleTree}
 use Rattle.wasm_module_validator_standing.specs.steps.contexts.rules.Valid.{Each}
 use Rattle.wasm_module_validator_standing.specs.steps.Sections.{Section}
+use Rattle.wasm_module_validator_standing.specs.steps.Sections as section
 use Rattle.wasm_module_validator_standing.specs.steps.Steps.{SoFar, IsJudged}
 use Rattle.wasm_module_validator_standing.specs.Standing.{IsGrown, Stands, IsReading}
+use Rattle.wasm_module_validator_declaring.specs.Total.{IsPastTotal}
 use Rattle.wasm_module_validator_texts.specs.Sections.{Reading}
 use Rattle.wasm_module_validator_adding.specs.Bodies.{IsReadBy}
 use Rattle.wasm_module_validator_adding.specs.declared.bodies.Body.{Body}
@@ -63,9 +68,10 @@ renewed z k = nothing_over (kept_groups z k) z
 abbrev pub next_over : Kept → Progress
 next_over k = nothing_over k.groups k.items.spaces.settings
 
--- further groups may stand in the list, and the settings are the same
+-- further groups may stand in the list, of no more types than the module has besides, and the settings are the same
 pub record Grows (k l : Kept) : Type 0 where
   pub groups : IsGrown k.groups l.groups
+  pub types : count l.groups + length k.items.spaces.types ≤ count k.groups + length l.items.spaces.types
   pub settings : l.items.spaces.settings ≡ k.items.spaces.settings
 
 -- ---- while the items of a section are added
@@ -77,6 +83,10 @@ pub record Reads (s : Section) (groups : List Group) (items : Items) (count : �
 
 abbrev pub IsRead : Section → Kept → Reading → Type 0
 IsRead s k u = Reads s k.groups k.items k.count u.settings u.tree
+
+-- only a group of types is refused because the list is full
+abbrev pub FullIn : Section → List Group → Items → ErrorValue → Type 0
+FullIn s groups items e = (s ≡ section.types) × IsPastTotal groups items e
 
 -- ---- frames
 
@@ -97,3 +107,11 @@ pub record IsAt (z : Settings) (r : Progress) (bs : List Body) (p : SoFar) : Typ
   pub bodies : map text_of bs ≡ p.bodies
   pub types : map type_of bs ≡ take (length bs) p.tree.functions
   pub read : Each (λ (b : Body). IsReadBy z z.features b.body) bs
+
+-- only a type section is refused because the list is full
+abbrev pub IsOfTypes : Payload → Type 0
+IsOfTypes (payloads.TypeSection s) = Unit {0}
+IsOfTypes x = ⊥
+
+abbrev pub FullBy : Payload → Kept → ErrorValue → Type 0
+FullBy x k e = IsOfTypes x × IsPastTotal k.groups k.items e

@@ -6,10 +6,11 @@ ghost use Rattle.wasm_types.specs.error.Denials.{Tells, UnlessMemory};
 ghost use Rattle.wasm_types.specs.error.declared.error.ErrorKind.TheVariants.{Other};
 ghost use Rattle.wasm_types.specs.limits.Settings.{Settings};
 ghost use Rattle.wasm_sections_payloads.specs.Payloads.{Counts};
+ghost use Rattle.wasm_module_validator_adding.specs.Adding.{UnlessFull};
 ghost use Rattle.wasm_module_validator_adding.specs.declared.bodies.Body.{Body as TheBody};
 ghost use Rattle.wasm_module_validator_standing.specs.steps.Sections.{code_place};
 ghost use Rattle.wasm_module_validator_standing.specs.steps.Steps.{SoFar, JudgesSection, JudgesBody};
-ghost use Rattle.wasm_module_validator_progress.specs.Progress.{Grows, IsAt};
+ghost use Rattle.wasm_module_validator_progress.specs.Progress.{FullIn, Grows, IsAt};
 
 use crate::{Body, InProgress, SectionItem};
 use wasm_module_validator_adding::add_items;
@@ -99,14 +100,14 @@ impl InProgress {
     ///
     /// # Errors
     ///
-    /// The section is out of order, or brings more items than there may be; an item cannot be read or is not valid, or a byte is left
-    /// behind the last; or there is no memory: the first of these.
+    /// The section is out of order, or brings more items than there may be; an item cannot be read or is not valid, a group of types has no
+    /// room in the list, or a byte is left behind the last; or there is no memory: the first of these.
     pub fn take_section<'a, T: SectionItem<'a>>(
         &mut self,
         section: SectionLimited<'a, T>,
     ) -> Result<()>
-        ensures answer { (z : Settings) (p : SoFar) (bodies : List TheBody) (b : State) → IsAt z self.old bodies p → b.settings ≡ z
-            → Counts b section.entry.count section.entry.reader → Tells result ((q : SoFar) × JudgesSection z p T.section b.rest q) }
+        ensures answer { UnlessFull (FullIn T.section self.old.kept.groups self.old.kept.items) result ((z : Settings) (p : SoFar) (bodies : List TheBody) (b : State) → IsAt z self.old bodies p → b.settings ≡ z
+            → Counts b section.entry.count section.entry.reader → Tells result ((q : SoFar) × JudgesSection z p T.section b.rest q)) }
         ensures added { OnOk result ((z : Settings) (p q : SoFar) (bodies : List TheBody) (b : State) → IsAt z self.old bodies p → b.settings ≡ z
             → Counts b section.entry.count section.entry.reader → JudgesSection z p T.section b.rest q → IsAt z self.new bodies q) }
         ensures grown { OnOk result (Grows self.old.kept self.new.kept) }

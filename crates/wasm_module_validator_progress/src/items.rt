@@ -6,17 +6,18 @@ ghost use Rattle.wasm_types.specs.error.Denials.{Tells};
 ghost use Rattle.wasm_types.specs.reader.Reading.{IsNotMemory};
 ghost use Rattle.wasm_types.specs.limits.Limits.{IsWithinCeilings};
 ghost use Rattle.wasm_types.specs.limits.Settings.{Settings};
+ghost use Rattle.wasm_module_validator_adding.specs.Adding.{UnlessFull};
 ghost use Rattle.wasm_module_validator_resources.specs.Named.{IsReadOver};
 ghost use Rattle.wasm_module_validator_type_trees.specs.Groups.{Group};
 ghost use Rattle.wasm_module_validator_standing.specs.steps.contexts.rules.Syntax.{ModuleTree};
 ghost use Rattle.wasm_module_validator_standing.specs.steps.Sections.{Section, place, IsUnread};
 ghost use Rattle.wasm_module_validator_standing.specs.steps.Adding.{Fits};
 ghost use Rattle.wasm_module_validator_standing.specs.steps.Texts.{ItemRead, AddsRead};
-ghost use Rattle.wasm_module_validator_standing.specs.Standing.{IsGrown, Stands};
+ghost use Rattle.wasm_module_validator_standing.specs.Standing.{GrowsWith, Stands};
 ghost use Rattle.wasm_module_validator_texts.specs.Sections.{Reading, AddsIn, RefusesIn, MayBegin};
 ghost use Rattle.wasm_module_validator_texts.specs.Kinds.{WalksTell};
-ghost use Rattle.wasm_module_validator_progress.specs.Progress.{Grows, IsOver, Reads, IsRead};
-ghost use Rattle.wasm_module_validator_progress.specs.laws.Growing.{grows_by_nothing, grows_further};
+ghost use Rattle.wasm_module_validator_progress.specs.Progress.{FullIn, Grows, IsOver, Reads, IsRead};
+ghost use Rattle.wasm_module_validator_progress.specs.laws.Growing.{full_before, grows_by_nothing, grows_further};
 
 use crate::Collected;
 use std::alloc::Global;
@@ -56,14 +57,15 @@ pub trait SectionItem<'a>: FromReader<'a> {
         requires interning { types.old.can_intern ≡ true }
         requires ceilings { IsWithinCeilings state.old.spaces.settings.limits }
         requires read { (z : Settings) × (s : State) × (t : State) × (Self.FromReader.decoder z s ≡ Done (Self.FromReader.view self) t) }
-        ensures answer { (z : Settings) (m : ModuleTree) → Reads section types.old.groups state.old groups.old z m → Tells result ((n : ModuleTree) × AddsRead z section m (of self) n) }
+        ensures answer { UnlessFull (FullIn section types.old.groups state.old) result ((z : Settings) (m : ModuleTree) → Reads section types.old.groups state.old groups.old z m
+            → Tells result ((n : ModuleTree) × AddsRead z section m (of self) n)) }
         ensures added { OnOk result ((z : Settings) (m n : ModuleTree) → Reads section types.old.groups state.old groups.old z m → AddsRead z section m (of self) n
             → Reads section types.new.groups state.new groups.new z n) }
         ensures over { OnOk result (IsReadOver types.new.groups state.new.spaces) }
         ensures interning { OnOk result (types.new.can_intern ≡ true) }
         ensures kept { state.new.spaces.settings ≡ state.old.spaces.settings }
         ensures limits { types.new.limits ≡ types.old.limits }
-        ensures grown { OnOk result (IsGrown types.old.groups types.new.groups) };
+        ensures grown { OnOk result (GrowsWith types.old.groups state.old.spaces types.new.groups state.new.spaces) };
 
     /// Items whose bytes are read alike are the same.
     ghost alike: { (x y : Self) → Self.FromReader.view x ≡ Self.FromReader.view y → of x ≡ of y };
@@ -84,12 +86,13 @@ fn add_or_forget<'a, T: SectionItem<'a>>(
     requires over { IsOver types.old state.old.spaces }
     requires interning { types.old.can_intern ≡ true }
     requires read { (z : Settings) × (s : State) × (t : State) × (T.FromReader.decoder z s ≡ Done (T.FromReader.view item) t) }
-    ensures answer { (z : Settings) (m : ModuleTree) → Reads T.section types.old.groups state.old groups.old z m → Tells result ((n : ModuleTree) × AddsRead z T.section m (T.of item) n) }
+    ensures answer { UnlessFull (FullIn T.section types.old.groups state.old) result ((z : Settings) (m : ModuleTree) → Reads T.section types.old.groups state.old groups.old z m
+        → Tells result ((n : ModuleTree) × AddsRead z T.section m (T.of item) n)) }
     ensures added { OnOk result ((z : Settings) (m n : ModuleTree) → Reads T.section types.old.groups state.old groups.old z m → AddsRead z T.section m (T.of item) n
         → Reads T.section types.new.groups state.new groups.new z n) }
     ensures kept { (types.new.can_intern ≡ true) × IsOver types.new state.new.spaces }
     ensures settings { OnOk result (state.new.spaces.settings ≡ state.old.spaces.settings) }
-    ensures grown { OnOk result (IsGrown types.old.groups types.new.groups) }
+    ensures grown { OnOk result (GrowsWith types.old.groups state.old.spaces types.new.groups state.new.spaces) }
 {
     match item.add_to(alloc, state, types, groups, offset) {
         Ok(()) => Ok(()),
@@ -118,6 +121,8 @@ impl<'a, T: SectionItem<'a>> AddItem<'a, T> for Collected {
 
     ghost grows = { λ k l. Grows k l };
 
+    ghost full = { λ k e. FullIn T.section k.groups k.items e };
+
     fn add(&mut self, item: T, offset: u64) -> Result<()> {
         add_or_forget(
             item,
@@ -134,4 +139,6 @@ impl<'a, T: SectionItem<'a>> AddItem<'a, T> for Collected {
     ghost grows_by_nothing = { grows_by_nothing };
 
     ghost grows_further = { grows_further };
+
+    ghost full_before = { full_before T.section };
 }

@@ -5,6 +5,7 @@ ghost use Rattle.wasm_types.specs.error.Denials.{Tells};
 ghost use Rattle.wasm_types.specs.reader.Reading.{IsNotMemory};
 ghost use Rattle.wasm_types.specs.limits.Limits.{IsWithinCeilings};
 ghost use Rattle.wasm_types.specs.limits.Settings.{Settings};
+ghost use Rattle.wasm_module_validator_adding.specs.Adding.{UnlessFull};
 ghost use Rattle.wasm_module_validator_resources.specs.Named.{IsReadOver};
 ghost use Rattle.wasm_module_validator_type_trees.specs.Groups.{Group};
 ghost use Rattle.wasm_module_validator_standing.specs.steps.contexts.rules.Syntax.{ModuleTree};
@@ -12,10 +13,10 @@ ghost use Rattle.wasm_module_validator_standing.specs.steps.Sections as section;
 ghost use Rattle.wasm_module_validator_standing.specs.steps.Sections.{IsUnread, place};
 ghost use Rattle.wasm_module_validator_standing.specs.steps.Adding.{Fits};
 ghost use Rattle.wasm_module_validator_standing.specs.steps.Texts.{AddsRead};
-ghost use Rattle.wasm_module_validator_standing.specs.Standing.{IsGrown, Stands};
+ghost use Rattle.wasm_module_validator_standing.specs.Standing.{GrowsWith, Stands};
 ghost use Rattle.wasm_module_validator_texts.specs.Sections.{MayBegin};
 ghost use Rattle.wasm_module_validator_texts.specs.Kinds.{table_read, global_read, export_read, element_read, data_read};
-ghost use Rattle.wasm_module_validator_progress.specs.Progress.{Reads};
+ghost use Rattle.wasm_module_validator_progress.specs.Progress.{FullIn, Reads};
 
 use crate::SectionItem;
 use std::alloc::Global;
@@ -138,14 +139,15 @@ impl<'a> SectionItem<'a> for TableOf<ConstExpr<'a>> {
         requires over { IsReadOver types.old.groups state.old.spaces }
         requires interning { types.old.can_intern ≡ true }
         requires ceilings { IsWithinCeilings state.old.spaces.settings.limits }
-        ensures answer { (z : Settings) (m : ModuleTree) → Reads section.tables types.old.groups state.old groups.old z m → Tells result ((n : ModuleTree) × AddsRead z section.tables m (table_read self.entry) n) }
+        ensures answer { UnlessFull (FullIn section.tables types.old.groups state.old) result ((z : Settings) (m : ModuleTree) → Reads section.tables types.old.groups state.old groups.old z m
+            → Tells result ((n : ModuleTree) × AddsRead z section.tables m (table_read self.entry) n)) }
         ensures added { OnOk result ((z : Settings) (m n : ModuleTree) → Reads section.tables types.old.groups state.old groups.old z m → AddsRead z section.tables m (table_read self.entry) n
             → Reads section.tables types.new.groups state.new groups.new z n) }
         ensures over { OnOk result (IsReadOver types.new.groups state.new.spaces) }
         ensures interning { OnOk result (types.new.can_intern ≡ true) }
         ensures kept { state.new.spaces.settings ≡ state.old.spaces.settings }
         ensures limits { types.new.limits ≡ types.old.limits }
-        ensures grown { OnOk result (IsGrown types.old.groups types.new.groups) }
+        ensures grown { OnOk result (GrowsWith types.old.groups state.old.spaces types.new.groups state.new.spaces) }
     {
         add_table(alloc, state, types, self, offset)
     }
@@ -262,14 +264,15 @@ impl<'a> SectionItem<'a> for GlobalOf<ConstExpr<'a>> {
         requires over { IsReadOver types.old.groups state.old.spaces }
         requires interning { types.old.can_intern ≡ true }
         requires ceilings { IsWithinCeilings state.old.spaces.settings.limits }
-        ensures answer { (z : Settings) (m : ModuleTree) → Reads section.globals types.old.groups state.old groups.old z m → Tells result ((n : ModuleTree) × AddsRead z section.globals m (global_read self.entry) n) }
+        ensures answer { UnlessFull (FullIn section.globals types.old.groups state.old) result ((z : Settings) (m : ModuleTree) → Reads section.globals types.old.groups state.old groups.old z m
+            → Tells result ((n : ModuleTree) × AddsRead z section.globals m (global_read self.entry) n)) }
         ensures added { OnOk result ((z : Settings) (m n : ModuleTree) → Reads section.globals types.old.groups state.old groups.old z m → AddsRead z section.globals m (global_read self.entry) n
             → Reads section.globals types.new.groups state.new groups.new z n) }
         ensures over { OnOk result (IsReadOver types.new.groups state.new.spaces) }
         ensures interning { OnOk result (types.new.can_intern ≡ true) }
         ensures kept { state.new.spaces.settings ≡ state.old.spaces.settings }
         ensures limits { types.new.limits ≡ types.old.limits }
-        ensures grown { OnOk result (IsGrown types.old.groups types.new.groups) }
+        ensures grown { OnOk result (GrowsWith types.old.groups state.old.spaces types.new.groups state.new.spaces) }
     {
         add_global(alloc, state, types, self, offset)
     }
@@ -313,14 +316,15 @@ impl<'a> SectionItem<'a> for Export<'a> {
         requires over { IsReadOver types.old.groups state.old.spaces }
         requires interning { types.old.can_intern ≡ true }
         requires ceilings { IsWithinCeilings state.old.spaces.settings.limits }
-        ensures answer { (z : Settings) (m : ModuleTree) → Reads section.exports types.old.groups state.old groups.old z m → Tells result ((n : ModuleTree) × AddsRead z section.exports m (export_read self.entry) n) }
+        ensures answer { UnlessFull (FullIn section.exports types.old.groups state.old) result ((z : Settings) (m : ModuleTree) → Reads section.exports types.old.groups state.old groups.old z m
+            → Tells result ((n : ModuleTree) × AddsRead z section.exports m (export_read self.entry) n)) }
         ensures added { OnOk result ((z : Settings) (m n : ModuleTree) → Reads section.exports types.old.groups state.old groups.old z m → AddsRead z section.exports m (export_read self.entry) n
             → Reads section.exports types.new.groups state.new groups.new z n) }
         ensures over { OnOk result (IsReadOver types.new.groups state.new.spaces) }
         ensures interning { OnOk result (types.new.can_intern ≡ true) }
         ensures kept { state.new.spaces.settings ≡ state.old.spaces.settings }
         ensures limits { types.new.limits ≡ types.old.limits }
-        ensures grown { OnOk result (IsGrown types.old.groups types.new.groups) }
+        ensures grown { OnOk result (GrowsWith types.old.groups state.old.spaces types.new.groups state.new.spaces) }
     {
         add_export_item(state, types, self, offset)
     }
@@ -364,14 +368,15 @@ impl<'a> SectionItem<'a> for ElementOf<'a, ConstExpr<'a>> {
         requires over { IsReadOver types.old.groups state.old.spaces }
         requires interning { types.old.can_intern ≡ true }
         requires ceilings { IsWithinCeilings state.old.spaces.settings.limits }
-        ensures answer { (z : Settings) (m : ModuleTree) → Reads section.element_segments types.old.groups state.old groups.old z m → Tells result ((n : ModuleTree) × AddsRead z section.element_segments m (element_read self.entry) n) }
+        ensures answer { UnlessFull (FullIn section.element_segments types.old.groups state.old) result ((z : Settings) (m : ModuleTree) → Reads section.element_segments types.old.groups state.old groups.old z m
+            → Tells result ((n : ModuleTree) × AddsRead z section.element_segments m (element_read self.entry) n)) }
         ensures added { OnOk result ((z : Settings) (m n : ModuleTree) → Reads section.element_segments types.old.groups state.old groups.old z m → AddsRead z section.element_segments m (element_read self.entry) n
             → Reads section.element_segments types.new.groups state.new groups.new z n) }
         ensures over { OnOk result (IsReadOver types.new.groups state.new.spaces) }
         ensures interning { OnOk result (types.new.can_intern ≡ true) }
         ensures kept { state.new.spaces.settings ≡ state.old.spaces.settings }
         ensures limits { types.new.limits ≡ types.old.limits }
-        ensures grown { OnOk result (IsGrown types.old.groups types.new.groups) }
+        ensures grown { OnOk result (GrowsWith types.old.groups state.old.spaces types.new.groups state.new.spaces) }
     {
         add_element(alloc, state, types, self, offset)
     }
@@ -415,14 +420,15 @@ impl<'a> SectionItem<'a> for DataOf<'a, ConstExpr<'a>> {
         requires over { IsReadOver types.old.groups state.old.spaces }
         requires interning { types.old.can_intern ≡ true }
         requires ceilings { IsWithinCeilings state.old.spaces.settings.limits }
-        ensures answer { (z : Settings) (m : ModuleTree) → Reads section.data_segments types.old.groups state.old groups.old z m → Tells result ((n : ModuleTree) × AddsRead z section.data_segments m (data_read self.entry) n) }
+        ensures answer { UnlessFull (FullIn section.data_segments types.old.groups state.old) result ((z : Settings) (m : ModuleTree) → Reads section.data_segments types.old.groups state.old groups.old z m
+            → Tells result ((n : ModuleTree) × AddsRead z section.data_segments m (data_read self.entry) n)) }
         ensures added { OnOk result ((z : Settings) (m n : ModuleTree) → Reads section.data_segments types.old.groups state.old groups.old z m → AddsRead z section.data_segments m (data_read self.entry) n
             → Reads section.data_segments types.new.groups state.new groups.new z n) }
         ensures over { OnOk result (IsReadOver types.new.groups state.new.spaces) }
         ensures interning { OnOk result (types.new.can_intern ≡ true) }
         ensures kept { state.new.spaces.settings ≡ state.old.spaces.settings }
         ensures limits { types.new.limits ≡ types.old.limits }
-        ensures grown { OnOk result (IsGrown types.old.groups types.new.groups) }
+        ensures grown { OnOk result (GrowsWith types.old.groups state.old.spaces types.new.groups state.new.spaces) }
     {
         check_data_item(alloc, state, types, self, offset)
     }

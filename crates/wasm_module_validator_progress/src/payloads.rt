@@ -8,11 +8,12 @@ ghost use Rattle.wasm_types.specs.limits.Settings.{Settings};
 ghost use Rattle.wasm_sections_parser.specs.declared.frame.Frame.{Frame};
 ghost use Rattle.wasm_sections_parser.specs.Parsing.{shape_of, layer_of};
 ghost use Rattle.wasm_sections_payloads.specs.Payloads.{only_number, IsPayloadOf};
+ghost use Rattle.wasm_module_validator_adding.specs.Adding.{UnlessFull};
 ghost use Rattle.wasm_module_validator_adding.specs.declared.bodies.Body.{Body as TheBody};
 ghost use Rattle.wasm_module_validator_standing.specs.steps.Sections as section;
 ghost use Rattle.wasm_module_validator_standing.specs.steps.Steps.{SoFar, JudgesSection, JudgesShape};
 ghost use Rattle.wasm_module_validator_fronts.specs.Walks.{HasSettings};
-ghost use Rattle.wasm_module_validator_progress.specs.Progress.{Grows, IsAt};
+ghost use Rattle.wasm_module_validator_progress.specs.Progress.{FullBy, Grows, IsAt};
 
 use crate::{Body, InProgress};
 use wasm_module_validator_declaring::{take_data_count, take_start};
@@ -100,19 +101,19 @@ impl InProgress {
 
     /// Takes the next payload of a module: a section is checked item by item, and a body is kept with the index of its function and of
     /// its type. Where what is kept stands for what was judged, it is Ok exactly where the frame whose payload this is may come next by
-    /// the rules, out of memory aside; and what is kept then stands for whatever was judged with it.
+    /// the rules, out of memory and the total of types aside; and what is kept then stands for whatever was judged with it.
     ///
     /// # Errors
     ///
     /// It is the header of something else than a module of version 1, a section out of order or of no known id, or not a valid one behind
-    /// what was read; or there is no memory. What is kept then stands for nothing.
+    /// what was read; a group of types has no room in the list; or there is no memory. What is kept then stands for nothing.
     pub fn take_payload<'a>(
         &mut self,
         payload: Payload<'a>,
         bodies: &mut Vec<Body<'a>>,
     ) -> Result<()>
-        ensures answer { (z : Settings) (p : SoFar) (f : Frame) → IsAt z self.old bodies.old.items p → HasSettings z f → IsPayloadOf f payload.entry
-            → Tells result ((q : SoFar) × JudgesShape z p (shape_of f) q) }
+        ensures answer { UnlessFull (FullBy payload.entry self.old.kept) result ((z : Settings) (p : SoFar) (f : Frame) → IsAt z self.old bodies.old.items p → HasSettings z f → IsPayloadOf f payload.entry
+            → Tells result ((q : SoFar) × JudgesShape z p (shape_of f) q)) }
         ensures added { OnOk result ((z : Settings) (p q : SoFar) (f : Frame) → IsAt z self.old bodies.old.items p → HasSettings z f → IsPayloadOf f payload.entry
             → JudgesShape z p (shape_of f) q → IsAt z self.new bodies.new.items q) }
         ensures grown { OnOk result (Grows self.old.kept self.new.kept) }

@@ -1,7 +1,7 @@
 //! A module read from its first byte to its last.
 
 ghost use Rattle.std.specs.Prelude.{◌≡◌, IfOk, OnOk};
-ghost use Rattle.wasm_types.specs.error.Denials.{Tells};
+ghost use Rattle.wasm_module_validator_judging.specs.progress.declaring.Total.{TellsWithinTotal};
 ghost use Rattle.wasm_module_validator_judging.specs.progress.standing.steps.Steps.{SoFar};
 ghost use Rattle.wasm_module_validator_judging.specs.progress.Progress.{Grows, IsAt, nothing_over};
 ghost use Rattle.wasm_module_validator_reading.specs.Reading.{IsReadAs};
@@ -16,7 +16,8 @@ use wasm_types::Result;
 ///
 /// # Errors
 ///
-/// The bytes are no module; or a section is not valid behind those before it: the first of these. Or there is no memory.
+/// The bytes are no module; or a section is not valid behind those before it; or the list of types, which has 2^20 at most, has no room
+/// for a group: the first of these. Or there is no memory.
 pub fn read_module<'a>(
     alloc: Global,
     settings: &HeldSettings,
@@ -24,7 +25,7 @@ pub fn read_module<'a>(
     bytes: &'a [u8],
 ) -> Result<Vec<Body<'a>>>
     requires { progress.old ≡ nothing_over progress.old.kept.groups settings.now }
-    ensures answer { Tells result ((q : SoFar) × IsReadAs settings.now bytes.now q) }
+    ensures answer { TellsWithinTotal progress.old.kept.groups progress.old.kept.items result ((q : SoFar) × IsReadAs settings.now bytes.now q) }
     ensures stands { IfOk result (λ bodies. (q : SoFar) → IsReadAs settings.now bytes.now q → IsAt settings.now progress.new bodies.items q) }
     ensures grown { OnOk result (Grows progress.old.kept progress.new.kept) }
 {

@@ -1,7 +1,9 @@
 //! What operators ask of a module.
 
-ghost use Rattle.std.specs.Prelude.{◌≡◌, Some};
+ghost use Rattle.std.specs.Prelude.{◌≡◌, Some, option_map, slice_get};
+ghost use Rattle.wasm_operator_validator_resources.specs.Meaning.{table_in};
 ghost use Rattle.wasm_module_validator_resources.specs.Named.{IsReadOver, IsSettledIn};
+ghost use Rattle.wasm_module_validator_resources.specs.Reading.{meaning_of};
 
 use wasm_module_validator_module::Module;
 use wasm_module_validator_types::TypeList;
@@ -37,7 +39,10 @@ impl<'a> WasmModuleResources for OperatorValidatorResources<'a> {
 
     ghost meaning = { λ r. meaning_of r.types.now.groups r.«module».now };
 
-    fn table_at(&self, at: u32) -> Option<TableType> {
+    fn table_at(&self, at: u32) -> Option<TableType>
+        ensures meaning { option_map (table_in (meaning_of self.now.types.now.groups self.now.«module».now)) result ≡ slice_get (meaning_of self.now.types.now.groups self.now.«module».now).«module».tables at }
+        ensures exact { result ≡ slice_get self.now.«module».now.tables at }
+    {
         self.module.table_at(at)
     }
 

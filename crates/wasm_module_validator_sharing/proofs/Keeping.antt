@@ -20,7 +20,7 @@ use Rattle.wasm_module_validator_reading.specs.progress.Progress.{Kept, Progress
 use Rattle.wasm_module_validator_reading.specs.progress.laws.Shapes.{frame_back}
 use Rattle.wasm_module_validator_reading.proofs.Arms.{section_answer, section_added}
 use Rattle.wasm_module_validator_reading.proofs.Counting.{on_ok}
-use Rattle.wasm_module_validator_sharing.specs.Sharing.{Reached, reached, has_no_code, body_count, IsReached, IsWhole, TellsNext, Follows}
+use Rattle.wasm_module_validator_sharing.specs.Sharing.{Reached, reached, has_no_code, body_count, IsReached, IsWhole, TellsFrame, Follows}
 
 -- ---- what is its own, and what is shared
 
@@ -90,7 +90,7 @@ module _ (r : Reached) (own : Progress) (same : r.progress ≡ own) (none : r.co
 
   pub told_next : {X : Type 0} (result : Result X ErrorValue)
       → ((z : Settings) (p : SoFar) (f : Frame) → IsAt z own [] p → HasSettings z f → IsPayloadOf f x → Tells result ((q : SoFar) × JudgesShape z p (shape_of f) q))
-      → TellsNext r x result
+      → TellsFrame r x result
   told_next result h z p f at has is = h z p f (own_at z p at) has is
 
   pub payload_follows : {X : Type 0} (result : Result X ErrorValue) (after : Progress) (bodies : List Body) (s : Reached) → IsWhole x → s ≡ record { progress = after; code = None }
@@ -138,7 +138,7 @@ module _ (r : Reached) (here : Progress) (same : r.progress ≡ here) (x : Paylo
   pub data_told : {X : Type 0} (result : Result X ErrorValue)
       → ((z : Settings) (p : SoFar) (bodies : List Body) (b : State) → IsAt z here bodies p → b.settings ≡ z → G b
       → Tells result ((q : SoFar) × JudgesSection z p section.data_segments b.rest q))
-      → TellsNext r x result
+      → TellsFrame r x result
   data_told result h z p f (bodies, count, at) has is =
       section_answer result x x refl z p f section.data_segments plain
       (λ id b k. let m = of id b k in (m.0, λ st. h z p bodies b (subst (λ (s : Progress). IsAt z s bodies p) same at) st m.1)) has is

@@ -12,11 +12,12 @@ use Rattle.wasm_sections_payloads.specs.declared.payload.Payload.TheVariants as 
 use Rattle.wasm_sections_payloads.specs.Payloads.{IsPayloadOf}
 use Rattle.wasm_module_validator_module.specs.declared.module.Function.{Function}
 use Rattle.wasm_module_validator_reading.specs.judging.functions.declared.beginning.FuncToValidate.{FuncToValidate}
+use Rattle.wasm_module_validator_reading.specs.progress.adding.Adding.{UnlessFull}
 use Rattle.wasm_module_validator_reading.specs.progress.adding.declared.bodies.Body.{Body}
 use Rattle.wasm_module_validator_reading.specs.progress.fronts.Walks.{HasSettings}
 use Rattle.wasm_module_validator_reading.specs.progress.standing.steps.Sections.{code_place}
 use Rattle.wasm_module_validator_reading.specs.progress.standing.steps.Steps.{SoFar, JudgesShape, JudgesBody}
-use Rattle.wasm_module_validator_reading.specs.progress.Progress.{Kept, Progress, IsAt, nothing_kept, renewed, next_over}
+use Rattle.wasm_module_validator_reading.specs.progress.Progress.{Kept, Progress, FullBy, IsAt, nothing_kept, renewed, next_over}
 use Rattle.wasm_module_validator_sharing.specs.declared.resources.ValidatorResources.{ValidatorResources}
 
 -- ---- what is kept
@@ -86,9 +87,13 @@ IsWhole (payloads.DataSection s) = Unit {0}
 IsWhole (payloads.UnknownSection i c r) = Unit {0}
 
 -- Where what is kept stands for what was judged, the answer tells whether the frame that has this payload may come next by the rules.
-abbrev pub TellsNext : {X : Type 0} → Reached → Payload → Result X ErrorValue → Type 0
-TellsNext r x answer = (z : Settings) (p : SoFar) (f : Frame) → IsReached z r p → HasSettings z f → IsPayloadOf f x
+abbrev pub TellsFrame : {X : Type 0} → Reached → Payload → Result X ErrorValue → Type 0
+TellsFrame r x answer = (z : Settings) (p : SoFar) (f : Frame) → IsReached z r p → HasSettings z f → IsPayloadOf f x
     → Tells answer ((q : SoFar) × JudgesShape z p (shape_of f) q)
+
+-- It does so unless the payload is a type section, with which the total of types would be passed.
+abbrev pub TellsNext : {X : Type 0} → Reached → Payload → Result X ErrorValue → Type 0
+TellsNext r x answer = UnlessFull (FullBy x r.progress.kept) answer (TellsFrame r x answer)
 
 -- What is kept then stands for whatever was judged with that frame.
 abbrev pub Follows : Reached → Payload → Reached → Type 0

@@ -1,10 +1,10 @@
 //! What functions look up in a module that is shared.
 
-ghost use Rattle.std.specs.Prelude.{◌≡◌, ◌<◌};
+ghost use Rattle.std.specs.Prelude.{◌≡◌, ◌<◌, option_map, slice_get};
 ghost use Rattle.wasm_types.specs.trees.Trees.{opened};
-ghost use Rattle.wasm_operator_validator_resources.specs.Meaning.{entry_in};
+ghost use Rattle.wasm_operator_validator_resources.specs.Meaning.{entry_in, table_in};
 ghost use Rattle.wasm_module_validator_reading.specs.progress.standing.type_trees.Groups.{count, tree_of};
-ghost use Rattle.wasm_module_validator_resources.specs.Reading.{names_in};
+ghost use Rattle.wasm_module_validator_resources.specs.Reading.{names_in, meaning_of};
 ghost use Rattle.wasm_module_validator_resources.specs.Named.{IsSettledIn};
 
 use std::rc::Rc;
@@ -51,8 +51,12 @@ impl WasmModuleResources for ValidatorResources {
 
     ghost meaning = { λ r. meaning_of r.shared.value.groups r.shared.value.items.spaces };
 
-    fn table_at(&self, at: u32) -> Option<TableType> {
-        self.shared.resources().table_at(at)
+    fn table_at(&self, at: u32) -> Option<TableType>
+        ensures meaning { option_map (table_in (meaning_of self.now.shared.value.groups self.now.shared.value.items.spaces)) result
+            ≡ slice_get (meaning_of self.now.shared.value.groups self.now.shared.value.items.spaces).«module».tables at }
+        ensures exact { result ≡ slice_get self.now.shared.value.items.spaces.tables at }
+    {
+        self.shared.state().module().table_at(at)
     }
 
     fn memory_at(&self, at: u32) -> Option<MemoryType> {

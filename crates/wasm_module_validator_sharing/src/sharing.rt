@@ -5,9 +5,11 @@ ghost use Rattle.wasm_types.specs.error.Denials.{Tells};
 ghost use Rattle.wasm_types.specs.error.declared.error.ErrorKind.TheVariants.{OutOfMemory};
 ghost use Rattle.wasm_types.specs.limits.Settings.{Settings};
 ghost use Rattle.wasm_sections_payloads.specs.declared.payload.Payload.TheVariants as payloads;
+ghost use Rattle.wasm_module_validator_reading.specs.progress.declaring.Total.{TellsWithinTotal};
+ghost use Rattle.wasm_module_validator_reading.specs.progress.standing.items.Items.{no_items};
 ghost use Rattle.wasm_module_validator_reading.specs.progress.standing.steps.Sections.{code_place};
 ghost use Rattle.wasm_module_validator_reading.specs.progress.standing.steps.Steps.{SoFar};
-ghost use Rattle.wasm_module_validator_reading.specs.progress.Progress.{Grows, IsAt, renewed};
+ghost use Rattle.wasm_module_validator_reading.specs.progress.Progress.{Grows, IsAt, kept_groups, renewed};
 ghost use Rattle.wasm_module_validator_reading.specs.judging.Bodies.{AreBodies};
 ghost use Rattle.wasm_module_validator_reading.specs.Reading.{IsReadAs};
 ghost use Rattle.wasm_module_validator_sharing.specs.Sharing.{nothing_reached, renewed_behind, next_behind, has_no_code, IsReached, IsWhole, TellsNext, Follows, IsNextFunction};
@@ -113,7 +115,7 @@ impl SharedProgress {
     ///
     /// As `read_module`. What is kept then stands for nothing.
     pub fn read<'a>(&mut self, settings: &HeldSettings, bytes: &'a [u8]) -> Result<Vec<Body<'a>>>
-        ensures answer { Tells result ((q : SoFar) × IsReadAs settings.now bytes.now q) }
+        ensures answer { TellsWithinTotal (kept_groups settings.now self.old.progress.kept) (no_items settings.now) result ((q : SoFar) × IsReadAs settings.now bytes.now q) }
         ensures stands { IfOk result (λ bodies. (q : SoFar) → IsReadAs settings.now bytes.now q → IsAt settings.now self.new.progress bodies.items q) }
         ensures grown { OnOk result (Grows (renewed settings.now self.old.progress.kept).kept self.new.progress.kept) }
         ensures own { self.new.code ≡ None }

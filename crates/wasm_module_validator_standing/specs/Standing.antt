@@ -4,7 +4,7 @@ use Rattle.wasm_types.specs.error.ErrorValue.{ErrorValue}
 use Rattle.wasm_types.specs.error.Denials.{Tells}
 use Rattle.wasm_types.specs.limits.Settings.{Settings}
 use Rattle.wasm_types.specs.trees.ValidGroup.{Written, IsValidGroup}
-use Rattle.wasm_module_validator_type_trees.specs.Groups.{Group}
+use Rattle.wasm_module_validator_type_trees.specs.Groups.{Group, count}
 use Rattle.wasm_module_validator_groups.specs.adding.Interned.{space_of}
 use Rattle.wasm_module_validator_module.specs.Spaces.{Spaces}
 use Rattle.wasm_operator_validator_resources.specs.Meaning.{Meaning}
@@ -53,6 +53,10 @@ imports_by_name is = named_behind [] [] is
 -- groups were added to a list: the newest come first
 abbrev pub IsGrown : List Group → List Group → Type 0
 IsGrown old new = (more : List Group) × (new ≡ more ++ old)
+
+-- and they have no more types than the module has besides
+abbrev pub GrowsWith : List Group → Spaces → List Group → Spaces → Type 0
+GrowsWith old s new t = IsGrown old new × (count new + length s.types ≤ count old + length t.types)
 
 -- ---- the state
 

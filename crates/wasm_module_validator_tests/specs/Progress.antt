@@ -4,6 +4,7 @@ use Rattle.std.specs.Prelude.{◌≡◌, ◌+◌, ◌<◌, ℕ, Bool, true, fals
 use Rattle.wasm_types.specs.decoding.Decoder.{State}
 use Rattle.wasm_types.specs.error.ErrorValue.{ErrorValue}
 use Rattle.wasm_types.specs.error.declared.error.ErrorKind.TheVariants.{OutOfMemory, Other}
+use Rattle.wasm_types.specs.indices.declared.index.CoreTypeId.{CoreTypeId}
 use Rattle.wasm_types.specs.limits.Limits.{default_limits}
 use Rattle.wasm_types.specs.limits.Settings.{Settings}
 use Rattle.wasm_sections_parser.specs.declared.frame.Encoding.TheVariants as encodings
@@ -41,6 +42,10 @@ one_function bits groups = record {
   count = 2;
 }
 
+-- the same with types of these ids
+abbrev pub of_types : List CoreTypeId → Kept → Kept
+of_types ids k = record k { items = record k.items { spaces = record k.items.spaces { types = ids } } }
+
 pub record KeptRows (z : Settings) (g h : Group) : Type 0 where
   pub nothing : nothing_kept z ≡ record { kept = record { groups = []; items = no_items z; count = 0 }; last = 0 }
   pub over : nothing_over (g ∷ []) z ≡ record { kept = record { groups = g ∷ []; items = no_items z; count = 0 }; last = 0 }
@@ -48,7 +53,8 @@ pub record KeptRows (z : Settings) (g h : Group) : Type 0 where
   pub renewed_otherwise : renewed (under 6) (one_function 5 (g ∷ [])) ≡ nothing_kept (under 6)
   pub renewed_by_limits : renewed (of_ten_locals 5) (one_function 5 (g ∷ [])) ≡ nothing_kept (of_ten_locals 5)
   pub next : next_over (one_function 5 (g ∷ [])) ≡ nothing_over (g ∷ []) (under 5)
-  pub grows : Grows (one_function 5 (g ∷ [])) (one_function 5 (h ∷ g ∷ []))
+  pub grows : (ids : List CoreTypeId) → length ids ≡ length h.types → Grows (one_function 5 (g ∷ [])) (of_types ids (one_function 5 (h ∷ g ∷ [])))
+  pub grows_by_more : 0 < length h.types → Grows (one_function 5 (g ∷ [])) (one_function 5 (h ∷ g ∷ [])) → ⊥
   pub grows_not : Grows (one_function 5 (g ∷ [])) (one_function 5 []) → ⊥
   pub grows_alike : Grows (one_function 5 []) (one_function 6 []) → ⊥
   pub reads : Reads section.types (g ∷ []) (no_items z) 0 z tree.no_items

@@ -1,5 +1,5 @@
 -- The rows of `Progress`.
-use Rattle.std.proofs.Common.{◌≡◌, ◌∙◌, ◌+◌, ◌++◌, ◌<◌, ◌≤◌, ℕ, Bool, true, false, List, [], ◌∷◌, length, map, take, Option, Some, None, option_map, slice_get, refl, sym, ap, subst, arith, lit<, lit≤, rules}
+use Rattle.std.proofs.Common.{◌≡◌, ◌∙◌, ◌+◌, ◌++◌, ◌<◌, ◌≤◌, ℕ, Bool, true, false, List, [], ◌∷◌, length, map, take, Option, Some, None, option_map, slice_get, refl, sym, ap, subst, arith, lit<, lit≤, rules, Err, inl, inr}
 use Rattle.wasm_types.specs.decoding.Decoder.{State}
 use Rattle.wasm_types.specs.limits.declared.Limits.{Limits}
 use Rattle.wasm_types.specs.limits.Limits.{default_limits}
@@ -15,13 +15,14 @@ use Rattle.wasm_module_validator_module.specs.declared.module.Function.{Function
 use Rattle.wasm_module_validator_sharing.specs.reading.laws.Walking.{nothing_is_at}
 use Rattle.wasm_module_validator_sharing.specs.reading.progress.adding.declared.bodies.Body.{Body}
 use Rattle.wasm_module_validator_sharing.specs.reading.progress.standing.type_trees.Groups.{Group}
+use Rattle.wasm_module_validator_sharing.specs.reading.progress.standing.type_trees.laws.Unrolled.{count_push}
 use Rattle.wasm_module_validator_sharing.specs.reading.progress.standing.laws.Worked.{worked_nothing}
 use Rattle.wasm_module_validator_sharing.specs.reading.progress.standing.steps.contexts.rules.Syntax.{ModuleTree}
 use Rattle.wasm_module_validator_sharing.specs.reading.progress.standing.steps.Steps.{SoFar, nothing, JudgesBody, JudgesShape}
 use Rattle.wasm_module_validator_sharing.specs.reading.progress.standing.steps.Worked.{in_code}
 use Rattle.wasm_module_validator_sharing.specs.reading.progress.Progress.{Kept, Progress, IsAt, text_of, type_of, next_over}
-use Rattle.wasm_module_validator_sharing.specs.Sharing.{Reached, body_count, IsReached, Handed, FitsNext}
-use Rattle.wasm_module_validator_tests.specs.Progress.{under, KeptRows, StandsFor, BodiesStand, BodiesJudged, ReachedRows, begun, fresh, ReachedStands, NextTold, text, code_of, BodiesTold}
+use Rattle.wasm_module_validator_sharing.specs.Sharing.{Reached, body_count, IsReached, TellsNext, Handed, FitsNext}
+use Rattle.wasm_module_validator_tests.specs.Progress.{under, KeptRows, StandsFor, BodiesStand, BodiesJudged, ReachedRows, begun, fresh, at_seven, ReachedStands, NextTold, text, code_of, BodiesTold}
 
 -- ---- what is kept
 
@@ -38,7 +39,8 @@ kept_rows z g h = record {
   renewed_otherwise = refl;
   renewed_by_limits = refl;
   next = refl;
-  grows = record { groups = (h ∷ [], refl); settings = refl };
+  grows = λ ids same. let more = count_push h (g ∷ []) in record { groups = (h ∷ [], refl); types = omega (arith, more, same); settings = refl };
+  grows_by_more = λ some x. let more = count_push h (g ∷ []) in let few = x.types in omega (arith, more, few, some);
   grows_not = λ x. no_list x.groups.0 g x.groups.1;
   grows_alike = λ x. let e = ap (λ (y : Settings). y.features) x.settings in omega (arith, e);
   reads = record { reading = record { stands = worked_nothing (g ∷ []) z; last = refl }; counted = refl };
@@ -141,12 +143,16 @@ no_version z p q (frames.CodeStart a b c) r i j = absurd cc
 no_version z p q (frames.CodeEntry a) r i j = absurd cc
 no_version z p q (frames.End a) r i j = absurd cc
 
+end_refused : (groups : List Group) (bits n : ℕ) → TellsNext {X = ℕ} (fresh groups bits) (payloads.End n) (Err at_seven) → ⊥
+end_refused groups bits n (inl full) = full.0
+end_refused groups bits n (inr t) = t (under bits) nothing (frames.End n) (at_nothing groups bits) tt refl (nothing, refl)
+
 pub next_told : (groups : List Group) (bits : ℕ) → NextTold groups bits
 next_told groups bits = record {
   end = λ n z p f r h i. (p, the_end_comes z p f n i);
-  end_refused = λ n t. t (under bits) nothing (frames.End n) (at_nothing groups bits) tt refl (nothing, refl);
+  end_refused = end_refused groups bits;
   another_version = λ r t. let (q, (v, l, e)) = t (under bits) nothing (frames.Version 2 encodings.Module r) (at_nothing groups bits) tt refl in omega (arith, v);
-  another_version_refused = λ r z p f s h i (q, j). no_version z p q f r i j;
+  another_version_refused = λ r. inr (λ z p f s h i (q, j). no_version z p q f r i j);
   follows = λ n z p q f r h i j. subst (λ (x : SoFar). IsReached z (fresh groups bits) x) (sym (the_end_stays z p q f n i j)) r;
   follows_not = λ n h.
       let (bs, m, a) = h (under bits) nothing nothing (frames.End n) (at_nothing groups bits) tt refl refl in

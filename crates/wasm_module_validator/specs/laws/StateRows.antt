@@ -16,9 +16,9 @@ pub record LeftRows : Type 0 where
   pub not_ended : IsLeft OutOfMemory Ended → ⊥
 
 -- behind a module that was accepted
-pub record AcceptedRows (z : Settings) (bytes : List ℕ) : Type 0 where
-  pub ended : Leaves {X = ℕ} z bytes (Ok 0) Ended
-  pub not_failed : Leaves {X = ℕ} z bytes (Ok 0) Failed → ⊥
+pub record AcceptedRows (groups : List Group) (z : Settings) (bytes : List ℕ) : Type 0 where
+  pub ended : Leaves {X = ℕ} groups z bytes (Ok 0) Ended
+  pub not_failed : Leaves {X = ℕ} groups z bytes (Ok 0) Failed → ⊥
 
 -- ---- what a module begins with behind another
 

@@ -1,18 +1,23 @@
 -- A module is accepted exactly where it is read and each of its bodies is judged valid.
-use Rattle.std.proofs.Common.{◌≡◌, ℕ, List, [], length, Result, Ok, Err, subst}
+use Rattle.std.proofs.Common.{◌≡◌, ℕ, Bool, true, false, if◌then◌else◌, List, [], length, Result, Ok, Err, refl, subst}
 use Rattle.wasm_types.specs.error.Denials.{Denies, Tells}
 use Rattle.wasm_types.specs.error.ErrorValue.{ErrorValue}
 use Rattle.wasm_types.specs.error.declared.error.ErrorKind.{ErrorKind}
 use Rattle.wasm_types.specs.error.declared.error.ErrorKind.TheVariants.{EndOfData, MissingFeature, OutOfMemory, Failed, Other}
+use Rattle.wasm_types.specs.limits.Limits.{IsWithinCeilings}
 use Rattle.wasm_types.specs.limits.Settings.{Settings}
 use Rattle.wasm_module_validator_sharing.specs.reading.progress.adding.declared.bodies.Body.{Body}
 use Rattle.wasm_module_validator_sharing.specs.reading.progress.standing.steps.contexts.rules.Accepts.{AcceptsUnder, Judges}
 use Rattle.wasm_module_validator_sharing.specs.reading.progress.standing.steps.contexts.rules.Syntax.{ModuleTree}
 use Rattle.wasm_module_validator_sharing.specs.reading.progress.standing.steps.Steps.{SoFar}
 use Rattle.wasm_module_validator_sharing.specs.reading.progress.standing.Standing.{Stands}
+use Rattle.wasm_module_validator_sharing.specs.reading.progress.standing.items.Items.{no_items}
+use Rattle.wasm_module_validator_sharing.specs.reading.progress.standing.type_trees.Groups.{Group}
+use Rattle.wasm_module_validator_sharing.specs.reading.progress.declaring.Total.{TellsWithinTotal}
+use Rattle.wasm_module_validator_sharing.specs.reading.progress.declaring.TotalLaws.{within_total}
 use Rattle.wasm_module_validator_fronts.specs.framed.laws.Complete.{module_comes}
 use Rattle.wasm_module_validator_fronts.specs.framed.laws.Accepted.{accepted_comes, accepted_exactly, bodies_of_functions}
-use Rattle.wasm_module_validator_sharing.specs.reading.progress.Progress.{Progress, IsAt}
+use Rattle.wasm_module_validator_sharing.specs.reading.progress.Progress.{Kept, Progress, IsAt, are_same, kept_groups}
 use Rattle.wasm_module_validator_sharing.specs.reading.Reading.{IsReadAs}
 use Rattle.wasm_module_validator_sharing.specs.reading.judging.Bodies.{AreBodies}
 
@@ -54,3 +59,16 @@ module _ (z : Settings) (text : List ℕ) (r : Progress) (bodies : List Body) (r
   stands_for_module m j =
       let h = module_comes z m text j.spelled j.valid in
       subst (λ (n : ModuleTree). Stands r.kept.groups r.kept.items z n) h.2.2 (stands h.2.0 (h.0, h.1, h.2.1)).stands
+
+-- a validator that has read nothing has no types
+pub none_held : (z : Settings) (k : Kept) → k.groups ≡ [] → kept_groups z k ≡ []
+none_held z k e = go (are_same k.items.spaces.settings z)
+  where
+    go : (b : Bool) → (if b then k.groups else []) ≡ []
+    go true = e
+    go false = refl
+
+-- so it passes no total
+pub alone_told : {X : Type 0} (z : Settings) (k : Kept) → k.groups ≡ [] → IsWithinCeilings z.limits → (r : Result X ErrorValue) (P : Type 0)
+    → TellsWithinTotal (kept_groups z k) (no_items z) r P → Tells r P
+alone_told z k none w r P h = within_total z w r P (subst (λ (gs : List Group). TellsWithinTotal gs (no_items z) r P) (none_held z k none) h)

@@ -4,9 +4,11 @@ ghost use Rattle.std.specs.Prelude.{◌≡◌, IsTrue, IfErr, OnOk, OnErr};
 ghost use Rattle.wasm_types.specs.error.Denials.{Tells};
 ghost use Rattle.wasm_types.specs.error.declared.error.ErrorKind.TheVariants.{Other};
 ghost use Rattle.wasm_types.specs.features.Features.{Memory64, SharedEverythingThreads};
+ghost use Rattle.wasm_types.specs.trees.Each.{EachHeap};
 ghost use Rattle.wasm_types.specs.trees.Gates.{Has};
+ghost use Rattle.wasm_types.specs.values.Trees.{heap_of};
 ghost use Rattle.wasm_types.specs.values.declared.value.ValType.TheVariants as value;
-ghost use Rattle.wasm_operator_validator_state.specs.resources.Meaning.{reference_in, table_in};
+ghost use Rattle.wasm_operator_validator_state.specs.resources.Meaning.{reference_in, table_in, IsKnownIndex};
 ghost use Rattle.wasm_module_validator_checks.specs.limits.rules.Spaces.{value_in, table_in as table_written};
 ghost use Rattle.wasm_module_validator_checks.specs.limits.rules.Valid.{IsValidElementType, IsValidTableType, IfThere, most_elements};
 ghost use Rattle.wasm_module_validator_checks.specs.externs.Refusals.{IsRefusal, IsNeeded, allowing};
@@ -25,6 +27,7 @@ fn check_element_type<R: WasmModuleResources>(
 ) -> Result<()>
     ensures answer { Tells result (IsValidElementType settings.now (R.meaning resources.now).«module» ty.old) }
     ensures named { OnOk result (reference_in (R.meaning resources.now) ty.new ≡ value_in (R.meaning resources.now).«module».types (value.Ref ty.old)) }
+    ensures known { OnOk result (EachHeap (IsKnownIndex (R.meaning resources.now)) (heap_of ty.new.heap)) }
     ensures refused { IfErr result (λ e. IsRefusal settings.now.features (λ b. IsValidElementType (allowing b settings.now) (R.meaning resources.now).«module» ty.old) e.kind) }
     ensures at { IfErr result (λ e. e.offset ≡ offset) }
 {
@@ -79,8 +82,8 @@ fn check_table_features(ty: &TableType, settings: &Settings, offset: u64) -> Res
 }
 
 /// Refuses a table type that is not valid: of elements that are not, a minimum above its maximum, a form that a feature is missing
-/// for, more elements than there are indices for, and a shared one whose elements are not; else it names types by their ids. A
-/// refused one stays as it was.
+/// for, more elements than there are indices for, and a shared one whose elements are not; else it names types by their ids, each of
+/// a known type. A refused one stays as it was.
 ///
 /// # Errors
 ///
@@ -93,6 +96,7 @@ pub fn check_table_type<R: WasmModuleResources>(
 ) -> Result<()>
     ensures answer { Tells result (IsValidTableType settings.now (R.meaning resources.now).«module» ty.old) }
     ensures named { OnOk result (table_in (R.meaning resources.now) ty.new ≡ table_written (R.meaning resources.now).«module».types ty.old) }
+    ensures known { OnOk result (EachHeap (IsKnownIndex (R.meaning resources.now)) (heap_of ty.new.element_type.heap)) }
     ensures sizes { (ty.new.initial ≡ ty.old.initial) × (ty.new.maximum ≡ ty.old.maximum) }
     ensures kept { OnErr result (ty.new ≡ ty.old) }
     ensures refused { IfErr result (λ e. IsRefusal settings.now.features (λ b. IsValidTableType (allowing b settings.now) (R.meaning resources.now).«module» ty.old) e.kind) }

@@ -1,32 +1,49 @@
 -- A list of types that grows, and settings that stay.
-use Rattle.std.proofs.Common.{◌≡◌, ◌∙◌, ◌++◌, [], List, Result, Ok, Err, refl, sym, ap, subst}
+use Rattle.std.proofs.Common.{◌≡◌, ◌∙◌, ◌++◌, [], List, Result, Ok, Err, refl, sym, ap, subst, arith}
 use Rattle.std.proofs.lemmas.List.{append_assoc}
 use Rattle.std.specs.Prelude.{OnOk}
 use Rattle.wasm_types.specs.error.ErrorValue.{ErrorValue}
 use Rattle.wasm_module_validator_type_trees.specs.Groups.{Group}
-use Rattle.wasm_module_validator_standing.specs.Standing.{IsGrown}
-use Rattle.wasm_module_validator_progress.specs.Progress.{Kept, Grows}
+use Rattle.wasm_module_validator_module.specs.Spaces.{Spaces}
+use Rattle.wasm_module_validator_standing.specs.Standing.{IsGrown, GrowsWith}
+use Rattle.wasm_module_validator_standing.specs.laws.Growing.{grows_by_none}
+use Rattle.wasm_module_validator_standing.specs.steps.Sections.{Section}
+use Rattle.wasm_module_validator_declaring.specs.Total.{IsPastTotal}
+use Rattle.wasm_module_validator_declaring.specs.TotalLaws.{past_before}
+use Rattle.wasm_module_validator_progress.specs.Progress.{Kept, Grows, FullIn}
 
 pub grows_by_nothing : (k : Kept) → Grows k k
-grows_by_nothing k = record { groups = ([], refl); settings = refl }
+grows_by_nothing k = record { groups = ([], refl); types = omega arith; settings = refl }
 
 pub grown_further : (a b c : List Group) → IsGrown a b → IsGrown b c → IsGrown a c
 grown_further a b c (m, e) (n, f) = (n ++ m, f ∙ (ap (λ gs. n ++ gs) e ∙ sym (append_assoc n m a)))
 
 pub grows_further : (j k l : Kept) → Grows j k → Grows k l → Grows j l
-grows_further j k l a b = record { groups = grown_further j.groups k.groups l.groups a.groups b.groups; settings = b.settings ∙ a.settings }
+grows_further j k l a b =
+    let first = a.types in
+    let second = b.types in
+    record { groups = grown_further j.groups k.groups l.groups a.groups b.groups; types = omega (arith, first, second); settings = b.settings ∙ a.settings }
 
 -- what stays has grown by nothing
 pub stays : {X : Type 0} (result : Result X ErrorValue) (k l : Kept) → l ≡ k → OnOk result (Grows k l)
 stays (Ok x) k l e = subst (λ (j : Kept). Grows k j) (sym e) (grows_by_nothing k)
 stays (Err e) k l f = tt
 
-pub list_stays : {X : Type 0} (result : Result X ErrorValue) (groups : List Group) → OnOk result (IsGrown groups groups)
-list_stays (Ok x) groups = ([], refl)
-list_stays (Err e) groups = tt
+pub list_stays : {X : Type 0} (result : Result X ErrorValue) (groups : List Group) (s t : Spaces) → t.types ≡ s.types → OnOk result (GrowsWith groups s groups t)
+list_stays (Ok x) groups s t e = grows_by_none groups s t e
+list_stays (Err x) groups s t e = tt
 
 -- where the list has grown and the settings stay
 pub grown_one : {X : Type 0} (result : Result X ErrorValue) (first k after : Kept) → first ≡ k → OnOk result (after.items.spaces.settings ≡ first.items.spaces.settings)
-    → OnOk result (IsGrown first.groups after.groups) → OnOk result (Grows k after)
-grown_one (Ok x) first k after e s g = subst (λ (j : Kept). Grows j after) e (record { groups = g; settings = s })
+    → OnOk result (GrowsWith first.groups first.items.spaces after.groups after.items.spaces) → OnOk result (Grows k after)
+grown_one (Ok x) first k after e s g = subst (λ (j : Kept). Grows j after) e (record { groups = g.0; types = g.1; settings = s })
 grown_one (Err x) first k after e s g = tt
+
+-- ---- a list that is full
+
+-- was so before
+pub total_before : (k l : Kept) (e : ErrorValue) → Grows k l → IsPastTotal l.groups l.items e → IsPastTotal k.groups k.items e
+total_before k l e g p = past_before k.groups l.groups k.items l.items e (g.groups, g.types) g.settings p
+
+pub full_before : (s : Section) (k l : Kept) (e : ErrorValue) → Grows k l → FullIn s l.groups l.items e → FullIn s k.groups k.items e
+full_before s k l e g f = (f.0, total_before k l e g f.1)

@@ -12,7 +12,7 @@ use Rattle.wasm_types.specs.error.ErrorValue.{ErrorValue}
 use Rattle.wasm_types.specs.error.declared.error.ErrorKind.{ErrorKind}
 use Rattle.wasm_sections_parser.specs.Steps as frame
 use Rattle.wasm_module_validator_adding.specs.declared.bodies.Body.{Body}
-use Rattle.wasm_module_validator_adding.specs.Adding.{Spelled, AreAdded, StopsAdding}
+use Rattle.wasm_module_validator_adding.specs.Adding.{Spelled, AreAdded, StopsAdding, UnlessFull}
 use Rattle.wasm_module_validator_standing.specs.steps.contexts.rules.Syntax.{ModuleTree}
 use Rattle.wasm_module_validator_standing.specs.steps.Sections.{Section, Item, number, place, code_place, IsUnread}
 use Rattle.wasm_module_validator_standing.specs.steps.Sections as section
@@ -133,17 +133,18 @@ module _ (r : Progress) (s : Section) {T V : Type 0} (view : T → V) (of : T �
     answered result b same counts answer stops =
         section_told z p r bodies at s view of d g tells b c n same counts result o (fits z p bodies at o) (answer (reading z p.tree) starts_here) (stops (reading z p.tree) starts_here)
 
-  pub all_added : {X : Type 0} (result : Result X ErrorValue) (k : Kept) (last : ℕ) → last ≡ place s → ((m : Reading) → IsRead s first m → Tells result ((t : Reading) × All m t))
+  pub all_added : {X : Type 0} (Full : ErrorValue → Type 0) (result : Result X ErrorValue) (k : Kept) (last : ℕ) → last ≡ place s
+      → UnlessFull Full result ((m : Reading) → IsRead s first m → Tells result ((t : Reading) × All m t))
       → OnOk result ((m t : Reading) → IsRead s first m → All m t → IsRead s k t)
       → OnOk result ((z : Settings) (p q : SoFar) (bodies : List Body) (b : State) → IsAt z r bodies p → b.settings ≡ z → u32 b ≡ Done n c → JudgesSection z p s b.rest q
       → IsAt z (record { kept = k; last = last }) bodies q)
-  all_added (Ok x) k last is answer added = λ z p q bodies b at same counts j.
+  all_added Full (Ok x) k last is answer added = λ z p q bodies b at same counts j.
       let h = starts_here z p bodies at in
       let a = answer (reading z p.tree) h in
       let behind_all = o z p bodies at in
       let there = stands z p r bodies at s view of d g tells b c n same counts behind_all (fits z p bodies at behind_all) a.0 a.1 k (added (reading z p.tree) a.0 h a.1) q j in
       subst (λ (l : ℕ). IsAt z (record { kept = k; last = l }) bodies q) (sym is) there
-  all_added (Err e) k last is answer added = tt
+  all_added Full (Err e) k last is answer added = tt
 
 -- ---- a section that is one number
 

@@ -11,7 +11,7 @@ use Rattle.wasm_types.specs.externs.declared.tag.TagType.{TagType}
 use Rattle.wasm_module_validator_type_trees.specs.Groups.{Group}
 use Rattle.wasm_module_validator_module.specs.Spaces.{Spaces, own_function}
 use Rattle.wasm_module_validator_resources.specs.Reading.{context_of}
-use Rattle.wasm_module_validator_standing.specs.so_far.SoFar.{IsReadAs}
+use Rattle.wasm_module_validator_standing.specs.so_far.SoFar.{sizes_of, IsReadAs}
 use Rattle.wasm_module_validator_standing.specs.so_far.Referring.{referring_to_each}
 use Rattle.wasm_module_validator_standing.specs.so_far.laws.Adding.{function_is_added, table_is_added, memory_is_added, tag_is_added, global_is_added, element_is_added, data_count_is_set, others_are_read, function_is_referred_to}
 use Rattle.wasm_module_validator_standing.specs.so_far.laws.Referring.{function_is_not_referred_to, export_refers, table_refers, global_refers, element_refers}
@@ -97,7 +97,7 @@ kept_settings kind.Memory x s = refl
 kept_settings kind.Global x s = refl
 kept_settings kind.Tag x s = refl
 
-kept_types : (k : ExternalKind) (x : ℕ) (s : Spaces) → (exporting k x s).types ≡ s.types
+pub kept_types : (k : ExternalKind) (x : ℕ) (s : Spaces) → (exporting k x s).types ≡ s.types
 kept_types kind.Func x s = refl
 kept_types kind.FuncExact x s = refl
 kept_types kind.Table x s = refl
@@ -229,15 +229,16 @@ module _ (groups : List Group) (s : Items) (z : Settings) (m : ModuleTree) (r : 
       })
 
   pub tables_stand : m ≡ up_to section.tables m → (x : TableTree Code) (kept : TableType)
-      → table_in (constants_of groups s.spaces) kept ≡ tree.table_in (context_of groups s.spaces).types x.ty → (n : ModuleTree) → Adds z section.tables m x n
+      → table_in (constants_of groups s.spaces) kept ≡ tree.table_in (context_of groups s.spaces).types x.ty → sizes_of kept ≡ sizes_of x.ty
+      → (n : ModuleTree) → Adds z section.tables m x n
       → Stands groups (record s { spaces = marking (referred_in_option x.init) (adding_table kept s.spaces) }) z n
-  tables_stand u x kept e n a =
+  tables_stand u x kept e sizes n a =
       let k : ModuleTree = adding section.tables m x in
       let after : Spaces = marking (referred_in_option x.init) (adding_table kept s.spaces) in
       subst (λ t. Stands groups (record s { spaces = after }) z t) (sym a.added) (record {
         settings = r.settings;
         read = marked_read groups (referred_in_option x.init) (adding_table kept s.spaces) k
-            (table_is_added groups s.spaces m r.read x kept (table_is_kept groups s.spaces m r.read x.ty kept e));
+            (table_is_added groups s.spaces m r.read x kept (table_is_kept groups s.spaces m r.read x.ty kept e) sizes);
         referred = table_refers s.spaces m r.referred after x refl;
         imports = r.imports;
         exports = r.exports;

@@ -1,19 +1,22 @@
 -- Groups of types: what is decided of them, and what is left.
-use Rattle.std.proofs.Common.{◌≡◌, ◌∙◌, ◌↔◌, ◌+◌, ◌<◌, ◌≤◌, ℕ, Bool, true, false, if◌then◌else◌, List, [], ◌∷◌, ◌++◌, length, refl, sym, ap, subst}
+use Rattle.std.proofs.Common.{◌≡◌, ◌∙◌, ◌↔◌, ◌+◌, ◌<◌, ◌≤◌, ℕ, zero, suc, Bool, true, false, if◌then◌else◌, List, [], ◌∷◌, ◌++◌, length, refl, sym, ap, subst, arith}
+use Rattle.std.proofs.lemmas.List.{length-append}
 use Rattle.wasm_types.specs.indices.declared.index.CoreTypeId.{CoreTypeId}
 use Rattle.wasm_types.specs.limits.Limits.{ceilings, IsWithinCeilings}
 use Rattle.wasm_types.specs.limits.Settings.{Settings}
 use Rattle.wasm_types.specs.trees.ValidGroup.{Written, IsValidGroup, types_of}
-use Rattle.wasm_module_validator_type_trees.specs.Groups.{Group}
-use Rattle.wasm_module_validator_groups.specs.adding.Interned.{space_of, AddsGroup}
+use Rattle.wasm_module_validator_type_trees.specs.Groups.{Group, count}
+use Rattle.wasm_module_validator_type_trees.specs.laws.Unrolled.{count_push}
+use Rattle.wasm_module_validator_groups.specs.adding.Interned.{space_of, ids_from, AddsGroup}
 use Rattle.wasm_module_validator_standing.specs.so_far.laws.Adding.{types_alone, group_is_added}
+use Rattle.wasm_module_validator_module.specs.Spaces.{Spaces}
 use Rattle.wasm_module_validator_items.specs.Items.{Items}
 use Rattle.wasm_module_validator_steps.specs.contexts.rules.Syntax.{ModuleTree}
 use Rattle.wasm_module_validator_steps.specs.contexts.rules.Spaces.{types_behind}
 use Rattle.wasm_module_validator_steps.specs.Sections as section
 use Rattle.wasm_module_validator_steps.specs.Sections.{adding, up_to}
 use Rattle.wasm_module_validator_steps.specs.Adding.{Adds}
-use Rattle.wasm_module_validator_standing.specs.Standing.{Stands, IsGrown, MayGrow}
+use Rattle.wasm_module_validator_standing.specs.Standing.{Stands, IsGrown, GrowsWith, MayGrow}
 use Rattle.wasm_module_validator_standing.specs.laws.Deciding.{may_be_added, counts, below, above}
 
 -- ---- the list of types
@@ -29,6 +32,25 @@ list_grown old new before after g a = go a.is_new a.interned.groups
     go : (b : Bool) → new ≡ (if b then g ∷ old else old) → IsGrown old new
     go true e = (g ∷ [], e)
     go false e = ([], e)
+
+-- no more types than the module has with it
+ids_counted : (first n : ℕ) → length (ids_from first n) ≡ n
+ids_counted first zero = refl
+ids_counted first (suc n) = ap suc (ids_counted (suc first) n)
+
+pub types_grown : (old new : List Group) (before after : List CoreTypeId) (g : Group) → AddsGroup old new before after g → count new + length before ≤ count old + length after
+types_grown old new before after g a =
+    let n : ℕ = length g.types in
+    let all : length after ≡ length before + n = ap length a.added ∙ (length-append before (ids_from a.first n) ∙ ap (λ k. length before + k) (ids_counted a.first n)) in
+    go a.is_new (a.interned.groups) all
+  where
+    go : (b : Bool) → new ≡ (if b then g ∷ old else old) → length after ≡ length before + length g.types → count new + length before ≤ count old + length after
+    go true e all = let more : count new ≡ count old + length g.types = ap count e ∙ count_push g old in omega (arith, more, all)
+    go false e all = let same : count new ≡ count old = ap count e in omega (arith, same, all)
+
+-- a list that stays beside a module whose types stay
+pub grows_by_none : (groups : List Group) (s t : Spaces) → t.types ≡ s.types → GrowsWith groups s groups t
+grows_by_none groups s t e = let same : length t.types ≡ length s.types = ap length e in (([], refl), omega (arith, same))
 
 module _ (groups : List Group) (s : Items) (z : Settings) where
   -- ---- what is decided

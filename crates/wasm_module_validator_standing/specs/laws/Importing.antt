@@ -42,7 +42,7 @@ settings_stay (import.Memory t) s = refl
 settings_stay (import.Global t) s = refl
 settings_stay (import.Tag t) s = refl
 
-types_stay : (u : TypeRef) (s : Spaces) → (importing u s).types ≡ s.types
+pub types_stay : (u : TypeRef) (s : Spaces) → (importing u s).types ≡ s.types
 types_stay (import.Func x) s = refl
 types_stay (import.FuncExact x) s = refl
 types_stay (import.Table t) s = refl
@@ -71,7 +71,7 @@ module _ (groups : List Group) (s : Spaces) (gs : List Written) (is : List Impor
       subst (λ k. IsReadAs groups (importing k s) (imports_alone gs (is ++ i ∷ []))) (sym h) (exact_function_is_imported groups s gs is r i x e)
   read_behind r (import.Memory t) u e h w = subst (λ k. IsReadAs groups (importing k s) (imports_alone gs (is ++ i ∷ []))) (sym h) (memory_is_imported groups s gs is r i t e)
   read_behind r (import.Tag t) u e h w = subst (λ k. IsReadAs groups (importing k s) (imports_alone gs (is ++ i ∷ []))) (sym h) (tag_is_imported groups s gs is r i t e w)
-  read_behind r (import.Table t) (import.Table u) e h w = table_is_imported groups s gs is r i t u e (table_is_named groups s (imports_alone gs is) r t u h.0)
+  read_behind r (import.Table t) (import.Table u) e h w = table_is_imported groups s gs is r i t u e (table_is_named groups s (imports_alone gs is) r t u h.0) (λ k. (h.1 k, h.2 k))
   read_behind r (import.Table t) (import.Func x) e h w = absurd cc
   read_behind r (import.Table t) (import.FuncExact x) e h w = absurd cc
   read_behind r (import.Table t) (import.Memory u) e h w = absurd cc

@@ -8,4 +8,4 @@ use Rattle.durskeyl_c.proofs.validate.judge.Goals as goal
 pub returns : goal.returns
 returns c =
     subst (λ (z : Settings). Denies c.in-Err.error.kind (AcceptsUnder z c.args.bytes.now)) c.new_with_limits-validator.ensures.settings
-    c.in-Err.ensures.verdict
+    (c.in-Err.ensures.alone c.new_with_limits-validator.ensures.empty)

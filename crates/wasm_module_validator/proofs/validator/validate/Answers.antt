@@ -8,7 +8,7 @@ use Rattle.wasm_module_validator.proofs.validator.validate.Goals as goal
 
 pub returns-clause-verdict : goal.returns-clause-verdict
 returns-clause-verdict c =
-    subst (λ (z : Settings). Tells c.validate_all.result (AcceptsUnder z c.args.bytes.now)) c.new.ensures.settings c.validate_all.ensures.verdict
+    subst (λ (z : Settings). Tells c.validate_all.result (AcceptsUnder z c.args.bytes.now)) c.new.ensures.settings (c.validate_all.ensures.alone c.new.ensures.empty)
 
 pub returns-clause-id : goal.returns-clause-id
 returns-clause-id c = rw c.new.ensures.id at c.validate_all.ensures.id

@@ -1,10 +1,11 @@
-use Rattle.std.proofs.Common.{◌≡◌, ◌∙◌, refl, sym, ap, subst, Some, Result}
+use Rattle.std.proofs.Common.{◌≡◌, ◌∙◌, refl, sym, ap, subst, Some, Result, inr}
 use Rattle.std.proofs.Common.{ℕ}
 use Rattle.wasm_types.specs.error.ErrorValue.{ErrorValue}
 use Rattle.wasm_types.specs.reader.Reading.{Fails}
 use Rattle.wasm_sections_limited.specs.Walking.{Walk, NextIn, fresh}
 use Rattle.wasm_sections_limited.specs.Runs.{place_with_offsets, with_offset}
 use Rattle.wasm_module_validator_adding.specs.AddingLaws.{Stands, stands_first, stands_behind, refused_item, refused_bytes, stops_at_bytes, stops_at_an_item, are_added_at_the_end, stands_at_the_end}
+use Rattle.wasm_module_validator_adding.specs.FullLaws.{either_from}
 use Rattle.wasm_module_validator_adding.proofs.add.add_items.Goals as goal
 
 pub loop-item-init : goal.loop-item-init
@@ -31,8 +32,8 @@ returns-in-Err-clause-answer g c =
     let v = place_with_offsets c.next.new.self in
     let step = subst (λ (r : Result (ℕ × g.row.T.Denot) ErrorValue). NextIn (with_offset i.view i.decoder w.reader.settings) (λ d e. Fails e (i.decoder w.reader.settings d)) w (Some r) v)
     c.in-Err.is c.in-Some.ensures.steps.0 in
-    refused_bytes i.view a.of (g.met.S.AddItem c.lifetimes (assumption c)).alike i.decoder i.grammar (g.met.T.FromReader c.lifetimes (assumption c)).exact a.adds b.settings a.reads
-    c.args.section.count b c.args.state.now (place_with_offsets c.loop-item.item-iterator) (place_with_offsets c.next.new.self) c.loop-item.state c.in-Err.error c.loop-item.invariant.0 step
+    inr (refused_bytes i.view a.of (g.met.S.AddItem c.lifetimes (assumption c)).alike i.decoder i.grammar (g.met.T.FromReader c.lifetimes (assumption c)).exact a.adds b.settings a.reads
+    c.args.section.count b c.args.state.now (place_with_offsets c.loop-item.item-iterator) (place_with_offsets c.next.new.self) c.loop-item.state c.in-Err.error c.loop-item.invariant.0 step)
 
 pub loop-item-preserved : goal.loop-item-preserved
 loop-item-preserved g c =
@@ -52,6 +53,7 @@ loop-item-preserved g c =
 
 pub returns-in-Err-add-clause-answer : goal.returns-in-Err-add-clause-answer
 returns-in-Err-add-clause-answer g c =
+    let law = g.met.S.AddItem c.lifetimes (assumption c) in
     let i = g.T.FromReader in
     let a = g.S.AddItem in
     let b = c.args.section.reader in
@@ -59,10 +61,11 @@ returns-in-Err-add-clause-answer g c =
     let v = place_with_offsets c.next.new.self in
     let step = subst (λ (r : Result (ℕ × g.row.T.Denot) ErrorValue). NextIn (with_offset i.view i.decoder w.reader.settings) (λ d e. Fails e (i.decoder w.reader.settings d)) w (Some r) v)
     c.in-Ok.is c.in-Some.ensures.steps.0 in
-    refused_item i.view a.of (g.met.S.AddItem c.lifetimes (assumption c)).alike i.decoder i.grammar (g.met.T.FromReader c.lifetimes (assumption c)).exact a.adds b.settings a.reads
+    either_from (law.full_before c.args.state.now c.loop-item.state c.in-Err-add.error c.loop-item.invariant.1)
+    (λ told. refused_item i.view a.of (g.met.S.AddItem c.lifetimes (assumption c)).alike i.decoder i.grammar (g.met.T.FromReader c.lifetimes (assumption c)).exact a.adds b.settings a.reads
     c.args.section.count b c.args.state.now (place_with_offsets c.loop-item.item-iterator) (place_with_offsets c.next.new.self) c.loop-item.state c.in-Ok.item c.in-Err-add.error.kind
     c.loop-item.invariant.0
-    step c.in-Err-add.ensures.answer
+    step told) c.in-Err-add.ensures.answer
 
 pub add-requires : goal.add-requires
 add-requires g c =
@@ -98,11 +101,12 @@ returns-in-Err-clause-refused g c =
     let v = place_with_offsets c.next.new.self in
     let step = subst (λ (r : Result (ℕ × g.row.T.Denot) ErrorValue). NextIn (with_offset i.view i.decoder w.reader.settings) (λ d e. Fails e (i.decoder w.reader.settings d)) w (Some r) v)
     c.in-Err.is c.in-Some.ensures.steps.0 in
-    stops_at_bytes i.view a.of (g.met.S.AddItem c.lifetimes (assumption c)).alike i.decoder i.grammar (g.met.T.FromReader c.lifetimes (assumption c)).exact a.adds b.settings a.reads
-    c.args.section.count b c.args.state.now a.refuses (place_with_offsets c.loop-item.item-iterator) (place_with_offsets c.next.new.self) c.loop-item.state c.in-Err.error c.loop-item.invariant.0 step
+    inr (stops_at_bytes i.view a.of (g.met.S.AddItem c.lifetimes (assumption c)).alike i.decoder i.grammar (g.met.T.FromReader c.lifetimes (assumption c)).exact a.adds b.settings a.reads
+    c.args.section.count b c.args.state.now a.refuses (place_with_offsets c.loop-item.item-iterator) (place_with_offsets c.next.new.self) c.loop-item.state c.in-Err.error c.loop-item.invariant.0 step)
 
 pub returns-in-Err-add-clause-refused : goal.returns-in-Err-add-clause-refused
 returns-in-Err-add-clause-refused g c =
+    let law = g.met.S.AddItem c.lifetimes (assumption c) in
     let i = g.T.FromReader in
     let a = g.S.AddItem in
     let b = c.args.section.reader in
@@ -110,10 +114,11 @@ returns-in-Err-add-clause-refused g c =
     let v = place_with_offsets c.next.new.self in
     let step = subst (λ (r : Result (ℕ × g.row.T.Denot) ErrorValue). NextIn (with_offset i.view i.decoder w.reader.settings) (λ d e. Fails e (i.decoder w.reader.settings d)) w (Some r) v)
     c.in-Ok.is c.in-Some.ensures.steps.0 in
-    stops_at_an_item i.view a.of (g.met.S.AddItem c.lifetimes (assumption c)).alike i.decoder i.grammar (g.met.T.FromReader c.lifetimes (assumption c)).exact a.adds b.settings a.reads
+    either_from (law.full_before c.args.state.now c.loop-item.state c.in-Err-add.error c.loop-item.invariant.1)
+    (λ told. stops_at_an_item i.view a.of (g.met.S.AddItem c.lifetimes (assumption c)).alike i.decoder i.grammar (g.met.T.FromReader c.lifetimes (assumption c)).exact a.adds b.settings a.reads
     c.args.section.count b c.args.state.now a.refuses (place_with_offsets c.loop-item.item-iterator) (place_with_offsets c.next.new.self) c.loop-item.state c.in-Ok.item c.in-Err-add.error
     c.loop-item.invariant.0
-    step c.in-Err-add.ensures.refused
+    step told) c.in-Err-add.ensures.refused
 
 pub returns-clause-grown : goal.returns-clause-grown
 returns-clause-grown g c = c.loop-item.invariant.1

@@ -1,7 +1,7 @@
 use Rattle.std.proofs.Common.{ap}
 use Rattle.wasm_module_validator_standing.specs.items.Items.{Items}
 use Rattle.wasm_module_validator_declaring.proofs.Telling.{export_told}
-use Rattle.wasm_module_validator_declaring.proofs.Leaving.{on_ok, in_both, export_left, export_settings}
+use Rattle.wasm_module_validator_declaring.proofs.Leaving.{on_ok, in_both, export_left, export_settings, export_types}
 use Rattle.wasm_module_validator_declaring.proofs.exports.add_export_item.Goals as goal
 
 pub returns-clause-answer : goal.returns-clause-answer
@@ -19,6 +19,13 @@ returns-clause-settings c =
     in_both c.add_export.result _ _ _ (export_settings c.args.types.now.groups c.args.state.now
     (record { name = c.args.export.name.now; kind = c.args.export.kind; index = c.args.export.index }) c.add_export.new.self)
     (λ e. ap (λ (l : Items). l.spaces.settings) e)
+    c.add_export.ensures.exported c.add_export.ensures.stays
+
+pub returns-clause-types : goal.returns-clause-types
+returns-clause-types c =
+    in_both c.add_export.result _ _ _ (export_types c.args.types.now.groups c.args.state.now
+    (record { name = c.args.export.name.now; kind = c.args.export.kind; index = c.args.export.index }) c.add_export.new.self)
+    (λ e. ap (λ (l : Items). l.spaces.types) e)
     c.add_export.ensures.exported c.add_export.ensures.stays
 
 pub returns-clause-code : goal.returns-clause-code

@@ -1,7 +1,7 @@
 use Rattle.std.proofs.Common.{ap, ⊎_elim}
 use Rattle.wasm_module_validator_standing.specs.items.Items.{Items}
 use Rattle.wasm_module_validator_declaring.proofs.Telling.{import_told}
-use Rattle.wasm_module_validator_declaring.proofs.Leaving.{on_ok, in_both, import_left, import_settings}
+use Rattle.wasm_module_validator_declaring.proofs.Leaving.{on_ok, in_both, import_left, import_settings, import_types}
 use Rattle.wasm_module_validator_declaring.proofs.imports.add_import_item.Goals as goal
 
 pub returns-clause-answer : goal.returns-clause-answer
@@ -19,6 +19,13 @@ returns-clause-settings c =
     in_both c.add_import.result _ _ _ (import_settings c.args.types.now.groups c.args.state.now
     (record { module_name = c.args.import.now.«module».now; field_name = c.args.import.now.name.now; ty = c.args.import.now.ty }) c.add_import.new.self)
     (⊎_elim (λ e. ap (λ (l : Items). l.spaces.settings) e) (λ e. ap (λ (l : Items). l.spaces.settings) e))
+    c.add_import.ensures.imported c.add_import.ensures.left
+
+pub returns-clause-types : goal.returns-clause-types
+returns-clause-types c =
+    in_both c.add_import.result _ _ _ (import_types c.args.types.now.groups c.args.state.now
+    (record { module_name = c.args.import.now.«module».now; field_name = c.args.import.now.name.now; ty = c.args.import.now.ty }) c.add_import.new.self)
+    (⊎_elim (λ e. ap (λ (l : Items). l.spaces.types) e) (λ e. ap (λ (l : Items). l.spaces.types) e))
     c.add_import.ensures.imported c.add_import.ensures.left
 
 pub returns-clause-code : goal.returns-clause-code

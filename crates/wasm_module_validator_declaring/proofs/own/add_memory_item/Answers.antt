@@ -14,5 +14,9 @@ pub returns-clause-settings : goal.returns-clause-settings
 returns-clause-settings c =
     in_both c.add_memory.result _ _ _ (λ e. ap (λ (l : Items). l.spaces.settings) e) (λ e. ap (λ (l : Items). l.spaces.settings) e) c.add_memory.ensures.added c.add_memory.ensures.stays
 
+pub returns-clause-types : goal.returns-clause-types
+returns-clause-types c =
+    in_both c.add_memory.result _ _ _ (λ e. ap (λ (l : Items). l.spaces.types) e) (λ e. ap (λ (l : Items). l.spaces.types) e) c.add_memory.ensures.added c.add_memory.ensures.stays
+
 pub returns-clause-code : goal.returns-clause-code
 returns-clause-code c = in_both c.add_memory.result _ _ _ (λ e. ap (λ (l : Items). l.next_code) e) (λ e. ap (λ (l : Items). l.next_code) e) c.add_memory.ensures.added c.add_memory.ensures.stays

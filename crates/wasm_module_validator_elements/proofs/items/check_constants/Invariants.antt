@@ -1,6 +1,8 @@
+use Rattle.std.proofs.Common.{◌≡◌}
+use Rattle.wasm_types.specs.decoding.Places.{end_of}
 use Rattle.wasm_operators_bodies.specs.ConstantDecoder.{constant}
 use Rattle.wasm_sections_limited.specs.Walking.{fresh}
-use Rattle.wasm_sections_limited.specs.Runs.{place_in}
+use Rattle.wasm_sections_limited.specs.Runs.{place_with_offsets}
 use Rattle.wasm_module_validator_segments.specs.constants.resources.Meaning.{type_in}
 use Rattle.wasm_module_validator_segments.specs.Judged.{IsConstantText}
 use Rattle.wasm_module_validator_referring.specs.Naming.{NamesMore}
@@ -13,4 +15,5 @@ invariant-loop-found g l =
     let m = g.R.WasmModuleResources.meaning l.resources in
     let t = type_in m l.ty in
     Walked (IsConstantText l.settings m.«module» l.imported_globals t) (NamesMore l.settings) constant (RefusesConstant l.settings m l.imported_globals t)
-    (fresh l.fn.constants.count l.fn.constants.reader) l.fn.names.items (place_in l.found-iterator) l.names.items
+    (fresh l.fn.constants.count l.fn.constants.reader) l.fn.names.items (place_with_offsets l.found-iterator) l.names.items
+    × (end_of (place_with_offsets l.found-iterator).reader ≡ end_of l.fn.constants.reader)

@@ -51,4 +51,5 @@ returns-clause-added c =
     = c.refer_to_each.ensures.marked ∙ ap (λ (xs : List ℕ). record pushed { spaces = marking xs pushed.spaces }) c.as_slice.ensures.value ∙ ap (λ (t : Items). record t { spaces = marking names t.spaces })
     (c.in-Ok-push_table.ensures.added ∙ ap (λ (t : Items). record t { spaces = adding_table kept t.spaces }) c.check_new_table.ensures.stays) in
     table_added c.args.types.now.groups c.args.state.now (table_read c.args.table) kept names c.refer_to_each.new.state c.in-Ok.ensures.named
+    (λ k. (c.in-Ok.ensures.sizes.0 k, c.in-Ok.ensures.sizes.1 k))
     (subst (λ (xs : List ℕ). NamesInit c.args.state.now.spaces.settings (table_read c.args.table).init xs names) c.new-names.ensures.items c.in-Ok.ensures.names) j

@@ -1,13 +1,14 @@
-use Rattle.std.proofs.Common.{false, ◌≡◌, ◌∙◌, ◌+◌, ◌<◌, ◌^◌, List, [], length, refl, sym, subst, arith, ap, Some, Result}
+use Rattle.std.proofs.Common.{false, ◌≡◌, ◌∙◌, ◌+◌, ◌<◌, ◌^◌, List, [], length, refl, sym, subst, arith, ap, Some, Result, inr}
 use Rattle.wasm_types.specs.error.ErrorValue.{ErrorValue}
 use Rattle.wasm_sections_parser_laws.specs.calls.Runs.{fresh}
 use Rattle.wasm_sections_parser.specs.Parsers.{Parser}
 use Rattle.wasm_sections_payloads.specs.declared.payload.Payload.{Payload}
 use Rattle.wasm_sections_payloads.specs.Walking.{NextPayload}
+use Rattle.wasm_module_validator_judging.specs.progress.adding.FullLaws.{either_from}
 use Rattle.wasm_module_validator_judging.specs.progress.adding.declared.bodies.Body.{Body}
 use Rattle.wasm_module_validator_judging.specs.progress.Progress.{Progress, IsAt}
 use Rattle.wasm_module_validator_judging.specs.progress.standing.steps.Steps.{nothing}
-use Rattle.wasm_module_validator_judging.specs.progress.laws.Growing.{grows_by_nothing, grows_further}
+use Rattle.wasm_module_validator_judging.specs.progress.laws.Growing.{grows_by_nothing, grows_further, total_before}
 use Rattle.wasm_module_validator_reading.specs.laws.Walking.{Goes, goes_first, goes_on, refused_payload, refused_bytes, is_read, stands_for, nothing_is_at}
 use Rattle.wasm_module_validator_reading.proofs.reading.read_module.Goals as goal
 
@@ -36,7 +37,7 @@ returns-in-Err-clause-answer c =
     let p : Parser = record { offset = 0; settings = c.args.settings.now; progress = fresh } in
     let room : 0 + length c.args.bytes.now < 2 ^ 64 = omega (arith, c) in
     let next = subst (λ (r : Result Payload ErrorValue). NextPayload c.loop-payload.payload-iterator (Some r) c.next.new.self) c.in-Err.is c.in-Some.ensures.steps in
-    refused_bytes p c.args.bytes.now refl room c.loop-payload.payload-iterator c.next.new.self c.loop-payload.progress c.loop-payload.bodies.items c.in-Err.error c.loop-payload.invariant.0 next
+    inr (refused_bytes p c.args.bytes.now refl room c.loop-payload.payload-iterator c.next.new.self c.loop-payload.progress c.loop-payload.bodies.items c.in-Err.error c.loop-payload.invariant.0 next)
 
 pub loop-payload-preserved : goal.loop-payload-preserved
 loop-payload-preserved c =
@@ -53,8 +54,9 @@ returns-in-Err-take_payload-clause-answer c =
     let p : Parser = record { offset = 0; settings = c.args.settings.now; progress = fresh } in
     let room : 0 + length c.args.bytes.now < 2 ^ 64 = omega (arith, c) in
     let next = subst (λ (r : Result Payload ErrorValue). NextPayload c.loop-payload.payload-iterator (Some r) c.next.new.self) c.in-Ok.is c.in-Some.ensures.steps in
-    refused_payload p c.args.bytes.now refl room c.loop-payload.payload-iterator c.next.new.self c.loop-payload.progress c.loop-payload.bodies.items c.in-Ok.payload c.loop-payload.invariant.0 next
-    c.in-Err-take_payload.error.kind c.in-Err-take_payload.ensures.answer
+    either_from (λ full. total_before c.args.progress.now.kept c.loop-payload.progress.kept c.in-Err-take_payload.error c.loop-payload.invariant.1 full.1)
+    (λ told. refused_payload p c.args.bytes.now refl room c.loop-payload.payload-iterator c.next.new.self c.loop-payload.progress c.loop-payload.bodies.items c.in-Ok.payload c.loop-payload.invariant.0 next
+    c.in-Err-take_payload.error.kind told) c.in-Err-take_payload.ensures.answer
 
 pub returns-clause-answer : goal.returns-clause-answer
 returns-clause-answer c =

@@ -2,6 +2,7 @@ use Rattle.std.proofs.Common.{◌<◌, ℕ, refl, sym, subst, arith}
 use Rattle.wasm_types.specs.error.Denials.{Denies}
 use Rattle.wasm_types.specs.error.DenialLaws.{denies}
 use Rattle.wasm_sections_payloads.specs.bodies.ConstantDecoder.{constant, ConstantText}
+use Rattle.wasm_module_validator_adding.specs.FullLaws.{never_full}
 use Rattle.wasm_module_validator_texts.specs.Sections.{MayBegin}
 use Rattle.wasm_module_validator_texts.specs.Kinds.{data_read}
 use Rattle.wasm_module_validator_texts.specs.laws.Kinds.{segments_tell}
@@ -38,7 +39,8 @@ returns-clause-answer c = λ z p bodies b at same counts.
     answered r s data_read data_read (λ y. data_segment (constant y)) (λ y. SpelledData (ConstantText y)) segments_tell c.args.segments.reader c.args.segments.count r.kept refl order
     (λ y q bs w o. subst (λ (n : ℕ). MayBegin y s × Fits y s q.tree n) c.count.ensures
     (c.in-Ok.ensures.answer r.kept.groups y q.tree (subst (λ (i : Items). Stands r.kept.groups i y q.tree) (sym c.state.ensures) w.stands) (unread y q r bs w s o)))
-    z p bodies at c.add_items.result b same counts c.add_items.ensures.answer c.add_items.ensures.refused
+    z p bodies at c.add_items.result b same counts
+    (never_full _ (λ e full. full) c.add_items.result _ c.add_items.ensures.answer) (never_full _ (λ e full. full) c.add_items.result _ c.add_items.ensures.refused)
 
 pub returns-clause-added : goal.returns-clause-added
 returns-clause-added c =
@@ -48,4 +50,4 @@ returns-clause-added c =
     all_added r s data_read data_read (λ y. data_segment (constant y)) (λ y. SpelledData (ConstantText y)) segments_tell c.args.segments.reader c.args.segments.count r.kept refl order
     (λ y q bs w o. subst (λ (n : ℕ). MayBegin y s × Fits y s q.tree n) c.count.ensures
     (c.in-Ok.ensures.answer r.kept.groups y q.tree (subst (λ (i : Items). Stands r.kept.groups i y q.tree) (sym c.state.ensures) w.stands) (unread y q r bs w s o)))
-    c.add_items.result r.kept 13 refl c.add_items.ensures.answer (always c.add_items.result _ (λ m t h all. each_kept r.kept all.items m t h all.each))
+    _ c.add_items.result r.kept 13 refl c.add_items.ensures.answer (always c.add_items.result _ (λ m t h all. each_kept r.kept all.items m t h all.each))

@@ -1,5 +1,5 @@
 -- What is added to a module as far as it was read is added to the tree.
-use Rattle.std.proofs.Common.{◌≡◌, ◌∙◌, ◌<◌, ℕ, zero, suc, true, List, [], ◌∷◌, ◌++◌, map, length, Some, ap, refl, sym, subst}
+use Rattle.std.proofs.Common.{◌≡◌, ◌∙◌, ◌<◌, ℕ, zero, suc, true, List, [], ◌∷◌, ◌++◌, map, length, Option, Some, None, ap, refl, sym, subst, arith}
 use Rattle.std.proofs.lemmas.List.{append_assoc, map_push, get_or-map}
 use Rattle.wasm_types.specs.indices.declared.index.CoreTypeId.{CoreTypeId}
 use Rattle.wasm_types.specs.limits.Settings.{Settings}
@@ -24,7 +24,7 @@ use Rattle.wasm_module_validator_groups.specs.adding.Interned.{space_of}
 use Rattle.wasm_module_validator_module.specs.declared.module.Function.{Function}
 use Rattle.wasm_module_validator_module.specs.Spaces.{Spaces, nothing_read, id_at, own_function, referring_to}
 use Rattle.wasm_module_validator_resources.specs.Reading.{names_in}
-use Rattle.wasm_module_validator_standing.specs.so_far.SoFar.{entry_of, IsReadAs}
+use Rattle.wasm_module_validator_standing.specs.so_far.SoFar.{entry_of, sizes_of, IsReadAs}
 
 -- ---- lists
 
@@ -43,7 +43,7 @@ empty_from : {A B : Type 0} (f : A → B) (xs : List A) → map f xs ≡ [] → 
 empty_from f [] e = refl
 empty_from f (x ∷ xs) e = absurd cc
 
-still_empty : {A B : Type 0} (f g : A → B) (xs : List A) → map f xs ≡ [] → map g xs ≡ []
+still_empty : {A B C : Type 0} (f : A → B) (g : A → C) (xs : List A) → map f xs ≡ [] → map g xs ≡ []
 still_empty f g xs e = ap (map g) (empty_from f xs e)
 
 -- ---- nothing, and types
@@ -53,6 +53,7 @@ nothing_is groups z = record {
   types = refl;
   functions = refl;
   tables = refl;
+  table_sizes = refl;
   memories = refl;
   globals = refl;
   tags = refl;
@@ -77,6 +78,7 @@ group_is_added old new s ids gs g r e = record {
   types = e ∙ (ap (λ ts. ts ++ types_of ts g) r.types ∙ sym (types_behind_one [] gs g));
   functions = r.functions;
   tables = still_empty _ _ s.tables r.tables;
+  table_sizes = still_empty _ _ s.tables r.tables;
   memories = r.memories;
   globals = still_empty _ _ s.globals r.globals;
   tags = still_empty _ _ s.tags r.tags;
@@ -97,6 +99,7 @@ module _ (groups : List Group) (s : Spaces) (m : ModuleTree) (r : IsReadAs group
     types = r.types;
     functions = map_push entry_of s.functions (own_function x) ∙ (ap (λ fs. fs ++ function_with true x ∷ []) r.functions ∙ sym (behind_mapped (function_with true) (imported function_of m) m.functions x));
     tables = r.tables;
+    table_sizes = r.table_sizes;
     memories = r.memories;
     globals = r.globals;
     tags = r.tags;
@@ -106,13 +109,15 @@ module _ (groups : List Group) (s : Spaces) (m : ModuleTree) (r : IsReadAs group
     imported_globals = r.imported_globals;
   }
 
-  pub table_is_added : (x : TableTree Code) (kept : TableType) → table_in (names_in groups s.types) kept ≡ tree.table_in space x.ty
+  pub table_is_added : (x : TableTree Code) (kept : TableType) → table_in (names_in groups s.types) kept ≡ tree.table_in space x.ty → sizes_of kept ≡ sizes_of x.ty
       → IsReadAs groups (record s { tables = s.tables ++ kept ∷ [] }) (record m { tables = m.tables ++ x ∷ [] })
-  table_is_added x kept e = record {
+  table_is_added x kept e k = record {
     types = r.types;
     functions = r.functions;
     tables = one_more (table_in (names_in groups s.types)) (tree.table_in space) s.tables (table_space m) kept x.ty r.tables e
         ∙ ap (map (tree.table_in space)) (sym (behind_mapped (λ (t : TableTree Code). t.ty) (imported table_of m) m.tables x));
+    table_sizes = one_more sizes_of sizes_of s.tables (table_space m) kept x.ty r.table_sizes k
+        ∙ ap (map sizes_of) (sym (behind_mapped (λ (t : TableTree Code). t.ty) (imported table_of m) m.tables x));
     memories = r.memories;
     globals = r.globals;
     tags = r.tags;
@@ -127,6 +132,7 @@ module _ (groups : List Group) (s : Spaces) (m : ModuleTree) (r : IsReadAs group
     types = r.types;
     functions = r.functions;
     tables = r.tables;
+    table_sizes = r.table_sizes;
     memories = ap (λ ms. ms ++ x ∷ []) r.memories ∙ sym (behind (imported memory_of m) m.memories x);
     globals = r.globals;
     tags = r.tags;
@@ -146,6 +152,7 @@ module _ (groups : List Group) (s : Spaces) (m : ModuleTree) (r : IsReadAs group
     types = r.types;
     functions = r.functions;
     tables = r.tables;
+    table_sizes = r.table_sizes;
     memories = r.memories;
     globals = r.globals;
     tags = one_more (λ (i : CoreTypeId). tree_of groups i.0) (λ (t : TagType). type_at space t.func_type_idx) s.tags (tag_space m) (id_at s.types x.func_type_idx) x r.tags
@@ -163,6 +170,7 @@ module _ (groups : List Group) (s : Spaces) (m : ModuleTree) (r : IsReadAs group
     types = r.types;
     functions = r.functions;
     tables = r.tables;
+    table_sizes = r.table_sizes;
     memories = r.memories;
     globals = one_more (global_in (names_in groups s.types)) (tree.global_in space) s.globals (global_space m) kept x.ty r.globals e
         ∙ ap (map (tree.global_in space)) (sym (behind_mapped (λ (t : GlobalTree Code). t.ty) (imported global_of m) m.globals x));
@@ -179,6 +187,7 @@ module _ (groups : List Group) (s : Spaces) (m : ModuleTree) (r : IsReadAs group
     types = r.types;
     functions = r.functions;
     tables = r.tables;
+    table_sizes = r.table_sizes;
     memories = r.memories;
     globals = r.globals;
     tags = r.tags;
@@ -193,6 +202,7 @@ module _ (groups : List Group) (s : Spaces) (m : ModuleTree) (r : IsReadAs group
     types = r.types;
     functions = r.functions;
     tables = r.tables;
+    table_sizes = r.table_sizes;
     memories = r.memories;
     globals = r.globals;
     tags = r.tags;
@@ -208,6 +218,7 @@ module _ (groups : List Group) (s : Spaces) (m : ModuleTree) (r : IsReadAs group
     types = r.types;
     functions = r.functions;
     tables = r.tables;
+    table_sizes = r.table_sizes;
     memories = r.memories;
     globals = r.globals;
     tags = r.tags;
@@ -228,6 +239,7 @@ module _ (groups : List Group) (s : Spaces) (m : ModuleTree) (r : IsReadAs group
     types = r.types;
     functions = referring_stays n s.functions ∙ r.functions;
     tables = r.tables;
+    table_sizes = r.table_sizes;
     memories = r.memories;
     globals = r.globals;
     tags = r.tags;
@@ -236,3 +248,22 @@ module _ (groups : List Group) (s : Spaces) (m : ModuleTree) (r : IsReadAs group
     imported_functions = r.imported_functions;
     imported_globals = r.imported_globals;
   }
+
+-- ---- worked tables
+
+module _ (groups : List Group) (z : Settings) (t : TableType) (x : TableTree Code) where
+  -- a table was read, and this one is in the tree
+  abbrev IsReadSo : Type 0
+  IsReadSo = IsReadAs groups (record (nothing_read z) { tables = t ∷ [] }) (record no_items { tables = x ∷ [] })
+
+  same_sizes : IsReadSo → sizes_of t ≡ sizes_of x.ty
+  same_sizes r = let e = r.table_sizes in cc
+
+  pub worked_initial : t.initial ≡ 0 → x.ty.initial ≡ 1 → IsReadSo → ⊥
+  worked_initial a b r = let e = ap (λ (s : ℕ × Option ℕ). s.0) (same_sizes r) in omega (arith, a, b, e)
+
+  none_of_one : (o : Option ℕ) → o ≡ None → o ≡ Some 1 → ⊥
+  none_of_one o e k = let both : ◌≡◌ {A = Option ℕ} None (Some 1) = sym e ∙ k in absurd cc
+
+  pub worked_maximum : t.maximum ≡ None → x.ty.maximum ≡ Some 1 → IsReadSo → ⊥
+  worked_maximum a b r = none_of_one t.maximum a (ap (λ (s : ℕ × Option ℕ). s.1) (same_sizes r) ∙ b)

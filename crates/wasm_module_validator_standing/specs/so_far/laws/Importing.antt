@@ -20,7 +20,7 @@ use Rattle.wasm_operator_validator_resources.specs.Meaning.{table_in, global_in}
 use Rattle.wasm_module_validator_type_trees.specs.Groups.{Group, tree_of}
 use Rattle.wasm_module_validator_module.specs.Spaces.{Spaces, id_at, imported_function}
 use Rattle.wasm_module_validator_resources.specs.Reading.{names_in}
-use Rattle.wasm_module_validator_standing.specs.so_far.SoFar.{entry_of, IsReadAs}
+use Rattle.wasm_module_validator_standing.specs.so_far.SoFar.{entry_of, sizes_of, IsReadAs}
 use Rattle.wasm_module_validator_standing.specs.so_far.laws.Adding.{one_more, tag_means}
 
 -- ---- the imports of one kind
@@ -67,6 +67,7 @@ module _ (groups : List Group) (s : Spaces) (gs : List Written) (is : List Impor
     types = r.types;
     functions = map_push entry_of s.functions (imported_function exact x) ∙ (ap (λ fs. fs ++ function_with exact x ∷ []) r.functions ∙ grows function_of (function_with exact x) e);
     tables = r.tables ∙ ap (map (tree.table_in space)) (stays table_of a);
+    table_sizes = r.table_sizes ∙ ap (map sizes_of) (stays table_of a);
     memories = r.memories ∙ stays memory_of b;
     globals = r.globals ∙ ap (map (tree.global_in space)) (stays global_of c);
     tags = r.tags ∙ ap (map (λ (t : TagType). type_at space t.func_type_idx)) (stays tag_of d);
@@ -84,12 +85,13 @@ module _ (groups : List Group) (s : Spaces) (gs : List Written) (is : List Impor
       → IsReadAs groups (record s { functions = s.functions ++ imported_function true x ∷ []; imported_functions = s.imported_functions + 1 }) behind
   exact_function_is_imported x e = function_goes_in true x (ap function_of e) (ap table_of e) (ap memory_of e) (ap global_of e) (ap tag_of e)
 
-  pub table_is_imported : (t kept : TableType) → i.ty ≡ import.Table t → table_in (names_in groups s.types) kept ≡ tree.table_in space t
+  pub table_is_imported : (t kept : TableType) → i.ty ≡ import.Table t → table_in (names_in groups s.types) kept ≡ tree.table_in space t → sizes_of kept ≡ sizes_of t
       → IsReadAs groups (record s { tables = s.tables ++ kept ∷ [] }) behind
-  table_is_imported t kept e k = record {
+  table_is_imported t kept e k l = record {
     types = r.types;
     functions = r.functions ∙ stays function_of (ap function_of e);
     tables = one_more (table_in (names_in groups s.types)) (tree.table_in space) s.tables (table_space before) kept t r.tables k ∙ ap (map (tree.table_in space)) (grows table_of t (ap table_of e));
+    table_sizes = one_more sizes_of sizes_of s.tables (table_space before) kept t r.table_sizes l ∙ ap (map sizes_of) (grows table_of t (ap table_of e));
     memories = r.memories ∙ stays memory_of (ap memory_of e);
     globals = r.globals ∙ ap (map (tree.global_in space)) (stays global_of (ap global_of e));
     tags = r.tags ∙ ap (map (λ (y : TagType). type_at space y.func_type_idx)) (stays tag_of (ap tag_of e));
@@ -104,6 +106,7 @@ module _ (groups : List Group) (s : Spaces) (gs : List Written) (is : List Impor
     types = r.types;
     functions = r.functions ∙ stays function_of (ap function_of e);
     tables = r.tables ∙ ap (map (tree.table_in space)) (stays table_of (ap table_of e));
+    table_sizes = r.table_sizes ∙ ap (map sizes_of) (stays table_of (ap table_of e));
     memories = ap (λ ms. ms ++ t ∷ []) r.memories ∙ grows memory_of t (ap memory_of e);
     globals = r.globals ∙ ap (map (tree.global_in space)) (stays global_of (ap global_of e));
     tags = r.tags ∙ ap (map (λ (y : TagType). type_at space y.func_type_idx)) (stays tag_of (ap tag_of e));
@@ -119,6 +122,7 @@ module _ (groups : List Group) (s : Spaces) (gs : List Written) (is : List Impor
     types = r.types;
     functions = r.functions ∙ stays function_of (ap function_of e);
     tables = r.tables ∙ ap (map (tree.table_in space)) (stays table_of (ap table_of e));
+    table_sizes = r.table_sizes ∙ ap (map sizes_of) (stays table_of (ap table_of e));
     memories = r.memories ∙ stays memory_of (ap memory_of e);
     globals = one_more (global_in (names_in groups s.types)) (tree.global_in space) s.globals (global_space before) kept t r.globals k ∙ ap (map (tree.global_in space)) (grows global_of t (ap global_of e));
     tags = r.tags ∙ ap (map (λ (y : TagType). type_at space y.func_type_idx)) (stays tag_of (ap tag_of e));
@@ -134,6 +138,7 @@ module _ (groups : List Group) (s : Spaces) (gs : List Written) (is : List Impor
     types = r.types;
     functions = r.functions ∙ stays function_of (ap function_of e);
     tables = r.tables ∙ ap (map (tree.table_in space)) (stays table_of (ap table_of e));
+    table_sizes = r.table_sizes ∙ ap (map sizes_of) (stays table_of (ap table_of e));
     memories = r.memories ∙ stays memory_of (ap memory_of e);
     globals = r.globals ∙ ap (map (tree.global_in space)) (stays global_of (ap global_of e));
     tags = one_more (λ (y : CoreTypeId). tree_of groups y.0) (λ (y : TagType). type_at space y.func_type_idx) s.tags (tag_space before) (id_at s.types t.func_type_idx) t r.tags

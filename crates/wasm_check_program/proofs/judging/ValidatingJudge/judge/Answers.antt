@@ -4,8 +4,7 @@ use Rattle.wasm_types.specs.limits.Settings.{Settings}
 use Rattle.wasm_module_validator.specs.rules.Accepts.{AcceptsUnder}
 use Rattle.wasm_check_program.proofs.judging.ValidatingJudge.judge.Goals as goal
 
--- the validator's settings are those that it was made with
 pub returns : goal.returns
 returns c =
-    subst (λ (z : Settings). Denies c.in-Err.error.kind (AcceptsUnder z c.args.bytes.now)) c.new_with_limits-validator.ensures.settings
-    c.in-Err.ensures.verdict
+    let v = c.new_with_limits-validator in
+    subst (λ (z : Settings). Denies c.in-Err.error.kind (AcceptsUnder z c.args.bytes.now)) v.ensures.settings (c.in-Err.ensures.alone v.ensures.empty)

@@ -1,7 +1,10 @@
-use Rattle.std.proofs.Common.{◌≡◌, List, length, sym, subst}
-use Rattle.wasm_types.specs.error.Denials.{Tells}
+use Rattle.std.proofs.Common.{◌≡◌, List, length, sym, subst, Err, inr}
+use Rattle.wasm_types.specs.error.Denials.{Denies, Tells}
+use Rattle.wasm_types.specs.error.declared.error.ErrorKind.{ErrorKind}
 use Rattle.wasm_types.specs.error.DenialLaws.{denies_from}
+use Rattle.wasm_types.specs.limits.Limits.{IsWithinCeilings}
 use Rattle.wasm_types.specs.limits.Settings.{Settings}
+use Rattle.wasm_module_validator_sharing.specs.reading.progress.adding.FullLaws.{either_from}
 use Rattle.wasm_module_validator_sharing.specs.reading.progress.adding.declared.bodies.Body.{Body}
 use Rattle.wasm_module_validator_sharing.specs.reading.progress.standing.steps.contexts.rules.Accepts.{AcceptsUnder}
 use Rattle.wasm_module_validator_sharing.specs.reading.progress.standing.steps.Steps.{SoFar}
@@ -9,23 +12,23 @@ use Rattle.wasm_module_validator_sharing.specs.reading.progress.Progress.{Kept, 
 use Rattle.wasm_module_validator_sharing.specs.reading.judging.Bodies.{AreBodies}
 use Rattle.wasm_module_validator_sharing.specs.reading.Reading.{IsReadAs}
 use Rattle.wasm_module_validator.specs.Accepts.{IsShown}
-use Rattle.wasm_module_validator.specs.laws.Verdict.{accepted_is_read, tells_accepted, stands_for_module}
+use Rattle.wasm_module_validator.specs.laws.Verdict.{accepted_is_read, alone_told, tells_accepted, stands_for_module}
 use Rattle.wasm_module_validator_runs.proofs.Validity.{accepted_sound}
 use Rattle.wasm_module_validator.proofs.validator.Validator.validate_all.Goals as goal
 
 pub returns-in-Err-clause-verdict : goal.returns-in-Err-clause-verdict
 returns-in-Err-clause-verdict c =
     let z : Settings = c.args.self.now.settings in
-    denies_from c.in-Err.error.kind ((q : SoFar) × IsReadAs z c.args.bytes.now q) (AcceptsUnder z c.args.bytes.now)
-    (λ a. let h = accepted_is_read z c.args.bytes.now a in (h.0, h.1)) c.in-Err.ensures.answer
+    either_from (λ past. past) (denies_from c.in-Err.error.kind ((q : SoFar) × IsReadAs z c.args.bytes.now q) (AcceptsUnder z c.args.bytes.now)
+    (λ a. let h = accepted_is_read z c.args.bytes.now a in (h.0, h.1))) c.in-Err.ensures.answer
 
 pub returns-in-Err-judge-clause-verdict : goal.returns-in-Err-judge-clause-verdict
 returns-in-Err-judge-clause-verdict c =
     let z : Settings = c.args.self.now.settings in
     let r : Progress = c.read.new.self.progress in
-    subst (λ answer. Tells answer (AcceptsUnder z c.args.bytes.now)) c.in-Err-judge.is
+    inr (subst (λ answer. Tells answer (AcceptsUnder z c.args.bytes.now)) c.in-Err-judge.is
     (tells_accepted z c.args.bytes.now r c.in-Ok.bodies.items c.in-Ok.ensures.answer c.in-Ok.ensures.stands c.judge.result
-    (subst (λ (xs : List Body). (q : SoFar) → IsAt z r xs q → length q.bodies ≡ length q.tree.functions → Tells c.judge.result (AreBodies z q)) c.as_slice.ensures.value (c.judge.ensures z)))
+    (subst (λ (xs : List Body). (q : SoFar) → IsAt z r xs q → length q.bodies ≡ length q.tree.functions → Tells c.judge.result (AreBodies z q)) c.as_slice.ensures.value (c.judge.ensures z))))
 
 pub returns-in-Ok-finish-clause-verdict : goal.returns-in-Ok-finish-clause-verdict
 returns-in-Ok-finish-clause-verdict c =
@@ -45,3 +48,16 @@ returns-in-Ok-finish-clause-shown c =
 
 pub returns-in-Ok-finish-clause-sound : goal.returns-in-Ok-finish-clause-sound
 returns-in-Ok-finish-clause-sound c = accepted_sound c.args.self.now.settings c.args.bytes.now (returns-in-Ok-finish-clause-verdict c)
+
+pub returns-in-Err-clause-alone : goal.returns-in-Err-clause-alone
+returns-in-Err-clause-alone c = λ none.
+    alone_told {X = Unit {0}} c.args.self.now.settings c.args.self.now.reached.progress.kept none (subst IsWithinCeilings c.limits-limits.ensures.value c.limits-limits.ensures.within)
+    (Err c.in-Err.error) (AcceptsUnder c.args.self.now.settings c.args.bytes.now) (returns-in-Err-clause-verdict c)
+
+pub returns-in-Err-judge-clause-alone : goal.returns-in-Err-judge-clause-alone
+returns-in-Err-judge-clause-alone c = λ none.
+    alone_told {X = Unit {0}} c.args.self.now.settings c.args.self.now.reached.progress.kept none (subst IsWithinCeilings c.limits-limits.ensures.value c.limits-limits.ensures.within)
+    (Err c.in-Err-judge.error) (AcceptsUnder c.args.self.now.settings c.args.bytes.now) (returns-in-Err-judge-clause-verdict c)
+
+pub returns-in-Ok-finish-clause-alone : goal.returns-in-Ok-finish-clause-alone
+returns-in-Ok-finish-clause-alone c = λ none. returns-in-Ok-finish-clause-verdict c

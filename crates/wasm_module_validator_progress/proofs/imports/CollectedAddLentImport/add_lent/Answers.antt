@@ -24,4 +24,4 @@ returns-clause-refused c =
 
 pub returns-clause-grown : goal.returns-clause-grown
 returns-clause-grown c =
-    grown_one c.add_import_item.result _ _ _ c.self.view_is (always c.add_import_item.result _ c.add_import_item.ensures.settings) (list_stays c.add_import_item.result _)
+    grown_one c.add_import_item.result _ _ _ c.self.view_is (always c.add_import_item.result _ c.add_import_item.ensures.settings) (list_stays c.add_import_item.result _ c.self.inside.state.spaces c.add_import_item.new.state.spaces c.add_import_item.ensures.types)

@@ -1,18 +1,21 @@
 use Rattle.std.proofs.Common.{ap}
+use Rattle.wasm_module_validator_standing.specs.items.Items.{Items}
 use Rattle.wasm_module_validator_standing.specs.steps.contexts.rules.Syntax.{ModuleTree}
 use Rattle.wasm_module_validator_standing.specs.steps.Sections as section
 use Rattle.wasm_module_validator_texts.specs.Kinds.{data_read}
+use Rattle.wasm_module_validator_adding.specs.FullLaws.{unless_full}
+use Rattle.wasm_module_validator_progress.specs.Progress.{FullIn}
 use Rattle.wasm_module_validator_progress.proofs.Counting.{item_added}
 use Rattle.wasm_module_validator_progress.specs.laws.Growing.{list_stays}
 use Rattle.wasm_module_validator_progress.proofs.kinds.DataOfConstExprSectionItem.add_to.Goals as goal
+
+pub returns-clause-answer : goal.returns-clause-answer
+returns-clause-answer c = unless_full (FullIn section.data_segments c.args.types.now.groups c.args.state.now) c.check_data_item.result _ (λ z m h. c.check_data_item.ensures.answer z m h.reading)
 
 pub returns-clause-added : goal.returns-clause-added
 returns-clause-added c =
     item_added section.data_segments (data_read c.args.self) c.check_data_item.result c.args.types.now.groups c.args.types.now.groups c.args.state.now c.check_data_item.new.state c.args.groups.now
     (λ z m n a. ap (λ (t : ModuleTree). t.types) a.2.added) c.check_data_item.ensures.added
 
-pub returns-clause-answer : goal.returns-clause-answer
-returns-clause-answer c = λ z m h. c.check_data_item.ensures.answer z m h.reading
-
 pub returns-clause-grown : goal.returns-clause-grown
-returns-clause-grown c = list_stays c.check_data_item.result c.args.types.now.groups
+returns-clause-grown c = list_stays c.check_data_item.result c.args.types.now.groups c.args.state.now.spaces c.check_data_item.new.state.spaces (ap (λ (i : Items). i.spaces.types) c.check_data_item.ensures.stays)

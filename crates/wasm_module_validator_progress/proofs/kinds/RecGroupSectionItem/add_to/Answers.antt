@@ -1,3 +1,5 @@
+use Rattle.std.proofs.Common.{refl}
+use Rattle.wasm_module_validator_adding.specs.FullLaws.{either_from}
 use Rattle.wasm_module_validator_standing.specs.canonical.laws.Spelled.{read_group}
 use Rattle.wasm_module_validator_texts.specs.Kinds.{group_read}
 use Rattle.wasm_module_validator_progress.proofs.Counting.{group_added}
@@ -5,6 +7,12 @@ use Rattle.wasm_module_validator_progress.proofs.kinds.RecGroupSectionItem.add_t
 
 pub add_group-requires-clause-indices : goal.add_group-requires-clause-indices
 add_group-requires-clause-indices c = let h = c.requires.read in read_group h.0 h.1 h.2 c.args.self h.3
+
+pub returns-in-Ok-clause-answer : goal.returns-in-Ok-clause-answer
+returns-in-Ok-clause-answer c = λ z m h. c.in-Ok.ensures.answer z m h.reading h.counted
+
+pub returns-in-Err-clause-answer : goal.returns-in-Err-clause-answer
+returns-in-Err-clause-answer c = either_from (λ past. (refl, past)) (λ told z m h. told z m h.reading h.counted) c.in-Err.ensures.answer
 
 pub returns-in-Ok-clause-added : goal.returns-in-Ok-clause-added
 returns-in-Ok-clause-added c =

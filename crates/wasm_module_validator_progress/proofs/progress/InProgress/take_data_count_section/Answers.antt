@@ -34,4 +34,4 @@ returns-clause-added c =
 pub returns-clause-grown : goal.returns-clause-grown
 returns-clause-grown c =
     let kept = ap (λ x. x.collected) c.self-inside.view_is ∙ (ap (λ (q : Progress). q.kept) c.self.view_is ∙ ap (λ (q : Progress). q.kept) c.begin_section.ensures.begun) in
-    grown_one c.take_data_count.result _ _ _ kept (always c.take_data_count.result _ c.take_data_count.ensures.settings) (list_stays c.take_data_count.result _)
+    grown_one c.take_data_count.result _ _ _ kept (always c.take_data_count.result _ c.take_data_count.ensures.settings) (list_stays c.take_data_count.result _ c.self-inside.inside.0.0.state.spaces c.take_data_count.new.state.spaces c.take_data_count.ensures.types)

@@ -11,6 +11,7 @@ use Rattle.wasm_module_validator_texts.specs.Sections.{MayBegin}
 use Rattle.wasm_module_validator_texts.specs.Kinds.{import_read}
 use Rattle.wasm_module_validator_texts.specs.laws.Kinds.{imports_tell}
 use Rattle.wasm_module_validator_standing.specs.Standing.{Stands}
+use Rattle.wasm_module_validator_adding.specs.FullLaws.{unless_full}
 use Rattle.wasm_module_validator_progress.specs.Progress.{Kept, Progress, Grows}
 use Rattle.wasm_module_validator_progress.specs.laws.Taking.{is_behind, too_many, answered, all_added}
 use Rattle.wasm_module_validator_progress.proofs.progress.InProgress.take_imports.Goals as goal
@@ -49,7 +50,7 @@ returns-clause-added c =
     all_added r s import_read import_read import SpelledImport imports_tell c.args.imports.reader c.args.imports.count _ collected order
     (λ y q bs w o. subst (λ (n : ℕ). MayBegin y s × Fits y s q.tree n) c.count.ensures
     (tt, (imports_fit _ _ y q.tree (subst (λ (k : Kept). Stands k.groups k.items y q.tree) (sym kept) w.stands) c.count.result).0 c.in-Ok-check_import_count.ensures.answer))
-    c.add_lent_items.result c.add_lent_items.new.state _ last c.add_lent_items.ensures.answer c.add_lent_items.ensures.added
+    (λ e. ⊥) c.add_lent_items.result c.add_lent_items.new.state _ last (unless_full (λ e. ⊥) c.add_lent_items.result _ c.add_lent_items.ensures.answer) c.add_lent_items.ensures.added
 
 pub returns-clause-grown : goal.returns-clause-grown
 returns-clause-grown c =

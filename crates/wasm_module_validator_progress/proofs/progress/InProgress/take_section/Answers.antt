@@ -1,15 +1,22 @@
-use Rattle.std.proofs.Common.{◌∙◌, ◌<◌, ℕ, sym, ap, subst}
+use Rattle.std.proofs.Common.{◌∙◌, ◌<◌, ℕ, sym, ap, subst, inr}
 use Rattle.std.specs.Prelude.{OnOk}
 use Rattle.wasm_types.specs.error.Denials.{Denies}
 use Rattle.wasm_module_validator_standing.specs.steps.Adding.{Fits}
+use Rattle.wasm_module_validator_adding.specs.FullLaws.{unless_full_both}
 use Rattle.wasm_module_validator_texts.specs.Sections.{MayBegin}
 use Rattle.wasm_module_validator_standing.specs.Standing.{Stands}
-use Rattle.wasm_module_validator_progress.specs.Progress.{Kept, Progress, Grows}
-use Rattle.wasm_module_validator_progress.specs.laws.Taking.{is_behind, unread, too_many, answered, all_added}
+use Rattle.wasm_module_validator_progress.specs.Progress.{Kept, Progress, FullIn, Grows}
+use Rattle.wasm_module_validator_progress.specs.laws.Taking.{is_behind, not_behind, unread, too_many, answered, all_added}
 use Rattle.wasm_module_validator_progress.proofs.progress.InProgress.take_section.Goals as goal
 
+pub returns-in-Err-clause-answer : goal.returns-in-Err-clause-answer
+returns-in-Err-clause-answer g c = inr (λ z p bodies b at same counts.
+    let s = g.T.SectionItem.section in
+    let r = c.args.self.now in
+    not_behind z p r bodies at s c.in-Err.error.kind b.rest (subst (λ (n : ℕ). Denies c.in-Err.error.kind (r.last < n)) c.place.ensures c.in-Err.ensures.answer))
+
 pub returns-in-Err-check_count-clause-answer : goal.returns-in-Err-check_count-clause-answer
-returns-in-Err-check_count-clause-answer g c = λ z p bodies b at same counts.
+returns-in-Err-check_count-clause-answer g c = inr (λ z p bodies b at same counts.
     let law = g.met.T.SectionItem c.lifetimes (assumption c) in
     let s = g.T.SectionItem.section in
     let r = c.args.self.now in
@@ -18,20 +25,22 @@ returns-in-Err-check_count-clause-answer g c = λ z p bodies b at same counts.
     let o = is_behind z p r bodies at s order in
     let there = subst (λ (k : Kept). Stands k.groups k.items z p.tree) (sym kept) at.stands in
     too_many z p r bodies at s g.T.FromReader.view g.T.SectionItem.of g.T.FromReader.decoder g.T.FromReader.grammar law.tells b c.args.section.reader c.args.section.count same counts
-    c.in-Err-check_count.error.kind (subst (λ (n : ℕ). Denies c.in-Err-check_count.error.kind (MayBegin z s × Fits z s p.tree n)) c.count.ensures (c.in-Err-check_count.ensures.answer _ z p.tree there (unread z p r bodies at s o)))
+    c.in-Err-check_count.error.kind (subst (λ (n : ℕ). Denies c.in-Err-check_count.error.kind (MayBegin z s × Fits z s p.tree n)) c.count.ensures (c.in-Err-check_count.ensures.answer _ z p.tree there (unread z p r bodies at s o))))
 
 pub returns-clause-answer : goal.returns-clause-answer
-returns-clause-answer g c = λ z p bodies b at same counts.
+returns-clause-answer g c =
     let law = g.met.T.SectionItem c.lifetimes (assumption c) in
     let s = g.T.SectionItem.section in
     let r = c.args.self.now in
     let collected = ap (λ (q : Progress). q.kept) c.self.view_is ∙ ap (λ (q : Progress). q.kept) c.begin_section.ensures.begun in
     let kept = ap (λ x. x.collected) c.self-inside.view_is ∙ collected in
     let order = subst (λ (n : ℕ). r.last < n) c.place.ensures c.in-Ok.ensures.answer in
+    unless_full_both _ _ c.add_items.result _ _ _ (λ e. subst (λ (k : Kept). FullIn s k.groups k.items e) collected)
+    (λ told stops z p bodies b at same counts.
     answered r s g.T.FromReader.view g.T.SectionItem.of g.T.FromReader.decoder g.T.FromReader.grammar law.tells c.args.section.reader c.args.section.count _ collected order
     (λ y q bs w o. subst (λ (n : ℕ). MayBegin y s × Fits y s q.tree n) c.count.ensures
     (c.in-Ok-check_count.ensures.answer _ y q.tree (subst (λ (k : Kept). Stands k.groups k.items y q.tree) (sym kept) w.stands) (unread y q r bs w s o)))
-    z p bodies at c.add_items.result b same counts c.add_items.ensures.answer c.add_items.ensures.refused
+    z p bodies at c.add_items.result b same counts told stops) c.add_items.ensures.answer c.add_items.ensures.refused
 
 pub returns-clause-added : goal.returns-clause-added
 returns-clause-added g c =
@@ -45,7 +54,7 @@ returns-clause-added g c =
     all_added r s g.T.FromReader.view g.T.SectionItem.of g.T.FromReader.decoder g.T.FromReader.grammar law.tells c.args.section.reader c.args.section.count _ collected order
     (λ y q bs w o. subst (λ (n : ℕ). MayBegin y s × Fits y s q.tree n) c.count.ensures
     (c.in-Ok-check_count.ensures.answer _ y q.tree (subst (λ (k : Kept). Stands k.groups k.items y q.tree) (sym kept) w.stands) (unread y q r bs w s o)))
-    c.add_items.result c.add_items.new.state _ last c.add_items.ensures.answer c.add_items.ensures.added
+    _ c.add_items.result c.add_items.new.state _ last c.add_items.ensures.answer c.add_items.ensures.added
 
 pub returns-clause-grown : goal.returns-clause-grown
 returns-clause-grown g c =

@@ -1,10 +1,18 @@
-use Rattle.std.proofs.Common.{◌≡◌, ◌∙◌, ap, subst}
-use Rattle.std.specs.Prelude.{option_map, slice_get}
-use Rattle.wasm_operator_validator_resources.specs.Meaning.{Meaning, table_in}
-use Rattle.wasm_module_validator_resources.specs.Reading.{meaning_of}
+use Rattle.std.proofs.Common.{◌∙◌, ap}
+use Rattle.std.specs.Prelude.{slice_get}
+use Rattle.wasm_operator_validator_resources.specs.Meaning.{table_in}
+use Rattle.wasm_module_validator_module.specs.Spaces.{Spaces}
+use Rattle.wasm_module_validator_resources.specs.Reading.{names_in}
+use Rattle.wasm_module_validator_resources.proofs.Finding.{mapped}
 use Rattle.wasm_module_validator_reading.specs.progress.Progress.{Kept}
+use Rattle.wasm_module_validator_reading.specs.progress.standing.items.Items.{Items}
 use Rattle.wasm_module_validator_sharing.proofs.resources.ValidatorResourcesWasmModuleResources.table_at.Goals as goal
 
-pub returns : goal.returns
-returns c =
-    subst (λ (m : Meaning). option_map (table_in m) c.table_at.result ≡ slice_get m.«module».tables c.args.at) (c.resources.ensures ∙ ap (λ (p : Kept). meaning_of p.groups p.items.spaces) c.deref.ensures) c.table_at.ensures
+pub returns-clause-exact : goal.returns-clause-exact
+returns-clause-exact c =
+    c.table_at.ensures ∙ ap (λ (m : Spaces). slice_get m.tables c.args.at) (c.module.ensures ∙ (ap (λ (i : Items). i.spaces) c.state.ensures ∙ ap (λ (p : Kept). p.items.spaces) c.deref.ensures))
+
+pub returns-clause-meaning : goal.returns-clause-meaning
+returns-clause-meaning c =
+    let k = c.args.self.now.shared.value in
+    mapped (table_in (names_in k.groups k.items.spaces.types)) k.items.spaces.tables c.args.at c.table_at.result (returns-clause-exact c)

@@ -1,4 +1,4 @@
-use Rattle.std.proofs.Common.{◌∙◌, refl, sym, ap, Ok, Err}
+use Rattle.std.proofs.Common.{◌∙◌, refl, sym, ap, Ok, Err, inr}
 use Rattle.std.specs.Prelude.{option_map}
 use Rattle.wasm_types.specs.decoding.Decoder.{State}
 use Rattle.wasm_sections_payloads.specs.declared.payload.Payload.TheVariants as payloads
@@ -18,8 +18,8 @@ returns-in-Err-clause-answer c =
     let here : Progress = record { kept = c.deref.result.now; last = i.last } in
     let moved = c.deref.ensures in
     let same = shared_progress v i.own i.last i.bodies o shared is c.self.view_is ∙ (λ j. record { kept = sym moved j; last = i.last }) in
-    data_told v here same (payloads.DataSection c.args.segments) refl (λ (b : State). Counts b c.args.segments.count c.args.segments.reader) (λ id b k. k) {X = Unit {0}} (Err c.in-Err.error)
-    c.in-Err.ensures.answer
+    inr (data_told v here same (payloads.DataSection c.args.segments) refl (λ (b : State). Counts b c.args.segments.count c.args.segments.reader) (λ id b k. k) {X = Unit {0}} (Err c.in-Err.error)
+    c.in-Err.ensures.answer)
 
 pub returns-clause-answer : goal.returns-clause-answer
 returns-clause-answer c =

@@ -1,7 +1,8 @@
 use Rattle.std.proofs.Common.{List, sym, ap, subst}
 use Rattle.std.specs.Prelude.{OnOk, option_map}
+use Rattle.wasm_module_validator_reading.specs.progress.adding.FullLaws.{unless_full_from}
 use Rattle.wasm_module_validator_reading.specs.progress.adding.declared.bodies.Body.{Body}
-use Rattle.wasm_module_validator_reading.specs.progress.Progress.{Progress, Grows, IsAt}
+use Rattle.wasm_module_validator_reading.specs.progress.Progress.{Progress, FullBy, Grows, IsAt}
 use Rattle.wasm_module_validator_reading.proofs.Counting.{on_ok}
 use Rattle.wasm_module_validator_sharing.specs.Sharing.{Reached}
 use Rattle.wasm_module_validator_sharing.proofs.Keeping.{not_shared, own_progress, own_reached, told_next, payload_follows}
@@ -12,8 +13,10 @@ returns-clause-answer c =
     let v = c.args.self.now in
     let i = c.self.inside in
     let o = option_map (λ p. p.value) i.shared in
-    told_next v i.own (own_progress v i.own i.last i.bodies o c.self.view_is c.requires.own) c.requires.own c.args.payload c.take_payload.result
-    (λ z p f at has is. c.take_payload.ensures.answer z p f (subst (λ (bs : List Body). IsAt z i.own bs p) (sym c.new-bodies.ensures.items) at) has is)
+    let own = own_progress v i.own i.last i.bodies o c.self.view_is c.requires.own in
+    unless_full_from _ _ c.take_payload.result _ _ (λ e. subst (λ (p : Progress). FullBy c.args.payload p.kept e) (sym own))
+    (λ told. told_next v i.own own c.requires.own c.args.payload c.take_payload.result
+    (λ z p f at has is. told z p f (subst (λ (bs : List Body). IsAt z i.own bs p) (sym c.new-bodies.ensures.items) at) has is)) c.take_payload.ensures.answer
 
 pub returns-clause-added : goal.returns-clause-added
 returns-clause-added c =

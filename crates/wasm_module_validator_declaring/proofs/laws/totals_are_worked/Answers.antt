@@ -1,0 +1,14 @@
+use Rattle.wasm_module_validator_declaring.specs.TotalLaws.{full_is_past, none_past, not_otherwise, not_unsaid}
+use Rattle.wasm_module_validator_declaring.proofs.laws.totals_are_worked.Goals as goal
+
+pub returns-clause-full : goal.returns-clause-full
+returns-clause-full c = full_is_past
+
+pub returns-clause-none : goal.returns-clause-none
+returns-clause-none c = none_past
+
+pub returns-clause-otherwise : goal.returns-clause-otherwise
+returns-clause-otherwise c = not_otherwise
+
+pub returns-clause-unsaid : goal.returns-clause-unsaid
+returns-clause-unsaid c = not_unsaid

@@ -1,0 +1,44 @@
+-- When the total is passed, by what was read before.
+use Rattle.std.proofs.Common.{◌≡◌, ◌+◌, ◌<◌, ◌≤◌, ℕ, List, [], length, Result, arith, refl, sym, ap, ◌∙◌}
+use Rattle.std.specs.Prelude.{codes}
+use Rattle.wasm_types.specs.error.Denials.{Tells}
+use Rattle.wasm_types.specs.error.ErrorValue.{ErrorValue}
+use Rattle.wasm_types.specs.error.declared.error.ErrorKind.TheVariants.{Failed, Other}
+use Rattle.wasm_types.specs.limits.Limits.{IsWithinCeilings}
+use Rattle.wasm_types.specs.limits.Settings.{Settings}
+use Rattle.wasm_types.specs.trees.Unfold.{type_count}
+use Rattle.wasm_module_validator_types.specs.List.{max_types}
+use Rattle.wasm_module_validator_adding.specs.FullLaws.{never_full}
+use Rattle.wasm_module_validator_standing.specs.type_trees.Groups.{Group, count}
+use Rattle.wasm_module_validator_standing.specs.items.Items.{Items, no_items}
+use Rattle.wasm_module_validator_standing.specs.Standing.{GrowsWith}
+use Rattle.wasm_module_validator_standing.specs.laws.Growing.{most_types}
+use Rattle.wasm_module_validator_declaring.specs.Total.{IsPastTotal, TellsWithinTotal}
+
+-- what was read since counts
+pub past_before : (old new : List Group) (s t : Items) (e : ErrorValue) → GrowsWith old s.spaces new t.spaces → t.spaces.settings ≡ s.spaces.settings → IsPastTotal new t e → IsPastTotal old s e
+past_before old new s t e grown same p =
+    let few = p.few in
+    let limit : t.spaces.settings.limits.types ≡ s.spaces.settings.limits.types = ap (λ (z : Settings). z.limits.types) same in
+    let more = grown.1 in
+    record { kind = p.kind; text = p.text; held = p.held; own = p.own; past = p.past; few = omega (arith, few, limit, more) }
+
+-- over a list with no types it is not passed
+pub none_past : (z : Settings) → IsWithinCeilings z.limits → (e : ErrorValue) → IsPastTotal [] (no_items z) e → ⊥
+unfolding type_count
+none_past z w e p = let most = most_types z w in let past = p.past in let few = p.few in omega (arith, most, past, few)
+
+pub within_total : {X : Type 0} (z : Settings) → IsWithinCeilings z.limits → (r : Result X ErrorValue) (P : Type 0) → TellsWithinTotal [] (no_items z) r P → Tells r P
+within_total z w r P h = never_full (IsPastTotal [] (no_items z)) (none_past z w) r (Tells r P) h
+
+-- ---- worked rows
+
+pub full_is_past : (groups : List Group) (z : Settings) → count groups ≡ max_types → 1 ≤ z.limits.types
+    → IsPastTotal groups (no_items z) (record { kind = Other; offset = 7; message = codes "implementation limit: too many core types" })
+full_is_past groups z full some = record { kind = refl; text = refl; held = count groups; own = 1; past = omega (arith, full); few = omega (arith, some) }
+
+pub not_otherwise : (groups : List Group) (s : Items) (e : ErrorValue) → e.kind ≡ Failed → IsPastTotal groups s e → ⊥
+not_otherwise groups s e k p = let both : Failed ≡ Other = sym k ∙ p.kind in absurd cc
+
+pub not_unsaid : (groups : List Group) (s : Items) (e : ErrorValue) → e.message ≡ [] → IsPastTotal groups s e → ⊥
+not_unsaid groups s e m p = let none : 41 ≡ 0 = ap length (sym p.text ∙ m) in omega (arith, none)

@@ -1,0 +1,4 @@
+pub mod Bodies
+pub mod Unreadable
+pub mod Payloads
+pub mod Running
