@@ -1,5 +1,6 @@
 -- What a step of a module that comes in pieces leads to, by the laws of `specs/laws`.
 use Rattle.std.proofs.Common.{◌≡◌, ◌∙◌, ◌⊎◌, ◌<◌, ◌≤◌, ◌+◌, ◌^◌, ℕ, Bool, true, false, List, [], ◌++◌, length, drop, Option, Result, Ok, Err, inl, inr, refl, sym, ap, subst, arith}
+use Rattle.wasm_types.specs.decoding.Decoder.{State as Bytes}
 use Rattle.wasm_types.specs.error.Denials.{Denies, Tells}
 use Rattle.wasm_types.specs.error.DenialLaws.{denies}
 use Rattle.wasm_types.specs.error.ErrorValue.{ErrorValue}
@@ -16,6 +17,7 @@ use Rattle.wasm_sections_payloads.specs.Parsing.{ParsesPayload}
 use Rattle.wasm_sections_payloads.specs.Payloads.{IsPayloadOf}
 use Rattle.wasm_module_validator_resources.specs.Reading.{context_of}
 use Rattle.wasm_module_validator_module.specs.declared.view.validator_id.ValidatorId.{ValidatorId}
+use Rattle.wasm_module_validator_sharing.specs.Sharing.{Handed}
 use Rattle.wasm_module_validator_sharing.specs.reading.judging.functions.code.Code.{IsFunctionOf}
 use Rattle.wasm_module_validator_sharing.specs.reading.progress.Progress.{Kept}
 use Rattle.wasm_module_validator_sharing.specs.reading.progress.standing.steps.contexts.rules.Accepts.{AcceptsUnder}
@@ -129,3 +131,7 @@ answers_reader z id j same own most before after (Err (errors.Refused e)) a = re
 }
 answers_reader z id j same own most before after (Err errors.Read) a = a
 answers_reader z id j same own most before after (Err errors.TooLong) a = a
+
+-- what judges a function that was handed out holds to limits that are within their ceilings
+pub handed_within : (x : Payload) (v w : Validator) (h : Handed) (body : Bytes) → TakesPayload x v (Ok (valid.Func h body)) w → IsWithinCeilings h.limits
+handed_within x v w h body t = (body_handed body v w h (handed_out x v w h body t).1).within
