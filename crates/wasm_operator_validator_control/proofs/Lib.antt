@@ -3,6 +3,7 @@ pub mod Opening
 pub mod Ending
 pub mod Places
 pub mod Fits
+pub mod Among
 pub mod TableRow
 pub mod Naming
 pub mod CallRows

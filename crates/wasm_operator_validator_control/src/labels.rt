@@ -9,8 +9,9 @@ use crate::sharing::agree;
 use crate::{
     BrTable, BrTableTargets, OperatorValidator, Refusal, WasmModuleResources, label_types,
 };
+use wasm_operator_validator_labels::{Met, is_known, keep};
 
-/// Whether each of these labels takes so many operands, and what it takes could be taken off.
+/// Whether each of these labels takes so many operands, and what it takes could be taken off. A label that was met is not asked again.
 fn match_targets<R: WasmModuleResources>(
     validator: &OperatorValidator,
     resources: &R,
@@ -20,10 +21,14 @@ fn match_targets<R: WasmModuleResources>(
     requires { IsOpen validator.now.opens }
     ensures { Answers result (EachSuits (R.meaning resources.now) validator.now count targets.entry) }
 {
+    let mut met = Met::new();
     while let Some(target) = targets.next() {
-        match match_label(validator, resources, target, count) {
-            Ok(()) => {}
-            Err(refusal) => return Err(refusal),
+        if !is_known(&met, target, count) {
+            match match_label(validator, resources, target, count) {
+                Ok(()) => {}
+                Err(refusal) => return Err(refusal),
+            }
+            keep(&mut met, target, count);
         }
     }
     Ok(())

@@ -7,7 +7,7 @@
 //!
 //! Where a table of labels is branched by, the operands are held against one label after the other, where they lie. What is known of an
 //! operand may stand for a shared and for an unshared reference: then labels that it fits one by one may still agree on neither, which is
-//! asked at the end.
+//! asked at the end. A label that takes many types is asked once, however often a table names it.
 #![tactic(auto)]
 
 mod br_table;

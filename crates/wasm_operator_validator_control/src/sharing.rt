@@ -1,12 +1,16 @@
 //! References of which it is not known whether they are shared, against several labels.
 
-ghost use Rattle.std.specs.Prelude.{◌≡◌, ◌↔◌, ◌∷◌, IsTrue, length};
+ghost use Rattle.std.specs.Prelude.{◌≡◌, ◌↔◌, ◌∷◌, IsTrue, IfSome, length};
+ghost use Rattle.std.specs.Slice.Iter.{iter_rest};
 ghost use Rattle.wasm_operator_validator_control.specs.Fitting.{labels_of, FitsAt, EachFitsAt, a_reference, either_shared, AgreesAt, AllAgree, Answers};
+ghost use Rattle.wasm_operator_validator_labels.specs.Among.{SameLabels};
 
 use crate::{
     BrTable, BrTableTargets, MaybeType, OperatorValidator, Refusal, WasmModuleResources,
     is_abstract_fit, label_types,
 };
+use std::slice::Iter;
+use wasm_operator_validator_labels::{Met, is_met, is_worth};
 use wasm_types::{AbstractHeapType, ValType};
 
 /// Whether all labels of a table agree in each place on whether a reference is shared, where that is not known. `types` are those of
@@ -19,12 +23,32 @@ pub(crate) fn agree<R: WasmModuleResources>(
 ) -> Result<(), Refusal>
     ensures { Answers result (AllAgree (R.meaning resources.now) validator.now (length types.now) (table.now.default ∷ table.now.targets)) }
 {
+    let named = distinct(table.targets(), types.len());
     for place in 0..types.len() {
-        if !agrees_at(validator, resources, table, place) {
+        if !agrees_at(validator, resources, table, &named, place) {
             return Err(disagreement(validator.peek(place), types[types.len() - 1 - place]));
         }
     }
     Ok(())
+}
+
+/// The targets of a table, each once, if they find a place and take so many types that it pays.
+fn distinct(mut targets: BrTableTargets, types: usize) -> Option<Met>
+    ensures { IfSome result (λ met. SameLabels met.items targets.entry) }
+{
+    if !is_worth(types) {
+        return None;
+    }
+    let mut met = Met::new();
+    while let Some(target) = targets.next() {
+        if !is_met(&met, target) {
+            if met.is_full() {
+                return None;
+            }
+            met.push(target);
+        }
+    }
+    Some(met)
 }
 
 /// The refusal of labels that disagree on an operand.
@@ -36,19 +60,21 @@ fn disagreement(found: Option<MaybeType>, expected: ValType) -> Refusal {
     }
 }
 
-/// Whether they agree in this place, which counts from the top.
+/// Whether they agree in this place, which counts from the top. `named` are the targets, each once, if they were put together.
 fn agrees_at<R: WasmModuleResources>(
     validator: &OperatorValidator,
     resources: &R,
     table: &BrTable,
+    named: &Option<Met>,
     place: usize,
 ) -> bool
+    requires { IfSome named.now (λ met. SameLabels met.items table.now.targets) }
     ensures { IsTrue result ↔ AgreesAt (R.meaning resources.now) validator.now place (table.now.default ∷ table.now.targets) }
 {
     match unknown_sharing(validator.peek(place)) {
         Some(ty) => {
-            fits_table(validator, resources, table, place, false, ty)
-                || fits_table(validator, resources, table, place, true, ty)
+            fits_table(validator, resources, table, named, place, false, ty)
+                || fits_table(validator, resources, table, named, place, true, ty)
         }
         None => true,
     }
@@ -71,16 +97,28 @@ fn fits_table<R: WasmModuleResources>(
     validator: &OperatorValidator,
     resources: &R,
     table: &BrTable,
+    named: &Option<Met>,
     place: usize,
     shared: bool,
     ty: AbstractHeapType,
 ) -> bool
+    requires { IfSome named.now (λ met. SameLabels met.items table.now.targets) }
     ensures { IsTrue result ↔ EachFitsAt (labels_of (R.meaning resources.now) validator.now) place (a_reference shared ty) (table.now.default ∷ table.now.targets) }
 {
     if !fits_label(validator, resources, table.default(), place, shared, ty) {
         return false;
     }
-    fits_targets(validator, resources, table.targets(), place, shared, ty)
+    match named {
+        Some(labels) => fits_labels(
+            validator,
+            resources,
+            labels.as_slice().iter(),
+            place,
+            shared,
+            ty,
+        ),
+        None => fits_targets(validator, resources, table.targets(), place, shared, ty),
+    }
 }
 
 /// The same of these labels.
@@ -96,6 +134,25 @@ fn fits_targets<R: WasmModuleResources>(
 {
     while let Some(target) = targets.next() {
         if !fits_label(validator, resources, target, place, shared, ty) {
+            return false;
+        }
+    }
+    true
+}
+
+/// The same of these labels, which lie side by side.
+fn fits_labels<R: WasmModuleResources>(
+    validator: &OperatorValidator,
+    resources: &R,
+    mut labels: Iter<u32>,
+    place: usize,
+    shared: bool,
+    ty: AbstractHeapType,
+) -> bool
+    ensures { IsTrue result ↔ EachFitsAt (labels_of (R.meaning resources.now) validator.now) place (a_reference shared ty) (iter_rest labels.entry) }
+{
+    while let Some(label) = labels.next() {
+        if !fits_label(validator, resources, *label, place, shared, ty) {
             return false;
         }
     }

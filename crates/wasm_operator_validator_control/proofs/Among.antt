@@ -1,0 +1,59 @@
+-- Labels that suit one after the other, and lists of the same labels.
+use Rattle.std.proofs.Common.{
+  ◌≡◌,
+  ◌∙◌,
+  ◌==◌,
+  ◌||◌,
+  ◌↔◌,
+  ℕ,
+  Bool,
+  true,
+  false,
+  IsTrue,
+  List,
+  [],
+  ◌∷◌,
+  refl,
+  sym,
+  subst,
+  arith,
+}
+use Rattle.wasm_operator_validator_determined.specs.rules.Operands.{ValueType, Operand}
+use Rattle.wasm_operator_validator_determined.specs.resources.Meaning.{Meaning}
+use Rattle.wasm_operator_validator_determined.specs.state.State.{State}
+use Rattle.wasm_operator_validator_control.specs.Fitting.{Suits, EachSuits, FitsAt, EachFitsAt}
+use Rattle.wasm_operator_validator_labels.specs.Among.{IsAmong, SameLabels}
+
+-- ---- labels that suit
+
+module _ (m : Meaning) (σ : State) (n : ℕ) where
+  pub suits_next : (all left rest : List ℕ) (l : ℕ) → left ≡ l ∷ rest → Suits m σ n l → EachSuits m σ n left ↔ EachSuits m σ n all → EachSuits m σ n rest ↔ EachSuits m σ n all
+  suits_next all left rest l e p s = (λ h. s.0 (subst (EachSuits m σ n) (sym e) (p, h)), λ h. (subst (EachSuits m σ n) e (s.1 h)).1)
+
+-- ---- labels that fit in a place
+
+module _ (ls : List (List ValueType)) (i : ℕ) (t : Operand) where
+  fits_at_one : (labels : List ℕ) (l : ℕ) → IsAmong l labels → EachFitsAt ls i t labels → FitsAt ls i t l
+  fits_at_one [] l e h = cc
+  fits_at_one (x ∷ labels) l e (p, h) = by (x == l) refl (λ r. fits_at_one labels l r h)
+    where
+      by : (b : Bool) → (x == l) ≡ b → (IsAmong l labels → FitsAt ls i t l) → FitsAt ls i t l
+      by true q f = let k : x ≡ l = grind arith in subst (FitsAt ls i t) k p
+      by false q f = let r : IsAmong l labels = grind arith in f r
+
+  fit_where_each : (labels : List ℕ) → ((l : ℕ) → IsAmong l labels → FitsAt ls i t l) → EachFitsAt ls i t labels
+  fit_where_each [] f = tt
+  fit_where_each (x ∷ labels) f = (f x first, fit_where_each labels (λ l e. f l (behind l e)))
+    where
+      first : IsAmong x (x ∷ labels)
+      first = grind arith
+
+      behind : (l : ℕ) → IsAmong l labels → IsAmong l (x ∷ labels)
+      behind l e = grind arith
+
+  fit_same : (some others : List ℕ) → SameLabels some others → EachFitsAt ls i t some → EachFitsAt ls i t others
+  fit_same some others s h = fit_where_each others (λ l e. fits_at_one some l (s l ∙ e) h)
+
+  -- whether a label and others fit, where the others are named by a list of the same
+  pub fit_as_named : (r : Bool) (d : ℕ) (some others : List ℕ) → SameLabels some others → FitsAt ls i t d → IsTrue r ↔ EachFitsAt ls i t some → IsTrue r ↔ EachFitsAt ls i t (d ∷ others)
+  fit_as_named r d some others s f b = (λ x. (f, fit_same some others s (b.0 x)), λ (x, y). b.1 (fit_same others some (λ l. sym (s l)) y))
