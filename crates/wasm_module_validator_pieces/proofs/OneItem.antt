@@ -1,5 +1,5 @@
 -- One item more of the bytes that came, and what all whole items of them lead to.
-use Rattle.std.proofs.Common.{◌≡◌, ◌∙◌, ◌<◌, ◌≤◌, ◌+◌, ◌-◌, ◌^◌, ℕ, Bool, true, false, List, [], ◌++◌, length, take, drop, refl, sym, ap, subst, arith, length-drop, drop-drop}
+use Rattle.std.proofs.Common.{◌≡◌, ◌∙◌, ◌<◌, ◌≤◌, ◌+◌, ◌-◌, ◌^◌, ℕ, Bool, false, List, length, take, drop, sym, ap, subst, length-drop, drop-drop}
 use Rattle.std.proofs.Math.Seq.{take-length}
 use Rattle.wasm_types.specs.error.ErrorValue.{ErrorValue}
 use Rattle.wasm_module_validator_pieces.specs.declared.taking.Taken.{Taken}

@@ -6,7 +6,7 @@ use Rattle.std.specs.Io.KnownBytes.{Consumes}
 use Rattle.wasm_types.specs.error.ErrorValue.{ErrorValue}
 use Rattle.wasm_module_validator_pieces.specs.declared.reading.ReadError.{ReadError}
 use Rattle.wasm_module_validator_pieces.specs.declared.reading.ReadError.TheVariants as errors
-use Rattle.wasm_module_validator_pieces.specs.Pieces.{AcceptsAll, Answers, Concludes, HasCome, RefusesAll, ReadsSome}
+use Rattle.wasm_module_validator_pieces.specs.Pieces.{Answers, Concludes, HasCome, RefusesAll, ReadsSome}
 use Rattle.wasm_module_validator_pieces.specs.Reads.{Gives}
 use Rattle.wasm_module_validator_pieces.specs.Taking.{IsMidst, Carries, DeniesFrom}
 
@@ -70,7 +70,8 @@ module _ {S : Type 0} (stands : S → List ℕ → Bool → List ℕ → S → T
   unfolding got
   has_come all left then h =
       let same : k ≡ count = omega (arith, kept, all) in
-      let total = come.1 in (
+      let total = come.1 in
+      (
         got ++ take k chunk,
         omega (arith, length_kept, total, kept),
         subst (λ (n : ℕ). Consumes before after (got ++ take n chunk)) (sym same) all_read,

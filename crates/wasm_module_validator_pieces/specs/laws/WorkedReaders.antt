@@ -1,13 +1,9 @@
 -- What is said of the bytes of a reader, worked: where it holds, and where it does not.
-use Rattle.std.proofs.Common.{◌≡◌, ◌<◌, ◌^◌, ◌+◌, ℕ, Bool, true, false, List, [], ◌∷◌, ◌++◌, length, Option, Some, None, Result, Ok, Err, refl, sym, ap, ◌∙◌, subst, arith, length-append}
+use Rattle.std.proofs.Common.{◌≡◌, ◌<◌, ◌^◌, ◌+◌, ℕ, true, false, List, [], ◌∷◌, ◌++◌, length, Some, Err, refl, sym, ap, subst, arith, length-append}
 use Rattle.std.proofs.lemmas.Bool.{false≢true}
-use Rattle.wasm_module_validator_pieces.specs.declared.reading.ReadError.{ReadError}
 use Rattle.wasm_module_validator_pieces.specs.declared.reading.ReadError.TheVariants as errors
-use Rattle.wasm_module_validator_pieces.specs.declared.taking.Taken.TheVariants as taken
-use Rattle.wasm_module_validator_pieces.specs.declared.taking.Advanced.TheVariants as advanced
 use Rattle.wasm_module_validator_pieces.specs.Pieces.{AcceptsAll, RefusesAll, ReadsSome, fails}
 use Rattle.wasm_module_validator_pieces.specs.Reads.{Gives}
-use Rattle.wasm_module_validator_pieces.specs.Taking.{Takes, Advances}
 
 -- what accepts one byte alone, and says which
 abbrev pub IsOne : List ℕ → ℕ → Type 0

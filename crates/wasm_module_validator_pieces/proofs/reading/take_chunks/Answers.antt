@@ -1,5 +1,5 @@
 -- By the laws of one piece more.
-use Rattle.std.proofs.Common.{◌≡◌, Some, rules, subst, sym, arith}
+use Rattle.std.proofs.Common.{Some, rules, subst, arith}
 use Rattle.wasm_module_validator_pieces.specs.Reads.{Gives}
 use Rattle.wasm_module_validator_pieces.proofs.OnePiece.{concluded, kept_midst, piece_refused, too_long, has_come}
 use Rattle.wasm_module_validator_pieces.proofs.reading.take_chunks.Goals as goal

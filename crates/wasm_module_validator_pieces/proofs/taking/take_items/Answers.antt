@@ -1,5 +1,5 @@
 -- By the laws of one item more.
-use Rattle.std.proofs.Common.{refl, rules, arith, length, drop, ◌-◌, sym, subst, List, ℕ}
+use Rattle.std.proofs.Common.{rules, arith, subst, List, ℕ}
 use Rattle.wasm_module_validator_pieces.specs.declared.taking.Taken.TheVariants as taken
 use Rattle.wasm_module_validator_pieces.proofs.OneItem.{all_left, answered_all, item_carries, item_midst, item_within}
 use Rattle.wasm_module_validator_pieces.proofs.taking.take_items.Goals as goal
