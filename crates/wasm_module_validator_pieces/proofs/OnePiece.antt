@@ -70,8 +70,7 @@ module _ {S : Type 0} (stands : S → List ℕ → Bool → List ℕ → S → T
   unfolding got
   has_come all left then h =
       let same : k ≡ count = omega (arith, kept, all) in
-      let total = come.1 in
-      (
+      let total = come.1 in (
         got ++ take k chunk,
         omega (arith, length_kept, total, kept),
         subst (λ (n : ℕ). Consumes before after (got ++ take n chunk)) (sym same) all_read,
