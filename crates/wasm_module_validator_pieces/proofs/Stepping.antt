@@ -45,13 +45,13 @@ module _ (z : Settings) (id : ValidatorId) (got : List ℕ) (eof : Bool) (q : Pa
   judged_here : (answer : Result (Unit {0}) ErrorValue) (j : JudgesFunction x v answer w)
       → Tells answer (IsFunctionOf z (context_of v.reached.progress.kept.groups v.reached.progress.kept.items.spaces) j.handed.ty j.body.rest)
   judged_here answer j =
-      let read = body_read z id got eof q rest v g n f r parses x is w j.handed j.body j.taken in
-      let handed = body_handed j.body v w j.handed (handed_out x v w j.handed j.body j.taken).1 in
+      let read = body_read z id got eof q rest v g n f r parses x is w j.handed j.body j.takes in
+      let handed = body_handed j.body v w j.handed (handed_out x v w j.handed j.body j.takes).1 in
       subst (λ (k : Kept). Tells answer (IsFunctionOf z (context_of k.groups k.items.spaces) j.handed.ty j.body.rest)) handed.resources (j.told z read.0 read.1)
 
   passed_on : TakesPayload x v (Ok valid.Ok) w ⊎ JudgesFunction x v (Ok tt) w → Goes z id got eof r (drop n rest) w
   passed_on (inl t) = goes_on z id got eof q rest v g n f r parses x is w t
-  passed_on (inr j) = body_goes_on z id got eof q rest v g n f r parses x is w j.handed j.body j.taken (judged_here (Ok tt) j)
+  passed_on (inr j) = body_goes_on z id got eof q rest v g n f r parses x is w j.handed j.body j.takes (judged_here (Ok tt) j)
 
   item_taken : (k : ℕ) → StepsPayload x n v (taken.Item k) w → (0 < k) × (k ≤ length rest) × Goes z id got eof r (drop k rest) w
   item_taken k (same, t) =
@@ -63,11 +63,11 @@ module _ (z : Settings) (id : ValidatorId) (got : List ℕ) (eof : Bool) (q : Pa
   end_is_verdict : (t : Learned) → StepsPayload x n v (taken.Ended t) w → length got < 2 ^ 64 → (eof ≡ true) × IsVerdict z id got t
   end_is_verdict t told room =
       let k = end_accepts z id got eof q rest v g n f r parses x is w t told room in
-      (k.0, k.1, k.2, accepted_sound z got k.1, k.3)
+      (k.0, (k.1, k.2, accepted_sound z got k.1, k.3))
 
   refusal_denies : (e : ErrorValue) → StepsPayload x n v (taken.Refused e) w → (more : List ℕ) → (eof ≡ true → more ≡ []) → length (got ++ more) < 2 ^ 64 → IsRefusal z (got ++ more) e
   refusal_denies e (inl t) more last room = payload_denied z id got eof q rest v g n f r parses x is w e t more last room
-  refusal_denies e (inr j) more last room = body_denied z id got eof q rest v g n f r parses x is w j.handed j.body j.taken e.kind (judged_here (Err e) j) more last room
+  refusal_denies e (inr j) more last room = body_denied z id got eof q rest v g n f r parses x is w j.handed j.body j.takes e.kind (judged_here (Err e) j) more last room
 
 -- ---- a call
 
