@@ -26,7 +26,7 @@ ghost use Rattle.wasm_module_validator.specs.Accepts.{IsShown};
 ghost use Rattle.wasm_module_validator.specs.Payloads.{TakesPayload};
 ghost use Rattle.wasm_module_validator.specs.Shown.{Learned};
 ghost use Rattle.wasm_module_validator_pieces.specs.laws.Running.{begins, Goes};
-ghost use Rattle.wasm_module_validator_pieces.specs.laws.WorkedReaders.{ReaderRows};
+ghost use Rattle.wasm_module_validator_pieces.specs.laws.WorkedReaders.{ReaderRows, StepRows};
 
 /// A validator that has read nothing and has no types stands behind no bytes. More bytes may come, and it may be known that none do.
 pub const fn runs_begin()
@@ -67,5 +67,6 @@ pub const fn pieces_are_judged()
 
 /// What is said of the bytes of a reader: a case where each of these holds, and one where it does not.
 pub const fn readers_are_worked()
-    ensures { ReaderRows }
+    ensures readers { ReaderRows }
+    ensures steps { (e : ErrorValue) → StepRows e }
 {}

@@ -1,9 +1,13 @@
 -- What is said of the bytes of a reader, worked: where it holds, and where it does not.
-use Rattle.std.proofs.Common.{◌≡◌, ◌<◌, ◌^◌, ◌+◌, ℕ, true, false, List, [], ◌∷◌, ◌++◌, length, Some, Err, refl, sym, ap, subst, arith, length-append}
+use Rattle.std.proofs.Common.{◌≡◌, ◌∙◌, ◌<◌, ◌^◌, ◌+◌, ℕ, Bool, true, false, List, [], ◌∷◌, ◌++◌, length, Some, Ok, Err, refl, sym, ap, subst, arith, length-append}
 use Rattle.std.proofs.lemmas.Bool.{false≢true}
 use Rattle.wasm_module_validator_pieces.specs.declared.reading.ReadError.TheVariants as errors
-use Rattle.wasm_module_validator_pieces.specs.Pieces.{AcceptsAll, RefusesAll, ReadsSome, fails}
+use Rattle.wasm_module_validator_pieces.specs.Pieces.{AcceptsAll, Concludes, HasCome, RefusesAll, ReadsSome, fails}
 use Rattle.wasm_module_validator_pieces.specs.Reads.{Gives}
+use Rattle.wasm_module_validator_pieces.specs.Taking.{IsMidst, IsDenied, Takes, Advances}
+use Rattle.wasm_module_validator_pieces.specs.declared.taking.Taken.TheVariants as taken
+use Rattle.wasm_module_validator_pieces.specs.declared.taking.Advanced.TheVariants as advanced
+use Rattle.wasm_types.specs.error.ErrorValue.{ErrorValue}
 
 -- what accepts one byte alone, and says which
 abbrev pub IsOne : List ℕ → ℕ → Type 0
@@ -49,4 +53,60 @@ reader_rows = record {
   not_failed = λ e. absurd (false≢true e);
   ended = (omega arith, refl, λ e some. refl);
   not_ended = λ (within, read, end). let e : 7 ∷ [] ≡ [] = end refl (omega arith) in cc;
+}
+
+-- ---- steps
+
+-- what stands where one byte came and none is left
+abbrev pub StandsBehind : ℕ → List ℕ → Bool → List ℕ → ℕ → Type 0
+StandsBehind first got eof rest now = (got ≡ 7 ∷ []) × (rest ≡ [])
+
+abbrev pub ShownOne : ℕ → List ℕ → ℕ → Type 0
+ShownOne first text n = IsOne text n
+
+abbrev pub DeniedNone : ℕ → List ℕ → ErrorValue → Type 0
+DeniedNone first text e = HasByte text e.offset
+
+pub record StepRows (e : ErrorValue) : Type 0 where
+  -- an item of the byte that is left is taken, and none of two
+  pub item : Takes StandsBehind ShownOne DeniedNone 0 (7 ∷ []) false (7 ∷ []) (taken.Item 1) 0
+  pub no_item : Takes StandsBehind ShownOne DeniedNone 0 (7 ∷ []) false (7 ∷ []) (taken.Item 2) 0 → ⊥
+  -- where no more come nothing waits
+  pub no_wait : Takes StandsBehind ShownOne DeniedNone 0 (7 ∷ []) true [] (taken.Waits 1) 0 → ⊥
+  pub waits : Advances StandsBehind ShownOne DeniedNone 0 (7 ∷ []) false (7 ∷ []) (advanced.Waits 1 2) 0
+  -- where more may come nothing has ended
+  pub not_ended : Advances StandsBehind ShownOne DeniedNone 0 (7 ∷ []) false [] (advanced.Ended 7) 0 → ⊥
+  -- whatever begins with a byte is denied, and not whatever begins with none
+  pub denied : IsDenied DeniedNone 0 (7 ∷ []) false e
+  pub not_denied : IsDenied DeniedNone 0 [] false e → ⊥
+  -- one byte came and none is left; not so of two
+  pub midst : IsMidst StandsBehind false [] 0
+  pub no_midst : IsMidst StandsBehind false (7 ∷ (8 ∷ [])) 0 → ⊥
+  pub come : HasCome StandsBehind 0 3 2 (Some (7 ∷ (8 ∷ []))) (Some (8 ∷ [])) [] 0
+  pub not_come : HasCome StandsBehind 0 3 2 (Some (7 ∷ (8 ∷ []))) (Some []) [] 0 → ⊥
+  -- the bytes that came are concluded on, and no read fails then
+  pub concluded : Concludes ShownOne DeniedNone 0 (7 ∷ []) (Ok 7)
+  pub not_failing : Concludes {D = ℕ} ShownOne DeniedNone 0 (7 ∷ []) (Err errors.Read) → ⊥
+
+two_came : (got : List ℕ) → got ≡ 7 ∷ [] → 7 ∷ (8 ∷ []) ≡ got ++ [] → ⊥
+two_came got is e =
+    let same : 7 ∷ (8 ∷ []) ≡ 7 ∷ [] = e ∙ ap (λ (l : List ℕ). l ++ []) is in
+    let n : 2 ≡ 1 = ap length same in
+    omega (arith, n)
+
+pub step_rows : (e : ErrorValue) → StepRows e
+step_rows e = record {
+  item = (omega arith, omega arith, (refl, refl));
+  no_item = λ h. let n = h.1 in omega (arith, n);
+  no_wait = λ h. absurd (false≢true (sym h.0));
+  waits = (refl, omega arith, (refl, refl));
+  not_ended = λ h. absurd (false≢true h.0);
+  denied = λ more last room none. cc;
+  not_denied = λ h. h [] (λ t. refl) (omega arith) refl;
+  midst = record { first = 0; got = 7 ∷ []; there = (refl, refl); room = omega arith };
+  no_midst = λ h. let none : 7 ∷ (8 ∷ []) ≡ [] = h.there.1 in cc;
+  come = (7 ∷ [], refl, refl, (refl, refl));
+  not_come = λ h. two_came h.0 h.3.0 h.2;
+  concluded = refl;
+  not_failing = λ h. h;
 }
