@@ -116,7 +116,8 @@ fn take_chunks<T: TakesBytes, R: Read>(
     requires reads { reader.old.has_failed ≡ false }
     requires chunk { 1 ≤ length chunk.old }
     requires most { max_bytes < 2 ^ 64 - 1 }
-    ensures answer { Answers (T.shown taker.old) (T.denied taker.old) max_bytes (R.remaining reader.old.reader) (R.remaining reader.new.reader) result }
+    ensures answer { Answers (T.shown taker.old) (T.denied taker.old) max_bytes (R.remaining reader.old.reader)
+        (R.remaining reader.new.reader) result }
     ensures failed { reader.new.has_failed ≡ fails result }
     ensures count { reader.new.reads ≤ reader.old.reads + (max_bytes + 1) }
     ensures counted { reader.old.reads ≤ reader.new.reads }
@@ -158,7 +159,8 @@ pub(crate) fn take_reader<T: TakesBytes, R: Read>(
     requires reads { reader.old.has_failed ≡ false }
     requires piece { 1 ≤ piece }
     requires most { max_bytes < 2 ^ 64 - 1 }
-    ensures answer { Answers (T.shown taker.old) (T.denied taker.old) max_bytes (R.remaining reader.old.reader) (R.remaining reader.new.reader) result }
+    ensures answer { Answers (T.shown taker.old) (T.denied taker.old) max_bytes (R.remaining reader.old.reader)
+        (R.remaining reader.new.reader) result }
     ensures failed { reader.new.has_failed ≡ fails result }
     ensures count { reader.new.reads ≤ reader.old.reads + (max_bytes + 1) }
     ensures counted { reader.old.reads ≤ reader.new.reads }
