@@ -1,23 +1,5 @@
 -- Labels that suit one after the other, and lists of the same labels.
-use Rattle.std.proofs.Common.{
-  ◌≡◌,
-  ◌∙◌,
-  ◌==◌,
-  ◌||◌,
-  ◌↔◌,
-  ℕ,
-  Bool,
-  true,
-  false,
-  IsTrue,
-  List,
-  [],
-  ◌∷◌,
-  refl,
-  sym,
-  subst,
-  arith,
-}
+use Rattle.std.proofs.Common.{◌≡◌, ◌∙◌, ◌==◌, ◌↔◌, ℕ, Bool, true, false, IsTrue, List, [], ◌∷◌, refl, sym, subst, arith}
 use Rattle.wasm_operator_validator_determined.specs.rules.Operands.{ValueType, Operand}
 use Rattle.wasm_operator_validator_determined.specs.resources.Meaning.{Meaning}
 use Rattle.wasm_operator_validator_determined.specs.state.State.{State}

@@ -1,6 +1,6 @@
 -- A label that is put behind others.
 use Rattle.std.proofs.Common.{◌≡◌, ◌==◌, ◌⊎◌, ℕ, Bool, true, false, List, [], ◌∷◌, ◌++◌, inl, inr, ⊎_elim, refl, sym, subst, arith}
-use Rattle.wasm_operator_validator_labels.specs.Among.{is_among, IsAmong, KeepsOne}
+use Rattle.wasm_operator_validator_labels.specs.Among.{IsAmong, KeepsOne}
 
 one_more : (labels : List ℕ) (l : ℕ) → KeepsOne labels l (labels ++ l ∷ [])
 one_more [] l k e = by (l == k) refl

@@ -1,4 +1,4 @@
-use Rattle.std.proofs.Common.{◌++◌, ◌∷◌, [], refl, append-nil}
+use Rattle.std.proofs.Common.{[], refl, append-nil}
 use Rattle.std.specs.Option.{option_to_list}
 use Rattle.wasm_operator_validator_labels.proofs.Putting.{keeps_one}
 use Rattle.wasm_operator_validator_labels.proofs.put.Goals as goal
