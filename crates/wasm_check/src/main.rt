@@ -1,4 +1,4 @@
-//! `wasm-check [--features LIST] [--limits LIST] FILE...` says of each file whether it is a valid WebAssembly module.
+//! `wasm-check [--features LIST] [--limits LIST] [--pieces N] FILE...` says of each file whether it is a valid WebAssembly module.
 #![tactic(auto)]
 
 use std::process::ExitCode;

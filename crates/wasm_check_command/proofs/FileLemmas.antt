@@ -10,7 +10,7 @@ use Rattle.clap.specs.Walk.{all_of, first_of, rows_of}
 use Rattle.clap.specs.Matches.{found_of, matched_of, raw_values, first_value}
 use Rattle.clap.proofs.WalkLemmas.{raw_values-rows, first_value-rows}
 use Rattle.clap.specs.declared.parser.matches.ArgMatches.{ArgMatches}
-use Rattle.wasm_check_command.specs.Words.{wasm_check, IsHelp, AsksForHelp, features_list, files_of, matches_on, refusals_of}
+use Rattle.wasm_check_command.specs.Words.{wasm_check, IsHelp, AsksForHelp, features_list, limits_list, files_of, matches_on, refusals_of}
 use Rattle.wasm_check_command.specs.declared.command.Fault.{Fault}
 use Rattle.wasm_check_command.specs.declared.judging.Status.{Status}
 use Rattle.wasm_check_command.specs.declared.judging.Status.TheVariants.{AllValid, SomeInvalid}
@@ -54,17 +54,19 @@ pub listed_by : (name : List ℕ) (words : List (List ℕ)) (m : ArgMatches) (o 
     → option_map (λ s. s.now) o ≡ first_value (found_of m) name → option_map (λ s. s.now) o ≡ first_of name (matches_on words)
 listed_by name words m o r g = g ∙ first_value-rows (found_of m) name ∙ ap (first_of name) r
 
-with_lists : Option (List ℕ) → Option (List ℕ) → Asked
-with_lists f l = record { features = f; limits = l }
+with_values : Option (List ℕ) → Option (List ℕ) → Option (List ℕ) → Asked
+with_values f l n = record { features = f; limits = l; pieces = n }
 
--- the lists that the matches have, as those of the words
-pub asks_by : (words : List (List ℕ)) (m : ArgMatches) (features limits : Option (Bor (List ℕ))) → rows_of (found_of m) ≡ matches_on words
+-- the values that the matches have, as those of the words
+pub asks_by : (words : List (List ℕ)) (m : ArgMatches) (features limits pieces : Option (Bor (List ℕ))) → rows_of (found_of m) ≡ matches_on words
     → option_map (λ s. s.now) features ≡ first_value (found_of m) (codes "features") → option_map (λ s. s.now) limits ≡ first_value (found_of m) (codes "limits")
-    → asked_of (record { features = features; limits = limits }) ≡ asked_by words
-unfolding with_lists
-asks_by words m features limits r f l =
-    ap (λ x. with_lists x (option_map (λ s. s.now) limits)) (listed_by (codes "features") words m features r f)
-    ∙ ap (with_lists (features_list words)) (listed_by (codes "limits") words m limits r l)
+    → option_map (λ s. s.now) pieces ≡ first_value (found_of m) (codes "pieces")
+    → asked_of (record { features = features; limits = limits; pieces = pieces }) ≡ asked_by words
+unfolding with_values
+asks_by words m features limits pieces r f l n =
+    ap (λ x. with_values x (option_map (λ s. s.now) limits) (option_map (λ s. s.now) pieces)) (listed_by (codes "features") words m features r f)
+    ∙ ap (λ x. with_values (features_list words) x (option_map (λ s. s.now) pieces)) (listed_by (codes "limits") words m limits r l)
+    ∙ ap (with_values (features_list words) (limits_list words)) (listed_by (codes "pieces") words m pieces r n)
 
 -- the matches have no file
 pub no_names : (words : List (List ℕ)) (m : ArgMatches) (o : Option (Bor (List (Bor (List ℕ))))) → rows_of (found_of m) ≡ matches_on words

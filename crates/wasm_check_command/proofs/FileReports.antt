@@ -16,6 +16,7 @@ use Rattle.wasm_check_command.specs.declared.judging.Status.{Status}
 use Rattle.wasm_check_command.specs.declared.judging.Status.TheVariants.{AllValid, SomeInvalid}
 use Rattle.wasm_check_command.specs.declared.command.Fault.{Fault}
 use Rattle.wasm_check_command.specs.declared.command.Fault.TheVariants as faults
+use Rattle.wasm_check_command.specs.Modes.{Ruling}
 use Rattle.wasm_check_command.specs.Opened.{kept_open}
 use Rattle.wasm_check_command.specs.Verdict.{IsJudged, FailsAt}
 use Rattle.wasm_check_command.specs.Reports.{Source, IsReported}
@@ -77,6 +78,7 @@ fails_among some all (faults.CannotOpen name reason) among h = among name.now h
 fails_among some all (faults.Stopped error name reason) among h = absurd h
 fails_among some all faults.OutOfMemory among h = tt
 fails_among some all (faults.UnknownFeature word) among h = absurd h
+fails_among some all (faults.WrongPieces word) among h = absurd h
 fails_among some all (faults.WrongLimit wrong word) among h = absurd h
 
 -- the same of the first and of the other ones
@@ -95,41 +97,41 @@ pub first_texts : (first all : List (Bor (List ℕ))) (n : ℕ) → first ≡ ta
 first_texts first all n e = ap texts (e ∙ take_min n all) ∙ sym (take-map (λ (n : Bor (List ℕ)). n.now) n all)
 
 -- ---- over any judge of bytes
-module _ (accepts : List ℕ → Type 0) where
+module _ (ruling : Ruling) where
   -- no file was judged yet
-  pub reports_none : (known : Option (List ℕ)) → ReportsFiles accepts [] known known AllValid
-  reports_none known = record { sources = []; named = refl; reported = IsReported-none accepts known }
+  pub reports_none : (known : Option (List ℕ)) → ReportsFiles ruling [] known known AllValid
+  reports_none known = record { sources = []; named = refl; reported = IsReported-none ruling known }
 
   -- one file more
   pub reports_more : (names : List (List ℕ)) (name : List ℕ) (old mid new : Option (List ℕ)) (status : Status) (valid : Bool)
-      → ReportsFiles accepts names old mid status → JudgesFile accepts name mid new valid → ReportsFiles accepts (names ++ name ∷ []) old new (joined status valid)
+      → ReportsFiles ruling names old mid status → JudgesFile ruling name mid new valid → ReportsFiles ruling (names ++ name ∷ []) old new (joined status valid)
   reports_more names name old mid new status true r j = record {
     sources = r.sources ++ source name j.0 ∷ [];
     named = map-append (λ (s : Source). s.name) r.sources (source name j.0 ∷ []) ∙ ap (λ ns. ns ++ name ∷ []) r.named;
-    reported = IsReported-valid accepts r.sources (source name j.0) old mid new status status true r.reported j.1 refl refl;
+    reported = IsReported-valid ruling r.sources (source name j.0) old mid new status status true r.reported j.1 refl refl;
   }
   reports_more names name old mid new status false r j = record {
     sources = r.sources ++ source name j.0 ∷ [];
     named = map-append (λ (s : Source). s.name) r.sources (source name j.0 ∷ []) ∙ ap (λ ns. ns ++ name ∷ []) r.named;
-    reported = IsReported-invalid accepts r.sources (source name j.0) old mid new status SomeInvalid false r.reported j.1 refl refl;
+    reported = IsReported-invalid ruling r.sources (source name j.0) old mid new status SomeInvalid false r.reported j.1 refl refl;
   }
 
   -- the file at the next place
   pub reports_next : (all : List (List ℕ)) (name : List ℕ) (index : ℕ) (old mid new : Option (List ℕ)) (status next : Status) (valid : Bool)
-      → ReportsFiles accepts (take index all) old mid status → slice_get all index ≡ Some name → JudgesFile accepts name mid new valid → next ≡ joined status valid
-      → ReportsFiles accepts (take (index + 1) all) old new next
+      → ReportsFiles ruling (take index all) old mid status → slice_get all index ≡ Some name → JudgesFile ruling name mid new valid → next ≡ joined status valid
+      → ReportsFiles ruling (take (index + 1) all) old new next
   reports_next all name index old mid new status next valid r found j same =
-      rw same (subst (λ ns. ReportsFiles accepts ns old new (joined status valid)) (one_more all index name found)
+      rw same (subst (λ ns. ReportsFiles ruling ns old new (joined status valid)) (one_more all index name found)
       (reports_more (take index all) name old mid new status valid r j))
 
   -- all files
-  pub reports_all : (all : List (List ℕ)) (index : ℕ) (old new : Option (List ℕ)) (status : Status) → ReportsFiles accepts (take index all) old new status
-      → length all ≤ index → ReportsFiles accepts all old new status
-  reports_all all index old new status r past = subst (λ ns. ReportsFiles accepts ns old new status) (take_all index all past) r
+  pub reports_all : (all : List (List ℕ)) (index : ℕ) (old new : Option (List ℕ)) (status : Status) → ReportsFiles ruling (take index all) old new status
+      → length all ≤ index → ReportsFiles ruling all old new status
+  reports_all all index old new status r past = subst (λ ns. ReportsFiles ruling ns old new status) (take_all index all past) r
 
   -- nothing more was written
   pub reports_kept : (names : List (List ℕ)) (old mid new : Option (List ℕ)) (status : Status)
-      → ReportsFiles accepts names old mid status → Keeps mid new → ReportsFiles accepts names old new status
+      → ReportsFiles ruling names old mid status → Keeps mid new → ReportsFiles ruling names old new status
   reports_kept names old mid new status r kept = record {
     sources = r.sources;
     named = r.named;
@@ -145,14 +147,14 @@ module _ (accepts : List ℕ → Type 0) where
   }
 
   -- as many sources as names
-  counted_by : (all : List (List ℕ)) (index : ℕ) (old mid : Option (List ℕ)) (status : Status) (r : ReportsFiles accepts (take index all) old mid status)
+  counted_by : (all : List (List ℕ)) (index : ℕ) (old mid : Option (List ℕ)) (status : Status) (r : ReportsFiles ruling (take index all) old mid status)
       → index ≤ length all → length r.sources ≡ index
   counted_by all index old mid status r h =
       sym (length-map r.sources (λ (s : Source). s.name)) ∙ ap length r.named ∙ length-take-le index all h
 
   -- a fault is placed where its file is
   placed : (all : List (List ℕ)) (name told : List ℕ) (index : ℕ) (said mid new : Option (List ℕ)) (e : CheckError) → told ≡ name
-      → slice_get all index ≡ Some name → FailsAt accepts index name said mid new e → IsNamed all e told
+      → slice_get all index ≡ Some name → FailsAt ruling index name said mid new e → IsNamed all e told
   placed all name told index said mid new (Read i) same found h = rw (h.0, same) found
   placed all name told index said mid new (TooLong i) same found h = rw (h.0, same) found
   placed all name told index said mid new (OutOfMemory i) same found h = rw (h.0, same) found
@@ -160,8 +162,8 @@ module _ (accepts : List ℕ → Type 0) where
 
   -- the file after those that were judged came to no verdict
   pub stops_at : (all : List (List ℕ)) (name : List ℕ) (index : ℕ) (old mid new : Option (List ℕ)) (status : Status) (f : Fault)
-      → ReportsFiles accepts (take index all) old mid status → slice_get all index ≡ Some name → FailsFile accepts index name mid new f
-      → StopsFiles accepts all old new f
+      → ReportsFiles ruling (take index all) old mid status → slice_get all index ≡ Some name → FailsFile ruling index name mid new f
+      → StopsFiles ruling all old new f
   stops_at all name index old mid new status (faults.CannotOpen told reason) r found h = inr (record {
     index = index;
     found = rw h.0 found;
@@ -178,35 +180,36 @@ module _ (accepts : List ℕ → Type 0) where
         sources = r.sources ++ s ∷ [];
         named = map-append (λ (x : Source). x.name) r.sources (s ∷ []) ∙ ap (λ ns. ns ++ name ∷ []) r.named ∙ one_more all index name found
             ∙ ap (λ n. take n all) (sym more);
-        stopped = Stops-after accepts (r.sources ++ s ∷ []) r.sources s index old mid new status e r.reported
+        stopped = Stops-after ruling (r.sources ++ s ∷ []) r.sources s index old mid new status e r.reported
             (sym (take-append_seam r.sources (s ∷ [])) ∙ ap (λ n. take n (r.sources ++ s ∷ [])) counted) (subst (λ n. slice_get (r.sources ++ s ∷ []) n ≡ Some s) counted (last_is r.sources s)) h.1.1;
         place = placed all name told.now index h.1.0 mid new e h.0 found h.1.1;
       }
   stops_at all name index old mid new status faults.OutOfMemory r found h = absurd h
   stops_at all name index old mid new status (faults.UnknownFeature word) r found h = absurd h
+  stops_at all name index old mid new status (faults.WrongPieces word) r found h = absurd h
   stops_at all name index old mid new status (faults.WrongLimit wrong word) r found h = absurd h
 
   -- ---- a flush
   -- a flush that fails after files were judged
-  after_files : (names front : List (List ℕ)) (n : ℕ) (old mid new : Option (List ℕ)) (status : Status) (told : List ℕ) → ReportsFiles accepts front old mid status
-      → front ≡ take n names → n ≡ length front → Keeps mid new → StopsChecking accepts names old new Write told
+  after_files : (names front : List (List ℕ)) (n : ℕ) (old mid new : Option (List ℕ)) (status : Status) (told : List ℕ) → ReportsFiles ruling front old mid status
+      → front ≡ take n names → n ≡ length front → Keeps mid new → StopsChecking ruling names old new Write told
   after_files names front n old mid new status told r same counted kept =
       let size : length r.sources ≡ n = sym (length-map r.sources (λ (s : Source). s.name)) ∙ ap length r.named ∙ sym counted in
       record {
         sources = r.sources;
         named = r.named ∙ same ∙ ap (λ k. take k names) (sym size);
-        stopped = flush_failed accepts (Ok status) r.sources old mid new r.reported tt kept;
+        stopped = flush_failed ruling (Ok status) r.sources old mid new r.reported tt kept;
         place = tt;
       }
 
   -- a flush that fails where nothing was written
-  after_nothing : (names : List (List ℕ)) (old mid new : Option (List ℕ)) (told : List ℕ) → Keeps old mid → Keeps mid new → StopsChecking accepts names old new Write told
+  after_nothing : (names : List (List ℕ)) (old mid new : Option (List ℕ)) (told : List ℕ) → Keeps old mid → Keeps mid new → StopsChecking ruling names old new Write told
   after_nothing names old mid new told before kept =
       after_files names [] 0 old mid new AllValid told (reports_kept [] old old mid AllValid (reports_none old) before) refl refl kept
 
   -- whatever was answered before a flush failed
   pub files_unflushed : (r : Result Status Fault) (names : List (List ℕ)) (old mid new : Option (List ℕ)) (told : List ℕ)
-      → IfOk r (ReportsFiles accepts names old mid) → IfErr r (StopsFiles accepts names old mid) → Keeps mid new → StopsChecking accepts names old new Write told
+      → IfOk r (ReportsFiles ruling names old mid) → IfErr r (StopsFiles ruling names old mid) → Keeps mid new → StopsChecking ruling names old new Write told
   files_unflushed (Ok status) names old mid new told h e kept =
       after_files names names (length names) old mid new status told h (sym (take_all (length names) names (omega arith))) refl kept
   files_unflushed (Err (faults.CannotOpen name reason)) names old mid new told h (inl e) kept = after_nothing names old mid new told e.1 kept
@@ -216,21 +219,22 @@ module _ (accepts : List ℕ → Type 0) where
   files_unflushed (Err (faults.Stopped error name reason)) names old mid new told h e kept = record {
     sources = e.sources;
     named = e.named;
-    stopped = flush_failed accepts (Err error) e.sources old mid new tt e.stopped kept;
+    stopped = flush_failed ruling (Err error) e.sources old mid new tt e.stopped kept;
     place = tt;
   }
   files_unflushed (Err faults.OutOfMemory) names old mid new told h e kept = after_nothing names old mid new told e kept
   files_unflushed (Err (faults.UnknownFeature word)) names old mid new told h e kept = absurd e
+  files_unflushed (Err (faults.WrongPieces word)) names old mid new told h e kept = absurd e
   files_unflushed (Err (faults.WrongLimit wrong word)) names old mid new told h e kept = absurd e
 
   -- a flush changes nothing
   pub files_flushed : (r : Result Status Fault) (names : List (List ℕ)) (old mid new : Option (List ℕ))
-      → IfOk r (ReportsFiles accepts names old mid) → Keeps mid new → IfOk r (ReportsFiles accepts names old new)
+      → IfOk r (ReportsFiles ruling names old mid) → Keeps mid new → IfOk r (ReportsFiles ruling names old new)
   files_flushed (Ok status) names old mid new h kept = reports_kept names old mid new status h kept
   files_flushed (Err f) names old mid new h kept = tt
 
   pub faults_flushed : (r : Result Status Fault) (names : List (List ℕ)) (old mid new : Option (List ℕ))
-      → IfErr r (StopsFiles accepts names old mid) → Keeps mid new → IfErr r (StopsFiles accepts names old new)
+      → IfErr r (StopsFiles ruling names old mid) → Keeps mid new → IfErr r (StopsFiles ruling names old new)
   faults_flushed (Ok status) names old mid new h kept = tt
   faults_flushed (Err (faults.CannotOpen name reason)) names old mid new (inl h) kept = inl (h.0, Keeps-trans old mid new h.1 kept)
   faults_flushed (Err (faults.CannotOpen name reason)) names old mid new (inr h) kept = inr (record {
@@ -243,9 +247,10 @@ module _ (accepts : List ℕ → Type 0) where
   faults_flushed (Err (faults.Stopped error name reason)) names old mid new h kept = record {
     sources = h.sources;
     named = h.named;
-    stopped = Stops-kept accepts h.sources old mid new error h.stopped kept;
+    stopped = Stops-kept ruling h.sources old mid new error h.stopped kept;
     place = h.place;
   }
   faults_flushed (Err faults.OutOfMemory) names old mid new h kept = Keeps-trans old mid new h kept
   faults_flushed (Err (faults.UnknownFeature word)) names old mid new h kept = absurd h
+  faults_flushed (Err (faults.WrongPieces word)) names old mid new h kept = absurd h
   faults_flushed (Err (faults.WrongLimit wrong word)) names old mid new h kept = absurd h

@@ -138,6 +138,7 @@ fault_told (faults.CannotOpen name reason) =
     (both (codes ": cannot open") (reason_text reason) (literal (codes ": cannot open") refl) (reason_stays reason))
 fault_told (faults.Stopped error name reason) = stopped_told error name.now reason
 fault_told (faults.UnknownFeature word) = quoted (codes "wasm-check: unknown feature `") word.now (literal (codes "wasm-check: unknown feature `") refl)
+fault_told (faults.WrongPieces word) = quoted (codes "wasm-check: bad piece size `") word.now (literal (codes "wasm-check: bad piece size `") refl)
 fault_told (faults.WrongLimit Unknown word) = quoted (codes "wasm-check: unknown limit `") word.now (literal (codes "wasm-check: unknown limit `") refl)
 fault_told (faults.WrongLimit BadValue word) = quoted (codes "wasm-check: bad limit `") word.now (literal (codes "wasm-check: bad limit `") refl)
 fault_told faults.OutOfMemory = literal (codes "wasm-check: out of memory") refl

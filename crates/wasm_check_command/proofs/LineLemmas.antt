@@ -9,6 +9,7 @@ use Rattle.std.proofs.KnownBytes.{Keeps-refl, Appends-kept, Appends-trans}
 use Rattle.wasm_check_command.specs.declared.error.CheckError.{CheckError}
 use Rattle.wasm_check_command.specs.declared.error.CheckError.TheVariants.{Read, TooLong, OutOfMemory, Write}
 use Rattle.wasm_check_command.specs.Faults.{FailsReading}
+use Rattle.wasm_check_command.specs.Modes.{Ruling}
 use Rattle.wasm_check_command.specs.Lines.{HasBytes}
 use Rattle.wasm_check_command.specs.Verdict.{WritesFront, FailsWriting, FailsAt}
 
@@ -19,25 +20,25 @@ pub text_of_parts : {S E : Type 0} (bytes : S → List ℕ) (r : Result S E) (u 
 text_of_parts bytes r u v w x y z h = IfOk-weaker r _ _ (λ s e. simp append_assoc e) h
 
 -- ---- over any judge of bytes
-module _ (accepts : List ℕ → Type 0) where
+module _ (ruling : Ruling) where
   -- an input that couldn't be read
-  pub FailsAt-read : (index : ℕ) (name : List ℕ) (said old : Option (List ℕ)) (e : CheckError) → FailsReading index said e → FailsAt accepts index name said old old e
+  pub FailsAt-read : (index : ℕ) (name : List ℕ) (said old : Option (List ℕ)) (e : CheckError) → FailsReading index said e → FailsAt ruling index name said old old e
   FailsAt-read index name said old (Read i) h = (h, Keeps-refl old)
   FailsAt-read index name said old (TooLong i) h = (h.0, h.1, Keeps-refl old)
   FailsAt-read index name said old (OutOfMemory i) h = (h, Keeps-refl old)
   FailsAt-read index name said old Write h = absurd h
 
   -- an input that was read and not judged
-  pub FailsAt-written : (index : ℕ) (name bytes : List ℕ) (said old new : Option (List ℕ)) (e : CheckError) → HasBytes said bytes → FailsWriting accepts index name bytes old new e
-      → FailsAt accepts index name said old new e
+  pub FailsAt-written : (index : ℕ) (name bytes : List ℕ) (said old new : Option (List ℕ)) (e : CheckError) → HasBytes ruling said bytes → FailsWriting ruling index name bytes old new e
+      → FailsAt ruling index name said old new e
   FailsAt-written index name bytes said old new (Read i) has h = absurd h
   FailsAt-written index name bytes said old new (TooLong i) has h = absurd h
   FailsAt-written index name bytes said old new (OutOfMemory i) has h = h
   FailsAt-written index name bytes said old new Write has h = (h.0, inr (bytes, has, h.1), h.2)
 
   -- FailsAt-written, at what a call answered
-  pub IfErr-written : {T : Type 0} (r : Result T CheckError) (index : ℕ) (name bytes : List ℕ) (said old new : Option (List ℕ)) → HasBytes said bytes
-      → IfErr r (FailsWriting accepts index name bytes old new) → IfErr r (FailsAt accepts index name said old new)
+  pub IfErr-written : {T : Type 0} (r : Result T CheckError) (index : ℕ) (name bytes : List ℕ) (said old new : Option (List ℕ)) → HasBytes ruling said bytes
+      → IfErr r (FailsWriting ruling index name bytes old new) → IfErr r (FailsAt ruling index name said old new)
   IfErr-written (Ok x) index name bytes said old new has h = h
   IfErr-written (Err e) index name bytes said old new has h = FailsAt-written index name bytes said old new e has h
 

@@ -8,6 +8,7 @@ use Rattle.wasm_check_command.specs.declared.error.CheckError.{CheckError}
 use Rattle.wasm_check_command.specs.declared.error.CheckError.TheVariants.{Read, TooLong, OutOfMemory, Write}
 use Rattle.wasm_check_command.specs.declared.judging.Status.{Status}
 use Rattle.wasm_check_command.specs.declared.judging.Status.TheVariants.{AllValid, SomeInvalid}
+use Rattle.wasm_check_command.specs.Modes.{Ruling}
 use Rattle.wasm_check_command.specs.Lines.{HasBytes, IsLine}
 use Rattle.wasm_check_command.specs.Verdict.{IsJudged, FailsAt}
 use Rattle.std.proofs.lemmas.List.{take-map, map-id, take_all}
@@ -16,11 +17,11 @@ use Rattle.wasm_check_command.specs.declared.judging.Input.{Input}
 use Rattle.wasm_check_command.specs.Reports.{Source, source_of, sources_of, Lines, WritesLines, Sums, IsReported, StopsAt, BeginsNext, StopsWriting, Stops}
 
 -- ---- over any judge of bytes
-module _ (accepts : List ℕ → Type 0) where
+module _ (ruling : Ruling) where
   -- one line more
   pub Lines-more : (sources : List Source) (contents : List (List ℕ)) (text : List ℕ) (s : Source) (bytes line : List ℕ)
-      → Lines accepts sources contents text → HasBytes s.said bytes → IsLine accepts s.name bytes line
-      → Lines accepts (sources ++ s ∷ []) (contents ++ bytes ∷ []) (text ++ line)
+      → Lines ruling sources contents text → HasBytes ruling s.said bytes → IsLine ruling s.name bytes line
+      → Lines ruling (sources ++ s ∷ []) (contents ++ bytes ∷ []) (text ++ line)
   Lines-more [] [] text s bytes line p h t = (line, [], h, t, refl, ap (λ x. x ++ line) p ∙ sym (append-nil line))
   Lines-more [] (b ∷ contents) text s bytes line p h t = absurd p
   Lines-more (x ∷ sources) [] text s bytes line p h t = absurd p
@@ -28,24 +29,24 @@ module _ (accepts : List ℕ → Type 0) where
       (p.0, p.1 ++ line, p.2, p.3, Lines-more sources contents p.1 s bytes line p.4 h t, ap (λ y. y ++ line) p.5 ∙ append_assoc p.0 p.1 line)
 
   -- one valid input more
-  pub Sums-valid : (contents : List (List ℕ)) (bytes : List ℕ) (status : Status) → Sums accepts contents status → accepts bytes → Sums accepts (contents ++ bytes ∷ []) status
-  Sums-valid contents bytes AllValid h a = All-append accepts contents (bytes ∷ []) h (All-cons accepts bytes [] a (All-nil accepts))
+  pub Sums-valid : (contents : List (List ℕ)) (bytes : List ℕ) (status : Status) → Sums ruling contents status → ruling.accepts bytes → Sums ruling (contents ++ bytes ∷ []) status
+  Sums-valid contents bytes AllValid h a = All-append ruling.accepts contents (bytes ∷ []) h (All-cons ruling.accepts bytes [] a (All-nil ruling.accepts))
   Sums-valid contents bytes SomeInvalid h a = (h.0, Contains-append_left contents (bytes ∷ []) h.0 h.1, h.2)
 
   -- no input was judged yet
-  pub IsReported-none : (known : Option (List ℕ)) → IsReported accepts [] known known AllValid
+  pub IsReported-none : (known : Option (List ℕ)) → IsReported ruling [] known known AllValid
   IsReported-none known = record {
     contents = [];
     written = record { text = []; lines = refl; appended = Appends-nil known };
-    sums = All-nil accepts;
+    sums = All-nil ruling.accepts;
   }
 
   -- one input more, with the status that follows
   pub IsReported-more : (sources : List Source) (s : Source) (old mid new : Option (List ℕ)) (status next : Status) (valid : Bool)
-      → IsReported accepts sources old mid status → IsJudged accepts s.name s.said valid mid new
-      → ((contents : List (List ℕ)) (bytes : List ℕ) → Sums accepts contents status → (IsTrue valid → accepts bytes)
-      → (accepts bytes → IsTrue valid) → Sums accepts (contents ++ bytes ∷ []) next)
-      → IsReported accepts (sources ++ s ∷ []) old new next
+      → IsReported ruling sources old mid status → IsJudged ruling s.name s.said valid mid new
+      → ((contents : List (List ℕ)) (bytes : List ℕ) → Sums ruling contents status → (IsTrue valid → ruling.accepts bytes)
+      → (ruling.accepts bytes → IsTrue valid) → Sums ruling (contents ++ bytes ∷ []) next)
+      → IsReported ruling (sources ++ s ∷ []) old new next
   IsReported-more sources s old mid new status next valid r j sums = record {
     contents = r.contents ++ j.bytes ∷ [];
     written = record {
@@ -58,23 +59,23 @@ module _ (accepts : List ℕ → Type 0) where
 
   -- a valid input more
   pub IsReported-valid : (sources : List Source) (s : Source) (old mid new : Option (List ℕ)) (status next : Status) (valid : Bool)
-      → IsReported accepts sources old mid status → IsJudged accepts s.name s.said valid mid new → valid ≡ true → next ≡ status
-      → IsReported accepts (sources ++ s ∷ []) old new next
+      → IsReported ruling sources old mid status → IsJudged ruling s.name s.said valid mid new → valid ≡ true → next ≡ status
+      → IsReported ruling (sources ++ s ∷ []) old new next
   IsReported-valid sources s old mid new status next valid r j says same =
       IsReported-more sources s old mid new status next valid r j (λ contents bytes h from to. rw same (Sums-valid contents bytes status h (from says)))
 
   -- an invalid input more
   pub IsReported-invalid : (sources : List Source) (s : Source) (old mid new : Option (List ℕ)) (status next : Status) (valid : Bool)
-      → IsReported accepts sources old mid status → IsJudged accepts s.name s.said valid mid new → valid ≡ false → next ≡ SomeInvalid
-      → IsReported accepts (sources ++ s ∷ []) old new next
+      → IsReported ruling sources old mid status → IsJudged ruling s.name s.said valid mid new → valid ≡ false → next ≡ SomeInvalid
+      → IsReported ruling (sources ++ s ∷ []) old new next
   IsReported-invalid sources s old mid new status next valid r j denies same =
       IsReported-more sources s old mid new status next valid r j (λ contents bytes h from to. rw same
       (bytes, Contains-append_right contents (bytes ∷ []) bytes (0, lit< tt, refl), λ a. let says : valid ≡ true = to a in cc))
 
   -- the source after those that were judged came to no verdict
   abbrev pub StopsAt-after : (all sources : List Source) (s : Source) (index i : ℕ) (old mid new : Option (List ℕ)) (status : Status)
-      → IsReported accepts sources old mid status → sources ≡ take index all → slice_get all index ≡ Some s → i ≡ index → Keeps mid new
-      → StopsAt accepts all i old new
+      → IsReported ruling sources old mid status → sources ≡ take index all → slice_get all index ≡ Some s → i ≡ index → Keeps mid new
+      → StopsAt ruling all i old new
   StopsAt-after all sources s index i old mid new status r front found same kept = record {
     source = s;
     found = rw same found;
@@ -88,8 +89,8 @@ module _ (accepts : List ℕ → Type 0) where
 
   -- the same of each fault
   pub Stops-after : (all sources : List Source) (s : Source) (index : ℕ) (old mid new : Option (List ℕ)) (status : Status) (e : CheckError)
-      → IsReported accepts sources old mid status → sources ≡ take index all → slice_get all index ≡ Some s → FailsAt accepts index s.name s.said mid new e
-      → Stops accepts all old new e
+      → IsReported ruling sources old mid status → sources ≡ take index all → slice_get all index ≡ Some s → FailsAt ruling index s.name s.said mid new e
+      → Stops ruling all old new e
   Stops-after all sources s index old mid new status (Read i) r front found h = StopsAt-after all sources s index i old mid new status r front found h.0 h.1
   Stops-after all sources s index old mid new status (TooLong i) r front found h = (StopsAt-after all sources s index i old mid new status r front found h.0 h.2, h.1)
   Stops-after all sources s index old mid new status (OutOfMemory i) r front found h = StopsAt-after all sources s index i old mid new status r front found h.0 h.1
@@ -104,7 +105,7 @@ module _ (accepts : List ℕ → Type 0) where
   }
 
   -- a flush changes nothing
-  abbrev StopsAt-kept : (sources : List Source) (index : ℕ) (old mid new : Option (List ℕ)) → StopsAt accepts sources index old mid → Keeps mid new → StopsAt accepts sources index old new
+  abbrev StopsAt-kept : (sources : List Source) (index : ℕ) (old mid new : Option (List ℕ)) → StopsAt ruling sources index old mid → Keeps mid new → StopsAt ruling sources index old new
   StopsAt-kept sources index old mid new h kept = record {
     source = h.source;
     found = h.found;
@@ -112,7 +113,7 @@ module _ (accepts : List ℕ → Type 0) where
     written = record { text = h.written.text; lines = h.written.lines; appended = Appends-kept old mid new h.written.text h.written.appended kept };
   }
 
-  pub Stops-kept : (sources : List Source) (old mid new : Option (List ℕ)) (e : CheckError) → Stops accepts sources old mid e → Keeps mid new → Stops accepts sources old new e
+  pub Stops-kept : (sources : List Source) (old mid new : Option (List ℕ)) (e : CheckError) → Stops ruling sources old mid e → Keeps mid new → Stops ruling sources old new e
   Stops-kept sources old mid new (Read i) h kept = StopsAt-kept sources i old mid new h kept
   Stops-kept sources old mid new (TooLong i) h kept = (StopsAt-kept sources i old mid new h.0 kept, h.1)
   Stops-kept sources old mid new (OutOfMemory i) h kept = StopsAt-kept sources i old mid new h kept
@@ -127,13 +128,13 @@ module _ (accepts : List ℕ → Type 0) where
   }
 
   -- nothing is a front of each line
-  begins_nothing : (next : Option Source) → BeginsNext accepts next []
+  begins_nothing : (next : Option Source) → BeginsNext ruling next []
   begins_nothing None = refl
   begins_nothing (Some s) = inl refl
 
   -- whole lines were written, and no more
-  stops_behind : (sources : List Source) (index : ℕ) (contents : List (List ℕ)) (old mid new : Option (List ℕ)) → WritesLines accepts (take index sources) contents old mid → Keeps mid new
-      → StopsWriting accepts sources old new
+  stops_behind : (sources : List Source) (index : ℕ) (contents : List (List ℕ)) (old mid new : Option (List ℕ)) → WritesLines ruling (take index sources) contents old mid → Keeps mid new
+      → StopsWriting ruling sources old new
   stops_behind sources index contents old mid new h kept = record {
     index = index;
     contents = contents;
@@ -146,11 +147,11 @@ module _ (accepts : List ℕ → Type 0) where
 
   -- whatever was answered before a flush failed
   pub flush_failed : (r : Result Status CheckError) (sources : List Source) (old mid new : Option (List ℕ))
-      → IfOk r (IsReported accepts sources old mid) → IfErr r (Stops accepts sources old mid)
-      → Keeps mid new → StopsWriting accepts sources old new
+      → IfOk r (IsReported ruling sources old mid) → IfErr r (Stops ruling sources old mid)
+      → Keeps mid new → StopsWriting ruling sources old new
   flush_failed (Ok status) sources old mid new h e kept =
       stops_behind sources (length sources) h.contents old mid new
-      (subst (λ (l : List Source). WritesLines accepts l h.contents old mid) (sym (take_all (length sources) sources (omega arith))) h.written) kept
+      (subst (λ (l : List Source). WritesLines ruling l h.contents old mid) (sym (take_all (length sources) sources (omega arith))) h.written) kept
   flush_failed (Err (Read i)) sources old mid new h e kept = stops_behind sources i e.contents old mid new e.written kept
   flush_failed (Err (TooLong i)) sources old mid new h e kept = stops_behind sources i e.0.contents old mid new e.0.written kept
   flush_failed (Err (OutOfMemory i)) sources old mid new h e kept = stops_behind sources i e.contents old mid new e.written kept
@@ -158,7 +159,7 @@ module _ (accepts : List ℕ → Type 0) where
 
   -- Stops-kept, at what a call answered
   pub IfErr-kept : {T : Type 0} (r : Result T CheckError) (sources : List Source) (old mid new : Option (List ℕ))
-      → IfErr r (Stops accepts sources old mid) → Keeps mid new → IfErr r (Stops accepts sources old new)
+      → IfErr r (Stops ruling sources old mid) → Keeps mid new → IfErr r (Stops ruling sources old new)
   IfErr-kept (Ok x) sources old mid new h kept = h
   IfErr-kept (Err e) sources old mid new h kept = Stops-kept sources old mid new e h kept
 

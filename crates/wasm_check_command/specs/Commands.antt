@@ -1,7 +1,9 @@
 -- Worked command lines: what clap answers to them, which files they name, and which lists their options have.
 use Rattle.std.specs.Prelude.{◌≡◌, List, [], ◌∷◌, Option, Some, None, codes, ℕ}
 use Rattle.clap.specs.declared.error.kind.ErrorKind.TheVariants.{ArgumentConflict, DisplayHelp, DisplayVersion, InvalidValue, MissingRequiredArgument, UnknownArgument}
-use Rattle.wasm_check_command.specs.Words.{refusals_of, files_of, features_list, limits_list}
+use Rattle.wasm_check_command.specs.declared.judging.Mode.TheVariants.{Whole, Pieces}
+use Rattle.wasm_check_command.specs.Settings.{mode_by}
+use Rattle.wasm_check_command.specs.Words.{refusals_of, files_of, features_list, limits_list, pieces_number}
 
 -- these words behind the program's own
 abbrev pub line_of : List (List ℕ) → List (List ℕ)
@@ -17,6 +19,11 @@ pub record NamesOne (words : List (List ℕ)) (file : List ℕ) (features limits
   pub names : Names words (file ∷ [])
   pub features_are : features_list words ≡ features
   pub limits_are : limits_list words ≡ limits
+
+-- they name this one file, and have this number of bytes for a piece
+pub record NamesPieces (words : List (List ℕ)) (file number : List ℕ) : Type 0 where
+  pub names : Names words (file ∷ [])
+  pub pieces_are : pieces_number words ≡ Some number
 
 -- the worked command lines, each with its answer
 pub record AreRead : Type 0 where
@@ -36,4 +43,13 @@ pub record AreRead : Type 0 where
   pub limits : NamesOne (line_of (codes "--limits" ∷ codes "locals=10" ∷ codes "a" ∷ [])) (codes "a") None (Some (codes "locals=10"))
   pub limits_in_one_word : NamesOne (line_of (codes "a" ∷ codes "--limits=locals=10" ∷ codes "--features" ∷ codes "gc" ∷ [])) (codes "a") (Some (codes "gc"))
       (Some (codes "locals=10"))
+  pub pieces : NamesPieces (line_of (codes "--pieces" ∷ codes "4096" ∷ codes "a" ∷ [])) (codes "a") (codes "4096")
+  pub pieces_in_one_word : NamesPieces (line_of (codes "a" ∷ codes "--pieces=1" ∷ [])) (codes "a") (codes "1")
+  pub two_pieces : refusals_of (line_of (codes "--pieces=1" ∷ codes "--pieces=2" ∷ codes "a" ∷ [])) ≡ ArgumentConflict ∷ []
+  pub one_byte : mode_by (Some (codes "1")) ≡ Some (Pieces 1)
+  pub most_bytes : mode_by (Some (codes "1048576")) ≡ Some (Pieces 0x100000)
+  pub no_bytes : mode_by (Some (codes "0")) ≡ None
+  pub more_bytes : mode_by (Some (codes "1048577")) ≡ None
+  pub no_number : mode_by (Some (codes "4k")) ≡ None
+  pub whole : mode_by None ≡ Some Whole
   pub two_limits : refusals_of (line_of (codes "--limits=locals=1" ∷ codes "--limits=tags=1" ∷ codes "a" ∷ [])) ≡ ArgumentConflict ∷ []

@@ -1,8 +1,9 @@
 -- Why a run came to no verdict.
-use Rattle.std.specs.Prelude.{◌≡◌, ℕ, ◌<◌, ◌^◌, List, ◌++◌, codes, length, IfSome, Option}
+use Rattle.std.specs.Prelude.{◌≡◌, ℕ, List, ◌++◌, codes, Option}
 use Rattle.std.specs.Fmt.{decimal}
 use Rattle.wasm_check_command.specs.declared.error.CheckError.{CheckError}
 use Rattle.wasm_check_command.specs.declared.error.CheckError.TheVariants.{Read, TooLong, OutOfMemory, Write}
+use Rattle.wasm_check_command.specs.Modes.{IsTooLong}
 
 -- the faults are numbered
 abbrev pub number_of : CheckError → ℕ
@@ -10,10 +11,6 @@ number_of (Read i) = 1
 number_of (TooLong i) = 2
 number_of (OutOfMemory i) = 3
 number_of Write = 4
-
--- a reader whose bytes are known has more than an input may have
-abbrev pub IsTooLong : Option (List ℕ) → Type 0
-IsTooLong said = IfSome said (λ xs. 2 ^ 30 < length xs)
 
 -- an input at this place, whose reader says these bytes, could not be read
 abbrev pub FailsReading : ℕ → Option (List ℕ) → CheckError → Type 0

@@ -1,10 +1,11 @@
 -- What the program does with the files that it is given.
-use Rattle.std.specs.Prelude.{◌≡◌, ℕ, Bool, true, false, ◌<◌, ◌≤◌, ◌⊎◌, codes, length, List, ◌++◌, map, take, Contains, slice_get, option_map, Option, Some, Result, Ok, Err}
+use Rattle.std.specs.Prelude.{◌≡◌, ℕ, Bool, true, false, ◌<◌, ◌≤◌, ◌⊎◌, codes, length, List, ◌++◌, map, take, Contains, slice_get, option_map, Option, Some, None, Result, Ok, Err}
 use Rattle.std.specs.Borrow.{Bor}
 use Rattle.std.specs.Io.KnownBytes.{Appends, Keeps}
 use Rattle.clap.specs.declared.error.kind.ErrorKind.{ErrorKind}
 use Rattle.wasm_check_command.specs.declared.error.CheckError.{CheckError}
 use Rattle.wasm_check_command.specs.declared.error.CheckError.TheVariants.{Read, TooLong, OutOfMemory, Write}
+use Rattle.wasm_check_command.specs.declared.judging.Mode.{Mode}
 use Rattle.wasm_check_command.specs.declared.judging.Status.{Status}
 use Rattle.wasm_check_command.specs.declared.judging.Status.TheVariants.{AllValid, SomeInvalid}
 use Rattle.wasm_check_command.specs.declared.command.Fault.{Fault}
@@ -15,8 +16,9 @@ use Rattle.wasm_check_command.specs.Reasons.{reason_text}
 use Rattle.wasm_check_command.specs.Shown.{shown}
 use Rattle.wasm_types.specs.limits.Settings.{Settings}
 use Rattle.wasm_check_command.specs.Words.{files_of, IsHelp, AsksForHelp, NamesNoFiles}
-use Rattle.wasm_check_command.specs.Settings.{Asked, IsGiven, IsUnknownIn, IsWrongIn, asked_by, features_by}
+use Rattle.wasm_check_command.specs.Settings.{Asked, IsGiven, IsUnknownIn, IsWrongIn, asked_by, features_by, mode_by}
 use Rattle.wasm_check_command.specs.declared.limits.Wrong.TheVariants.{Unknown, BadValue}
+use Rattle.wasm_check_command.specs.Modes.{Ruling, ruled}
 use Rattle.wasm_check_command.specs.Opened.{kept_open}
 use Rattle.wasm_check_command.specs.Verdict.{IsJudged, FailsAt}
 use Rattle.wasm_check_command.specs.Reports.{Source, IsReported, Stops}
@@ -38,40 +40,41 @@ joined status true = status
 joined status false = SomeInvalid
 
 -- These files were judged: a line was written for each, and the status says whether all are valid.
-pub record ReportsFiles (accepts : List ℕ → Type 0) (names : List (List ℕ)) (old new : Option (List ℕ)) (status : Status) : Type 0 where
+pub record ReportsFiles (ruling : Ruling) (names : List (List ℕ)) (old new : Option (List ℕ)) (status : Status) : Type 0 where
   pub sources : List Source
   pub named : map (λ s. s.name) sources ≡ names
-  pub reported : IsReported accepts sources old new status
+  pub reported : IsReported ruling sources old new status
 
 -- The file of this name was judged: its line was written, and the answer is its verdict.
-abbrev pub JudgesFile : (List ℕ → Type 0) → List ℕ → Option (List ℕ) → Option (List ℕ) → Bool → Type 0
-JudgesFile accepts name old new valid = (said : Option (List ℕ)) × IsJudged accepts name said valid old new
+abbrev pub JudgesFile : Ruling → List ℕ → Option (List ℕ) → Option (List ℕ) → Bool → Type 0
+JudgesFile ruling name old new valid = (said : Option (List ℕ)) × IsJudged ruling name said valid old new
 
 -- The judging of these files stopped at the error's place: exactly the lines before it were written. The sources are those of the files up
 -- to there.
-pub record StopsChecking (accepts : List ℕ → Type 0) (names : List (List ℕ)) (old new : Option (List ℕ)) (error : CheckError) (name : List ℕ) : Type 0 where
+pub record StopsChecking (ruling : Ruling) (names : List (List ℕ)) (old new : Option (List ℕ)) (error : CheckError) (name : List ℕ) : Type 0 where
   pub sources : List Source
   pub named : map (λ s. s.name) sources ≡ take (length sources) names
-  pub stopped : Stops accepts sources old new error
+  pub stopped : Stops ruling sources old new error
   pub place : IsNamed names error name
 
 -- A file past those that are kept open could not be opened again in its turn: the files before it were judged.
-pub record StopsOpening (accepts : List ℕ → Type 0) (names : List (List ℕ)) (old new : Option (List ℕ)) (name : List ℕ) : Type 0 where
+pub record StopsOpening (ruling : Ruling) (names : List (List ℕ)) (old new : Option (List ℕ)) (name : List ℕ) : Type 0 where
   pub index : ℕ
   pub found : slice_get names index ≡ Some name
   pub past : kept_open ≤ index
   pub status : Status
-  pub before : ReportsFiles accepts (take index names) old new status
+  pub before : ReportsFiles ruling (take index names) old new status
 
 -- The file of this name, at this place, came to no verdict: it could not be opened again, and nothing was written of it; or what was read of
 -- it was not judged, or its line not written.
-abbrev pub FailsFile : (List ℕ → Type 0) → ℕ → List ℕ → Option (List ℕ) → Option (List ℕ) → Fault → Type 0
-FailsFile accepts index name old new (faults.CannotOpen told reason) = (told.now ≡ name) × (kept_open ≤ index) × Keeps old new
-FailsFile accepts index name old new (faults.Stopped error told reason) =
-    (told.now ≡ name) × ((said : Option (List ℕ)) × FailsAt accepts index name said old new error)
-FailsFile accepts index name old new faults.OutOfMemory = ⊥
-FailsFile accepts index name old new (faults.UnknownFeature word) = ⊥
-FailsFile accepts index name old new (faults.WrongLimit wrong word) = ⊥
+abbrev pub FailsFile : Ruling → ℕ → List ℕ → Option (List ℕ) → Option (List ℕ) → Fault → Type 0
+FailsFile ruling index name old new (faults.CannotOpen told reason) = (told.now ≡ name) × (kept_open ≤ index) × Keeps old new
+FailsFile ruling index name old new (faults.Stopped error told reason) =
+    (told.now ≡ name) × ((said : Option (List ℕ)) × FailsAt ruling index name said old new error)
+FailsFile ruling index name old new faults.OutOfMemory = ⊥
+FailsFile ruling index name old new (faults.UnknownFeature word) = ⊥
+FailsFile ruling index name old new (faults.WrongPieces word) = ⊥
+FailsFile ruling index name old new (faults.WrongLimit wrong word) = ⊥
 
 -- this file could not be opened
 abbrev pub CannotOpen : List ℕ → Fault → Type 0
@@ -79,6 +82,7 @@ CannotOpen name (faults.CannotOpen told reason) = told.now ≡ name
 CannotOpen name (faults.Stopped error told reason) = ⊥
 CannotOpen name faults.OutOfMemory = ⊥
 CannotOpen name (faults.UnknownFeature word) = ⊥
+CannotOpen name (faults.WrongPieces word) = ⊥
 CannotOpen name (faults.WrongLimit wrong word) = ⊥
 
 -- opening these files failed
@@ -87,20 +91,32 @@ FailsOpening names (faults.CannotOpen name reason) = Contains names name.now
 FailsOpening names (faults.Stopped error name reason) = ⊥
 FailsOpening names faults.OutOfMemory = Unit {0}
 FailsOpening names (faults.UnknownFeature word) = ⊥
+FailsOpening names (faults.WrongPieces word) = ⊥
 FailsOpening names (faults.WrongLimit wrong word) = ⊥
 
 -- What a fault leaves: where a file could not be opened before the first was judged, nothing was written.
-abbrev pub StopsFiles : (List ℕ → Type 0) → List (List ℕ) → Option (List ℕ) → Option (List ℕ) → Fault → Type 0
-StopsFiles accepts names old new (faults.CannotOpen name reason) =
-    (Contains names name.now × Keeps old new) ⊎ StopsOpening accepts names old new name.now
-StopsFiles accepts names old new (faults.Stopped error name reason) = StopsChecking accepts names old new error name.now
-StopsFiles accepts names old new faults.OutOfMemory = Keeps old new
-StopsFiles accepts names old new (faults.UnknownFeature word) = ⊥
-StopsFiles accepts names old new (faults.WrongLimit wrong word) = ⊥
+abbrev pub StopsFiles : Ruling → List (List ℕ) → Option (List ℕ) → Option (List ℕ) → Fault → Type 0
+StopsFiles ruling names old new (faults.CannotOpen name reason) =
+    (Contains names name.now × Keeps old new) ⊎ StopsOpening ruling names old new name.now
+StopsFiles ruling names old new (faults.Stopped error name reason) = StopsChecking ruling names old new error name.now
+StopsFiles ruling names old new faults.OutOfMemory = Keeps old new
+StopsFiles ruling names old new (faults.UnknownFeature word) = ⊥
+StopsFiles ruling names old new (faults.WrongPieces word) = ⊥
+StopsFiles ruling names old new (faults.WrongLimit wrong word) = ⊥
+
+-- this number of `--pieces` is refused
+abbrev pub RefusesPieces : Option (List ℕ) → Fault → Type 0
+RefusesPieces number (faults.WrongPieces word) = (number ≡ Some word.now) × (mode_by number ≡ None)
+RefusesPieces number (faults.UnknownFeature word) = ⊥
+RefusesPieces number (faults.WrongLimit wrong word) = ⊥
+RefusesPieces number (faults.CannotOpen name reason) = ⊥
+RefusesPieces number (faults.Stopped error name reason) = ⊥
+RefusesPieces number faults.OutOfMemory = ⊥
 
 -- this list of `--features` is refused
 abbrev pub RefusesFeatures : Option (List ℕ) → Fault → Type 0
 RefusesFeatures list (faults.UnknownFeature word) = IsUnknownIn list word.now
+RefusesFeatures list (faults.WrongPieces word) = ⊥
 RefusesFeatures list (faults.WrongLimit wrong word) = ⊥
 RefusesFeatures list (faults.CannotOpen name reason) = ⊥
 RefusesFeatures list (faults.Stopped error name reason) = ⊥
@@ -109,16 +125,20 @@ RefusesFeatures list faults.OutOfMemory = ⊥
 -- this list of `--limits` is
 abbrev pub RefusesLimits : Option (List ℕ) → Fault → Type 0
 RefusesLimits list (faults.UnknownFeature word) = ⊥
+RefusesLimits list (faults.WrongPieces word) = ⊥
 RefusesLimits list (faults.WrongLimit wrong word) = IsWrongIn list wrong word.now
 RefusesLimits list (faults.CannotOpen name reason) = ⊥
 RefusesLimits list (faults.Stopped error name reason) = ⊥
 RefusesLimits list faults.OutOfMemory = ⊥
 
--- The run stopped before any file was opened: the list of `--features` is refused; or it is not, and that of `--limits` is; or memory ran
--- out.
+-- a list is refused: that of `--features`; or it is not, and that of `--limits` is
+abbrev pub RefusesLists : Asked → Fault → Type 0
+RefusesLists asked fault = RefusesFeatures asked.features fault ⊎ (((features : ℕ) × (features_by asked.features ≡ Ok features)) × RefusesLimits asked.limits fault)
+
+-- The run stopped before any file was opened: the number of `--pieces` is refused; or it is not, and a list is; or memory ran out.
 abbrev pub StopsEarly : Asked → Fault → Type 0
-StopsEarly asked fault = RefusesFeatures asked.features fault
-    ⊎ ((((features : ℕ) × (features_by asked.features ≡ Ok features)) × RefusesLimits asked.limits fault) ⊎ (fault ≡ faults.OutOfMemory))
+StopsEarly asked fault = RefusesPieces asked.pieces fault
+    ⊎ ((((mode : Mode) × (mode_by asked.pieces ≡ Some mode)) × RefusesLists asked fault) ⊎ (fault ≡ faults.OutOfMemory))
 
 -- the exit status
 abbrev pub code_of : Result Status Fault → ℕ
@@ -126,21 +146,26 @@ code_of (Ok AllValid) = 0
 code_of (Ok SomeInvalid) = 1
 code_of (Err fault) = 2
 
--- the lists of the options, as contracts see them
+-- the values of the options, as contracts see them
 abbrev pub asked_of : Options → Asked
-asked_of o = record { features = option_map (λ l. l.now) o.features; limits = option_map (λ l. l.now) o.limits }
+asked_of o = record {
+  features = option_map (λ l. l.now) o.features;
+  limits = option_map (λ l. l.now) o.limits;
+  pieces = option_map (λ n. n.now) o.pieces;
+}
 
 -- What is asked for was done: these files were judged by the settings that the options give, each with a line.
 pub record ReportsBy (accepts : Settings → List ℕ → Type 0) (asked : Asked) (names : List (List ℕ)) (old new : Option (List ℕ)) (status : Status) : Type 0 where
   pub settings : Settings
-  pub given : IsGiven asked settings
-  pub reported : ReportsFiles (accepts settings) names old new status
+  pub mode : Mode
+  pub given : IsGiven asked settings mode
+  pub reported : ReportsFiles (ruled mode (accepts settings)) names old new status
 
 -- What a fault leaves: nothing was written, if it came before the files were opened; any other came while they were opened, and judged
 -- by the settings that the options give.
 abbrev pub StopsBy : (Settings → List ℕ → Type 0) → Asked → List (List ℕ) → Option (List ℕ) → Option (List ℕ) → Fault → Type 0
 StopsBy accepts asked names old new fault = (StopsEarly asked fault × Keeps old new)
-    ⊎ ((z : Settings) × IsGiven asked z × StopsFiles (accepts z) names old new fault)
+    ⊎ ((z : Settings) × (mode : Mode) × IsGiven asked z mode × StopsFiles (ruled mode (accepts z)) names old new fault)
 
 -- some fault stopped the run on these words, and left this
 abbrev pub IsStopped : (Settings → List ℕ → Type 0) → List (List ℕ) → Option (List ℕ) → Option (List ℕ) → Type 0
@@ -188,6 +213,7 @@ abbrev pub fault_text : Fault → List ℕ
 fault_text (faults.CannotOpen name reason) = unopened_text name.now reason
 fault_text (faults.Stopped error name reason) = stopped_text error name.now reason
 fault_text (faults.UnknownFeature word) = codes "wasm-check: unknown feature `" ++ shown word.now ++ codes "`"
+fault_text (faults.WrongPieces word) = codes "wasm-check: bad piece size `" ++ shown word.now ++ codes "`"
 fault_text (faults.WrongLimit Unknown word) = codes "wasm-check: unknown limit `" ++ shown word.now ++ codes "`"
 fault_text (faults.WrongLimit BadValue word) = codes "wasm-check: bad limit `" ++ shown word.now ++ codes "`"
 fault_text faults.OutOfMemory = codes "wasm-check: out of memory"

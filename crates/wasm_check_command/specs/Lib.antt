@@ -1,5 +1,6 @@
 -- Rules: what the program promises, in reading order. `Commands`, `ListRows` and `ShownRows` have worked rows, `LineLaws` laws of the lines.
 pub mod Shown
+pub mod Modes
 pub mod Lines
 pub mod Faults
 pub mod Reasons

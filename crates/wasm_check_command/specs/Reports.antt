@@ -7,7 +7,7 @@ use Rattle.wasm_check_command.specs.declared.judging.Status.TheVariants.{AllVali
 use Rattle.wasm_check_command.specs.declared.error.CheckError.{CheckError}
 use Rattle.wasm_check_command.specs.declared.error.CheckError.TheVariants.{Read, TooLong, OutOfMemory, Write}
 use Rattle.wasm_check_command.specs.Lines.{HasBytes, IsLine, BeginsLineOf}
-use Rattle.wasm_check_command.specs.Faults.{IsTooLong}
+use Rattle.wasm_check_command.specs.Modes.{Ruling, IsTooLong}
 
 -- An input as a contract sees it: its name, and the bytes that its reader says it has left, where it says them.
 pub record Source : Type 0 where
@@ -23,56 +23,56 @@ abbrev pub sources_of : {R : Type 0} → (R → Option (List ℕ)) → List (Inp
 sources_of remaining inputs = map (source_of remaining) inputs
 
 -- The text has one line for each source, in order, and the sources have these bytes.
-abbrev pub Lines : (List ℕ → Type 0) → List Source → List (List ℕ) → List ℕ → Type 0
-Lines accepts [] [] text = text ≡ []
-Lines accepts [] (bytes ∷ contents) text = ⊥
-Lines accepts (s ∷ sources) [] text = ⊥
-Lines accepts (s ∷ sources) (bytes ∷ contents) text = (line : List ℕ) × (rest : List ℕ) × HasBytes s.said bytes × IsLine accepts s.name bytes line
-    × Lines accepts sources contents rest × (text ≡ line ++ rest)
+abbrev pub Lines : Ruling → List Source → List (List ℕ) → List ℕ → Type 0
+Lines ruling [] [] text = text ≡ []
+Lines ruling [] (bytes ∷ contents) text = ⊥
+Lines ruling (s ∷ sources) [] text = ⊥
+Lines ruling (s ∷ sources) (bytes ∷ contents) text = (line : List ℕ) × (rest : List ℕ) × HasBytes ruling s.said bytes × IsLine ruling s.name bytes line
+    × Lines ruling sources contents rest × (text ≡ line ++ rest)
 
 -- The lines of these sources, which have these bytes, were written.
-pub record WritesLines (accepts : List ℕ → Type 0) (sources : List Source) (contents : List (List ℕ)) (old new : Option (List ℕ)) : Type 0 where
+pub record WritesLines (ruling : Ruling) (sources : List Source) (contents : List (List ℕ)) (old new : Option (List ℕ)) : Type 0 where
   pub text : List ℕ
-  pub lines : Lines accepts sources contents text
+  pub lines : Lines ruling sources contents text
   pub appended : Appends old new text
 
 -- whether all of these spell valid modules
-abbrev pub Sums : (List ℕ → Type 0) → List (List ℕ) → Status → Type 0
-Sums accepts contents AllValid = All accepts contents
-Sums accepts contents SomeInvalid = (bytes : List ℕ) × Contains contents bytes × ¬ accepts bytes
+abbrev pub Sums : Ruling → List (List ℕ) → Status → Type 0
+Sums ruling contents AllValid = All ruling.accepts contents
+Sums ruling contents SomeInvalid = (bytes : List ℕ) × Contains contents bytes × ¬ ruling.accepts bytes
 
 -- All sources were judged: their lines were written, and the status says whether all are valid.
-pub record IsReported (accepts : List ℕ → Type 0) (sources : List Source) (old new : Option (List ℕ)) (status : Status) : Type 0 where
+pub record IsReported (ruling : Ruling) (sources : List Source) (old new : Option (List ℕ)) (status : Status) : Type 0 where
   pub contents : List (List ℕ)
-  pub written : WritesLines accepts sources contents old new
-  pub sums : Sums accepts contents status
+  pub written : WritesLines ruling sources contents old new
+  pub sums : Sums ruling contents status
 
 -- The source at this place came to no verdict: exactly the lines before it were written.
-pub record StopsAt (accepts : List ℕ → Type 0) (sources : List Source) (index : ℕ) (old new : Option (List ℕ)) : Type 0 where
+pub record StopsAt (ruling : Ruling) (sources : List Source) (index : ℕ) (old new : Option (List ℕ)) : Type 0 where
   pub source : Source
   pub found : slice_get sources index ≡ Some source
   pub contents : List (List ℕ)
-  pub written : WritesLines accepts (take index sources) contents old new
+  pub written : WritesLines ruling (take index sources) contents old new
 
 -- what begins the line of a source; behind the last one it is nothing
-abbrev pub BeginsNext : (List ℕ → Type 0) → Option Source → List ℕ → Type 0
-BeginsNext accepts None front = front ≡ []
-BeginsNext accepts (Some s) front = BeginsLineOf accepts s.name s.said front
+abbrev pub BeginsNext : Ruling → Option Source → List ℕ → Type 0
+BeginsNext ruling None front = front ≡ []
+BeginsNext ruling (Some s) front = BeginsLineOf ruling s.name s.said front
 
 -- The writing failed: what stands written are the lines of the sources before some place, whole, and at most a front of the line of
 -- the source there.
-pub record StopsWriting (accepts : List ℕ → Type 0) (sources : List Source) (old new : Option (List ℕ)) : Type 0 where
+pub record StopsWriting (ruling : Ruling) (sources : List Source) (old new : Option (List ℕ)) : Type 0 where
   pub index : ℕ
   pub contents : List (List ℕ)
   pub text : List ℕ
-  pub lines : Lines accepts (take index sources) contents text
+  pub lines : Lines ruling (take index sources) contents text
   pub front : List ℕ
-  pub next : BeginsNext accepts (slice_get sources index) front
+  pub next : BeginsNext ruling (slice_get sources index) front
   pub appended : Appends old new (text ++ front)
 
 -- what a fault leaves
-abbrev pub Stops : (List ℕ → Type 0) → List Source → Option (List ℕ) → Option (List ℕ) → CheckError → Type 0
-Stops accepts sources old new (Read i) = StopsAt accepts sources i old new
-Stops accepts sources old new (TooLong i) = (s : StopsAt accepts sources i old new) × IsTooLong s.source.said
-Stops accepts sources old new (OutOfMemory i) = StopsAt accepts sources i old new
-Stops accepts sources old new Write = StopsWriting accepts sources old new
+abbrev pub Stops : Ruling → List Source → Option (List ℕ) → Option (List ℕ) → CheckError → Type 0
+Stops ruling sources old new (Read i) = StopsAt ruling sources i old new
+Stops ruling sources old new (TooLong i) = (s : StopsAt ruling sources i old new) × IsTooLong s.source.said
+Stops ruling sources old new (OutOfMemory i) = StopsAt ruling sources i old new
+Stops ruling sources old new Write = StopsWriting ruling sources old new

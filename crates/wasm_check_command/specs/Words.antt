@@ -15,17 +15,21 @@ file_rule = record (new_rule (codes "FILE")) {
   required = true;
 }
 
--- an option of this name, `--NAME LIST`, which may be there once
-abbrev pub list_rule : List ℕ → Rule
-list_rule name = record (new_rule name) { long = Some name; action = Some Set; value_names = 1 }
+-- an option of this name, `--NAME VALUE`, which may be there once
+abbrev pub option_rule : List ℕ → Rule
+option_rule name = record (new_rule name) { long = Some name; action = Some Set; value_names = 1 }
 
 -- a command with a version, so that `--version` asks for it
 abbrev pub with_version : App → App
 with_version a = record a { top = record a.top { has_version = true } }
 
+-- a command with the options
+abbrev pub with_options : App → App
+with_options a = with_rule (with_rule (with_rule a (option_rule (codes "features"))) (option_rule (codes "limits"))) (option_rule (codes "pieces"))
+
 -- the command
 abbrev pub wasm_check : App
-wasm_check = with_rule (with_rule (with_rule (with_version (new_app (codes "wasm-check"))) (list_rule (codes "features"))) (list_rule (codes "limits"))) file_rule
+wasm_check = with_rule (with_options (with_version (new_app (codes "wasm-check")))) file_rule
 
 -- the matches of the command on these words, of which the first is the program's own name
 abbrev pub matches_on : List (List ℕ) → List Row
@@ -42,6 +46,10 @@ features_list words = first_of (codes "features") (matches_on words)
 -- that of `--limits`
 abbrev pub limits_list : List (List ℕ) → Option (List ℕ)
 limits_list words = first_of (codes "limits") (matches_on words)
+
+-- the number of `--pieces`, if it is there
+abbrev pub pieces_number : List (List ℕ) → Option (List ℕ)
+pieces_number words = first_of (codes "pieces") (matches_on words)
 
 -- the kinds of what clap answers to these words in place of matches, none where it has matches
 abbrev pub refusals_of : List (List ℕ) → Kinds

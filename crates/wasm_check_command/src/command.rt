@@ -4,19 +4,20 @@ ghost use Rattle.std.specs.Io.KnownBytes.{Keeps};
 ghost use Rattle.wasm_check_command.specs.declared.judging.Status.TheVariants.{AllValid, SomeInvalid};
 ghost use Rattle.clap.specs.Words.{app_of, found_of, kind_of, rows_of, rule_of, FailsBy};
 ghost use Rattle.clap.specs.declared.error.kind.ErrorKind.TheVariants.{OutOfMemory};
-ghost use Rattle.wasm_check_command.specs.Words.{IsHelp, matches_on, refusals_of, file_rule, list_rule, wasm_check};
+ghost use Rattle.wasm_check_command.specs.Words.{IsHelp, matches_on, refusals_of, file_rule, option_rule, with_options, wasm_check};
 ghost use Rattle.wasm_check_command.specs.Commands.{AreRead};
 ghost use Rattle.wasm_types.specs.limits.Limits.{IsWithinCeilings};
-ghost use Rattle.wasm_check_command.specs.Settings.{IsGiven, features_by, limits_by, settings_of};
+ghost use Rattle.wasm_check_command.specs.Modes.{CanJudge, HasPieces};
+ghost use Rattle.wasm_check_command.specs.Settings.{IsGiven, features_by, limits_by, mode_by, pieces_of, settings_of};
 ghost use Rattle.std.specs.Fmt.{WritesOnOk};
 ghost use Rattle.wasm_check_command.specs.Files.{texts, unopened_text, code_of, Reports, Grows, ShowsHelp, HasNoStatus, IsUnshown};
-ghost use Rattle.wasm_check_command.specs.Files.{asked_of, RefusesFeatures, RefusesLimits, StopsEarly, ReportsBy, StopsBy};
+ghost use Rattle.wasm_check_command.specs.Files.{asked_of, RefusesPieces, RefusesFeatures, RefusesLimits, StopsEarly, ReportsBy, StopsBy};
 
 use crate::error::CheckError;
 use crate::features::find_features;
 use crate::files::judge_files;
-use crate::judging::{Chosen, Judge, Status, write_text};
-use crate::limits::{Wrong, find_limits};
+use crate::judging::{Chosen, Judge, Mode, Status, write_text};
+use crate::limits::{Wrong, find_limits, number_in};
 use crate::reason::Reason;
 use crate::shown::Shown;
 use clap::error::ErrorKind;
@@ -31,18 +32,25 @@ use wasm_types::{Limits, WasmFeatures};
 /// The version that `--version` prints.
 pub const VERSION: &str = "0.1.0";
 
-/// The lists that the options of the command line have, where they are there.
+/// The most bytes that a piece may have.
+const MAX_PIECE: u64 = 0x10_0000;
+
+/// The values that the options of the command line have, where they are there.
 #[derive(Debug, Drop)]
 struct Options<'a> {
-    /// That of `--features`.
+    /// The list of `--features`.
     features: Option<&'a str>,
-    /// That of `--limits`.
+    /// The list of `--limits`.
     limits: Option<&'a str>,
+    /// The number of `--pieces`.
+    pieces: Option<&'a str>,
 }
 
 /// Why a run came to no status of its files.
 #[derive(Debug, Drop)]
 pub(crate) enum Fault<'a> {
+    /// This is no number of bytes for `--pieces`.
+    WrongPieces(&'a str),
     /// The list of `--features` has this word, which is unknown.
     UnknownFeature(&'a str),
     /// The list of `--limits` has this word, with which this is wrong.
@@ -70,6 +78,10 @@ impl fmt::Display for Fault<'_> {
 
     fn fmt<W: fmt::Write>(&self, f: &mut fmt::Formatter<W>) -> fmt::Result {
         match self {
+            Fault::WrongPieces(word) => {
+                let word = Shown(*word);
+                write!(f, "wasm-check: bad piece size `{word}`")
+            }
             Fault::UnknownFeature(word) => {
                 let word = Shown(*word);
                 write!(f, "wasm-check: unknown feature `{word}`")
@@ -123,37 +135,51 @@ fn files_argument<'a>(alloc: Global) -> Arg<'a>
         .action(ArgAction::Append)
 }
 
-/// An option of this name, with a list.
-fn list_argument<'a>(alloc: Global, name: &'a str, help: &'a str) -> Arg<'a>
-    ensures { (rule_of result ≡ list_rule name.entry.now) × (result.global ≡ false) }
+/// An option of this name, with a value that is called so in the help.
+fn option_argument<'a>(alloc: Global, name: &'a str, value: &'a str, help: &'a str) -> Arg<'a>
+    ensures { (rule_of result ≡ option_rule name.entry.now) × (result.global ≡ false) }
 {
     Arg::new(alloc, name)
         .long(name)
         .help(help)
-        .value_name("LIST")
+        .value_name(value)
         .action(ArgAction::Set)
+}
+
+/// The command with its options.
+fn with_options<'a>(alloc: Global, command: Command<'a>) -> Result<Command<'a>, AllocError>
+    ensures { IfOk result (λ c. app_of c ≡ with_options (app_of command.entry)) }
+{
+    let features = option_argument(
+        alloc,
+        "features",
+        "LIST",
+        "The features that are allowed: words between commas, from left to right, as mvp,gc or no-simd",
+    );
+    let limits = option_argument(
+        alloc,
+        "limits",
+        "LIST",
+        "The limits that hold: words name=N between commas, as locals=10,tables=3; the others are those by default",
+    );
+    let pieces = option_argument(
+        alloc,
+        "pieces",
+        "N",
+        "Judge files as they come, in pieces of at most N bytes, from 1 to 1048576; without it they are read whole",
+    );
+    let command = command.arg(features)?.arg(limits)?.arg(pieces)?;
+    Ok(command)
 }
 
 /// The command, with its arguments.
 fn command<'a>(alloc: Global) -> Result<Command<'a>, AllocError>
     ensures { IfOk result (λ c. app_of c ≡ wasm_check) }
 {
-    let features = list_argument(
-        alloc,
-        "features",
-        "The features that are allowed: words between commas, from left to right, as mvp,gc or no-simd",
+    let command = Command::new(alloc, "wasm-check").version(VERSION).about(
+        "Says of each file whether it is a valid WebAssembly module",
     );
-    let limits = list_argument(
-        alloc,
-        "limits",
-        "The limits that hold: words name=N between commas, as locals=10,tables=3; the others are those by default",
-    );
-    let command = Command::new(alloc, "wasm-check")
-        .version(VERSION)
-        .about("Says of each file whether it is a valid WebAssembly module")
-        .arg(features)?
-        .arg(limits)?
-        .arg(files_argument(alloc))?;
+    let command = with_options(alloc, command)?.arg(files_argument(alloc))?;
     Ok(command)
 }
 
@@ -194,18 +220,48 @@ fn read_limits<'a>(list: Option<&'a str>) -> Result<Limits, Fault<'a>>
     }
 }
 
-/// What the options ask for: their lists are read in this order.
-fn read_options<'a>(options: &Options<'a>) -> Result<Chosen, Fault<'a>>
-    ensures ok { IfOk result (λ c. IsGiven (asked_of options.now) (settings_of c)) }
-    ensures within { IfOk result (λ c. IsWithinCeilings c.limits) }
-    ensures err { IfErr result (StopsEarly (asked_of options.now)) }
+/// The mode that a number of bytes stands for.
+fn mode_of(number: Option<u64>) -> Option<Mode>
+    ensures { result ≡ pieces_of number }
 {
-    let features = read_features(options.features)?;
-    let limits = read_limits(options.limits)?;
-    Ok(Chosen { features, limits })
+    match number {
+        Some(piece) if 1 <= piece && piece <= MAX_PIECE => Some(Mode::Pieces(piece as u32)),
+        _ => None,
+    }
 }
 
-/// Reads the lists of the options, and then opens all files and judges them.
+/// The mode by the number of `--pieces`.
+fn read_pieces<'a>(number: Option<&'a str>) -> Result<Mode, Fault<'a>>
+    ensures ok { IfOk result (λ m. mode_by (option_map (λ n. n.now) number.entry) ≡ Some m) }
+    ensures some { IfOk result HasPieces }
+    ensures err { IfErr result (RefusesPieces (option_map (λ n. n.now) number.entry)) }
+{
+    let Some(number) = number else {
+        return Ok(Mode::Whole);
+    };
+    match mode_of(number_in(number.as_bytes())) {
+        Some(mode) => Ok(mode),
+        None => Err(Fault::WrongPieces(number)),
+    }
+}
+
+/// What the options ask for: their values are read in this order.
+fn read_options<'a>(options: &Options<'a>) -> Result<Chosen, Fault<'a>>
+    ensures ok { IfOk result (λ c. IsGiven (asked_of options.now) (settings_of c) c.mode) }
+    ensures within { IfOk result CanJudge }
+    ensures err { IfErr result (StopsEarly (asked_of options.now)) }
+{
+    let mode = read_pieces(options.pieces)?;
+    let features = read_features(options.features)?;
+    let limits = read_limits(options.limits)?;
+    Ok(Chosen {
+        features,
+        limits,
+        mode,
+    })
+}
+
+/// Reads the values of the options, and then opens all files and judges them.
 fn judge_by_options<'a, J: Judge, F: Files + Input, W: Write>(
     judge: &J,
     alloc: Global,
@@ -349,7 +405,12 @@ where
             }
             let features = matches.get_str("features");
             let limits = matches.get_str("limits");
-            let options = Options { features, limits };
+            let pieces = matches.get_str("pieces");
+            let options = Options {
+                features,
+                limits,
+                pieces,
+            };
             conclude(
                 &judge_by_options(judge, alloc, rt, &options, names, out),
                 err,

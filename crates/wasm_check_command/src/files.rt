@@ -1,13 +1,12 @@
 //! The files that the words name are opened, and judged one after another.
 ghost use Rattle.std.specs.Prelude.{◌≡◌, ℕ, ◌<◌, ◌≤◌, IsTrue, false, List, length, min, map, take, slice_get, Some, IfOk, IfErr};
-ghost use Rattle.wasm_types.specs.limits.Limits.{IsWithinCeilings};
-ghost use Rattle.wasm_check_command.specs.Settings.{settings_of};
+ghost use Rattle.wasm_check_command.specs.Modes.{CanJudge, ruling_of};
 ghost use Rattle.wasm_check_command.specs.Opened.{is_stdin, names_stdin, kept_open};
 ghost use Rattle.wasm_check_command.specs.Files.{texts, joined, CannotOpen, FailsOpening, JudgesFile, FailsFile, ReportsFiles, StopsFiles};
 
 use crate::command::Fault;
 use crate::error::CheckError;
-use crate::judging::{Chosen, Input, Judge, MAX_BYTES, Status, judge_bytes, read_whole};
+use crate::judging::{Chosen, Input, Judge, MAX_BYTES, Status, judge_reader};
 use crate::reason::Reason;
 use std::alloc::Global;
 use std::fs::{File, OpenFile};
@@ -158,10 +157,10 @@ fn judge_opened<'a, J: Judge, R: Read + OpenFile + Drop, I: Read + Drop, W: Writ
     buffer: &mut Vec<u8>,
     out: &mut W,
 ) -> Result<bool, Fault<'a>>
-    requires within { IsWithinCeilings chosen.limits }
-    ensures ok { IfOk result (JudgesFile (J.accepts (settings_of chosen)) input.entry.name.now
+    requires within { CanJudge chosen }
+    ensures ok { IfOk result (JudgesFile (ruling_of J.accepts chosen) input.entry.name.now
         (W.contents out.old) (W.contents out.new)) }
-    ensures err { IfErr result (FailsFile (J.accepts (settings_of chosen)) index input.entry.name.now
+    ensures err { IfErr result (FailsFile (ruling_of J.accepts chosen) index input.entry.name.now
         (W.contents out.old) (W.contents out.new)) }
 {
     let name = input.name;
@@ -172,19 +171,21 @@ fn judge_opened<'a, J: Judge, R: Read + OpenFile + Drop, I: Read + Drop, W: Writ
             reason: Reason::Unknown,
         });
     }
-    if let Err(unread) = read_whole(index, &mut input.reader, buffer) {
-        return Err(Fault::Stopped {
+    match judge_reader(
+        judge,
+        alloc,
+        chosen,
+        index,
+        name,
+        &mut input.reader,
+        buffer,
+        out,
+    ) {
+        Ok(is_valid) => Ok(is_valid),
+        Err(unread) => Err(Fault::Stopped {
             error: unread.error,
             name,
             reason: unread.reason,
-        });
-    }
-    match judge_bytes(judge, alloc, chosen, index, name, buffer.as_slice(), out) {
-        Ok(is_valid) => Ok(is_valid),
-        Err(error) => Err(Fault::Stopped {
-            error,
-            name,
-            reason: Reason::Unknown,
         }),
     }
 }
@@ -200,11 +201,11 @@ fn judge_again<'a, J: Judge, F: Files + Standard, W: Write>(
     buffer: &mut Vec<u8>,
     out: &mut W,
 ) -> Result<bool, Fault<'a>>
-    requires within { IsWithinCeilings chosen.limits }
+    requires within { CanJudge chosen }
     requires past { kept_open ≤ index }
-    ensures ok { IfOk result (JudgesFile (J.accepts (settings_of chosen)) name.entry.now
+    ensures ok { IfOk result (JudgesFile (ruling_of J.accepts chosen) name.entry.now
         (W.contents out.old) (W.contents out.new)) }
-    ensures err { IfErr result (FailsFile (J.accepts (settings_of chosen)) index name.entry.now
+    ensures err { IfErr result (FailsFile (ruling_of J.accepts chosen) index name.entry.now
         (W.contents out.old) (W.contents out.new)) }
 {
     let reader = open_named(rt, name)?;
@@ -239,11 +240,11 @@ fn judge_kept<'a, J: Judge, R: Read + OpenFile + Drop, I: Read + Drop, W: Write>
     buffer: &mut Vec<u8>,
     out: &mut W,
 ) -> Result<Status, Fault<'a>>
-    requires within { IsWithinCeilings chosen.limits }
-    ensures ok { IfOk result (ReportsFiles (J.accepts (settings_of chosen)) (map (λ i. i.name.now) inputs.entry.items)
+    requires within { CanJudge chosen }
+    ensures ok { IfOk result (ReportsFiles (ruling_of J.accepts chosen) (map (λ i. i.name.now) inputs.entry.items)
         (W.contents out.old) (W.contents out.new)) }
     ensures err { (all : List (List ℕ)) → map (λ i. i.name.now) inputs.entry.items ≡ take kept_open all
-        → IfErr result (StopsFiles (J.accepts (settings_of chosen)) all (W.contents out.old) (W.contents out.new)) }
+        → IfErr result (StopsFiles (ruling_of J.accepts chosen) all (W.contents out.old) (W.contents out.new)) }
 {
     let mut status = Status::AllValid;
     let mut index = 0;
@@ -268,11 +269,11 @@ fn judge_in_turn<'a, J: Judge, F: Files + Standard, W: Write>(
     names: &[&'a str],
     out: &mut W,
 ) -> Result<Status, Fault<'a>>
-    requires within { IsWithinCeilings chosen.limits }
+    requires within { CanJudge chosen }
     requires kept { map (λ i. i.name.now) inputs.items ≡ take kept_open (texts names.now) }
-    ensures ok { IfOk result (ReportsFiles (J.accepts (settings_of chosen)) (texts names.now)
+    ensures ok { IfOk result (ReportsFiles (ruling_of J.accepts chosen) (texts names.now)
         (W.contents out.old) (W.contents out.new)) }
-    ensures err { IfErr result (StopsFiles (J.accepts (settings_of chosen)) (texts names.now)
+    ensures err { IfErr result (StopsFiles (ruling_of J.accepts chosen) (texts names.now)
         (W.contents out.old) (W.contents out.new)) }
 {
     let mut buffer = Vec::new(alloc);
@@ -300,10 +301,10 @@ pub(crate) fn judge_files<'a, J: Judge, F: Files + Standard, W: Write>(
     chosen: Chosen,
     out: &mut W,
 ) -> Result<Status, Fault<'a>>
-    requires within { IsWithinCeilings chosen.limits }
-    ensures ok { IfOk result (ReportsFiles (J.accepts (settings_of chosen)) (texts names.now)
+    requires within { CanJudge chosen }
+    ensures ok { IfOk result (ReportsFiles (ruling_of J.accepts chosen) (texts names.now)
         (W.contents out.old) (W.contents out.new)) }
-    ensures err { IfErr result (StopsFiles (J.accepts (settings_of chosen)) (texts names.now)
+    ensures err { IfErr result (StopsFiles (ruling_of J.accepts chosen) (texts names.now)
         (W.contents out.old) (W.contents out.new)) }
 {
     let inputs = match open_all(alloc, rt, names) {

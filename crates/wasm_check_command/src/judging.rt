@@ -1,17 +1,20 @@
 //! Inputs are judged one after another, and a line is written for each.
-ghost use Rattle.std.specs.Prelude.{◌≡◌, ℕ, List, IfOk, IfErr, OnOk, string_bytes};
+ghost use Rattle.std.specs.Prelude.{◌≡◌, ◌≤◌, ℕ, List, IfOk, IfErr, OnOk, string_bytes};
 ghost use Rattle.std.specs.Io.KnownBytes.{Appends};
 ghost use Rattle.wasm_types.specs.error.Denials.{Tells};
 ghost use Rattle.wasm_types.specs.limits.Settings.{Settings};
 ghost use Rattle.wasm_types.specs.limits.Limits.{IsWithinCeilings};
 ghost use Rattle.wasm_check_command.specs.Settings.{settings_by, settings_of};
-ghost use Rattle.wasm_check_command.specs.Lines.{HasBytes, invalid_line};
+ghost use Rattle.wasm_check_command.specs.Lines.{invalid_line, valid_line};
+ghost use Rattle.wasm_check_command.specs.Modes.{AreLeft, CanJudge, FailsJudging, HasPieces, HasValid, IsShort, ruled, ruling_of};
 ghost use Rattle.wasm_check_command.specs.Faults.{FailsReading};
 ghost use Rattle.wasm_check_command.specs.Verdict.{WritesFront, IsVerdict, WritesLine, IsJudged, FailsWriting, FailsAt};
 ghost use Rattle.wasm_check_command.specs.declared.error.CheckError.TheVariants.{Write as TheWrite};
+ghost use Rattle.wasm_check_command.specs.declared.judging.Mode.TheVariants.{Whole as whole};
 ghost use Rattle.wasm_check_command.specs.Reports.{sources_of, IsReported, Stops};
 
 use crate::error::CheckError;
+use crate::pieces::judge_in_pieces;
 use crate::reason::Reason;
 use crate::shown::Shown;
 use std::alloc::{AllocError, Global};
@@ -23,6 +26,26 @@ pub const MAX_BYTES: usize = 0x4000_0000;
 
 /// How many bytes a read asks for.
 const CHUNK: usize = 0x1_0000;
+
+/// How inputs are read.
+#[derive(Clone, Copy, Debug, PartialEq, Eq)]
+pub enum Mode {
+    /// Whole, and then judged.
+    Whole,
+    /// In pieces of at most so many bytes, and judged as they come.
+    Pieces(u32),
+}
+
+/// Why what a reader has left was not accepted.
+#[derive(Debug, Drop)]
+pub enum Unjudged {
+    /// It is not valid, or there was no memory.
+    Refused(Error),
+    /// A read failed.
+    Read,
+    /// It has more than 2^30 bytes.
+    TooLong,
+}
 
 /// What says of bytes whether they are valid.
 pub trait Judge {
@@ -44,6 +67,27 @@ pub trait Judge {
     ) -> Result<(), Error>
         requires within { IsWithinCeilings limits }
         ensures { Tells result (accepts (settings_by features.0 limits) bytes.now) };
+
+    /// Judges what a reader has left, by these features and limits, as it comes: each read asks for at most `piece` bytes. It is the
+    /// input at this place.
+    ///
+    /// # Errors
+    ///
+    /// The bytes are not valid, for the reason and at the offset that the error has, however many of them were read; or there was no
+    /// memory. A read failed. There are more than 2^30 bytes.
+    fn judge_pieces<R: Read>(
+        &self,
+        alloc: Global,
+        features: WasmFeatures,
+        limits: Limits,
+        index: usize,
+        reader: &mut R,
+        piece: u32,
+    ) -> Result<(), Unjudged>
+        requires within { IsWithinCeilings limits }
+        requires some { 1 ≤ piece }
+        ensures ok { OnOk result (HasValid (accepts (settings_by features.0 limits)) (R.remaining reader.old)) }
+        ensures err { IfErr result (FailsJudging (accepts (settings_by features.0 limits)) (R.remaining reader.old)) };
 }
 
 /// What inputs are judged by.
@@ -53,6 +97,8 @@ pub(crate) struct Chosen {
     pub(crate) features: WasmFeatures,
     /// The limits that hold.
     pub(crate) limits: Limits,
+    /// How inputs are read.
+    pub(crate) mode: Mode,
 }
 
 /// What is to be judged: a name, and what gives the bytes.
@@ -83,7 +129,7 @@ pub(crate) struct Unread {
 }
 
 /// This error, without a reason.
-fn without_reason(error: CheckError) -> Unread
+pub(crate) fn without_reason(error: CheckError) -> Unread
     ensures { result.error ≡ error }
 {
     Unread {
@@ -98,7 +144,7 @@ pub(crate) fn read_whole<R: Read>(
     reader: &mut R,
     buffer: &mut Vec<u8>,
 ) -> Result<(), Unread>
-    ensures ok { OnOk result (HasBytes (R.remaining reader.old) buffer.new.items) }
+    ensures ok { OnOk result (AreLeft (R.remaining reader.old) buffer.new.items × IsShort buffer.new.items) }
     ensures err { IfErr result (λ u. FailsReading index (R.remaining reader.old) u.error) }
 {
     buffer.clear();
@@ -137,10 +183,18 @@ fn invalid_line(alloc: Global, name: &str, offset: u64, message: &str) -> Result
 }
 
 /// The line of a module that was refused by this error: at its offset, for its reason.
-fn refusal_line(alloc: Global, name: &str, error: &Error) -> Result<String, AllocError>
+pub(crate) fn refusal_line(alloc: Global, name: &str, error: &Error) -> Result<String, AllocError>
     ensures { IfOk result (λ line. (message : List ℕ) × (string_bytes line ≡ invalid_line name.now error.now.offset message)) }
 {
     invalid_line(alloc, name, error.offset(), error.message())
+}
+
+/// The line of what is valid.
+pub(crate) fn valid_line(alloc: Global, name: &str) -> Result<String, AllocError>
+    ensures { IfOk result (λ line. string_bytes line ≡ valid_line name.now) }
+{
+    let name = Shown(name);
+    format!(in alloc; "{name}: valid\n")
 }
 
 /// The line of these bytes, and whether they spell a valid module.
@@ -153,12 +207,12 @@ fn verdict_line<J: Judge>(
     bytes: &[u8],
 ) -> Result<(bool, String), AllocError>
     requires within { IsWithinCeilings chosen.limits }
-    ensures { IfOk result (λ r. IsVerdict (J.accepts (settings_of chosen)) name.now bytes.now r.0 (string_bytes r.1)) }
+    ensures { IfOk result (λ r. IsVerdict (ruled whole (J.accepts (settings_of chosen))) name.now bytes.now r.0 (string_bytes r.1)) }
 {
     match judge.judge(alloc, chosen.features, chosen.limits, index, bytes) {
         Ok(()) => {
-            let name = Shown(name);
-            Ok((true, format!(in alloc; "{name}: valid\n")?))
+            let line = valid_line(alloc, name)?;
+            Ok((true, line))
         }
         Err(error) => {
             if error.kind() == ErrorKind::OutOfMemory {
@@ -195,7 +249,7 @@ pub(crate) fn write_text<W: Write>(text: &[u8], out: &mut W) -> Result<(), Check
 }
 
 /// Judges these bytes, writes their line, and says whether they spell a valid module.
-pub(crate) fn judge_bytes<J: Judge, W: Write>(
+fn judge_bytes<J: Judge, W: Write>(
     judge: &J,
     alloc: Global,
     chosen: Chosen,
@@ -206,15 +260,67 @@ pub(crate) fn judge_bytes<J: Judge, W: Write>(
 ) -> Result<bool, CheckError>
     requires within { IsWithinCeilings chosen.limits }
     ensures ok { IfOk result (λ valid.
-        WritesLine (J.accepts (settings_of chosen)) name.now bytes.now valid (W.contents out.old) (W.contents out.new)) }
+        WritesLine (ruled whole (J.accepts (settings_of chosen))) name.now bytes.now valid (W.contents out.old) (W.contents out.new)) }
     ensures err { IfErr result
-        (FailsWriting (J.accepts (settings_of chosen)) index name.now bytes.now (W.contents out.old) (W.contents out.new)) }
+        (FailsWriting (ruled whole (J.accepts (settings_of chosen))) index name.now bytes.now (W.contents out.old) (W.contents out.new)) }
 {
     let Ok((is_valid, line)) = verdict_line(judge, alloc, chosen, index, name, bytes) else {
         return Err(CheckError::OutOfMemory(index));
     };
     write_text(line.as_bytes(), out)?;
     Ok(is_valid)
+}
+
+/// Reads an input whole and judges it, writes its line, and says whether it is a valid module.
+fn judge_whole<J: Judge, R: Read, W: Write>(
+    judge: &J,
+    alloc: Global,
+    chosen: Chosen,
+    index: usize,
+    name: &str,
+    reader: &mut R,
+    buffer: &mut Vec<u8>,
+    out: &mut W,
+) -> Result<bool, Unread>
+    requires within { IsWithinCeilings chosen.limits }
+    ensures ok { IfOk result (λ valid. IsJudged (ruled whole (J.accepts (settings_of chosen))) name.now
+        (R.remaining reader.old) valid (W.contents out.old) (W.contents out.new)) }
+    ensures err { IfErr result (λ u. FailsAt (ruled whole (J.accepts (settings_of chosen))) index name.now
+        (R.remaining reader.old) (W.contents out.old) (W.contents out.new) u.error) }
+{
+    match read_whole(index, reader, buffer) {
+        Ok(()) => (),
+        Err(unread) => return Err(unread),
+    }
+    match judge_bytes(judge, alloc, chosen, index, name, buffer.as_slice(), out) {
+        Ok(is_valid) => Ok(is_valid),
+        Err(error) => Err(without_reason(error)),
+    }
+}
+
+/// Judges an input by what was chosen, writes its line, and says whether it is a valid module.
+pub(crate) fn judge_reader<J: Judge, R: Read, W: Write>(
+    judge: &J,
+    alloc: Global,
+    chosen: Chosen,
+    index: usize,
+    name: &str,
+    reader: &mut R,
+    buffer: &mut Vec<u8>,
+    out: &mut W,
+) -> Result<bool, Unread>
+    requires within { CanJudge chosen }
+    ensures ok { IfOk result (λ valid. IsJudged (ruling_of J.accepts chosen) name.now
+        (R.remaining reader.old) valid (W.contents out.old) (W.contents out.new)) }
+    ensures err { IfErr result (λ u. FailsAt (ruling_of J.accepts chosen) index name.now
+        (R.remaining reader.old) (W.contents out.old) (W.contents out.new) u.error) }
+{
+    match chosen.mode {
+        Mode::Whole => judge_whole(judge, alloc, chosen, index, name, reader, buffer, out),
+        Mode::Pieces(piece) => {
+            judge_in_pieces(judge, alloc, chosen, piece, index, name, reader, out)
+        }
+    }
 }
 
 /// Judges an input, writes its line, and says whether it is a valid module.
@@ -227,25 +333,26 @@ fn judge_input<J: Judge, R: Read + Drop, W: Write>(
     buffer: &mut Vec<u8>,
     out: &mut W,
 ) -> Result<bool, CheckError>
-    requires within { IsWithinCeilings chosen.limits }
-    ensures ok { IfOk result (λ valid. IsJudged (J.accepts (settings_of chosen)) input.entry.name.now
+    requires within { CanJudge chosen }
+    ensures ok { IfOk result (λ valid. IsJudged (ruling_of J.accepts chosen) input.entry.name.now
         (R.remaining input.entry.reader) valid (W.contents out.old) (W.contents out.new)) }
-    ensures err { IfErr result (FailsAt (J.accepts (settings_of chosen)) index input.entry.name.now
+    ensures err { IfErr result (FailsAt (ruling_of J.accepts chosen) index input.entry.name.now
         (R.remaining input.entry.reader) (W.contents out.old) (W.contents out.new)) }
 {
-    match read_whole(index, &mut input.reader, buffer) {
-        Ok(()) => (),
-        Err(unread) => return Err(unread.error),
-    }
-    judge_bytes(
+    let name = input.name;
+    match judge_reader(
         judge,
         alloc,
         chosen,
         index,
-        input.name,
-        buffer.as_slice(),
+        name,
+        &mut input.reader,
+        buffer,
         out,
-    )
+    ) {
+        Ok(is_valid) => Ok(is_valid),
+        Err(unread) => Err(unread.error),
+    }
 }
 
 /// Judges the inputs in order and writes their lines, through the first fault.
@@ -256,10 +363,10 @@ fn judge_all<J: Judge, R: Read + Drop, W: Write>(
     chosen: Chosen,
     out: &mut W,
 ) -> Result<Status, CheckError>
-    requires within { IsWithinCeilings chosen.limits }
-    ensures ok { IfOk result (IsReported (J.accepts (settings_of chosen)) (sources_of R.remaining inputs.entry.items)
+    requires within { CanJudge chosen }
+    ensures ok { IfOk result (IsReported (ruling_of J.accepts chosen) (sources_of R.remaining inputs.entry.items)
         (W.contents out.old) (W.contents out.new)) }
-    ensures err { IfErr result (Stops (J.accepts (settings_of chosen)) (sources_of R.remaining inputs.entry.items)
+    ensures err { IfErr result (Stops (ruling_of J.accepts chosen) (sources_of R.remaining inputs.entry.items)
         (W.contents out.old) (W.contents out.new)) }
 {
     let mut buffer = Vec::new(alloc);
@@ -274,22 +381,28 @@ fn judge_all<J: Judge, R: Read + Drop, W: Write>(
     Ok(status)
 }
 
-/// Has each input judged by these features and limits, in order, and writes a line for each.
+/// Has each input judged by these features and limits, in order and in this mode, and writes a line for each.
 pub fn check_by<J: Judge, R: Read + Drop, W: Write>(
     judge: &J,
     alloc: Global,
     inputs: Vec<Input<'_, R>>,
     features: WasmFeatures,
     limits: Limits,
+    mode: Mode,
     out: &mut W,
 ) -> Result<Status, CheckError>
     requires within { IsWithinCeilings limits }
-    ensures ok { IfOk result (IsReported (J.accepts (settings_by features.0 limits)) (sources_of R.remaining inputs.entry.items)
+    requires pieces { HasPieces mode }
+    ensures ok { IfOk result (IsReported (ruled mode (J.accepts (settings_by features.0 limits))) (sources_of R.remaining inputs.entry.items)
         (W.contents out.old) (W.contents out.new)) }
-    ensures err { IfErr result (Stops (J.accepts (settings_by features.0 limits)) (sources_of R.remaining inputs.entry.items)
+    ensures err { IfErr result (Stops (ruled mode (J.accepts (settings_by features.0 limits))) (sources_of R.remaining inputs.entry.items)
         (W.contents out.old) (W.contents out.new)) }
 {
-    let chosen = Chosen { features, limits };
+    let chosen = Chosen {
+        features,
+        limits,
+        mode,
+    };
     let judged = judge_all(judge, alloc, inputs, chosen, out);
     if out.flush().is_err() {
         return Err(CheckError::Write);

@@ -294,7 +294,7 @@ fn with_limit(field: Field, value: u32, limits: Limits) -> Limits
 }
 
 /// The number that one to ten decimal digits write.
-fn number_in(text: &[u8]) -> Option<u64>
+pub(crate) fn number_in(text: &[u8]) -> Option<u64>
     ensures { result ≡ number_of text.now }
 {
     if text.is_empty() || text.len() > MAX_DIGITS {

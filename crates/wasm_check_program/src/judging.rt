@@ -2,13 +2,15 @@
 ghost use Rattle.std.specs.Prelude.{IfOk, IfErr};
 ghost use Rattle.wasm_module_validator.specs.rules.Accepts.{AcceptsUnder};
 ghost use Rattle.wasm_types.specs.limits.Limits.{IsWithinCeilings};
+ghost use Rattle.wasm_check_command.specs.Modes.{HasPieces, ruled};
 ghost use Rattle.wasm_check_command.specs.Settings.{settings_by};
 ghost use Rattle.wasm_check_command.specs.Reports.{sources_of, IsReported, Stops};
 
 use std::alloc::Global;
 use std::io::{Read, Write};
-use wasm_check_command::{CheckError, Input, Judge, Status, check_by};
+use wasm_check_command::{CheckError, Input, Judge, MAX_BYTES, Mode, Status, Unjudged, check_by};
 use wasm_module_validator::{Validator, ValidatorId};
+use wasm_module_validator_pieces::{ReadError, WatchedReader, validate_reader_limited};
 use wasm_types::{Error, Limits, WasmFeatures};
 
 /// Judges bytes as a module, each time by a validator of its own, which has the input's place for its id.
@@ -32,21 +34,45 @@ impl Judge for Validating {
             Err(error) => Err(error),
         }
     }
+
+    fn judge_pieces<R: Read>(
+        &self,
+        alloc: Global,
+        features: WasmFeatures,
+        limits: Limits,
+        index: usize,
+        reader: &mut R,
+        piece: u32,
+    ) -> Result<(), Unjudged> {
+        let id = ValidatorId::new(index);
+        let most = MAX_BYTES as u64;
+        let mut watched = WatchedReader::new(reader);
+        let piece = piece as usize;
+        match validate_reader_limited(alloc, id, features, limits, &mut watched, piece, most) {
+            Ok(_types) => Ok(()),
+            Err(ReadError::Refused(error)) => Err(Unjudged::Refused(error)),
+            Err(ReadError::Read) => Err(Unjudged::Read),
+            Err(ReadError::TooLong) => Err(Unjudged::TooLong),
+        }
+    }
 }
 
-/// Judges each input by a validator of its own with these features and limits, in order, and writes a line for each.
+/// Judges each input by a validator of its own with these features and limits, in order, and writes a line for each. Inputs are read
+/// whole, or judged as they come, as the mode says.
 pub fn check<R: Read + Drop, W: Write>(
     alloc: Global,
     inputs: Vec<Input<'_, R>>,
     features: WasmFeatures,
     limits: Limits,
+    mode: Mode,
     out: &mut W,
 ) -> Result<Status, CheckError>
     requires within { IsWithinCeilings limits }
-    ensures ok { IfOk result (IsReported (AcceptsUnder (settings_by features.0 limits)) (sources_of R.remaining inputs.entry.items)
+    requires pieces { HasPieces mode }
+    ensures ok { IfOk result (IsReported (ruled mode (AcceptsUnder (settings_by features.0 limits))) (sources_of R.remaining inputs.entry.items)
         (W.contents out.old) (W.contents out.new)) }
-    ensures err { IfErr result (Stops (AcceptsUnder (settings_by features.0 limits)) (sources_of R.remaining inputs.entry.items)
+    ensures err { IfErr result (Stops (ruled mode (AcceptsUnder (settings_by features.0 limits))) (sources_of R.remaining inputs.entry.items)
         (W.contents out.old) (W.contents out.new)) }
 {
-    check_by(&Validating, alloc, inputs, features, limits, out)
+    check_by(&Validating, alloc, inputs, features, limits, mode, out)
 }

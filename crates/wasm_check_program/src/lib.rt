@@ -13,6 +13,7 @@ mod judging;
 pub use command::run;
 pub use judging::check;
 pub use wasm_check_command::{
-    CheckError, Input, LimitFault, MAX_BYTES, Status, UnknownFeature, VERSION, lines_end_once,
-    parse_features, parse_limits, parses_worked_features, parses_worked_limits, reads_worked_words,
+    CheckError, Input, LimitFault, MAX_BYTES, Mode, Status, UnknownFeature, VERSION,
+    lines_end_once, parse_features, parse_limits, parses_worked_features, parses_worked_limits,
+    reads_worked_words,
 };

@@ -1,5 +1,5 @@
 -- What a validator answers to modules that are validated one after the other (WebAssembly 3.0, binary format and validation, modules).
-use Rattle.std.specs.Prelude.{◌≡◌, ◌↔◌, ◌<◌, ℕ, Bool, true, false, IsTrue, List, [], ◌∷◌, map, Contains}
+use Rattle.std.specs.Prelude.{◌≡◌, ◌↔◌, ◌⊎◌, ◌<◌, ℕ, Bool, true, false, IsTrue, List, [], ◌∷◌, map, Contains}
 use Rattle.std.specs.Borrow.{Bor}
 use Rattle.wasm_types.specs.limits.Settings.{Settings}
 use Rattle.wasm_types.specs.features.Features.{needs_canonical_types}
@@ -7,8 +7,9 @@ use Rattle.wasm_types.specs.reader.Reading.{IsNotMemory}
 use Rattle.wasm_sections_parser.specs.Parsing.{one_of}
 use Rattle.wasm_module_validator_module.specs.declared.view.validator_id.ValidatorId.{ValidatorId}
 use Rattle.wasm_module_validator_sharing.specs.reading.Reading.{IsReadAs}
-use Rattle.wasm_module_validator_sharing.specs.reading.progress.Progress.{kept_groups}
+use Rattle.wasm_module_validator_sharing.specs.reading.progress.declaring.Total.{IsPastTotal}
 use Rattle.wasm_module_validator_sharing.specs.reading.progress.standing.Standing.{IsGrown}
+use Rattle.wasm_module_validator_sharing.specs.reading.progress.standing.items.Items.{no_items}
 use Rattle.wasm_module_validator_sharing.specs.reading.progress.standing.steps.Steps.{SoFar}
 use Rattle.wasm_module_validator_sharing.specs.reading.progress.standing.steps.contexts.rules.Accepts.{AcceptsUnder}
 use Rattle.wasm_module_validator_sharing.specs.reading.progress.standing.type_trees.Groups.{Group, count, tree_of}
@@ -19,6 +20,7 @@ use Rattle.wasm_module_validator.specs.declared.validator.State.TheVariants.{Unp
 use Rattle.wasm_module_validator.specs.declared.validator.Validator.{Validator}
 use Rattle.wasm_module_validator.specs.Accepts.{IsShown}
 use Rattle.wasm_module_validator.specs.Shown.{Learned}
+use Rattle.wasm_module_validator.specs.States.{held_by}
 
 -- the bytes of some inputs
 abbrev pub texts : List (Bor (List ℕ)) → List (List ℕ)
@@ -31,11 +33,13 @@ texts inputs = map (λ x. x.now) inputs
 abbrev pub IsValidOutsideBodies : Settings → List ℕ → Type 0
 IsValidOutsideBodies z bytes = (q : SoFar) × IsReadAs z bytes q
 
--- The verdict on these bytes, of the validator with this id: they are accepted, and what is known of the module is shown; or they are
--- refused, at the end where the module is valid outside its bodies.
-abbrev pub IsVerdict : Settings → ValidatorId → List ℕ → Verdict → Type 0
-IsVerdict z id bytes (Accepted types) = AcceptsUnder z bytes × IsShown z bytes types × (types.id ≡ id)
-IsVerdict z id bytes (Refused error ended) = (AcceptsUnder z bytes → ⊥) × IsNotMemory error.kind × (IsTrue ended ↔ IsValidOutsideBodies z bytes)
+-- The verdict on these bytes, of the validator with this id, whose list of types has these groups: they are accepted, and what is known of
+-- the module is shown; or a function alone is refused; or the module is not valid outside its bodies either, or it would have passed the
+-- total of types behind these groups.
+abbrev pub IsVerdict : Settings → ValidatorId → List Group → List ℕ → Verdict → Type 0
+IsVerdict z id held bytes (Accepted types) = AcceptsUnder z bytes × IsShown z bytes types × (types.id ≡ id)
+IsVerdict z id held bytes (Refused error true) = (AcceptsUnder z bytes → ⊥) × IsNotMemory error.kind × IsValidOutsideBodies z bytes
+IsVerdict z id held bytes (Refused error false) = IsNotMemory error.kind × (IsPastTotal held (no_items z) error ⊎ (IsValidOutsideBodies z bytes → ⊥))
 
 -- ---- one module after the other
 
@@ -44,12 +48,18 @@ abbrev pub goes_on : Verdict → Bool
 goes_on (Accepted types) = true
 goes_on (Refused error ended) = ended
 
--- one verdict for each input, through the first that is refused before its end
-abbrev pub AreVerdicts : Settings → ValidatorId → List (List ℕ) → List Verdict → Type 0
-AreVerdicts z id [] [] = Unit {0}
-AreVerdicts z id [] (v ∷ vs) = ⊥
-AreVerdicts z id (x ∷ xs) [] = ⊥
-AreVerdicts z id (x ∷ xs) (v ∷ vs) = IsVerdict z id x v × one_of (goes_on v) (AreVerdicts z id xs vs) (vs ≡ [])
+-- What a verdict makes of the list of types: further groups may stand in it, and it is that of the module which was accepted.
+abbrev pub IsHeldBehind : List Group → Verdict → List Group → Type 0
+IsHeldBehind held (Accepted types) next = IsGrown held next × (types.kept.groups ≡ next)
+IsHeldBehind held (Refused error ended) next = IsGrown held next
+
+-- One verdict for each input, through the first that is refused before its end, of a validator whose list of types begins with these groups.
+abbrev pub AreVerdicts : Settings → ValidatorId → List Group → List (List ℕ) → List Verdict → Type 0
+AreVerdicts z id held [] [] = Unit {0}
+AreVerdicts z id held [] (v ∷ vs) = ⊥
+AreVerdicts z id held (x ∷ xs) [] = ⊥
+AreVerdicts z id held (x ∷ xs) (v ∷ vs) =
+    IsVerdict z id held x v × one_of (goes_on v) ((next : List Group) × IsHeldBehind held v next × AreVerdicts z id next xs vs) (vs ≡ [])
 
 -- how far a validator is behind a verdict, and behind some
 abbrev pub state_behind : Verdict → State
@@ -76,12 +86,8 @@ AreToldUnder z gs hs = IsTrue (needs_canonical_types z.features) → AreTold gs 
 abbrev pub ShareIds : Settings → List Verdict → Type 0
 ShareIds z vs = (t u : Learned) → Contains vs (Accepted t) → Contains vs (Accepted u) → AreToldUnder z t.kept.groups u.kept.groups
 
--- the groups that the next module begins with
-abbrev pub next_groups : Validator → List Group
-next_groups v = kept_groups v.settings v.reached.progress.kept
-
--- what a verdict leaves of the list of types: further groups may stand in it, and it is that of the module which was accepted
+-- what a verdict leaves of the list of types, which tells apart what it holds where types are kept in canonical form
 abbrev pub LeavesGroups : Validator → Verdict → Validator → Type 0
-LeavesGroups v (Accepted t) w = IsGrown (next_groups v) (next_groups w) × (t.kept.groups ≡ next_groups w) × AreToldUnder v.settings t.kept.groups t.kept.groups
-LeavesGroups v (Refused error true) w = IsGrown (next_groups v) (next_groups w)
+LeavesGroups v (Accepted t) w = IsHeldBehind (held_by v) (Accepted t) (held_by w) × AreToldUnder v.settings t.kept.groups t.kept.groups
+LeavesGroups v (Refused error true) w = IsHeldBehind (held_by v) (Refused error true) (held_by w)
 LeavesGroups v (Refused error false) w = Unit {0}

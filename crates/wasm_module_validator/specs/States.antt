@@ -10,6 +10,7 @@ use Rattle.wasm_module_validator_sharing.specs.reading.progress.declaring.Total.
 use Rattle.wasm_module_validator_sharing.specs.reading.progress.standing.items.Items.{no_items}
 use Rattle.wasm_module_validator_sharing.specs.reading.progress.standing.type_trees.Groups.{Group}
 use Rattle.wasm_module_validator_sharing.specs.reading.progress.standing.steps.Steps.{SoFar}
+use Rattle.wasm_module_validator_sharing.specs.reading.progress.standing.steps.contexts.rules.Accepts.{AcceptsUnder}
 use Rattle.wasm_module_validator_sharing.specs.reading.progress.standing.Standing.{IsGrown}
 use Rattle.wasm_module_validator_sharing.specs.reading.progress.Progress.{kept_groups}
 use Rattle.wasm_module_validator_sharing.specs.reading.Reading.{IsReadAs}
@@ -25,7 +26,7 @@ IsLeft k s = ((s ≡ Ended) × IsNotMemory k) ⊎ ((s ≡ Failed) × (k ≡ OutO
 -- were not read, or the total of types was passed behind the types of these groups, or there was no memory.
 abbrev pub Leaves : {X : Type 0} → List Group → Settings → List ℕ → Result X ErrorValue → State → Type 0
 Leaves groups z bytes (Ok types) s = s ≡ Ended
-Leaves groups z bytes (Err e) s = ((s ≡ Ended) × IsNotMemory e.kind × ((q : SoFar) × IsReadAs z bytes q))
+Leaves groups z bytes (Err e) s = ((s ≡ Ended) × IsNotMemory e.kind × ((q : SoFar) × IsReadAs z bytes q) × (AcceptsUnder z bytes → ⊥))
     ⊎ ((s ≡ Failed) × (IsPastTotal groups (no_items z) e ⊎ Denies e.kind ((q : SoFar) × IsReadAs z bytes q)))
 
 -- the groups that the list of types has where a validator begins with a module

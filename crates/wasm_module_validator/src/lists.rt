@@ -7,6 +7,7 @@ ghost use Rattle.wasm_sections_parser.specs.Parsing.{one_of};
 ghost use Rattle.wasm_module_validator.specs.declared.validator.State.TheVariants as states;
 ghost use Rattle.wasm_module_validator.specs.Methods.{can_reset};
 ghost use Rattle.wasm_module_validator.specs.Lists.{texts, IsVerdict, AreVerdicts, goes_on, state_behind, state_after, ShareIds, LeavesGroups};
+ghost use Rattle.wasm_module_validator.specs.States.{held_by};
 
 use crate::types::Types;
 use crate::validator::{State, Validator};
@@ -42,15 +43,16 @@ impl Validator {
     /// Validates modules one after the other, each as `validate_all` does, with `reset` between: a verdict for each, in their order. The
     /// last verdict is that on the last module, or on the first that is refused before its end.
     ///
-    /// What is said of a module does not depend on those before it. Where types are kept in canonical form, an id of one module that was
-    /// accepted and an id of another are the same exactly if their types are.
+    /// What is said of a module does not depend on those before it, except that the list of types has 2^20 types at most: a module may be
+    /// refused because it has no room behind the types of those before it (`validate_all`). Where types are kept in canonical form, an id of
+    /// one module that was accepted and an id of another are the same exactly if their types are.
     ///
     /// # Errors
     ///
     /// There is no memory, and the validator has failed.
     pub fn validate_each(&mut self, inputs: &[&[u8]]) -> Result<Vec<Verdict>>
         requires { self.old.state ≡ states.Unparsed }
-        ensures verdicts { IfOk result (λ vs. AreVerdicts self.old.settings self.old.id (texts inputs.now) vs.items) }
+        ensures verdicts { IfOk result (λ vs. AreVerdicts self.old.settings self.old.id (held_by self.old) (texts inputs.now) vs.items) }
         ensures ids { IfOk result (λ vs. ShareIds self.old.settings vs.items) }
         ensures state { IfOk result (λ vs. self.new.state ≡ state_after vs.items) }
         ensures memory { IfErr result (λ e. (e.kind ≡ kinds.OutOfMemory) × (self.new.state ≡ states.Failed)) }
@@ -81,7 +83,7 @@ impl Validator {
     // The verdict on the next module. It is an error only if there is no memory.
     fn validate_next(&mut self, bytes: &[u8]) -> Result<Verdict>
         requires { can_reset self.old.state ≡ true }
-        ensures verdict { IfOk result (IsVerdict self.old.settings self.old.id bytes.now) }
+        ensures verdict { IfOk result (IsVerdict self.old.settings self.old.id (held_by self.old) bytes.now) }
         ensures groups { IfOk result (λ v. LeavesGroups self.old v self.new) }
         ensures state { IfOk result (λ v. self.new.state ≡ state_behind v) }
         ensures memory { IfErr result (λ e. (e.kind ≡ kinds.OutOfMemory) × (self.new.state ≡ states.Failed)) }

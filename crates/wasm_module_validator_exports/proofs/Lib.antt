@@ -1,3 +1,4 @@
 mod Growing
+mod Keeping
 mod Taking
 mod Naming

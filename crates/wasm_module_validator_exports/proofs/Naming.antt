@@ -1,7 +1,8 @@
 -- Pairs of names by the map that they are found in.
 use Rattle.std.proofs.Common.{◌≡◌, ◌∙◌, ◌&&◌, ◌<◌, arith, cond, ℕ, zero, suc, pred, Bool, true, false, List, [], ◌∷◌, ◌++◌, map, length, set, slice_get, get_or}
-use Rattle.std.proofs.Common.{Option, Some, None, option_map, refl, sym, ap, subst, ⊎_elim, String, string_bytes, Result, Ok, Err, OnOk, OnErr, if◌then◌else◌}
+use Rattle.std.proofs.Common.{Option, Some, None, option_map, refl, sym, ap, subst, ⊎_elim, Result, Ok, Err, OnOk, OnErr, if◌then◌else◌}
 use Rattle.std.proofs.lemmas.Bool.{cases_Bool, cond-true, cond-false}
+use Rattle.std.specs.Borrow.{Bor}
 use Rattle.std.specs.Option.{unwrap_or}
 use Rattle.std.specs.Cmp.{IsTotalOrder, IsEquivalence, eq_by_cmp_equiv, then_total, on_total, both_tied}
 use Rattle.std.specs.Cmp.Lexicographic.{slice_cmp, nat_list_cmp_total, texts_ties, bytes_decides}
@@ -12,7 +13,7 @@ use Rattle.std.specs.BTreeMap.{BTreeMap, UpdatesBy, is_at}
 use Rattle.std.specs.Map.{lookup, KeepsOthers, IsKeyTest, AreApart}
 use Rattle.wasm_module_validator_exports.proofs.Taking.{turned}
 use Rattle.wasm_module_validator_exports.specs.declared.names.imports.Place.{Place}
-use Rattle.wasm_module_validator_exports.specs.declared.names.imports.NamedImports.{NamedImports}
+use Rattle.wasm_module_validator_exports.specs.declared.names.groups.NamedImports.{NamedImports}
 use Rattle.wasm_module_validator_exports.specs.names.Imports.{ImportedName, has_names, with_import, index_of, named_of, compare_names, find_names, Finds}
 
 -- ---- pairs of names
@@ -43,20 +44,20 @@ second_of false b e = absurd cc
 
 -- ---- a pair more in the map
 
-module _ {Y : Type 0} (m f : List ℕ) where
-  abbrev bytes_of : String Y × String Y → Pair
-  bytes_of k = (string_bytes k.0, string_bytes k.1)
+module _ (m f : List ℕ) where
+  abbrev bytes_of : Bor (List ℕ) × Bor (List ℕ) → Pair
+  bytes_of k = (k.0.now, k.1.now)
 
-  others : (old new : List ((String Y × String Y) × ℕ)) → KeepsOthers (eq_by_cmp (λ (x y : String Y × String Y). compare (bytes_of x) (bytes_of y))) (is_at (compare_names m f)) old new
-      → (other : String Y × String Y → Bool) → IsKeyTest (eq_by_cmp (λ (x y : String Y × String Y). compare (bytes_of x) (bytes_of y))) other
+  others : (old new : List ((Bor (List ℕ) × Bor (List ℕ)) × ℕ)) → KeepsOthers (eq_by_cmp (λ (x y : Bor (List ℕ) × Bor (List ℕ)). compare (bytes_of x) (bytes_of y))) (is_at (compare_names m f)) old new
+      → (other : Bor (List ℕ) × Bor (List ℕ) → Bool) → IsKeyTest (eq_by_cmp (λ (x y : Bor (List ℕ) × Bor (List ℕ)). compare (bytes_of x) (bytes_of y))) other
       → AreApart (is_at (compare_names m f)) other → lookup other new ≡ lookup other old
   unfolding KeepsOthers
   others old new h = h
 
-  apart : (a b : List ℕ) → eq_by_cmp compare (m, f) (a, b) ≡ false → (k : String Y × String Y) → is_at (compare_names m f) k ≡ true → is_at (compare_names a b) k ≡ false
+  apart : (a b : List ℕ) → eq_by_cmp compare (m, f) (a, b) ≡ false → (k : Bor (List ℕ) × Bor (List ℕ)) → is_at (compare_names m f) k ≡ true → is_at (compare_names a b) k ≡ false
   apart a b n k y = same_pair.symm (a, b) (bytes_of k) ∙ sym (same_pair.congr (m, f) (bytes_of k) (a, b) y) ∙ n
 
-  pub found_more : (old new : BTreeMap (String Y × String Y) ℕ) (v : ℕ) → UpdatesBy (λ (x y : String Y × String Y). compare (bytes_of x) (bytes_of y)) (compare_names m f) old new (Some v)
+  pub found_more : (old new : BTreeMap (Bor (List ℕ) × Bor (List ℕ)) ℕ) (v : ℕ) → UpdatesBy (λ (x y : Bor (List ℕ) × Bor (List ℕ)). compare (bytes_of x) (bytes_of y)) (compare_names m f) old new (Some v)
       → (a b : List ℕ) → find_names new a b ≡ cond (bytes_eq m a && bytes_eq f b) (Some v) (find_names old a b)
   found_more old new v h a b =
       ⊎_elim
@@ -190,7 +191,7 @@ module _ (m f : List ℕ) (p : Place) where
           let l : j < length xs = ih j (found_behind (index_of m f (map named_of xs)) j (sym (ap (λ (t : Bool). if t then Some 0 else option_map suc (index_of m f (map named_of xs))) h) ∙ k)) in
           omega (arith, l)
 
-module _ {Y X E : Type 0} (found : BTreeMap (String Y × String Y) ℕ) (xs ys : List ImportedName) (m f : List ℕ) (p : Place) (i : ℕ) where
+module _ {X E : Type 0} (found : BTreeMap (Bor (List ℕ) × Bor (List ℕ)) ℕ) (xs ys : List ImportedName) (m f : List ℕ) (p : Place) (i : ℕ) where
   -- so they are whether the import came or not
   pub finds_still : (r : Result X E) → Finds found xs → index_of m f xs ≡ Some i → OnOk r (ys ≡ with_import m f p xs) → OnErr r (ys ≡ xs) → Finds found ys
   finds_still (Ok v) h k e g = λ a b. h a b ∙ sym (ap (index_of a b) e ∙ index_stays m f p a b xs i k)

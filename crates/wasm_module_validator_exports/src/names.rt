@@ -5,8 +5,10 @@
 //! and in the order in which they came first, as those who link modules ask for them.
 
 mod exports;
+mod groups;
 mod imports;
 pub mod laws;
 
 pub use exports::{Exports, NamedExport};
-pub use imports::{Imports, NamedImports, Place};
+pub use groups::NamedImports;
+pub use imports::{Imports, Place};

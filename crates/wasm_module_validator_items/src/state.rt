@@ -2,7 +2,6 @@
 
 ghost use Rattle.std.specs.Prelude.{◌≡◌, map};
 ghost use Rattle.wasm_module_validator_exports.specs.names.Exports.{export_of};
-ghost use Rattle.wasm_module_validator_exports.specs.names.Imports.{named_of};
 ghost use Rattle.wasm_module_validator_groups.specs.adding.Modules.{settings_of};
 ghost use Rattle.wasm_module_validator_resources.specs.Named.{IsReadOver};
 ghost use Rattle.wasm_module_validator_resources.specs.Reading.{meaning_of};
@@ -11,7 +10,7 @@ ghost use Rattle.wasm_module_validator_items.specs.Items.{no_items};
 use std::alloc::Global;
 use std::marker::Model;
 use wasm_module_validator_checks::externs::Settings;
-use wasm_module_validator_exports::{Exports, Imports, NamedExport, NamedImports};
+use wasm_module_validator_exports::{Exports, Imports, NamedExport};
 use wasm_module_validator_resources::{Module, OperatorValidatorResources};
 use wasm_module_validator_types::TypeList;
 use wasm_operator_validator_stacks::OperatorValidatorAllocations;
@@ -75,10 +74,10 @@ impl ModuleState {
     }
 
     /// Its imports by their names: each pair of names once, in the order in which they came first.
-    pub fn imports(&self) -> &[NamedImports]
-        ensures { map named_of result.now ≡ self.now.imports }
+    pub fn imports(&self) -> &Imports
+        ensures { result.now ≡ self.now.imports }
     {
-        self.imports.as_slice()
+        &self.imports
     }
 
     /// Its exports, in their order.

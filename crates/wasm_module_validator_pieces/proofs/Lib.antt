@@ -1,0 +1,4 @@
+-- What a step of a module that comes in pieces leads to.
+pub mod Stepping
+-- One piece more of a reader.
+pub mod OnePiece

@@ -1,4 +1,14 @@
 -- Definitions: the bodies that came so far.
 pub mod Bodies
+-- What a read through a watched reader gives.
+pub mod Reads
+-- What takes bytes item by item.
+pub mod Taking
+-- What a call says of the bytes of a reader.
+pub mod Pieces
+-- What a payload leads to where each body is judged as soon as it comes.
+pub mod Payloads
+-- What is said of the bytes of a module.
+pub mod Verdicts
 -- Laws, with the proofs.
 pub mod laws

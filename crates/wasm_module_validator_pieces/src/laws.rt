@@ -5,6 +5,7 @@ ghost use Rattle.wasm_types.specs.decoding.Decoder.{State as Bytes};
 ghost use Rattle.wasm_types.specs.error.Denials.{Denies};
 ghost use Rattle.wasm_types.specs.error.ErrorValue.{ErrorValue};
 ghost use Rattle.wasm_types.specs.error.declared.error.ErrorKind.{ErrorKind};
+ghost use Rattle.wasm_types.specs.limits.Limits.{IsWithinCeilings};
 ghost use Rattle.wasm_types.specs.limits.Settings.{Settings};
 ghost use Rattle.wasm_sections_parser.specs.declared.frame.Frame.{Frame};
 ghost use Rattle.wasm_sections_parser.specs.declared.parser.Chunk.TheVariants.{Parsed};
@@ -26,9 +27,10 @@ ghost use Rattle.wasm_module_validator.specs.Payloads.{TakesPayload};
 ghost use Rattle.wasm_module_validator.specs.Shown.{Learned};
 ghost use Rattle.wasm_module_validator_pieces.specs.laws.Running.{begins, Goes};
 
-/// A validator that has read nothing stands behind no bytes. More bytes may come, and it may be known that none do.
+/// A validator that has read nothing and has no types stands behind no bytes. More bytes may come, and it may be known that none do.
 pub const fn runs_begin()
-    ensures first { (z : Settings) (id : ValidatorId) (v : Validator) → v.state ≡ Unparsed → v.settings ≡ z → v.id ≡ id → Goes z id [] false (begins z) [] v }
+    ensures first { (z : Settings) (id : ValidatorId) (v : Validator) → IsWithinCeilings z.limits → v.state ≡ Unparsed → v.reached.progress.kept.groups ≡ []
+        → v.settings ≡ z → v.id ≡ id → Goes z id [] false (begins z) [] v }
     ensures read { (z : Settings) (id : ValidatorId) (got : List ℕ) (q : Parser) (rest : List ℕ) (v : Validator) (bs : List ℕ) → Goes z id got false q rest v
         → Goes z id (got ++ bs) false q (rest ++ bs) v }
     ensures last { (z : Settings) (id : ValidatorId) (got : List ℕ) (q : Parser) (rest : List ℕ) (v : Validator) → Goes z id got false q rest v → Goes z id got true q rest v }

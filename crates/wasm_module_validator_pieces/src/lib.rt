@@ -1,10 +1,28 @@
-//! Laws of modules that come in pieces, each body judged as soon as it is whole (WebAssembly 3.0, binary format and validation, modules).
+//! Modules that come in pieces, each body judged as soon as it is whole (WebAssembly 3.0, binary format and validation, modules).
 //!
-//! A validator is told of each payload as its bytes come, and of each body the verdict is known before the next section is read.
-//! `specs/laws/Running.antt` says where it stands by then (`Goes`), and the laws here that it comes to the verdict on the whole, however the
-//! bytes are cut. There is no code: each law is the contract of a function that does nothing.
+//! [`validate_reader`] validates a module as its bytes come from a reader, in pieces of any size, and holds no more of them than the item
+//! that they stand in. A [`WatchedReader`] notes whether a read failed, and how many there were.
+//!
+//! ```text
+//! let mut reader = WatchedReader::new(file);
+//! let types = validate_reader(alloc, id, features, &mut reader, 0x1_0000, 0x4000_0000)?;
+//! ```
+//!
+//! A validator is told of each payload as its bytes come, and of each body the verdict is known before the next is read.
+//! `specs/laws/Running.antt` says where it stands by then (`Goes`), and the laws of [`laws`](pieces_are_judged) that it comes to the verdict
+//! on the whole, however the bytes are cut. `specs/Pieces.antt` says what a call answers of a reader's bytes.
 #![tactic(auto)]
 
+mod functions;
+mod judging;
 mod laws;
+mod modules;
+mod reading;
+mod taking;
+mod validate;
+mod watched;
 
 pub use laws::{pieces_are_judged, runs_begin};
+pub use reading::ReadError;
+pub use validate::{validate_reader, validate_reader_limited};
+pub use watched::WatchedReader;

@@ -22,7 +22,7 @@ use Rattle.wasm_module_validator_standing.specs.items.Contexts.{AreNamesKnown, I
 use Rattle.wasm_module_validator_standing.specs.resources.Named.{IsFunctionId}
 use Rattle.wasm_module_validator_module.specs.Spaces.{nothing_read, own_function}
 use Rattle.wasm_module_validator_exports.specs.declared.names.exports.NamedExport.{NamedExport}
-use Rattle.wasm_module_validator_exports.specs.declared.names.imports.NamedImports.{NamedImports}
+use Rattle.wasm_module_validator_exports.specs.declared.names.groups.NamedImports.{NamedImports}
 use Rattle.wasm_module_validator_referring.specs.Referring.{type_in}
 use Rattle.wasm_module_validator_standing.specs.items.Items.{IsRefusedBy}
 use Rattle.wasm_module_validator_tests.specs.Items.{referring, ImportsNamed, NamesKept, RoomFor, Importable, Exportable, one_memory, second, imported_at, Imported, NextPlaces, exported_as, Exported, with_code, NextCode, RefusedBy, NamesKnown, ReadOver}

@@ -21,7 +21,7 @@ use Rattle.wasm_module_validator_exports.specs.Imports.{IsNamedImport}
 use Rattle.wasm_module_validator_exports.specs.names.Exports.{export_of, names_of}
 use Rattle.wasm_module_validator_exports.specs.names.Imports.{named_of}
 use Rattle.wasm_module_validator_exports.specs.declared.names.exports.NamedExport.{NamedExport}
-use Rattle.wasm_module_validator_exports.specs.declared.names.imports.NamedImports.{NamedImports}
+use Rattle.wasm_module_validator_exports.specs.declared.names.groups.NamedImports.{NamedImports}
 use Rattle.wasm_module_validator_exports.specs.declared.names.imports.Place.{Place}
 use Rattle.wasm_module_validator_module.specs.Spaces.{Spaces, nothing_read, own_function}
 use Rattle.wasm_operator_validator_resources.specs.Meaning.{Meaning}

@@ -15,7 +15,7 @@ ghost use Rattle.wasm_operator_validator_stacks.specs.rules.Context.{Module};
 ghost use Rattle.wasm_operator_validator_stacks.specs.resources.Meaning.{Meaning};
 ghost use Rattle.wasm_operator_validator_stacks.specs.state.State.{State};
 ghost use Rattle.wasm_module_validator_exports.specs.declared.names.exports.NamedExport.{NamedExport};
-ghost use Rattle.wasm_module_validator_exports.specs.declared.names.imports.NamedImports.{NamedImports};
+ghost use Rattle.wasm_module_validator_exports.specs.declared.names.groups.NamedImports.{NamedImports};
 ghost use Rattle.wasm_module_validator_sharing.specs.Sharing.{Handed};
 ghost use Rattle.wasm_module_validator_sharing.specs.reading.progress.Progress.{Kept, Progress};
 ghost use Rattle.wasm_module_validator_sharing.specs.reading.progress.adding.declared.bodies.Body.{Body};

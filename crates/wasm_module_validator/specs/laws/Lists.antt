@@ -6,17 +6,14 @@ use Rattle.std.proofs.lemmas.Cmp.{nat_eq_equiv}
 use Rattle.wasm_types.specs.limits.contracts.LimitsEq.TheImpl.Laws as limits_laws
 use Rattle.wasm_types.specs.limits.contracts.LimitsPartialEq.TheImpl as limits
 use Rattle.wasm_types.specs.limits.Settings.{Settings}
-use Rattle.wasm_types.specs.error.Denials.{Denies}
 use Rattle.wasm_types.specs.error.ErrorValue.{ErrorValue}
-use Rattle.wasm_types.specs.error.declared.error.ErrorKind.{ErrorKind}
-use Rattle.wasm_types.specs.error.declared.error.ErrorKind.TheVariants.{EndOfData, MissingFeature, OutOfMemory, Failed as FailedKind, Other}
+use Rattle.wasm_types.specs.error.declared.error.ErrorKind.TheVariants.{OutOfMemory}
 use Rattle.wasm_types.specs.reader.Reading.{IsNotMemory}
 use Rattle.wasm_sections_parser.specs.Parsing.{one_of}
 use Rattle.wasm_module_validator_module.specs.declared.view.validator_id.ValidatorId.{ValidatorId}
 use Rattle.wasm_module_validator_sharing.specs.Sharing.{renewed_behind}
 use Rattle.wasm_module_validator_sharing.specs.reading.progress.Progress.{are_same}
 use Rattle.wasm_module_validator_sharing.specs.reading.progress.standing.Standing.{IsGrown}
-use Rattle.wasm_module_validator_sharing.specs.reading.progress.standing.steps.contexts.rules.Accepts.{AcceptsUnder}
 use Rattle.wasm_module_validator_sharing.specs.reading.progress.standing.type_trees.Groups.{Group, count, tree_of}
 use Rattle.wasm_module_validator_sharing.specs.reading.progress.standing.type_trees.Formed.{IsFormed, AreCanonical}
 use Rattle.wasm_module_validator_sharing.specs.reading.progress.standing.type_trees.laws.Apart.{apart}
@@ -25,11 +22,12 @@ use Rattle.wasm_module_validator.specs.declared.lists.Verdict.TheVariants.{Accep
 use Rattle.wasm_module_validator.specs.declared.validator.State.{State}
 use Rattle.wasm_module_validator.specs.declared.validator.State.TheVariants.{Unparsed, Ended, Failed}
 use Rattle.wasm_module_validator.specs.declared.validator.Validator.{Validator}
-use Rattle.wasm_module_validator.specs.Lists.{IsVerdict, goes_on, AreVerdicts, state_behind, state_after, AreTold, AreToldUnder, ShareIds, next_groups, LeavesGroups}
+use Rattle.wasm_module_validator.specs.Lists.{IsValidOutsideBodies, IsVerdict, goes_on, IsHeldBehind, AreVerdicts, state_behind, state_after, AreTold, AreToldUnder, ShareIds, LeavesGroups}
 use Rattle.wasm_module_validator.specs.Methods.{can_reset}
 use Rattle.wasm_module_validator.specs.Shown.{Learned}
-use Rattle.wasm_module_validator.specs.States.{Keeps, KeepsWhere, Leaves}
+use Rattle.wasm_module_validator.specs.States.{Keeps, KeepsWhere, Leaves, held_by}
 use Rattle.wasm_module_validator.specs.laws.Ids.{ids_stay, counts_stay}
+use Rattle.wasm_module_validator.specs.laws.Verdict.{denied}
 
 -- ---- lists of verdicts
 
@@ -47,31 +45,36 @@ drop_all [] (suc i) h = refl
 drop_all (x ∷ xs) zero h = absurd (omega (arith, h))
 drop_all (x ∷ xs) (suc i) h = drop_all xs i (omega (arith, h))
 
-module _ (z : Settings) (id : ValidatorId) (xs : List (List ℕ)) where
-  -- with any verdicts on the inputs from here on, these are the verdicts on all
-  abbrev pub Goes : ℕ → List Verdict → Type 0
-  Goes i vs = (ws : List Verdict) → AreVerdicts z id (drop i xs) ws → AreVerdicts z id xs (vs ++ ws)
+module _ (z : Settings) (id : ValidatorId) (held : List Group) (xs : List (List ℕ)) where
+  -- With any verdicts on the inputs from here on, over a list of types with these groups, these are the verdicts on all.
+  abbrev pub Goes : ℕ → List Group → List Verdict → Type 0
+  Goes i now vs = (ws : List Verdict) → AreVerdicts z id now (drop i xs) ws → AreVerdicts z id held xs (vs ++ ws)
 
-  pub goes_first : Goes zero []
+  pub goes_first : Goes zero held []
   goes_first ws h = h
 
-  behind : (i : ℕ) (x : List ℕ) (v : Verdict) (ws : List Verdict) → slice_get xs i ≡ Some x → IsVerdict z id x v
-      → one_of (goes_on v) (AreVerdicts z id (drop (suc i) xs) ws) (ws ≡ []) → AreVerdicts z id (drop i xs) (v ∷ ws)
-  behind i x v ws at is rest = subst (λ (ys : List (List ℕ)). AreVerdicts z id ys (v ∷ ws)) (sym (drop_there xs i x at)) (is, rest)
+  -- what follows a verdict
+  abbrev Follows : ℕ → List Group → Verdict → List Verdict → Bool → Type 0
+  Follows i now v ws goes = one_of goes ((next : List Group) × IsHeldBehind now v next × AreVerdicts z id next (drop (suc i) xs) ws) (ws ≡ [])
 
-  pub goes_further : (i : ℕ) (vs : List Verdict) (x : List ℕ) (v : Verdict) → Goes i vs → slice_get xs i ≡ Some x → IsVerdict z id x v → goes_on v ≡ true → Goes (i + 1) (vs ++ v ∷ [])
-  goes_further i vs x v g at is on ws h =
-      let rest : one_of (goes_on v) (AreVerdicts z id (drop (suc i) xs) ws) (ws ≡ []) =
-      subst (λ (b : Bool). one_of b (AreVerdicts z id (drop (suc i) xs) ws) (ws ≡ [])) (sym on) (subst (λ (n : ℕ). AreVerdicts z id (drop n xs) ws) (add-one i) h) in
-      subst (AreVerdicts z id xs) (sym (append_assoc vs (v ∷ []) ws)) (g (v ∷ ws) (behind i x v ws at is rest))
+  behind : (i : ℕ) (now : List Group) (x : List ℕ) (v : Verdict) (ws : List Verdict) → slice_get xs i ≡ Some x → IsVerdict z id now x v → Follows i now v ws (goes_on v)
+      → AreVerdicts z id now (drop i xs) (v ∷ ws)
+  behind i now x v ws at is rest = subst (λ (ys : List (List ℕ)). AreVerdicts z id now ys (v ∷ ws)) (sym (drop_there xs i x at)) (is, rest)
 
-  pub goes_to_last : (i : ℕ) (vs : List Verdict) (x : List ℕ) (v : Verdict) → Goes i vs → slice_get xs i ≡ Some x → IsVerdict z id x v → goes_on v ≡ false → AreVerdicts z id xs (vs ++ v ∷ [])
-  goes_to_last i vs x v g at is off =
-      g (v ∷ []) (behind i x v [] at is (subst (λ (b : Bool). one_of b (AreVerdicts z id (drop (suc i) xs) []) (◌≡◌ {A = List Verdict} [] [])) (sym off) refl))
+  pub goes_further : (i : ℕ) (now next : List Group) (vs : List Verdict) (x : List ℕ) (v : Verdict) → Goes i now vs → slice_get xs i ≡ Some x → IsVerdict z id now x v
+      → goes_on v ≡ true → IsHeldBehind now v next → Goes (i + 1) next (vs ++ v ∷ [])
+  goes_further i now next vs x v g at is on left ws h =
+      let further : AreVerdicts z id next (drop (suc i) xs) ws = subst (λ (n : ℕ). AreVerdicts z id next (drop n xs) ws) (add-one i) h in
+      let rest : Follows i now v ws (goes_on v) = subst (Follows i now v ws) (sym on) (next, left, further) in
+      subst (AreVerdicts z id held xs) (sym (append_assoc vs (v ∷ []) ws)) (g (v ∷ ws) (behind i now x v ws at is rest))
 
-  pub goes_to_end : (i : ℕ) (vs : List Verdict) → Goes i vs → length xs ≤ i → AreVerdicts z id xs vs
-  goes_to_end i vs g h =
-      subst (AreVerdicts z id xs) (append-nil vs) (g [] (subst (λ (ys : List (List ℕ)). AreVerdicts z id ys []) (sym (drop_all xs i h)) tt))
+  pub goes_to_last : (i : ℕ) (now : List Group) (vs : List Verdict) (x : List ℕ) (v : Verdict) → Goes i now vs → slice_get xs i ≡ Some x → IsVerdict z id now x v
+      → goes_on v ≡ false → AreVerdicts z id held xs (vs ++ v ∷ [])
+  goes_to_last i now vs x v g at is off = g (v ∷ []) (behind i now x v [] at is (subst (Follows i now v []) (sym off) refl))
+
+  pub goes_to_end : (i : ℕ) (now : List Group) (vs : List Verdict) → Goes i now vs → length xs ≤ i → AreVerdicts z id held xs vs
+  goes_to_end i now vs g h =
+      subst (AreVerdicts z id held xs) (append-nil vs) (g [] (subst (λ (ys : List (List ℕ)). AreVerdicts z id now ys []) (sym (drop_all xs i h)) tt))
 
 -- ---- how far the validator is
 
@@ -87,30 +90,23 @@ may_go_on (Refused e false) h = absurd cc
 
 -- ---- a module that is refused
 
-denied : (k : ErrorKind) (P : Type 0) → IsNotMemory k → Denies k P → P → ⊥
-denied (EndOfData h) P m d = d
-denied (MissingFeature f) P m d = d
-denied OutOfMemory P m d = absurd m
-denied FailedKind P m d = d
-denied Other P m d = d
+module _ (z : Settings) (held : List Group) (bytes : List ℕ) (e : ErrorValue) (s : State) where
+  -- it has ended exactly where a function alone is refused
+  pub refused_verdict : (id : ValidatorId) → IsNotMemory e.kind → Leaves {X = Learned} held z bytes (Err e) s → IsVerdict z id held bytes (Refused e (can_reset s))
+  refused_verdict id m (inl (is, n, read, none)) =
+      subst (λ (b : Bool). IsVerdict z id held bytes (Refused e b)) (sym (ap can_reset is)) (none, m, read)
+  refused_verdict id m (inr (is, inl past)) =
+      subst (λ (b : Bool). IsVerdict z id held bytes (Refused e b)) (sym (ap can_reset is)) (m, inl past)
+  refused_verdict id m (inr (is, inr none)) =
+      subst (λ (b : Bool). IsVerdict z id held bytes (Refused e b)) (sym (ap can_reset is)) (m, inr (denied e.kind (IsValidOutsideBodies z bytes) m none))
 
-module _ (z : Settings) (bytes : List ℕ) (e : ErrorValue) (s : State) where
-  -- it has ended exactly where the module is valid outside its bodies
-  pub refused_verdict : (id : ValidatorId) → IsNotMemory e.kind → Denies e.kind (AcceptsUnder z bytes) → Leaves {X = Learned} z bytes (Err e) s → IsVerdict z id bytes (Refused e (can_reset s))
-  refused_verdict id m d (inl (is, n, read)) = (denied e.kind _ m d, m, ((λ h. read), λ h. ap can_reset is))
-  refused_verdict id m d (inr (is, none)) = (denied e.kind _ m d, m, ((λ h. absurd (not_both (can_reset s) h (ap can_reset is))), λ h. absurd (denied e.kind _ m none h)))
-    where
-      not_both : (b : Bool) → b ≡ true → b ≡ false → ⊥
-      not_both true h k = cc
-      not_both false h k = cc
+  pub refused_state : IsNotMemory e.kind → Leaves {X = Learned} held z bytes (Err e) s → s ≡ state_behind (Refused e (can_reset s))
+  refused_state m (inl (is, others)) = is ∙ ap (λ t. state_behind (Refused e (can_reset t))) (sym is)
+  refused_state m (inr (is, others)) = is ∙ ap (λ t. state_behind (Refused e (can_reset t))) (sym is)
 
-  pub refused_state : IsNotMemory e.kind → Leaves {X = Learned} z bytes (Err e) s → s ≡ state_behind (Refused e (can_reset s))
-  refused_state m (inl (is, n, read)) = is ∙ ap (λ t. state_behind (Refused e (can_reset t))) (sym is)
-  refused_state m (inr (is, none)) = is ∙ ap (λ t. state_behind (Refused e (can_reset t))) (sym is)
-
-  pub memory_fails : e.kind ≡ OutOfMemory → Leaves {X = Learned} z bytes (Err e) s → s ≡ Failed
-  memory_fails k (inl (is, n, read)) = absurd (subst IsNotMemory k n)
-  memory_fails k (inr (is, none)) = is
+  pub memory_fails : e.kind ≡ OutOfMemory → Leaves {X = Learned} held z bytes (Err e) s → s ≡ Failed
+  memory_fails k (inl (is, n, others)) = absurd (subst IsNotMemory k n)
+  memory_fails k (inr (is, others)) = is
 
 -- ---- the list of types
 
@@ -121,19 +117,19 @@ same_settings y z e = subst (λ (w : Settings). are_same y w ≡ true) e
 module _ (v r w : Validator) (reset : r ≡ record v { state = Unparsed; reached = renewed_behind v.settings v.reached })
     (others : w ≡ record r { state = w.state; reached = w.reached }) where
   -- a module begins over the list of those before it
-  groups_begun : next_groups r ≡ next_groups v
-  groups_begun = ap next_groups reset ∙ ap (λ b. if b then next_groups v else []) (same_settings v.settings v.settings refl)
+  pub groups_begun : held_by r ≡ held_by v
+  groups_begun = ap held_by reset ∙ ap (λ b. if b then held_by v else []) (same_settings v.settings v.settings refl)
 
-  groups_kept : w.reached.progress.kept.items.spaces.settings ≡ r.settings → next_groups w ≡ w.reached.progress.kept.groups
+  groups_kept : w.reached.progress.kept.items.spaces.settings ≡ r.settings → held_by w ≡ w.reached.progress.kept.groups
   groups_kept e =
       ap (λ b. if b then w.reached.progress.kept.groups else [])
       (same_settings w.reached.progress.kept.items.spaces.settings w.settings (e ∙ sym (ap (λ (u : Validator). u.settings) others)))
 
-  pub groups_grown : w.state ≡ Ended → Keeps r w → IsGrown (next_groups v) (next_groups w) × (w.reached.progress.kept.groups ≡ next_groups w)
+  pub groups_grown : w.state ≡ Ended → Keeps r w → IsGrown (held_by v) (held_by w) × (w.reached.progress.kept.groups ≡ held_by w)
   groups_grown is keeps =
       let k : KeepsWhere Ended r w = subst (λ (s : State). KeepsWhere s r w) is keeps in
       let same = sym (groups_kept k.1) in
-      (subst (λ (gs : List Group). IsGrown gs (next_groups w)) groups_begun (subst (IsGrown (next_groups r)) same k.0), same)
+      (subst (λ (gs : List Group). IsGrown gs (held_by w)) groups_begun (subst (IsGrown (held_by r)) same k.0), same)
 
   pub refused_leaves : (e : ErrorValue) (b : Bool) → Keeps r w → w.state ≡ state_behind (Refused e b) → LeavesGroups v (Refused e b) w
   refused_leaves e true keeps is = (groups_grown is keeps).0
@@ -203,26 +199,26 @@ module _ (z : Settings) (vs : List Verdict) (ids : ShareIds z vs) where
 
 -- ---- a verdict more
 
-module _ (v w : Validator) (vs : List Verdict) (ids : ShareIds v.settings vs) (known : AreKnown vs (next_groups w)) (settings : w.settings ≡ v.settings) where
-  later_groups : (g : List Group) → IsGrown (next_groups w) g → AreKnown vs g
-  later_groups g grown t c = grown_further t.kept.groups (next_groups w) g (known t c) grown
+module _ (v w : Validator) (vs : List Verdict) (ids : ShareIds v.settings vs) (known : AreKnown vs (held_by w)) (settings : w.settings ≡ v.settings) where
+  later_groups : (g : List Group) → IsGrown (held_by w) g → AreKnown vs g
+  later_groups g grown t c = grown_further t.kept.groups (held_by w) g (known t c) grown
 
   pub ids_further : (d : Verdict) (u : Validator) → LeavesGroups w d u → ShareIds v.settings (vs ++ d ∷ [])
-  ids_further (Accepted n) u (grown, same, own) =
-      ids_accepted v.settings vs ids n (later_groups n.kept.groups (subst (IsGrown (next_groups w)) (sym same) grown))
+  ids_further (Accepted n) u ((grown, same), own) =
+      ids_accepted v.settings vs ids n (later_groups n.kept.groups (subst (IsGrown (held_by w)) (sym same) grown))
       (subst (λ (z : Settings). AreToldUnder z n.kept.groups n.kept.groups) settings own)
   ids_further (Refused e b) u left = ids_refused v.settings vs ids e b
 
-  pub known_further : (d : Verdict) (u : Validator) → LeavesGroups w d u → goes_on d ≡ true → AreKnown (vs ++ d ∷ []) (next_groups u)
-  known_further (Accepted n) u (grown, same, own) on t (i, l, at) = go (contains_push vs (Accepted n) (Accepted t) i l at)
+  pub known_further : (d : Verdict) (u : Validator) → LeavesGroups w d u → goes_on d ≡ true → AreKnown (vs ++ d ∷ []) (held_by u)
+  known_further (Accepted n) u ((grown, same), own) on t (i, l, at) = go (contains_push vs (Accepted n) (Accepted t) i l at)
     where
-      go : Contains vs (Accepted t) ⊎ (Accepted n ≡ Accepted t) → IsGrown t.kept.groups (next_groups u)
-      go (inl c) = later_groups (next_groups u) grown t c
+      go : Contains vs (Accepted t) ⊎ (Accepted n ≡ Accepted t) → IsGrown t.kept.groups (held_by u)
+      go (inl c) = later_groups (held_by u) grown t c
       go (inr c) = ([], sym same ∙ ap (λ (x : Learned). x.kept.groups) (accepted_is n t c))
   known_further (Refused e true) u grown on t (i, l, at) = go (contains_push vs (Refused e true) (Accepted t) i l at)
     where
-      go : Contains vs (Accepted t) ⊎ (Refused e true ≡ Accepted t) → IsGrown t.kept.groups (next_groups u)
-      go (inl c) = later_groups (next_groups u) grown t c
+      go : Contains vs (Accepted t) ⊎ (Refused e true ≡ Accepted t) → IsGrown t.kept.groups (held_by u)
+      go (inl c) = later_groups (held_by u) grown t c
       go (inr c) = absurd (not_accepted e true t c)
   known_further (Refused e false) u left on t c = absurd cc
 
@@ -234,27 +230,33 @@ module _ (v : Validator) (xs : List (List ℕ)) where
     pub ready : can_reset w.state ≡ true
     pub state : w.state ≡ state_after vs
     pub others : w ≡ record v { state = w.state; reached = w.reached }
-    pub verdicts : Goes v.settings v.id xs i vs
+    pub verdicts : Goes v.settings v.id (held_by v) xs i (held_by w) vs
     pub ids : ShareIds v.settings vs
-    pub known : (t : Learned) → Contains vs (Accepted t) → IsGrown t.kept.groups (next_groups w)
+    pub known : (t : Learned) → Contains vs (Accepted t) → IsGrown t.kept.groups (held_by w)
 
   pub stands_first : v.state ≡ Unparsed → Stands zero v []
   stands_first is = record {
     ready = ap can_reset is;
     state = is;
     others = refl;
-    verdicts = goes_first v.settings v.id xs;
+    verdicts = goes_first v.settings v.id (held_by v) xs;
     ids = λ t u (i, l, at) d. absurd (omega (arith, l));
     known = λ t (i, l, at). absurd (omega (arith, l));
   }
 
   module _ (i : ℕ) (w u : Validator) (vs : List Verdict) (x : List ℕ) (d : Verdict) (s : Stands i w vs) (at : slice_get xs i ≡ Some x)
-      (is : IsVerdict w.settings w.id x d) (left : LeavesGroups w d u) (next : u ≡ record w { state = u.state; reached = u.reached }) where
+      (is : IsVerdict w.settings w.id (held_by w) x d) (left : LeavesGroups w d u) (next : u ≡ record w { state = u.state; reached = u.reached }) where
     same_settings_as : w.settings ≡ v.settings
     same_settings_as = ap (λ (y : Validator). y.settings) s.others
 
-    verdict : IsVerdict v.settings v.id x d
-    verdict = subst (λ (y : Validator). IsVerdict y.settings y.id x d) s.others is
+    verdict : IsVerdict v.settings v.id (held_by w) x d
+    verdict = subst (λ (y : Validator). IsVerdict y.settings y.id (held_by w) x d) s.others is
+
+    -- where another may come, the list has further groups
+    held_behind : (e : Verdict) → LeavesGroups w e u → goes_on e ≡ true → IsHeldBehind (held_by w) e (held_by u)
+    held_behind (Accepted t) (behind, own) on = behind
+    held_behind (Refused k true) behind on = behind
+    held_behind (Refused k false) behind on = absurd cc
 
     pub others_stay : u ≡ record v { state = u.state; reached = u.reached }
     others_stay = next ∙ ap (λ (y : Validator). record y { state = u.state; reached = u.reached }) s.others
@@ -262,15 +264,15 @@ module _ (v : Validator) (xs : List (List ℕ)) where
     pub ids_are : ShareIds v.settings (vs ++ d ∷ [])
     ids_are = ids_further v w vs s.ids s.known same_settings_as d u left
 
-    pub verdicts_are : goes_on d ≡ false → AreVerdicts v.settings v.id xs (vs ++ d ∷ [])
-    verdicts_are off = goes_to_last v.settings v.id xs i vs x d s.verdicts at verdict off
+    pub verdicts_are : goes_on d ≡ false → AreVerdicts v.settings v.id (held_by v) xs (vs ++ d ∷ [])
+    verdicts_are off = goes_to_last v.settings v.id (held_by v) xs i (held_by w) vs x d s.verdicts at verdict off
 
     pub stands_further : u.state ≡ state_behind d → goes_on d ≡ true → Stands (i + 1) u (vs ++ d ∷ [])
     stands_further st on = record {
       ready = ap can_reset st ∙ may_go_on d on;
       state = st ∙ sym (last_counts vs d);
       others = others_stay;
-      verdicts = goes_further v.settings v.id xs i vs x d s.verdicts at verdict on;
+      verdicts = goes_further v.settings v.id (held_by v) xs i (held_by w) (held_by u) vs x d s.verdicts at verdict on (held_behind d left on);
       ids = ids_are;
       known = known_further v w vs s.ids s.known same_settings_as d u left on;
     }

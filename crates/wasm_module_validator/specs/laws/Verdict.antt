@@ -1,11 +1,12 @@
 -- A module is accepted exactly where it is read and each of its bodies is judged valid.
-use Rattle.std.proofs.Common.{◌≡◌, ℕ, Bool, true, false, if◌then◌else◌, List, [], length, Result, Ok, Err, refl, subst}
+use Rattle.std.proofs.Common.{◌≡◌, ◌⊎◌, ℕ, Bool, true, false, if◌then◌else◌, List, [], length, Result, Ok, Err, refl, sym, subst, inl, inr}
 use Rattle.wasm_types.specs.error.Denials.{Denies, Tells}
 use Rattle.wasm_types.specs.error.ErrorValue.{ErrorValue}
 use Rattle.wasm_types.specs.error.declared.error.ErrorKind.{ErrorKind}
 use Rattle.wasm_types.specs.error.declared.error.ErrorKind.TheVariants.{EndOfData, MissingFeature, OutOfMemory, Failed, Other}
 use Rattle.wasm_types.specs.limits.Limits.{IsWithinCeilings}
 use Rattle.wasm_types.specs.limits.Settings.{Settings}
+use Rattle.wasm_types.specs.reader.Reading.{IsNotMemory}
 use Rattle.wasm_module_validator_sharing.specs.reading.progress.adding.declared.bodies.Body.{Body}
 use Rattle.wasm_module_validator_sharing.specs.reading.progress.standing.steps.contexts.rules.Accepts.{AcceptsUnder, Judges}
 use Rattle.wasm_module_validator_sharing.specs.reading.progress.standing.steps.contexts.rules.Syntax.{ModuleTree}
@@ -20,6 +21,8 @@ use Rattle.wasm_module_validator_fronts.specs.framed.laws.Accepted.{accepted_com
 use Rattle.wasm_module_validator_sharing.specs.reading.progress.Progress.{Kept, Progress, IsAt, are_same, kept_groups}
 use Rattle.wasm_module_validator_sharing.specs.reading.Reading.{IsReadAs}
 use Rattle.wasm_module_validator_sharing.specs.reading.judging.Bodies.{AreBodies}
+use Rattle.wasm_module_validator.specs.declared.validator.State.{State}
+use Rattle.wasm_module_validator.specs.States.{IsLeft, Leaves}
 
 -- what implies one of many things, each of which is denied, is denied
 pub denies_each : {X : Type 0} (k : ErrorKind) (P : X → Type 0) (Q : Type 0) → (Q → (x : X) × P x) → ((x : X) → Denies k (P x)) → Denies k Q
@@ -28,6 +31,14 @@ denies_each (MissingFeature h) P Q f d = λ q. let a = f q in d a.0 a.1
 denies_each OutOfMemory P Q f d = tt
 denies_each Failed P Q f d = λ q. let a = f q in d a.0 a.1
 denies_each Other P Q f d = λ q. let a = f q in d a.0 a.1
+
+-- what is not for memory tells it
+pub denied : (k : ErrorKind) (P : Type 0) → IsNotMemory k → Denies k P → P → ⊥
+denied (EndOfData h) P n d = d
+denied (MissingFeature h) P n d = d
+denied OutOfMemory P n d = absurd n
+denied Failed P n d = d
+denied Other P n d = d
 
 -- ---- modules
 
@@ -72,3 +83,10 @@ none_held z k e = go (are_same k.items.spaces.settings z)
 pub alone_told : {X : Type 0} (z : Settings) (k : Kept) → k.groups ≡ [] → IsWithinCeilings z.limits → (r : Result X ErrorValue) (P : Type 0)
     → TellsWithinTotal (kept_groups z k) (no_items z) r P → Tells r P
 alone_told z k none w r P h = within_total z w r P (subst (λ (gs : List Group). TellsWithinTotal gs (no_items z) r P) (none_held z k none) h)
+
+-- behind a function that was refused it has ended, but where there was no memory
+pub left_behind : {X : Type 0} (groups : List Group) (z : Settings) (bytes : List ℕ) (e : ErrorValue) (s : State) → IsLeft e.kind s → (q : SoFar) × IsReadAs z bytes q
+    → Denies e.kind (AcceptsUnder z bytes) → Leaves {X = X} groups z bytes (Err e) s
+left_behind groups z bytes e s (inl (is, n)) read d = inl (is, n, read, denied e.kind (AcceptsUnder z bytes) n d)
+left_behind groups z bytes e s (inr (is, memory)) read d =
+    inr (is, inr (subst (λ (k : ErrorKind). Denies k ((q : SoFar) × IsReadAs z bytes q)) (sym memory) tt))

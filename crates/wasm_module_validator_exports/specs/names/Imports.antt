@@ -1,13 +1,15 @@
 -- What is kept of a module's imports, by their names (WebAssembly 3.0, structure, modules, imports). Each pair of names stands once, where
 -- it came first; what is imported by it stands there in the order of the imports.
-use Rattle.std.specs.Prelude.{◌≡◌, ℕ, suc, Bool, ◌&&◌, List, [], ◌∷◌, ◌++◌, Option, Some, None, option_map, String, string_bytes, if◌then◌else◌}
+use Rattle.std.specs.Prelude.{◌≡◌, ℕ, suc, Bool, ◌&&◌, List, [], ◌∷◌, ◌++◌, Option, Some, None, option_map, string_bytes, if◌then◌else◌}
+use Rattle.std.specs.Borrow.{Bor}
 use Rattle.std.specs.Str.{bytes_eq}
 use Rattle.std.specs.BTreeMap.{BTreeMap, get_by}
 use Rattle.std.specs.Ordering.{ordering_then, nat_cmp}
 use Rattle.std.specs.Cmp.Lexicographic.{slice_cmp}
 use Rattle.std.specs.declared.cmp.Ordering.{Ordering}
 use Rattle.wasm_module_validator_exports.specs.declared.names.imports.Place.{Place}
-use Rattle.wasm_module_validator_exports.specs.declared.names.imports.NamedImports.{NamedImports}
+use Rattle.wasm_module_validator_exports.specs.declared.names.imports.KeptImport.{KeptImport}
+use Rattle.wasm_module_validator_exports.specs.declared.names.groups.NamedImports.{NamedImports}
 
 -- the bytes of the name of a module and of the name of what is imported from it, and what is imported by these names
 pub record ImportedName : Type 0 where
@@ -24,24 +26,33 @@ abbrev pub with_import : List ℕ → List ℕ → Place → List ImportedName �
 with_import m f p [] = record { module_name = m; field_name = f; places = p ∷ [] } ∷ []
 with_import m f p (n ∷ ns) = if has_names m f n then record n { places = n.places ++ p ∷ [] } ∷ ns else n ∷ with_import m f p ns
 
+-- ---- imports one by one
+
+-- these imports, one after the other
+abbrev pub grouped_behind : List ImportedName → List KeptImport → List ImportedName
+grouped_behind ns [] = ns
+grouped_behind ns (i ∷ is) = grouped_behind (with_import (string_bytes i.«module») (string_bytes i.name) i.place ns) is
+
+abbrev pub grouped : List KeptImport → List ImportedName
+grouped is = grouped_behind [] is
+
 -- ---- where names are found
 
 abbrev pub named_of : NamedImports → ImportedName
-named_of n = record { module_name = string_bytes n.«module»; field_name = string_bytes n.name; places = n.places.items }
+named_of n = record { module_name = n.«module».now; field_name = n.name.now; places = n.places.items }
 
 -- how far on these names stand
 abbrev pub index_of : List ℕ → List ℕ → List ImportedName → Option ℕ
 index_of m f [] = None
 index_of m f (n ∷ ns) = if has_names m f n then Some 0 else option_map suc (index_of m f ns)
 
-module _ {Y : Type 0} where
-  -- the order of pairs of names
-  abbrev pub compare_names : List ℕ → List ℕ → String Y × String Y → Ordering
-  compare_names m f k = ordering_then (slice_cmp nat_cmp m (string_bytes k.0)) (slice_cmp nat_cmp f (string_bytes k.1))
+-- the order of pairs of names
+abbrev pub compare_names : List ℕ → List ℕ → Bor (List ℕ) × Bor (List ℕ) → Ordering
+compare_names m f k = ordering_then (slice_cmp nat_cmp m k.0.now) (slice_cmp nat_cmp f k.1.now)
 
-  abbrev pub find_names : BTreeMap (String Y × String Y) ℕ → List ℕ → List ℕ → Option ℕ
-  find_names found m f = get_by (compare_names m f) found
+abbrev pub find_names : BTreeMap (Bor (List ℕ) × Bor (List ℕ)) ℕ → List ℕ → List ℕ → Option ℕ
+find_names found m f = get_by (compare_names m f) found
 
-  -- each pair of names is found where it stands
-  abbrev pub Finds : BTreeMap (String Y × String Y) ℕ → List ImportedName → Type 0
-  Finds found ns = (m f : List ℕ) → find_names found m f ≡ index_of m f ns
+-- each pair of names is found where it stands
+abbrev pub Finds : BTreeMap (Bor (List ℕ) × Bor (List ℕ)) ℕ → List ImportedName → Type 0
+Finds found ns = (m f : List ℕ) → find_names found m f ≡ index_of m f ns

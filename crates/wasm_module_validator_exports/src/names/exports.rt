@@ -3,10 +3,11 @@
 ghost use Rattle.std.specs.Prelude.{◌≡◌, ◌++◌, ◌∷◌, ◌<◌, [], map, vec_len, vec_capacity, IfErr, OnOk, OnErr};
 ghost use Rattle.wasm_types.specs.error.Denials.{Tells, UnlessMemory};
 ghost use Rattle.wasm_types.specs.error.declared.error.ErrorKind.TheVariants.{Other};
-ghost use Rattle.wasm_module_validator_exports.specs.names.Exports.{IsNew, export_of, names_of};
+ghost use Rattle.wasm_module_validator_exports.specs.names.Exports.{IsNew, export_of, names_of, number_of};
 
 use std::alloc::Global;
 use std::collections::BTreeSet;
+use std::hash::{FoldHasher, Hasher};
 use std::marker::Model;
 use wasm_sections_items::imports::ExternalKind;
 use wasm_types::{Error, Result};
@@ -24,12 +25,13 @@ pub struct NamedExport {
 
 /// The exports of a module in their order, no two by one name. A contract sees them as the module writes them.
 ///
-/// Strangers choose the names, so they are found by their order and not by a hash.
+/// Names are found by their order, each behind a number that is computed from its bytes: nearly all comparisons end at the numbers. Strangers
+/// choose the names, and may choose many of one number: these are found by their order alone.
 #[derive(Drop)]
 pub struct Exports {
     alloc: Global,
     exports: Vec<NamedExport>,
-    taken: BTreeSet<String>,
+    taken: BTreeSet<(u64, String)>,
 }
 
 impl Model for Exports {
@@ -54,6 +56,15 @@ fn duplicate(name: &str, offset: u64) -> Error
         format_args!("duplicate export name `{name}` already defined"),
         offset,
     )
+}
+
+// The number by which a name is compared first.
+fn number(name: &str) -> u64
+    ensures { result ≡ number_of name.now }
+{
+    let mut hasher = FoldHasher::default();
+    hasher.write(name.as_bytes());
+    hasher.finish()
 }
 
 // An export behind the others, in room that is there.
@@ -94,13 +105,14 @@ impl Exports {
         ensures kept { OnErr result (self.new ≡ self.old) }
         ensures refused { IfErr result (λ e. UnlessMemory e.kind ((e.kind ≡ Other) × (e.offset ≡ offset))) }
     {
-        if self.taken.contains(name) {
+        let kept = String::from_str(self.alloc, name)?;
+        let text = String::from_str(self.alloc, name)?;
+        let first = number(name);
+        self.exports.reserve(1)?;
+        let is_new = self.taken.insert((first, text))?;
+        if !is_new {
             return Err(duplicate(name, offset));
         }
-        let kept = String::from_str(self.alloc, name)?;
-        let key = String::from_str(self.alloc, name)?;
-        self.exports.reserve(1)?;
-        self.taken.insert(key)?;
         let export = NamedExport {
             name: kept,
             kind,

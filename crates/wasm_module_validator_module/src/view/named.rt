@@ -61,39 +61,40 @@ impl<'a> Iterator for CoreExports<'a> {
 // What is imported and left, pair of names by pair of names.
 #[derive(Drop)]
 struct NamedPlaces<'a> {
-    names: &'a [NamedImports],
-    // How many places of the first pair of names were given.
+    names: Vec<NamedImports<'a>>,
+    // How many pairs of names were given, and how many places of the next.
+    past: usize,
     given: usize,
 }
 
 impl<'a> Model for NamedPlaces<'a> {
-    ghost use Rattle.std.specs.Prelude.{ℕ, List, map};
+    ghost use Rattle.std.specs.Prelude.{ℕ, List, drop, map};
     ghost use Rattle.wasm_module_validator_exports.specs.declared.names.imports.Place.{Place as ThePlace};
     ghost use Rattle.wasm_module_validator_exports.specs.names.Imports.{named_of};
     ghost use Rattle.wasm_module_validator_module.specs.view.Entities.{places_behind};
 
     ghost Value = { List ((List ℕ × List ℕ) × ThePlace) };
 
-    ghost view = { λ p. places_behind p.given (map named_of p.names.now) };
+    ghost view = { λ p. places_behind p.given (map named_of (drop p.past p.names.items)) };
 }
 
 impl<'a> Iterator for NamedPlaces<'a> {
-    type Item = (&'a NamedImports, Place);
+    type Item = (&'a str, &'a str, Place);
 
-    ghost use Rattle.std.specs.Prelude.{string_bytes};
     ghost use Rattle.std.specs.Iterator.{YieldsFirstBy, item_count};
 
-    ghost next_gives = { YieldsFirstBy (λ x. ((string_bytes x.0.now.«module», string_bytes x.0.now.name), x.1)) (λ rest. rest) };
+    ghost next_gives = { YieldsFirstBy (λ x. ((x.0.now, x.1.now), x.2)) (λ rest. rest) };
 
     ghost remaining = { item_count (λ rest. rest) };
 
-    fn next(&mut self) -> Option<(&'a NamedImports, Place)> {
-        while let Some((named, rest)) = self.names.split_first() {
+    fn next(&mut self) -> Option<(&'a str, &'a str, Place)> {
+        while let Some(named) = self.names.as_slice().get(self.past) {
             if let Some(place) = named.places.as_slice().get(self.given) {
+                let item = (named.module, named.name, *place);
                 self.given += 1;
-                return Some((named, *place));
+                return Some(item);
             }
-            self.names = rest;
+            self.past += 1;
             self.given = 0;
         }
         None
@@ -120,12 +121,16 @@ impl<'a> Model for CoreImports<'a> {
 
 impl<'a> CoreImports<'a> {
     // All of these.
-    pub(crate) fn new(module: &'a Module, names: &'a [NamedImports]) -> CoreImports<'a>
-        ensures { result ≡ import_entities «module».now (map named_of names.now) }
+    pub(crate) fn new(module: &'a Module, names: Vec<NamedImports<'a>>) -> CoreImports<'a>
+        ensures { result ≡ import_entities «module».now (map named_of names.entry.items) }
     {
         CoreImports {
             module,
-            places: NamedPlaces { names, given: 0 },
+            places: NamedPlaces {
+                names,
+                past: 0,
+                given: 0,
+            },
         }
     }
 }
@@ -140,9 +145,9 @@ impl<'a> Iterator for CoreImports<'a> {
     ghost remaining = { item_count (λ rest. rest) };
 
     fn next(&mut self) -> Option<(&'a str, &'a str, EntityType)> {
-        while let Some((named, place)) = self.places.next() {
+        while let Some((module, name, place)) = self.places.next() {
             if let Some(ty) = entity_at(self.module, place.kind, place.index) {
-                return Some((named.module.as_str(), named.name.as_str(), ty));
+                return Some((module, name, ty));
             }
         }
         None

@@ -1,16 +1,17 @@
 //! A module that was read, and the list of its types, borrowed.
 
-ghost use Rattle.std.specs.Prelude.{◌≡◌, map};
+ghost use Rattle.std.specs.Prelude.{◌≡◌, map, IfErr, IfOk};
+ghost use Rattle.wasm_types.specs.error.declared.error.ErrorKind.TheVariants.{OutOfMemory};
 ghost use Rattle.wasm_module_validator_exports.specs.names.Exports.{export_of};
-ghost use Rattle.wasm_module_validator_exports.specs.names.Imports.{named_of};
 ghost use Rattle.wasm_module_validator_module.specs.view.Entities.{export_entities, import_entities};
 
 use crate::Module;
 use crate::view::ValidatorId;
 use crate::view::named::{CoreExports, CoreImports};
 use std::marker::Model;
-use wasm_module_validator_exports::names::{NamedExport, NamedImports};
+use wasm_module_validator_exports::names::{Imports, NamedExport};
 use wasm_module_validator_types::TypeList;
+use wasm_types::Result;
 
 /// What a validator learned of a module, borrowed: its index spaces, its imports and exports, and the list of its types. `types[id]` is
 /// the type of an id.
@@ -19,14 +20,13 @@ pub struct TypesRef<'a> {
     pub(crate) id: ValidatorId,
     pub(crate) types: &'a TypeList,
     pub(crate) module: &'a Module,
-    pub(crate) imports: &'a [NamedImports],
+    pub(crate) imports: &'a Imports,
     pub(crate) exports: &'a [NamedExport],
 }
 
 impl<'a> Model for TypesRef<'a> {
     ghost use Rattle.std.specs.Prelude.{map};
     ghost use Rattle.wasm_module_validator_exports.specs.names.Exports.{export_of};
-    ghost use Rattle.wasm_module_validator_exports.specs.names.Imports.{named_of};
     ghost use Rattle.wasm_module_validator_module.specs.view.Shown.{Shown};
 
     ghost Value = { Shown };
@@ -35,7 +35,7 @@ impl<'a> Model for TypesRef<'a> {
       id = r.id;
       groups = r.types.now.groups;
       spaces = r.«module».now;
-      imports = map named_of r.imports.now;
+      imports = r.imports.now;
       exports = map export_of r.exports.now;
     } };
 }
@@ -47,14 +47,14 @@ impl<'a> TypesRef<'a> {
         id: ValidatorId,
         types: &'a TypeList,
         module: &'a Module,
-        imports: &'a [NamedImports],
+        imports: &'a Imports,
         exports: &'a [NamedExport],
     ) -> TypesRef<'a>
         ensures { result ≡ record {
           id = id;
           groups = types.now.groups;
           spaces = «module».now;
-          imports = map named_of imports.now;
+          imports = imports.now;
           exports = map export_of exports.now;
         } }
     {
@@ -75,11 +75,17 @@ impl<'a> TypesRef<'a> {
     }
 
     /// The imports, each by the name of its module and its own name, with what it is: pairs of names in the order in which they came
-    /// first, and all imports of one pair together.
-    pub fn core_imports(&self) -> CoreImports<'a>
-        ensures { result ≡ import_entities self.now.spaces self.now.imports }
+    /// first, and all imports of one pair together. They are grouped by their names here, which takes memory.
+    ///
+    /// # Errors
+    ///
+    /// Memory is refused.
+    pub fn core_imports(&self) -> Result<CoreImports<'a>>
+        ensures told { IfOk result (λ all. all ≡ import_entities self.now.spaces self.now.imports) }
+        ensures refused { IfErr result (λ e. e.kind ≡ OutOfMemory) }
     {
-        CoreImports::new(self.module, self.imports)
+        let names = self.imports.grouped()?;
+        Ok(CoreImports::new(self.module, names))
     }
 
     /// The exports in their order, each by its name with what it is.

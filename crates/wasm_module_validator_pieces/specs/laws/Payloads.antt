@@ -1,5 +1,5 @@
 -- What a payload that a validator takes in turn tells of the frame that it is that of, and what the validator stands for then.
-use Rattle.std.proofs.Common.{◌≡◌, ◌∙◌, ◌<◌, ◌≤◌, ◌+◌, ℕ, List, [], length, Option, Some, None, Result, Ok, Err, true, false, refl, sym, ap, subst, arith}
+use Rattle.std.proofs.Common.{◌≡◌, ◌∙◌, ◌⊎◌, inl, inr, ◌<◌, ◌≤◌, ◌+◌, ℕ, List, [], length, Option, Some, None, Result, Ok, Err, true, false, refl, sym, ap, subst, arith}
 use Rattle.std.specs.Prelude.{is_some, option_map, slice_get}
 use Rattle.std.specs.declared.ops.Range.{Range}
 use Rattle.wasm_types.specs.decoding.Decoder.{State as Bytes}
@@ -19,11 +19,14 @@ use Rattle.wasm_sections_payloads.specs.Payloads.{IsSectionOf, IsPayloadOf, is_u
 use Rattle.wasm_operator_validator_stacks.specs.state.Refusals.{refused_by}
 use Rattle.wasm_module_validator_module.specs.declared.module.Function.{Function}
 use Rattle.wasm_module_validator_resources.specs.Reading.{context_of}
-use Rattle.wasm_module_validator_sharing.specs.Sharing.{Handed, IsHandedOut, IsReached, has_no_code, body_count, renewed_behind}
+use Rattle.wasm_module_validator_sharing.specs.Sharing.{Handed, IsHandedOut, IsReached, TellsFrame, has_no_code, body_count, renewed_behind}
 use Rattle.wasm_module_validator_sharing.specs.reading.judging.functions.code.Code.{IsFunctionOf}
 use Rattle.wasm_module_validator_sharing.specs.reading.progress.adding.Bodies.{IsReadBy}
+use Rattle.wasm_module_validator_sharing.specs.reading.progress.Progress.{Kept, Grows, FullBy, nothing_over, nothing_kept, kept_groups}
+use Rattle.wasm_module_validator_sharing.specs.reading.progress.declaring.Total.{IsPastTotal}
 use Rattle.wasm_module_validator_sharing.specs.reading.progress.fronts.Walks.{HasSettings}
 use Rattle.wasm_module_validator_sharing.specs.reading.progress.laws.Bodies.{function_is}
+use Rattle.wasm_module_validator_sharing.specs.reading.progress.laws.Growing.{grows_by_nothing}
 use Rattle.wasm_module_validator_sharing.specs.reading.progress.laws.Shapes.{frame_back, frame_is, of_frame, of_section}
 use Rattle.wasm_module_validator_sharing.specs.reading.progress.so_far.laws.Judging.{body_is_judged}
 use Rattle.wasm_module_validator_sharing.specs.reading.progress.standing.steps.Sections.{Section, place, number, code_place}
@@ -38,12 +41,20 @@ use Rattle.wasm_module_validator.specs.Methods.{refusal, header_refusal, failure
 use Rattle.wasm_module_validator.specs.Payloads.{Answer, passed, with_body, ended, TakesPayload}
 use Rattle.wasm_module_validator.specs.Shown.{Learned}
 use Rattle.wasm_module_validator.specs.laws.Beginning.{nothing_is_reached}
+use Rattle.wasm_module_validator.specs.laws.Verdict.{none_held}
+use Rattle.wasm_module_validator_sharing.specs.reading.progress.standing.type_trees.Groups.{Group}
 use Rattle.wasm_module_validator_pieces.specs.Bodies.{IsBody, AreFirst, FitsPlace, IsJudgedSoFar}
 use Rattle.wasm_module_validator_pieces.specs.laws.Bodies.{stands_before, place_stays, section_alike, body_more}
 
 -- the frame comes next behind what was judged
 abbrev pub Next : Settings → SoFar → Frame → Type 0
 Next z m f = (n : SoFar) × JudgesShape z m (shape_of f) n
+
+-- What a payload that was taken leaves: what is kept alone has changed, the frame came next, it stands for whatever was judged with the
+-- frame, and the list of types may have grown.
+abbrev pub IsLeft : Settings → Validator → SoFar → Frame → Validator → Type 0
+IsLeft z v m f w = (w ≡ record v { reached = w.reached }) × Next z m f × ((n : SoFar) → JudgesShape z m (shape_of f) n → IsJudgedSoFar z w.reached n)
+    × Grows v.reached.progress.kept w.reached.progress.kept
 
 -- a frame that is no header
 abbrev pub IsNoHeader : Frame → Type 0
@@ -124,6 +135,14 @@ types_of_answer d (Err e) = d
 not_some : {A : Type 0} (x : A) → None ≡ Some x → ⊥
 not_some x e = cc
 
+-- where the list of types is not full it is told
+not_full : (x : Payload) (k : Kept) (e : ErrorValue) (P : Type 0) → (IsPastTotal k.groups k.items e → ⊥) → FullBy x k e ⊎ P → P
+not_full x k e P none (inl full) = absurd (none full.1)
+not_full x k e P none (inr p) = p
+
+same_kept : (k l : Kept) → l ≡ k → Grows k l
+same_kept k l e = subst (λ (j : Kept). Grows k j) (sym e) (grows_by_nothing k)
+
 -- each section has an id that is known
 is_known : (s : Section) → is_unknown (number s) ≡ true → ⊥
 is_known section.types e = cc
@@ -142,6 +161,10 @@ is_known section.data_segments e = cc
 -- ---- in turn
 
 module _ (z : Settings) (v w : Validator) (going : v.state ≡ Module) where
+  -- the list of types is not full because of this
+  abbrev pub NotFull : ErrorValue → Type 0
+  NotFull e = IsPastTotal v.reached.progress.kept.groups v.reached.progress.kept.items e → ⊥
+
   before_code : v.reached.code ≡ None → refusal v.state (has_no_code v.reached.code) ≡ None
   before_code c = ap (λ (s : State). refusal s (has_no_code v.reached.code)) going ∙ ap (λ (o : Option ℕ). refusal Module (has_no_code o)) c
 
@@ -168,14 +191,14 @@ module _ (z : Settings) (v w : Validator) (going : v.state ≡ Module) where
     -- ---- sections
 
     module _ (x : Payload) (none : frame_back x ≡ None) (is : IsPayloadOf f x) where
-      section_denied : (e : ErrorValue) → ((id : ℕ) (b : Bytes) → IsSectionOf id b x → id ≡ 11 → ⊥) → Takes {X = Unit {0}} x v (Err e) w → Denies e.kind (Next z m f)
-      section_denied e other t = go v.reached.code refl
+      section_denied : (e : ErrorValue) → NotFull e → ((id : ℕ) (b : Bytes) → IsSectionOf id b x → id ≡ 11 → ⊥) → Takes {X = Unit {0}} x v (Err e) w → Denies e.kind (Next z m f)
+      section_denied e none other t = go v.reached.code refl
         where
           late : (k : ℕ) → v.reached.code ≡ Some k → Next z m f → ⊥
           late k c n = of_section (λ (g : Frame). JudgesShape z m (shape_of g) n.0 → ⊥) f x none (λ id b h j. too_late k c id b.rest n.0 j.0 j.1 j.2 (other id b h)) is n.1
 
           go : (o : Option ℕ) → v.reached.code ≡ o → Denies e.kind (Next z m f)
-          go None c = t.told (before_code c) z m f s.reached has is
+          go None c = not_full x v.reached.progress.kept e (TellsFrame {X = Unit {0}} v.reached x (Err e)) none (t.told (before_code c)) z m f s.reached has is
           go (Some k) c = denies e.kind (Next z m f) (late k c)
 
       -- what is left behind a section that was taken
@@ -188,18 +211,18 @@ module _ (z : Settings) (v w : Validator) (going : v.state ≡ Module) where
             (λ id b h k. (section_alike z m n k.0 b.rest s.reached.2.judged k.2).0 s.bodies) is j;
       }
 
-      section_taken : Takes {X = Unit {0}} x v (Ok tt) w → (w ≡ record v { reached = w.reached }) × Next z m f × ((n : SoFar) → JudgesShape z m (shape_of f) n → IsJudgedSoFar z w.reached n)
+      section_taken : Takes {X = Unit {0}} x v (Ok tt) w → IsLeft z v m f w
       section_taken t = go v.reached.code refl
         where
-          go : (o : Option ℕ) → v.reached.code ≡ o → (w ≡ record v { reached = w.reached }) × Next z m f × ((n : SoFar) → JudgesShape z m (shape_of f) n → IsJudgedSoFar z w.reached n)
-          go None c = let left = t.left (before_code c) in (left.0, t.told (before_code c) z m f s.reached has is, section_left left)
+          go : (o : Option ℕ) → v.reached.code ≡ o → IsLeft z v m f w
+          go None c = let left = t.left (before_code c) in (left.0, t.told (before_code c) z m f s.reached has is, section_left left, left.3)
           go (Some k) c = absurd (not_some kinds.Other (t.out kinds.Other (behind_code k c)).0)
 
-      data_denied : (e : ErrorValue) → TakesData {X = Unit {0}} x v (Err e) w → Denies e.kind (Next z m f)
-      data_denied e t = t.told at_any_time z m f s.reached has is
+      data_denied : (e : ErrorValue) → NotFull e → TakesData {X = Unit {0}} x v (Err e) w → Denies e.kind (Next z m f)
+      data_denied e none t = not_full x v.reached.progress.kept e (TellsFrame {X = Unit {0}} v.reached x (Err e)) none (t.told at_any_time) z m f s.reached has is
 
-      data_taken : TakesData {X = Unit {0}} x v (Ok tt) w → (w ≡ record v { reached = w.reached }) × Next z m f × ((n : SoFar) → JudgesShape z m (shape_of f) n → IsJudgedSoFar z w.reached n)
-      data_taken t = let left = t.left at_any_time in (left.0, t.told at_any_time z m f s.reached has is, section_left left)
+      data_taken : TakesData {X = Unit {0}} x v (Ok tt) w → IsLeft z v m f w
+      data_taken t = let left = t.left at_any_time in (left.0, t.told at_any_time z m f s.reached has is, section_left left, left.3)
 
     -- ---- the start of the code
 
@@ -222,7 +245,7 @@ module _ (z : Settings) (v w : Validator) (going : v.state ≡ Module) where
           go None c = denies_from e.kind (m.last < code_place) (Next z m f) (λ n. (begins_so n.0 n.1).0) (t.told (before_code c) z m s.reached)
           go (Some k) c = denies e.kind (Next z m f) (late k c)
 
-      code_taken : BeginsCode {X = Unit {0}} v (Ok tt) w → (w ≡ record v { reached = w.reached }) × Next z m f × ((n : SoFar) → JudgesShape z m (shape_of f) n → IsJudgedSoFar z w.reached n)
+      code_taken : BeginsCode {X = Unit {0}} v (Ok tt) w → IsLeft z v m f w
       code_taken t = go v.reached.code refl
         where
           there : (c : v.reached.code ≡ None) → (n : SoFar) → JudgesShape z m (shape_of f) n → IsJudgedSoFar z w.reached n
@@ -234,11 +257,12 @@ module _ (z : Settings) (v w : Validator) (going : v.state ≡ Module) where
                 bodies = s.bodies;
               })
 
-          go : (o : Option ℕ) → v.reached.code ≡ o → (w ≡ record v { reached = w.reached }) × Next z m f × ((n : SoFar) → JudgesShape z m (shape_of f) n → IsJudgedSoFar z w.reached n)
+          go : (o : Option ℕ) → v.reached.code ≡ o → IsLeft z v m f w
           go None c = (
             (t.left (before_code c)).0,
             of_frame (λ (h : Frame). Next z m h) f x g back is (record m { last = code_place }, begun (t.told (before_code c) z m s.reached)),
             there c,
+            same_kept v.reached.progress.kept w.reached.progress.kept (t.left (before_code c)).2,
           )
           go (Some k) c = absurd (not_some kinds.Other (t.out kinds.Other (behind_code k c)).0)
 
@@ -274,8 +298,10 @@ module _ (z : Settings) (v w : Validator) (going : v.state ≡ Module) where
 
         body_left : IsHandedOut v.reached v.settings h × (w ≡ record v { reached = w.reached })
             × (w.reached.code ≡ Some (body_count v.reached.code + 1))
-            × ((n : SoFar) → JudgesBody z m body.rest n → IsReached z w.reached n)
-        body_left = let left = t.left (in_code in_turn.0 in_turn.1) in (left.0, left.1, left.2, λ n j. left.4 z m n s.reached read_by j)
+            × ((n : SoFar) → JudgesBody z m body.rest n → IsReached z w.reached n) × Grows v.reached.progress.kept w.reached.progress.kept
+        body_left =
+            let left = t.left (in_code in_turn.0 in_turn.1) in
+            (left.0, left.1, left.2, (λ n j. left.4 z m n s.reached read_by j), same_kept v.reached.progress.kept w.reached.progress.kept left.3)
 
         pub body_comes : Next z m f
         body_comes =
@@ -321,8 +347,8 @@ module _ (z : Settings) (v w : Validator) (going : v.state ≡ Module) where
             let (g, spelled, valid) = subst (λ (x : ℕ). IsBody z m.tree x body.rest) (sym (type_is n j)) b in
             (g, spelled, (body_is_judged v.reached.progress.kept.groups v.reached.progress.kept.items.spaces m.tree at.stands.read at.stands.referred z h.ty g).1 valid)
 
-        pub body_taken : IsHandedBody → (w ≡ record v { reached = w.reached }) × Next z m f × ((n : SoFar) → JudgesShape z m (shape_of f) n → IsJudgedSoFar z w.reached n)
-        body_taken valid = (body_left.1, body_comes, there)
+        pub body_taken : IsHandedBody → IsLeft z v m f w
+        body_taken valid = (body_left.1, body_comes, there, body_left.4)
           where
             there : (n : SoFar) → JudgesShape z m (shape_of f) n → IsJudgedSoFar z w.reached n
             there n shape =
@@ -337,46 +363,45 @@ module _ (z : Settings) (v w : Validator) (going : v.state ≡ Module) where
     -- ---- any payload
 
     module _ (later : IsNoHeader f) where
-      pub denied : (x : Payload) (e : ErrorValue) → IsPayloadOf f x → TakesPayload x v (Err e) w → Denies e.kind (Next z m f)
-      denied (payloads.Version n l r) e is t = absurd (subst IsNoHeader (frame_is f (payloads.Version n l r) (frames.Version n l r) refl is) later)
-      denied (payloads.TypeSection c) e is (p, same, t) =
-          section_denied (payloads.TypeSection c) refl is e (λ id b h k. omega (arith, h.0, k)) (subst (λ (a : Result (Unit {0}) ErrorValue). Takes (payloads.TypeSection c) v a w) (passed_err p e same) t)
-      denied (payloads.ImportSection c) e is (p, same, t) =
-          section_denied (payloads.ImportSection c) refl is e (λ id b h k. omega (arith, h.0, k)) (subst (λ (a : Result (Unit {0}) ErrorValue). Takes (payloads.ImportSection c) v a w) (passed_err p e same) t)
-      denied (payloads.FunctionSection c) e is (p, same, t) =
-          section_denied (payloads.FunctionSection c) refl is e (λ id b h k. omega (arith, h.0, k)) (subst (λ (a : Result (Unit {0}) ErrorValue). Takes (payloads.FunctionSection c) v a w) (passed_err p e same) t)
-      denied (payloads.TableSection c) e is (p, same, t) =
-          section_denied (payloads.TableSection c) refl is e (λ id b h k. omega (arith, h.0, k)) (subst (λ (a : Result (Unit {0}) ErrorValue). Takes (payloads.TableSection c) v a w) (passed_err p e same) t)
-      denied (payloads.MemorySection c) e is (p, same, t) =
-          section_denied (payloads.MemorySection c) refl is e (λ id b h k. omega (arith, h.0, k)) (subst (λ (a : Result (Unit {0}) ErrorValue). Takes (payloads.MemorySection c) v a w) (passed_err p e same) t)
-      denied (payloads.TagSection c) e is (p, same, t) =
-          section_denied (payloads.TagSection c) refl is e (λ id b h k. omega (arith, h.0, k)) (subst (λ (a : Result (Unit {0}) ErrorValue). Takes (payloads.TagSection c) v a w) (passed_err p e same) t)
-      denied (payloads.GlobalSection c) e is (p, same, t) =
-          section_denied (payloads.GlobalSection c) refl is e (λ id b h k. omega (arith, h.0, k)) (subst (λ (a : Result (Unit {0}) ErrorValue). Takes (payloads.GlobalSection c) v a w) (passed_err p e same) t)
-      denied (payloads.ExportSection c) e is (p, same, t) =
-          section_denied (payloads.ExportSection c) refl is e (λ id b h k. omega (arith, h.0, k)) (subst (λ (a : Result (Unit {0}) ErrorValue). Takes (payloads.ExportSection c) v a w) (passed_err p e same) t)
-      denied (payloads.StartSection n r) e is (p, same, t) =
-          section_denied (payloads.StartSection n r) refl is e (λ id b h k. omega (arith, h.0, k)) (subst (λ (a : Result (Unit {0}) ErrorValue). Takes (payloads.StartSection n r) v a w) (passed_err p e same) t)
-      denied (payloads.ElementSection c) e is (p, same, t) =
-          section_denied (payloads.ElementSection c) refl is e (λ id b h k. omega (arith, h.0, k)) (subst (λ (a : Result (Unit {0}) ErrorValue). Takes (payloads.ElementSection c) v a w) (passed_err p e same) t)
-      denied (payloads.DataCountSection n r) e is (p, same, t) =
-          section_denied (payloads.DataCountSection n r) refl is e (λ id b h k. omega (arith, h.0, k)) (subst (λ (a : Result (Unit {0}) ErrorValue). Takes (payloads.DataCountSection n r) v a w) (passed_err p e same) t)
-      denied (payloads.DataSection c) e is (p, same, t) =
-          data_denied (payloads.DataSection c) refl is e (subst (λ (a : Result (Unit {0}) ErrorValue). TakesData (payloads.DataSection c) v a w) (passed_err p e same) t)
-      denied (payloads.CodeSectionStart n r k) e is (p, same, t) =
+      pub denied : (x : Payload) (e : ErrorValue) → NotFull e → IsPayloadOf f x → TakesPayload x v (Err e) w → Denies e.kind (Next z m f)
+      denied (payloads.Version n l r) e none is t = absurd (subst IsNoHeader (frame_is f (payloads.Version n l r) (frames.Version n l r) refl is) later)
+      denied (payloads.TypeSection c) e none is (p, same, t) =
+          section_denied (payloads.TypeSection c) refl is e none (λ id b h k. omega (arith, h.0, k)) (subst (λ (a : Result (Unit {0}) ErrorValue). Takes (payloads.TypeSection c) v a w) (passed_err p e same) t)
+      denied (payloads.ImportSection c) e none is (p, same, t) =
+          section_denied (payloads.ImportSection c) refl is e none (λ id b h k. omega (arith, h.0, k)) (subst (λ (a : Result (Unit {0}) ErrorValue). Takes (payloads.ImportSection c) v a w) (passed_err p e same) t)
+      denied (payloads.FunctionSection c) e none is (p, same, t) =
+          section_denied (payloads.FunctionSection c) refl is e none (λ id b h k. omega (arith, h.0, k)) (subst (λ (a : Result (Unit {0}) ErrorValue). Takes (payloads.FunctionSection c) v a w) (passed_err p e same) t)
+      denied (payloads.TableSection c) e none is (p, same, t) =
+          section_denied (payloads.TableSection c) refl is e none (λ id b h k. omega (arith, h.0, k)) (subst (λ (a : Result (Unit {0}) ErrorValue). Takes (payloads.TableSection c) v a w) (passed_err p e same) t)
+      denied (payloads.MemorySection c) e none is (p, same, t) =
+          section_denied (payloads.MemorySection c) refl is e none (λ id b h k. omega (arith, h.0, k)) (subst (λ (a : Result (Unit {0}) ErrorValue). Takes (payloads.MemorySection c) v a w) (passed_err p e same) t)
+      denied (payloads.TagSection c) e none is (p, same, t) =
+          section_denied (payloads.TagSection c) refl is e none (λ id b h k. omega (arith, h.0, k)) (subst (λ (a : Result (Unit {0}) ErrorValue). Takes (payloads.TagSection c) v a w) (passed_err p e same) t)
+      denied (payloads.GlobalSection c) e none is (p, same, t) =
+          section_denied (payloads.GlobalSection c) refl is e none (λ id b h k. omega (arith, h.0, k)) (subst (λ (a : Result (Unit {0}) ErrorValue). Takes (payloads.GlobalSection c) v a w) (passed_err p e same) t)
+      denied (payloads.ExportSection c) e none is (p, same, t) =
+          section_denied (payloads.ExportSection c) refl is e none (λ id b h k. omega (arith, h.0, k)) (subst (λ (a : Result (Unit {0}) ErrorValue). Takes (payloads.ExportSection c) v a w) (passed_err p e same) t)
+      denied (payloads.StartSection n r) e none is (p, same, t) =
+          section_denied (payloads.StartSection n r) refl is e none (λ id b h k. omega (arith, h.0, k)) (subst (λ (a : Result (Unit {0}) ErrorValue). Takes (payloads.StartSection n r) v a w) (passed_err p e same) t)
+      denied (payloads.ElementSection c) e none is (p, same, t) =
+          section_denied (payloads.ElementSection c) refl is e none (λ id b h k. omega (arith, h.0, k)) (subst (λ (a : Result (Unit {0}) ErrorValue). Takes (payloads.ElementSection c) v a w) (passed_err p e same) t)
+      denied (payloads.DataCountSection n r) e none is (p, same, t) =
+          section_denied (payloads.DataCountSection n r) refl is e none (λ id b h k. omega (arith, h.0, k)) (subst (λ (a : Result (Unit {0}) ErrorValue). Takes (payloads.DataCountSection n r) v a w) (passed_err p e same) t)
+      denied (payloads.DataSection c) e none is (p, same, t) =
+          data_denied (payloads.DataSection c) refl is e none (subst (λ (a : Result (Unit {0}) ErrorValue). TakesData (payloads.DataSection c) v a w) (passed_err p e same) t)
+      denied (payloads.CodeSectionStart n r k) e none is (p, same, t) =
           code_denied (payloads.CodeSectionStart n r k) (frames.CodeStart n r k) refl is (λ q j. j) (λ l. (l, refl)) e (subst (λ (a : Result (Unit {0}) ErrorValue). BeginsCode v a w) (passed_err p e same) t)
-      denied (payloads.CodeSectionEntry body) e is (h, same, t) = body_denied body is e (subst (λ a. TakesBody body v a w) (body_err body h e same) t)
-      denied (payloads.CustomSection c) e is (p, same, (refused, stays)) =
+      denied (payloads.CodeSectionEntry body) e none is (h, same, t) = body_denied body is e (subst (λ a. TakesBody body v a w) (body_err body h e same) t)
+      denied (payloads.CustomSection c) e none is (p, same, (refused, stays)) =
           absurd (not_some e.kind (sym (sym (ap (refused_by {X = Unit {0}}) (passed_err p e same)) ∙ refused ∙ ap failure going)))
-      denied (payloads.UnknownSection i c r) e is (p, same, t) = denies e.kind (Next z m f) (λ n.
+      denied (payloads.UnknownSection i c r) e none is (p, same, t) = denies e.kind (Next z m f) (λ n.
           of_section (λ (g : Frame). JudgesShape z m (shape_of g) n.0 → ⊥) f (payloads.UnknownSection i c r) refl
           (λ id b h j. is_known j.0 (subst (λ (k : ℕ). is_unknown k ≡ true) j.1 h.1)) is n.1)
-      denied (payloads.End place) e is (r, same, t) =
+      denied (payloads.End place) e none is (r, same, t) =
           let k : EndsFrom Module v (Err e) w = subst (λ (s : State). EndsFrom s v (Err e) w) going (subst (λ a. EndsFrom v.state v a w) (ended_err r e same) t) in
           subst (λ (kind : ErrorKind). Denies kind (Next z m f)) (sym k.0) tt
 
-      pub taken : (x : Payload) → IsPayloadOf f x → TakesPayload x v (Ok valid.Ok) w
-          → (w ≡ record v { reached = w.reached }) × Next z m f × ((n : SoFar) → JudgesShape z m (shape_of f) n → IsJudgedSoFar z w.reached n)
+      pub taken : (x : Payload) → IsPayloadOf f x → TakesPayload x v (Ok valid.Ok) w → IsLeft z v m f w
       taken (payloads.Version n l r) is t = absurd (subst IsNoHeader (frame_is f (payloads.Version n l r) (frames.Version n l r) refl is) later)
       taken (payloads.TypeSection c) is (p, same, t) = section_taken (payloads.TypeSection c) refl is (subst (λ (a : Result (Unit {0}) ErrorValue). Takes (payloads.TypeSection c) v a w) (passed_ok p same).1 t)
       taken (payloads.ImportSection c) is (p, same, t) = section_taken (payloads.ImportSection c) refl is (subst (λ (a : Result (Unit {0}) ErrorValue). Takes (payloads.ImportSection c) v a w) (passed_ok p same).1 t)
@@ -399,6 +424,7 @@ module _ (z : Settings) (v w : Validator) (going : v.state ≡ Module) where
         λ n j. subst (λ (q : SoFar). IsJudgedSoFar z w.reached q)
             (sym (of_frame (λ (g : Frame). JudgesShape z m (shape_of g) n → n ≡ m) f (payloads.CustomSection c) (frames.Custom c) refl is (λ k. k) j))
             (subst (λ (u : Validator). IsJudgedSoFar z u.reached m) (sym stays) s),
+        same_kept v.reached.progress.kept w.reached.progress.kept (ap (λ (u : Validator). u.reached.progress.kept) stays),
       )
       taken (payloads.UnknownSection i c r) is (p, same, t) =
           absurd (not_some kinds.Other (sym (ap (refused_by {X = Unit {0}}) (passed_ok p same).1) ∙ t.told (ap failure going)))
@@ -446,6 +472,14 @@ handed_out (payloads.CodeSectionEntry b) v w h body (r, same, t) = go r same t
           subst (λ (c : Bytes). TakesBody c v (Ok h) w) (sym bodies) (subst (λ (f : Handed). TakesBody b v (Ok f) w) (sym functions) u),
         )
 
+-- and it is the module as it is kept, and the function behind those that came
+pub body_handed : (body : Bytes) (v w : Validator) (h : Handed) → TakesBody body v (Ok h) w → IsHandedOut v.reached v.settings h
+body_handed body v w h t = go (refusal v.state (is_some v.reached.code)) refl
+  where
+    go : (o : Option ErrorKind) → refusal v.state (is_some v.reached.code) ≡ o → IsHandedOut v.reached v.settings h
+    go None c = (t.left c).0
+    go (Some k) c = absurd (not_some k (t.out k c).0)
+
 -- and the end is told at the end alone
 pub end_is_told : (x : Payload) (v w : Validator) (t : Learned) → TakesPayload x v (Ok (valid.End t)) w → (place : ℕ) × (x ≡ payloads.End place)
 end_is_told (payloads.Version n l r) v w t (p, same, k) = absurd (no_end_passed t p same)
@@ -485,6 +519,7 @@ module _ (z : Settings) (v w : Validator) (fresh : v.state ≡ Unparsed) (by : v
   pub header_taken : TakesPayload (payloads.Version n l r) v (Ok valid.Ok) w
       → (w.state ≡ Module) × (w.settings ≡ v.settings) × (w.id ≡ v.id) × Next z nothing (frames.Version n l r)
       × ((m : SoFar) → JudgesShape z nothing (shape_of (frames.Version n l r)) m → IsJudgedSoFar z w.reached m)
+      × (v.reached.progress.kept.groups ≡ [] → Grows (nothing_kept z).kept w.reached.progress.kept)
   header_taken (p, same, t) =
       let k : ReadsHeader {X = Unit {0}} n l v (Ok tt) w = subst (λ (a : Result (Unit {0}) ErrorValue). ReadsHeader n l v a w) (passed_ok p same).1 t in
       let begun = k.left first_turn in
@@ -498,6 +533,9 @@ module _ (z : Settings) (v w : Validator) (fresh : v.state ≡ Unparsed) (by : v
           place = λ e. omega (arith, e);
           bodies = tt;
         })),
+        λ none. subst (λ (u : Validator). Grows (nothing_kept z).kept u.reached.progress.kept) (sym begun)
+            (subst (λ (y : Settings). Grows (nothing_kept z).kept (nothing_over (kept_groups y v.reached.progress.kept) y).kept) (sym by)
+            (subst (λ (gs : List Group). Grows (nothing_kept z).kept (nothing_over gs z).kept) (sym (none_held z v.reached.progress.kept none)) (grows_by_nothing (nothing_kept z).kept))),
       )
 
 -- another header is out of turn

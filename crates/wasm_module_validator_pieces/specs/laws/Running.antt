@@ -1,5 +1,5 @@
 -- A validator that is told of a module as its bytes come: where it stands behind some frames, and what it has told by then.
-use Rattle.std.proofs.Common.{◌≡◌, ◌∙◌, ◌⊎◌, ◌<◌, ◌≤◌, ◌+◌, ◌^◌, ℕ, zero, suc, Bool, true, false, List, [], ◌∷◌, ◌++◌, length, drop, Option, Some, None, Result, Ok, Err, cond, refl, sym, ap, subst, inl, inr, arith, append_assoc}
+use Rattle.std.proofs.Common.{◌≡◌, ◌∙◌, ◌⊎◌, ◌<◌, ◌≤◌, ◌+◌, ◌-◌, ◌^◌, length-append, length-drop, ℕ, zero, suc, Bool, true, false, List, [], ◌∷◌, ◌++◌, length, drop, Option, Some, None, Result, Ok, Err, cond, refl, sym, ap, subst, inl, inr, arith, append_assoc}
 use Rattle.std.specs.Prelude.{◌==◌}
 use Rattle.std.proofs.lemmas.List.{append-nil}
 use Rattle.std.specs.declared.ops.Range.{Range}
@@ -8,6 +8,8 @@ use Rattle.wasm_types.specs.error.Denials.{Denies}
 use Rattle.wasm_types.specs.error.DenialLaws.{denies, denies_from}
 use Rattle.wasm_types.specs.error.ErrorValue.{ErrorValue}
 use Rattle.wasm_types.specs.error.declared.error.ErrorKind.{ErrorKind}
+use Rattle.wasm_types.specs.error.declared.error.ErrorKind.TheVariants.{OutOfMemory}
+use Rattle.wasm_types.specs.limits.Limits.{IsWithinCeilings}
 use Rattle.wasm_types.specs.limits.Settings.{Settings}
 use Rattle.wasm_sections_frames.specs.Outer.{Header, Part}
 use Rattle.wasm_sections_frames.specs.Outer as outer
@@ -36,6 +38,10 @@ use Rattle.wasm_module_validator_sharing.specs.Sharing.{Handed}
 use Rattle.wasm_module_validator_sharing.specs.reading.Reading.{IsReadAs}
 use Rattle.wasm_module_validator_sharing.specs.reading.judging.functions.code.Code.{IsFunctionOf}
 use Rattle.wasm_module_validator_sharing.specs.reading.progress.adding.Bodies.{IsReadBy}
+use Rattle.wasm_module_validator_sharing.specs.reading.progress.Progress.{Kept, Grows, nothing_kept}
+use Rattle.wasm_module_validator_sharing.specs.reading.progress.declaring.Total.{IsPastTotal}
+use Rattle.wasm_module_validator_sharing.specs.reading.progress.declaring.TotalLaws.{none_past}
+use Rattle.wasm_module_validator_sharing.specs.reading.progress.laws.Growing.{grows_further, total_before}
 use Rattle.wasm_module_validator_sharing.specs.reading.progress.fronts.FrontLaws.{modules_one, calls_joined, calls_with_end, shapes_joined, shapes_before, called_settings}
 use Rattle.wasm_module_validator_sharing.specs.reading.progress.fronts.JudgedLaws.{judged_more, judged_less}
 use Rattle.wasm_module_validator_sharing.specs.reading.progress.fronts.Walks.{HasSettings}
@@ -190,6 +196,25 @@ end_is_last q text eof n place r h = over (is_over q.progress) h
     over true g = absurd g
     over false g = between (at_end q text) g
 
+-- a parser stands behind what it read
+calls_offset : (fs : List Frame) (p q : Parser) (text rest : List ℕ) → Calls p text fs q rest → q.offset + length rest ≡ p.offset + length text
+calls_offset [] p q text rest h =
+    let place : p.offset ≡ q.offset = ap (λ (s : Parser). s.offset) h.0 in
+    let left : length text ≡ length rest = ap length h.1 in
+    omega (arith, place, left)
+calls_offset (f ∷ fs) p q text rest (n, r, c, h) =
+    let first = parsed_within p c.piece c.eof n f r c.parses in
+    let fits = first.0 in
+    let moved = first.2 in
+    let others = calls_offset fs r q (drop n text) rest h in
+    let whole : length text ≡ length c.piece + length c.later = ap length c.whole ∙ length-append c.piece c.later in
+    let left : length (drop n text) ≡ length text - n = length-drop n text in
+    omega (arith, fits, moved, others, whole, left)
+
+-- out of memory denies nothing
+pub memory_denies : (z : Settings) (text : List ℕ) (e : ErrorValue) → e.kind ≡ OutOfMemory → Denies e.kind (AcceptsUnder z text)
+memory_denies z text e k = subst (λ (kind : ErrorKind). Denies kind (AcceptsUnder z text)) (sym k) tt
+
 -- ---- where a validator stands
 
 -- a parser of a module that begins at the offset 0
@@ -201,9 +226,11 @@ module _ (z : Settings) (id : ValidatorId) where
   abbrev pub AreJudged : List Frame → SoFar → Type 0
   AreJudged fs m = JudgesShapes z nothing (shapes_of fs) m
 
-  -- before the header, or behind it: what is kept stands for whatever was judged with the frames
+  -- Before the header, with no types, or behind it: what is kept stands for whatever was judged with the frames, and the list of types has
+  -- grown by this module alone.
   abbrev pub FitsFrames : List Frame → Validator → Type 0
-  FitsFrames fs v = ((v.state ≡ Unparsed) × (fs ≡ [])) ⊎ ((v.state ≡ Module) × HasFrame fs × ((m : SoFar) → AreJudged fs m → IsJudgedSoFar z v.reached m))
+  FitsFrames fs v = ((v.state ≡ Unparsed) × (fs ≡ []) × (v.reached.progress.kept.groups ≡ []))
+      ⊎ ((v.state ≡ Module) × HasFrame fs × ((m : SoFar) → AreJudged fs m → IsJudgedSoFar z v.reached m) × Grows (nothing_kept z).kept v.reached.progress.kept)
 
   -- These bytes came, and no more where that is said. Calls of a parser gave some frames of them, whatever follows, and left these bytes; the
   -- frames were judged, and so were the bodies; and the validator stands for that.
@@ -211,20 +238,22 @@ module _ (z : Settings) (id : ValidatorId) where
     pub frames : List Frame
     pub calls : (more : List ℕ) → (eof ≡ true → more ≡ []) → Calls (begins z) (got ++ more) frames q (rest ++ more)
     pub going : is_over q.progress ≡ false
+    pub within : IsWithinCeilings z.limits
     pub settings : v.settings ≡ z
     pub own : v.id ≡ id
     pub some : (m : SoFar) × AreJudged frames m
     pub fits : FitsFrames frames v
 
-  pub goes_first : (v : Validator) → v.state ≡ Unparsed → v.settings ≡ z → v.id ≡ id → Goes [] false (begins z) [] v
-  goes_first v unparsed same own = record {
+  pub goes_first : (v : Validator) → IsWithinCeilings z.limits → v.state ≡ Unparsed → v.reached.progress.kept.groups ≡ [] → v.settings ≡ z → v.id ≡ id → Goes [] false (begins z) [] v
+  goes_first v within unparsed none same own = record {
     frames = [];
     calls = λ more h. (refl, refl);
     going = refl;
+    within = within;
     settings = same;
     own = own;
     some = (nothing, refl);
-    fits = inl (unparsed, refl);
+    fits = inl (unparsed, refl, none);
   }
 
   -- more bytes come
@@ -234,6 +263,7 @@ module _ (z : Settings) (id : ValidatorId) where
     calls = λ more h. subst (λ (t : List ℕ). Calls (begins z) t g.frames q ((rest ++ bs) ++ more)) (sym (append_assoc got bs more))
         (subst (λ (t : List ℕ). Calls (begins z) (got ++ (bs ++ more)) g.frames q t) (sym (append_assoc rest bs more)) (g.calls (bs ++ more) (λ e. absurd (true_false (sym e)))));
     going = g.going;
+    within = g.within;
     settings = g.settings;
     own = g.own;
     some = g.some;
@@ -246,11 +276,20 @@ module _ (z : Settings) (id : ValidatorId) where
     frames = g.frames;
     calls = λ more h. g.calls more (λ e. absurd (true_false (sym e)));
     going = g.going;
+    within = g.within;
     settings = g.settings;
     own = g.own;
     some = g.some;
     fits = g.fits;
   }
+
+  -- its parser stands where the bytes that are left begin
+  pub goes_place : (got : List ℕ) (eof : Bool) (q : Parser) (rest : List ℕ) (v : Validator) → Goes got eof q rest v → q.offset + length rest ≡ length got
+  goes_place got eof q rest v g =
+      let there = calls_offset g.frames (begins z) q (got ++ []) (rest ++ []) (g.calls [] (λ e. refl)) in
+      let left : length (rest ++ []) ≡ length rest = ap length (append-nil rest) in
+      let all : length (got ++ []) ≡ length got = ap length (append-nil got) in
+      omega (arith, there, left, all)
 
   -- ---- a module that is accepted
 
@@ -323,15 +362,16 @@ module _ (z : Settings) (id : ValidatorId) where
       -- the frame goes on
       goes_with : w.settings ≡ z → w.id ≡ id → is_end f ≡ false → w.state ≡ Module → ((m : SoFar) → AreJudged g.frames m → Next z m f)
           → ((m : SoFar) → AreJudged g.frames m → (k : SoFar) → JudgesShape z m (shape_of f) k → IsJudgedSoFar z w.reached k)
-          → Goes got eof r (drop n rest) w
-      goes_with same own on going next fits = record {
+          → Grows (nothing_kept z).kept w.reached.progress.kept → Goes got eof r (drop n rest) w
+      goes_with same own on going next fits grown = record {
         frames = g.frames ++ f ∷ [];
         calls = called_on;
         going = parsed_is_over q rest eof n f r parses ∙ on;
+        within = g.within;
         settings = same;
         own = own;
         some = let k = next g.some.0 g.some.1 in (k.0, judged_with g.some.0 k.0 g.some.1 k.1);
-        fits = inr (going, some_frame g.frames, λ k j. let a = judged_less z g.frames f k j in fits a.0 a.1 k a.2);
+        fits = inr (going, some_frame g.frames, (λ k j. let a = judged_less z g.frames f k j in fits a.0 a.1 k a.2), grown);
       }
         where
           some_frame : (fs : List Frame) → HasFrame (fs ++ f ∷ [])
@@ -355,27 +395,32 @@ module _ (z : Settings) (id : ValidatorId) where
           before_end (frames.End place) k = absurd (passes_before_end place v w (subst (λ (y : Payload). TakesPayload y v (Ok valid.Ok) w) k t))
 
           go : FitsFrames g.frames v → IsNoHeader f ⊎ IsHeader f → Goes got eof r (drop n rest) w
-          go (inl (st, none)) (inl later) = absurd (not_header none later)
-          go (inl (st, none)) (inr (i, l, s, e)) =
+          go (inl (st, none, empty)) (inl later) = absurd (not_header none later)
+          go (inl (st, none, empty)) (inr (i, l, s, e)) =
               let first : x ≡ payloads.Version i l s = subst (λ (h : Frame). IsPayloadOf h x) e is in
               let h = header_taken z v w st g.settings i l s (subst (λ (y : Payload). TakesPayload y v (Ok valid.Ok) w) first t) in
               goes_with (h.1 ∙ g.settings) (h.2 ∙ g.own) (before_end f is) h.0
               (λ m j. subst (λ (k : SoFar). Next z k f) (judged_is_nothing none m j) (subst (λ (y : Frame). Next z nothing y) (sym e) h.3))
-              (λ m j k shape. h.4 k (subst (λ (y : Frame). JudgesShape z nothing (shape_of y) k) e (subst (λ (k' : SoFar). JudgesShape z k' (shape_of f) k) (sym (judged_is_nothing none m j)) shape)))
-          go (inr (st, some, fits)) (inl later) =
+              (λ m j k shape. h.4 k (subst (λ (y : Frame). JudgesShape z nothing (shape_of y) k) e (subst (λ (k' : SoFar). JudgesShape z k' (shape_of f) k) (sym (judged_is_nothing none m j)) shape))) (h.5 empty)
+          go (inr (st, some, fits, grown)) (inl later) =
               let first = taken z v w st g.some.0 f (fits g.some.0 g.some.1) has later x is t in
               goes_with (ap (λ (u : Validator). u.settings) first.0 ∙ g.settings) (ap (λ (u : Validator). u.id) first.0 ∙ g.own) (before_end f is) (ap (λ (u : Validator). u.state) first.0 ∙ st)
               (λ m j. (taken z v w st m f (fits m j) has later x is t).1) (λ m j. (taken z v w st m f (fits m j) has later x is t).2)
-          go (inr (st, some, fits)) (inr (i, l, s, e)) =
+              (grows_further (nothing_kept z).kept v.reached.progress.kept w.reached.progress.kept grown first.3)
+          go (inr (st, some, fits, grown)) (inr (i, l, s, e)) =
               absurd (late_header v w st i l s (subst (λ (y : Payload). TakesPayload y v (Ok valid.Ok) w) (subst (λ (h : Frame). IsPayloadOf h x) e is) t))
+
+      -- the list of types is not full because of this module alone
+      not_past : Grows (nothing_kept z).kept v.reached.progress.kept → (e : ErrorValue) → IsPastTotal v.reached.progress.kept.groups v.reached.progress.kept.items e → ⊥
+      not_past grown e p = none_past z g.within e (total_before (nothing_kept z).kept v.reached.progress.kept e grown p)
 
       -- a payload that is refused
       pub payload_denied : (e : ErrorValue) → TakesPayload x v (Err e) w → (more : List ℕ) → (eof ≡ true → more ≡ []) → length (got ++ more) < 2 ^ 64 → Denies e.kind (AcceptsUnder z (got ++ more))
       payload_denied e t more last room = go g.fits (header_or_not f)
         where
           go : FitsFrames g.frames v → IsNoHeader f ⊎ IsHeader f → Denies e.kind (AcceptsUnder z (got ++ more))
-          go (inl (st, none)) (inl later) = absurd (not_header none later)
-          go (inl (st, none)) (inr (i, l, s, h)) =
+          go (inl (st, none, empty)) (inl later) = absurd (not_header none later)
+          go (inl (st, none, empty)) (inr (i, l, s, h)) =
               let first : x ≡ payloads.Version i l s = subst (λ (y : Frame). IsPayloadOf y x) h is in
               denies_from e.kind (Next z nothing (frames.Version i l s)) (AcceptsUnder z (got ++ more))
               (λ a. let c = comes more last room a in (
@@ -384,11 +429,11 @@ module _ (z : Settings) (id : ValidatorId) where
                     (subst (λ (k : SoFar). JudgesShape z k (shape_of f) c.behind) (sym (judged_is_nothing none c.before c.judged)) c.next),
               ))
               (header_denied z v w st g.settings i l s e (subst (λ (y : Payload). TakesPayload y v (Err e) w) first t))
-          go (inr (st, some, fits)) (inl later) =
+          go (inr (st, some, fits, grown)) (inl later) =
               denies_each {X = (m : SoFar) × AreJudged g.frames m} e.kind (λ m. Next z m.0 f) (AcceptsUnder z (got ++ more))
               (λ a. let c = comes more last room a in ((c.before, c.judged), (c.behind, c.next)))
-              (λ m. denied z v w st m.0 f (fits m.0 m.1) has later x e is t)
-          go (inr (st, some, fits)) (inr (i, l, s, h)) = denies e.kind (AcceptsUnder z (got ++ more)) (λ a.
+              (λ m. denied z v w st m.0 f (fits m.0 m.1) has later x e (not_past grown e) is t)
+          go (inr (st, some, fits, grown)) (inr (i, l, s, h)) = denies e.kind (AcceptsUnder z (got ++ more)) (λ a.
               let c = comes more last room a in
               no_second_header z (got ++ more) c.all c.others g.frames _ c.is some (subst (λ (y : Frame). c.all ++ the_end ∷ [] ≡ shapes_of g.frames ++ shape_of y ∷ c.others) h c.front))
 
@@ -408,12 +453,12 @@ module _ (z : Settings) (id : ValidatorId) where
         entry_is = frame_is f (payloads.CodeSectionEntry body) (frames.CodeEntry body) refl is_entry
 
         -- it comes behind the header
-        fits_body : (v.state ≡ Module) × ((m : SoFar) → AreJudged g.frames m → IsJudgedSoFar z v.reached m)
+        fits_body : (v.state ≡ Module) × ((m : SoFar) → AreJudged g.frames m → IsJudgedSoFar z v.reached m) × Grows (nothing_kept z).kept v.reached.progress.kept
         fits_body = go g.fits
           where
-            go : FitsFrames g.frames v → (v.state ≡ Module) × ((m : SoFar) → AreJudged g.frames m → IsJudgedSoFar z v.reached m)
-            go (inl (st, none)) = absurd (not_header none (subst IsNoHeader (sym entry_is) tt))
-            go (inr (st, some, fits)) = (st, fits)
+            go : FitsFrames g.frames v → (v.state ≡ Module) × ((m : SoFar) → AreJudged g.frames m → IsJudgedSoFar z v.reached m) × Grows (nothing_kept z).kept v.reached.progress.kept
+            go (inl (st, none, empty)) = absurd (not_header none (subst IsNoHeader (sym entry_is) tt))
+            go (inr (st, some, fits, grown)) = (st, fits, grown)
 
         -- what judges it reads it by the settings of the module
         pub body_read : (z.limits ≡ h.limits) × IsReadBy z h.features.0 body
@@ -429,6 +474,7 @@ module _ (z : Settings) (id : ValidatorId) where
             let first = step g.some.0 g.some.1 in
             goes_with (ap (λ (u : Validator). u.settings) first.0 ∙ g.settings) (ap (λ (u : Validator). u.id) first.0 ∙ g.own) (ap is_end entry_is)
             (ap (λ (u : Validator). u.state) first.0 ∙ st) (λ m j. (step m j).1) (λ m j. (step m j).2)
+            (grows_further (nothing_kept z).kept v.reached.progress.kept w.reached.progress.kept fits_body.2 first.3)
 
         pub body_denied : (k : ErrorKind) → Denies k IsHandedBody → (more : List ℕ) → (eof ≡ true → more ≡ []) → length (got ++ more) < 2 ^ 64 → Denies k (AcceptsUnder z (got ++ more))
         body_denied k d more last room = denies_from k IsHandedBody (AcceptsUnder z (got ++ more)) valid d
@@ -460,8 +506,8 @@ module _ (z : Settings) (id : ValidatorId) where
         where
           go : IsModule z got (shapes_of g.frames) → IsReadAs z got g.some.0 → {place : ℕ} → TakesPayload (payloads.End place) v (Ok (valid.End t)) w → FitsFrames g.frames v
               → f ≡ frames.End place → AcceptsUnder z got × IsShown z got t × (t.id ≡ id)
-          go is_module read told' (inl (st, none)) e = absurd (not_header none (subst IsNoHeader (sym e) tt))
-          go is_module read {place} told' (inr (st, some, fits)) e =
+          go is_module read told' (inl (st, none, empty)) e = absurd (not_header none (subst IsNoHeader (sym e) tt))
+          go is_module read {place} told' (inr (st, some, fits, grown)) e =
               let m = g.some.0 in
               let s = fits m g.some.1 in
               let accepted : AcceptsUnder z got = read_is_accepted z got m read (all_bodies z m (as_many_bodies z got m read) s.bodies) in

@@ -23,6 +23,15 @@ read = record {
   list_lacks = refl;
   limits = record { names = record { taken = refl; named = refl }; features_are = refl; limits_are = refl };
   limits_in_one_word = record { names = record { taken = refl; named = refl }; features_are = refl; limits_are = refl };
+  pieces = record { names = record { taken = refl; named = refl }; pieces_are = refl };
+  pieces_in_one_word = record { names = record { taken = refl; named = refl }; pieces_are = refl };
+  two_pieces = refl;
+  one_byte = refl;
+  most_bytes = refl;
+  no_bytes = refl;
+  more_bytes = refl;
+  no_number = refl;
+  whole = refl;
   two_limits = refl;
 }
 

@@ -9,7 +9,7 @@ returns-else-is_empty-clause-valid g c z =
     let words = map g.S.AsStr.text c.args.words.now in
     let is : c.get_strs.result ≡ Some c.in-Some.names = search rules in
     let named = named_by words c.in-Ok.matches c.get_strs.result c.in-Some.names c.in-Ok.ensures.ok c.get_strs.ensures is in
-    let asks = asks_by words c.in-Ok.matches c.get_str-features.result c.get_str-limits.result c.in-Ok.ensures.ok c.get_str-features.ensures c.get_str-limits.ensures in
+    let asks = asks_by words c.in-Ok.matches c.get_str-features.result c.get_str-limits.result c.get_str-pieces.result c.in-Ok.ensures.ok c.get_str-features.ensures c.get_str-limits.ensures c.get_str-pieces.ensures in
     inr (judged_valid g.J.Judge.accepts words _ (texts c.in-Some.names.now) (g.W.Write.contents c.args.out.now) (g.W.Write.contents c.judge_by_options.new.out) asks named
     c.judge_by_options.result c.conclude.result (some_texts c.in-Some.names.now c.if-is_empty.ensures) c.judge_by_options.ensures.ok c.conclude.ensures.code z)
 
@@ -18,7 +18,7 @@ returns-else-is_empty-clause-invalid g c z =
     let words = map g.S.AsStr.text c.args.words.now in
     let is : c.get_strs.result ≡ Some c.in-Some.names = search rules in
     let named = named_by words c.in-Ok.matches c.get_strs.result c.in-Some.names c.in-Ok.ensures.ok c.get_strs.ensures is in
-    let asks = asks_by words c.in-Ok.matches c.get_str-features.result c.get_str-limits.result c.in-Ok.ensures.ok c.get_str-features.ensures c.get_str-limits.ensures in
+    let asks = asks_by words c.in-Ok.matches c.get_str-features.result c.get_str-limits.result c.get_str-pieces.result c.in-Ok.ensures.ok c.get_str-features.ensures c.get_str-limits.ensures c.get_str-pieces.ensures in
     judged_invalid g.J.Judge.accepts words _ (texts c.in-Some.names.now) (g.W.Write.contents c.args.out.now) (g.W.Write.contents c.judge_by_options.new.out) asks named
     c.judge_by_options.result c.conclude.result (some_texts c.in-Some.names.now c.if-is_empty.ensures) c.judge_by_options.ensures.ok c.conclude.ensures.code z
 
@@ -27,7 +27,7 @@ returns-else-is_empty-clause-stopped g c z =
     let words = map g.S.AsStr.text c.args.words.now in
     let is : c.get_strs.result ≡ Some c.in-Some.names = search rules in
     let named = named_by words c.in-Ok.matches c.get_strs.result c.in-Some.names c.in-Ok.ensures.ok c.get_strs.ensures is in
-    let asks = asks_by words c.in-Ok.matches c.get_str-features.result c.get_str-limits.result c.in-Ok.ensures.ok c.get_str-features.ensures c.get_str-limits.ensures in
+    let asks = asks_by words c.in-Ok.matches c.get_str-features.result c.get_str-limits.result c.get_str-pieces.result c.in-Ok.ensures.ok c.get_str-features.ensures c.get_str-limits.ensures c.get_str-pieces.ensures in
     inr (inr (judged_stopped g.J.Judge.accepts words _ (texts c.in-Some.names.now) (g.W.Write.contents c.args.out.now) (g.W.Write.contents c.judge_by_options.new.out) asks named
     c.judge_by_options.result c.conclude.result c.judge_by_options.ensures.err c.conclude.ensures.code z))
 

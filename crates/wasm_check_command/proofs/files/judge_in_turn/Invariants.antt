@@ -1,5 +1,5 @@
 use Rattle.std.proofs.Common.{◌≤◌, take}
-use Rattle.wasm_check_command.specs.Settings.{settings_of}
+use Rattle.wasm_check_command.specs.Modes.{ruling_of}
 use Rattle.wasm_check_command.specs.Opened.{kept_open}
 use Rattle.wasm_check_command.specs.Files.{texts, ReportsFiles}
 use Rattle.wasm_check_command.proofs.files.judge_in_turn.Given as goal
@@ -8,5 +8,5 @@ use Rattle.wasm_check_command.proofs.files.judge_in_turn.Given as goal
 abbrev pub invariant-loop-place : goal.invariant-loop-place
 invariant-loop-place g l = record {
   past : kept_open ≤ l.place;
-  reported : ReportsFiles (g.J.Judge.accepts (settings_of l.chosen)) (take l.place (texts l.names)) (g.W.Write.contents l.fn.out) (g.W.Write.contents l.out) l.status;
+  reported : ReportsFiles (ruling_of g.J.Judge.accepts l.chosen) (take l.place (texts l.names)) (g.W.Write.contents l.fn.out) (g.W.Write.contents l.out) l.status;
 }

@@ -2,14 +2,14 @@ use Rattle.std.proofs.Common.{[], ◌∷◌, ◌∙◌, refl, subst, sym, map, t
 use Rattle.std.proofs.lemmas.Iterator.Adapters.{YieldsList-from_vec}
 use Rattle.std.proofs.lemmas.Iterator.Consumers.{YieldsList-so_far, YieldsList-turn}
 use Rattle.std.proofs.lemmas.List.{map-append, length_push}
-use Rattle.wasm_check_command.specs.Settings.{settings_of}
+use Rattle.wasm_check_command.specs.Modes.{ruling_of}
 use Rattle.wasm_check_command.specs.Opened.{kept_open}
 use Rattle.wasm_check_command.specs.Files.{ReportsFiles}
 use Rattle.wasm_check_command.proofs.FileReports.{reports_none, reports_more, names_so_far, name_at, stops_at}
 use Rattle.wasm_check_command.proofs.files.judge_kept.Goals as goal
 
 pub loop-input-init : goal.loop-input-init
-loop-input-init g c = record { can = tt; finite = tt; counted = refl; reported = reports_none (g.J.Judge.accepts (settings_of c.args.chosen)) (g.W.Write.contents c.args.out.now) }
+loop-input-init g c = record { can = tt; finite = tt; counted = refl; reported = reports_none (ruling_of g.J.Judge.accepts c.args.chosen) (g.W.Write.contents c.args.out.now) }
 
 pub returns-in-Err-clause-err : goal.returns-in-Err-clause-err
 returns-in-Err-clause-err g c = λ all kept.
@@ -17,9 +17,9 @@ returns-in-Err-clause-err g c = λ all kept.
     c.into_iter-input-iterator.ensures.into_iter_gives.0 (c.into_iter-input-iterator.ensures.into_iter_gives.1 ∙ c.args.inputs.ok.0) in
     let so_far = YieldsList-so_far road c.loop-input.yielded c.loop-input.input-iterator c.loop-input.yielded_by in
     let turn = YieldsList-turn road c.loop-input.yielded c.loop-input.input-iterator c.loop-input.yielded_by c.next.result c.next.new.self c.in-Some.input c.in-Some.is c.next.ensures.steps in
-    stops_at (g.J.Judge.accepts (settings_of c.args.chosen)) all c.in-Some.input.name.now c.loop-input.index (g.W.Write.contents c.args.out.now)
+    stops_at (ruling_of g.J.Judge.accepts c.args.chosen) all c.in-Some.input.name.now c.loop-input.index (g.W.Write.contents c.args.out.now)
     (g.W.Write.contents c.loop-input.out) (g.W.Write.contents c.judge_opened.new.out) c.loop-input.status c.in-Err.fault
-    (subst (λ ns. ReportsFiles (g.J.Judge.accepts (settings_of c.args.chosen)) ns (g.W.Write.contents c.args.out.now) (g.W.Write.contents c.loop-input.out) c.loop-input.status)
+    (subst (λ ns. ReportsFiles (ruling_of g.J.Judge.accepts c.args.chosen) ns (g.W.Write.contents c.args.out.now) (g.W.Write.contents c.loop-input.out) c.loop-input.status)
     (names_so_far c.loop-input.yielded c.args.inputs.items all kept_open c.loop-input.index c.loop-input.invariant.counted so_far turn.0 kept) c.loop-input.invariant.reported)
     (name_at c.loop-input.yielded c.args.inputs.items all kept_open c.loop-input.index c.in-Some.input c.loop-input.invariant.counted turn kept)
     c.in-Err.ensures.err
@@ -30,6 +30,6 @@ loop-input-preserved g c = record {
   finite = tt;
   counted = grind (arith, length_push c.loop-input.yielded c.in-Some.input);
   reported = rw (map-append (λ i. i.name.now) c.loop-input.yielded (c.in-Some.input ∷ []), c.joined-status.ensures)
-      (reports_more (g.J.Judge.accepts (settings_of c.args.chosen)) (map (λ i. i.name.now) c.loop-input.yielded) c.in-Some.input.name.now (g.W.Write.contents c.args.out.now)
+      (reports_more (ruling_of g.J.Judge.accepts c.args.chosen) (map (λ i. i.name.now) c.loop-input.yielded) c.in-Some.input.name.now (g.W.Write.contents c.args.out.now)
       (g.W.Write.contents c.loop-input.out) (g.W.Write.contents c.judge_opened.new.out) c.loop-input.status c.in-Ok.is_valid c.loop-input.invariant.reported c.in-Ok.ensures.ok);
 }

@@ -12,7 +12,8 @@ use Rattle.wasm_module_validator_sharing.specs.reading.progress.Progress.{Kept, 
 use Rattle.wasm_module_validator_sharing.specs.reading.judging.Bodies.{AreBodies}
 use Rattle.wasm_module_validator_sharing.specs.reading.Reading.{IsReadAs}
 use Rattle.wasm_module_validator.specs.Accepts.{IsShown}
-use Rattle.wasm_module_validator.specs.laws.Verdict.{accepted_is_read, alone_told, tells_accepted, stands_for_module}
+use Rattle.wasm_module_validator.specs.States.{IsLeft, held_by}
+use Rattle.wasm_module_validator.specs.laws.Verdict.{accepted_is_read, alone_told, left_behind, tells_accepted, stands_for_module}
 use Rattle.wasm_module_validator_runs.proofs.Validity.{accepted_sound}
 use Rattle.wasm_module_validator.proofs.validator.Validator.validate_all.Goals as goal
 
@@ -61,3 +62,13 @@ returns-in-Err-judge-clause-alone c = λ none.
 
 pub returns-in-Ok-finish-clause-alone : goal.returns-in-Ok-finish-clause-alone
 returns-in-Ok-finish-clause-alone c = λ none. returns-in-Ok-finish-clause-verdict c
+
+pub returns-in-Err-judge-clause-state : goal.returns-in-Err-judge-clause-state
+returns-in-Err-judge-clause-state c =
+    let z : Settings = c.args.self.now.settings in
+    let r : Progress = c.read.new.self.progress in
+    let told : Tells c.judge.result (AcceptsUnder z c.args.bytes.now) = tells_accepted z c.args.bytes.now r c.in-Ok.bodies.items c.in-Ok.ensures.answer c.in-Ok.ensures.stands c.judge.result
+    (subst (λ (xs : List Body). (q : SoFar) → IsAt z r xs q → length q.bodies ≡ length q.tree.functions → Tells c.judge.result (AreBodies z q)) c.as_slice.ensures.value (c.judge.ensures z)) in
+    left_behind (held_by c.args.self.now) z c.args.bytes.now c.in-Err-judge.error c.state_after.result
+    (subst (λ k. IsLeft k c.state_after.result) c.kind.ensures c.state_after.ensures) c.in-Ok.ensures.answer
+    (subst (λ answer. Tells answer (AcceptsUnder z c.args.bytes.now)) c.in-Err-judge.is told)

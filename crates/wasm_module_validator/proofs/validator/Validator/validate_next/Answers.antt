@@ -8,24 +8,29 @@ use Rattle.wasm_module_validator_sharing.specs.reading.progress.standing.type_tr
 use Rattle.wasm_module_validator.specs.declared.lists.Verdict.TheVariants.{Accepted, Refused}
 use Rattle.wasm_module_validator.specs.declared.validator.Validator.{Validator}
 use Rattle.wasm_module_validator.specs.Lists.{AreToldUnder, IsVerdict}
-use Rattle.wasm_module_validator.specs.laws.Lists.{groups_grown, refused_verdict}
+use Rattle.wasm_module_validator.specs.States.{held_by}
+use Rattle.wasm_module_validator.specs.laws.Lists.{groups_begun, groups_grown, refused_verdict}
 use Rattle.wasm_module_validator.proofs.validator.Validator.validate_next.Goals as goal
 
 pub returns-in-Ok-clause-verdict : goal.returns-in-Ok-clause-verdict
 returns-in-Ok-clause-verdict c =
-    subst (λ (u : Validator). IsVerdict u.settings u.id c.args.bytes.now (Accepted c.in-Ok.types)) c.reset.ensures
+    subst (λ (u : Validator). IsVerdict u.settings u.id (held_by c.args.self.now) c.args.bytes.now (Accepted c.in-Ok.types)) c.reset.ensures
     (c.in-Ok.ensures.verdict, c.in-Ok.ensures.shown, c.in-Ok.ensures.id)
 
 pub returns-else-is_memory-clause-verdict : goal.returns-else-is_memory-clause-verdict
 returns-else-is_memory-clause-verdict c =
+    let v : Validator = c.args.self.now in
     let u : Validator = c.reset.new.self in
     let w : Validator = c.validate_all.new.self in
     let e : ErrorValue = c.in-Err.error in
     let known : IsNotMemory c.kind.result =
     subst (λ (b : Bool). one_of b (c.kind.result ≡ kinds.OutOfMemory) (IsNotMemory c.kind.result)) c.if-is_memory.false c.is_memory.ensures in
-    let refused = refused_verdict u.settings c.args.bytes.now e w.state u.id (subst IsNotMemory c.kind.ensures known) c.in-Err.ensures.verdict c.in-Err.ensures.state in
-    subst (λ (v : Validator). IsVerdict v.settings v.id c.args.bytes.now (Refused e c.can_reset-ended.result)) c.reset.ensures
-    (subst (λ (b : Bool). IsVerdict u.settings u.id c.args.bytes.now (Refused e b)) (sym c.can_reset-ended.ensures) refused)
+    let refused : IsVerdict u.settings u.id (held_by u) c.args.bytes.now (Refused e c.can_reset-ended.result) =
+    subst (λ (b : Bool). IsVerdict u.settings u.id (held_by u) c.args.bytes.now (Refused e b)) (sym c.can_reset-ended.ensures)
+    (refused_verdict u.settings (held_by u) c.args.bytes.now e w.state u.id (subst IsNotMemory c.kind.ensures known) c.in-Err.ensures.state) in
+    let over : IsVerdict u.settings u.id (held_by v) c.args.bytes.now (Refused e c.can_reset-ended.result) =
+    subst (λ (gs : List Group). IsVerdict u.settings u.id gs c.args.bytes.now (Refused e c.can_reset-ended.result)) (groups_begun v u w c.reset.ensures c.validate_all.ensures.others) refused in
+    subst (λ (y : Validator). IsVerdict y.settings y.id (held_by v) c.args.bytes.now (Refused e c.can_reset-ended.result)) c.reset.ensures over
 
 pub returns-in-Ok-clause-groups : goal.returns-in-Ok-clause-groups
 returns-in-Ok-clause-groups c =
@@ -33,4 +38,4 @@ returns-in-Ok-clause-groups c =
     let gs : List Group = c.in-Ok.types.kept.groups in
     let grown = groups_grown v c.reset.new.self c.validate_all.new.self c.reset.ensures c.in-Ok.ensures.others c.in-Ok.ensures.state c.in-Ok.ensures.kept in
     let settings : c.in-Ok.types.kept.items.spaces.settings ≡ v.settings = c.in-Ok.ensures.shown.2.settings ∙ ap (λ (u : Validator). u.settings) c.reset.ensures in
-    (grown.0, c.in-Ok.ensures.types ∙ grown.1, subst (λ (z : Settings). AreToldUnder z gs gs) settings c.tell_ids.ensures)
+    ((grown.0, c.in-Ok.ensures.types ∙ grown.1), subst (λ (z : Settings). AreToldUnder z gs gs) settings c.tell_ids.ensures)

@@ -1,18 +1,16 @@
-use Rattle.std.proofs.Common.{◌≡◌, ◌∙◌, ℕ, List, [], ◌∷◌, ◌++◌, map, sym, ap, subst, true, false}
+use Rattle.std.proofs.Common.{◌≡◌, ◌∙◌, ℕ, List, [], ◌∷◌, ◌++◌, map, sym, ap, subst, string_bytes}
 use Rattle.std.proofs.lemmas.List.{map-append}
-use Rattle.std.specs.List.{list_any}
-use Rattle.std.specs.Str.{bytes_eq}
 use Rattle.wasm_types.specs.error.DenialLaws.{denies}
 use Rattle.wasm_sections_items.specs.imports.Spells.{ExportTree}
 use Rattle.wasm_module_validator_exports.specs.names.Exports.{IsNew, Holds, export_of, names_of}
-use Rattle.wasm_module_validator_exports.proofs.Taking.{new_name, known_name, holds_after}
+use Rattle.wasm_module_validator_exports.proofs.Taking.{name_free, name_taken, holds_after}
 use Rattle.wasm_module_validator_exports.proofs.names.exports.Exports.insert.Goals as goal
 
-pub returns-then-contains-clause-answer : goal.returns-then-contains-clause-answer
-returns-then-contains-clause-answer c =
+pub returns-then-not-is_new-clause-answer : goal.returns-then-not-is_new-clause-answer
+returns-then-not-is_new-clause-answer c =
     let names = names_of (map export_of c.self.inside.exports.items) in
-    let found : list_any (bytes_eq c.args.name.now) names ≡ true = sym (c.self.invariant c.args.name.now) ∙ sym c.contains.ensures ∙ c.if-contains.true in
-    denies c.duplicate.result.kind _ (λ h. known_name c.args.name.now names found (subst (λ (es : List ExportTree). IsNew c.args.name.now (names_of es)) (sym c.self.view_is) h))
+    denies c.duplicate.result.kind _ (λ h. name_taken c.self.inside.taken c.number-first.result (string_bytes c.in_ok-text.text) c.args.name.now names c.in_ok-is_new.is_new c.number-first.ensures
+    c.in_ok-text.ensures.ok c.self.invariant c.in_ok-is_new.ensures.added c.if-not-is_new.true (subst (λ (es : List ExportTree). IsNew c.args.name.now (names_of es)) (sym c.self.view_is) h))
 
 pub invariant_of-self-2 : goal.invariant_of-self-2
 invariant_of-self-2 c =
@@ -22,10 +20,11 @@ invariant_of-self-2 c =
     ∙ ap (λ l. map export_of l ++ export_of (record { name = c.in_ok-kept.kept; kind = c.args.kind; index = c.args.index }) ∷ []) c.in_ok-reserve.ensures.items
     ∙ ap (λ (n : List ℕ). before ++ record { name = n; kind = c.args.kind; index = c.args.index } ∷ []) c.in_ok-kept.ensures.ok in
     subst (Holds c.insert.new.self) (sym (ap names_of pushed ∙ map-append (λ (e : ExportTree). e.name) before (record { name = c.args.name.now; kind = c.args.kind; index = c.args.index } ∷ [])))
-    (holds_after c.self.inside.taken c.insert.new.self c.in_ok-key.key (names_of before) c.args.name.now c.in_ok-insert.ensures.updates c.in_ok-key.ensures.ok c.self.invariant)
+    (holds_after c.self.inside.taken c.insert.new.self c.number-first.result (string_bytes c.in_ok-text.text) c.args.name.now (names_of before) c.number-first.ensures c.in_ok-text.ensures.ok
+    c.in_ok-is_new.ensures.updates c.self.invariant)
 
 pub returns-clause-answer : goal.returns-clause-answer
 returns-clause-answer c =
     let names = names_of (map export_of c.self.inside.exports.items) in
-    let missing : list_any (bytes_eq c.args.name.now) names ≡ false = sym (c.self.invariant c.args.name.now) ∙ sym c.contains.ensures ∙ c.if-contains.false in
-    subst (λ (es : List ExportTree). IsNew c.args.name.now (names_of es)) c.self.view_is (new_name c.args.name.now names missing)
+    subst (λ (es : List ExportTree). IsNew c.args.name.now (names_of es)) c.self.view_is (name_free c.self.inside.taken c.number-first.result (string_bytes c.in_ok-text.text) c.args.name.now names
+    c.in_ok-is_new.is_new c.number-first.ensures c.in_ok-text.ensures.ok c.self.invariant c.in_ok-is_new.ensures.added c.if-not-is_new.false)

@@ -1,18 +1,11 @@
-use Rattle.std.proofs.Common.{◌∙◌, map, sym, string_bytes}
-use Rattle.wasm_module_validator_exports.specs.names.Imports.{named_of}
-use Rattle.wasm_module_validator_exports.proofs.Naming.{index_within, finds_still}
+use Rattle.std.proofs.Common.{◌∙◌, [], ap}
+use Rattle.wasm_module_validator_exports.specs.declared.names.imports.KeptImport.{KeptImport}
+use Rattle.wasm_module_validator_exports.specs.names.Imports.{grouped, with_import}
+use Rattle.wasm_module_validator_exports.proofs.Keeping.{one_more_import}
 use Rattle.wasm_module_validator_exports.proofs.names.imports.Imports.insert.Goals as goal
 
-pub push_at-requires : goal.push_at-requires
-push_at-requires c =
-    let m = string_bytes c.in_ok-from_str.field-0 in
-    let f = string_bytes c.in_ok-from_str-2.field-0 in
-    index_within m f c.args.place c.self.inside.names.items c.in-Some.at (sym (c.self.invariant m f) ∙ sym c.in-Some.ensures)
-
-pub invariant_of-self : goal.invariant_of-self
-invariant_of-self c =
-    let m = string_bytes c.in_ok-from_str.field-0 in
-    let f = string_bytes c.in_ok-from_str-2.field-0 in
-    let found = sym (c.self.invariant m f) ∙ sym c.in-Some.ensures in
-    finds_still c.self.inside.found (map named_of c.self.inside.names.items) (map named_of c.push_at.new.names.items) m f c.args.place c.in-Some.at c.push_at.result
-    c.self.invariant found (c.push_at.ensures.added m f found) c.push_at.ensures.kept
+pub returns-clause-added : goal.returns-clause-added
+returns-clause-added c =
+    let kept : KeptImport = record { «module» = c.in_ok-module.module; name = c.in_ok-name.name; place = c.args.place } in
+    ap grouped c.in_ok-push.ensures.items ∙ one_more_import [] c.self.inside.imports.items kept
+    ∙ (λ i. with_import (c.in_ok-module.ensures.ok i) (c.in_ok-name.ensures.ok i) c.args.place (c.self.view_is i))

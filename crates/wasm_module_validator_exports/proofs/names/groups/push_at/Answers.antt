@@ -1,7 +1,7 @@
 use Rattle.std.proofs.Common.{[]}
 use Rattle.wasm_module_validator_exports.specs.names.Imports.{named_of}
 use Rattle.wasm_module_validator_exports.proofs.Naming.{import_at, same_at, on_err, there}
-use Rattle.wasm_module_validator_exports.proofs.names.imports.push_at.Goals as goal
+use Rattle.wasm_module_validator_exports.proofs.names.groups.push_at.Goals as goal
 
 pub returns-in_err-push-clause-kept : goal.returns-in_err-push-clause-kept
 returns-in_err-push-clause-kept c =

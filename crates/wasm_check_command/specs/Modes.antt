@@ -1,0 +1,63 @@
+-- How inputs are read: whole, or in pieces as they come. An input that comes in pieces is judged while it is read, so it may be refused long
+-- before its end; and none is read past 2^30 bytes.
+use Rattle.std.specs.Prelude.{◌≡◌, ℕ, ◌≤◌, ◌<◌, ◌^◌, List, length, IfSome, Option}
+use Rattle.wasm_types.specs.error.Denials.{UnlessMemory}
+use Rattle.wasm_types.specs.limits.Limits.{IsWithinCeilings}
+use Rattle.wasm_types.specs.limits.Settings.{Settings}
+use Rattle.wasm_check_command.specs.declared.judging.Chosen.{Chosen}
+use Rattle.wasm_check_command.specs.declared.judging.Mode.{Mode}
+use Rattle.wasm_check_command.specs.declared.judging.Mode.TheVariants.{Whole, Pieces}
+use Rattle.wasm_check_command.specs.declared.judging.Unjudged.{Unjudged}
+use Rattle.wasm_check_command.specs.declared.judging.Unjudged.TheVariants.{Refused, Read, TooLong}
+use Rattle.wasm_check_command.specs.Settings.{settings_of}
+
+-- the most bytes that an input may have: 2^30
+abbrev pub IsShort : List ℕ → Type 0
+IsShort bytes = length bytes ≤ 2 ^ 30
+
+-- a reader whose bytes are known has more than an input may have
+abbrev pub IsTooLong : Option (List ℕ) → Type 0
+IsTooLong said = IfSome said (λ xs. 2 ^ 30 < length xs)
+
+-- By what lines are written: which bytes are valid, and which an input may have of which a line is written.
+pub record Ruling : Type 1 where
+  pub accepts : List ℕ → Type 0
+  pub fits : List ℕ → Type 0
+
+-- An input that is read whole has at most 2^30 bytes, if a line is written of it. One that comes in pieces is valid only if it has.
+abbrev pub ruled : Mode → (List ℕ → Type 0) → Ruling
+ruled Whole accepts = record { accepts = accepts; fits = IsShort }
+ruled (Pieces piece) accepts = record { accepts = λ bytes. IsShort bytes × accepts bytes; fits = λ bytes. Unit {0} }
+
+-- by what was chosen
+abbrev pub ruling_of : (Settings → List ℕ → Type 0) → Chosen → Ruling
+ruling_of accepts c = ruled c.mode (accepts (settings_of c))
+
+-- pieces have some bytes
+abbrev pub HasPieces : Mode → Type 0
+HasPieces Whole = Unit {0}
+HasPieces (Pieces piece) = 1 ≤ piece
+
+-- what was chosen is what can be judged by
+abbrev pub CanJudge : Chosen → Type 0
+CanJudge c = IsWithinCeilings c.limits × HasPieces c.mode
+
+-- ---- a reader whose bytes are judged as they come
+
+-- a reader has these bytes left, where it says which
+abbrev pub AreLeft : Option (List ℕ) → List ℕ → Type 0
+AreLeft said bytes = IfSome said (λ xs. xs ≡ bytes)
+
+-- it has valid bytes, at most 2^30
+abbrev pub HasValid : (List ℕ → Type 0) → Option (List ℕ) → Type 0
+HasValid accepts said = (bytes : List ℕ) × AreLeft said bytes × IsShort bytes × accepts bytes
+
+-- it has none that are valid and at most 2^30
+abbrev pub HasInvalid : (List ℕ → Type 0) → Option (List ℕ) → Type 0
+HasInvalid accepts said = (bytes : List ℕ) × AreLeft said bytes × (IsShort bytes × accepts bytes → ⊥)
+
+-- why it is not said that they are valid: they are not, or memory ran out; or there is no verdict
+abbrev pub FailsJudging : (List ℕ → Type 0) → Option (List ℕ) → Unjudged → Type 0
+FailsJudging accepts said (Refused e) = UnlessMemory e.kind (HasInvalid accepts said)
+FailsJudging accepts said Read = Unit {0}
+FailsJudging accepts said TooLong = IsTooLong said

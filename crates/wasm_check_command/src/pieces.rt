@@ -1,0 +1,109 @@
+//! An input in pieces: it is judged while it is read, and of what came nothing is kept but the part of the module that it is in.
+ghost use Rattle.std.specs.Prelude.{◌≤◌, IfOk, IfErr, string_bytes};
+ghost use Rattle.wasm_types.specs.limits.Limits.{IsWithinCeilings};
+ghost use Rattle.wasm_check_command.specs.Settings.{settings_of};
+ghost use Rattle.wasm_check_command.specs.Faults.{FailsReading};
+ghost use Rattle.wasm_check_command.specs.Modes.{ruled};
+ghost use Rattle.wasm_check_command.specs.Verdict.{IsVerdictOf, IsJudged, FailsAt};
+ghost use Rattle.wasm_check_command.specs.declared.judging.Mode.TheVariants.{Pieces as pieces};
+
+use crate::error::CheckError;
+use crate::judging::{
+    Chosen, Judge, Unjudged, Unread, refusal_line, valid_line, without_reason, write_text,
+};
+use crate::reason::Reason;
+use std::alloc::Global;
+use std::io::{self, Read, Write};
+use wasm_types::ErrorKind;
+
+/// A reader, and why a read through it failed.
+#[derive(Drop)]
+struct Noted<'a, R> {
+    reader: &'a mut R,
+    reason: Reason,
+}
+
+impl<R: Read> Read for Noted<'_, R> {
+    ghost remaining = { λ n. R.remaining n.reader.now };
+
+    fn read(&mut self, buf: &mut [u8]) -> io::Result<usize> {
+        match self.reader.read(buf) {
+            Ok(count) => Ok(count),
+            Err(error) => {
+                self.reason = Reason::of(&error);
+                Err(error)
+            }
+        }
+    }
+}
+
+/// The line of an input that is judged in pieces of at most this many bytes, and whether it is a valid module.
+fn pieces_line<J: Judge, R: Read>(
+    judge: &J,
+    alloc: Global,
+    chosen: Chosen,
+    piece: u32,
+    index: usize,
+    name: &str,
+    reader: &mut R,
+) -> Result<(bool, String), CheckError>
+    requires within { IsWithinCeilings chosen.limits }
+    requires some { 1 ≤ piece }
+    ensures ok { IfOk result (λ r. IsVerdictOf (ruled (pieces piece) (J.accepts (settings_of chosen))) name.now
+        (R.remaining reader.old) r.0 (string_bytes r.1)) }
+    ensures err { IfErr result (FailsReading index (R.remaining reader.old)) }
+{
+    let (features, limits) = (chosen.features, chosen.limits);
+    let line = match judge.judge_pieces(alloc, features, limits, index, reader, piece) {
+        Ok(()) => (true, valid_line(alloc, name)),
+        Err(Unjudged::Refused(error)) => {
+            if error.kind() == ErrorKind::OutOfMemory {
+                return Err(CheckError::OutOfMemory(index));
+            }
+            (false, refusal_line(alloc, name, &error))
+        }
+        Err(Unjudged::Read) => return Err(CheckError::Read(index)),
+        Err(Unjudged::TooLong) => return Err(CheckError::TooLong(index)),
+    };
+    match line {
+        (is_valid, Ok(line)) => Ok((is_valid, line)),
+        (_, Err(_)) => Err(CheckError::OutOfMemory(index)),
+    }
+}
+
+/// Judges an input in pieces of at most this many bytes, writes its line, and says whether it is a valid module.
+pub(crate) fn judge_in_pieces<J: Judge, R: Read, W: Write>(
+    judge: &J,
+    alloc: Global,
+    chosen: Chosen,
+    piece: u32,
+    index: usize,
+    name: &str,
+    reader: &mut R,
+    out: &mut W,
+) -> Result<bool, Unread>
+    requires within { IsWithinCeilings chosen.limits }
+    requires some { 1 ≤ piece }
+    ensures ok { IfOk result (λ valid. IsJudged (ruled (pieces piece) (J.accepts (settings_of chosen))) name.now
+        (R.remaining reader.old) valid (W.contents out.old) (W.contents out.new)) }
+    ensures err { IfErr result (λ u. FailsAt (ruled (pieces piece) (J.accepts (settings_of chosen))) index name.now
+        (R.remaining reader.old) (W.contents out.old) (W.contents out.new) u.error) }
+{
+    let mut noted = Noted {
+        reader,
+        reason: Reason::Unknown,
+    };
+    let (is_valid, line) = match pieces_line(judge, alloc, chosen, piece, index, name, &mut noted) {
+        Ok(told) => told,
+        Err(error) => {
+            return Err(Unread {
+                error,
+                reason: noted.reason,
+            });
+        }
+    };
+    match write_text(line.as_bytes(), out) {
+        Ok(()) => Ok(is_valid),
+        Err(error) => Err(without_reason(error)),
+    }
+}

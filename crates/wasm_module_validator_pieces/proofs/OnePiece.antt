@@ -1,0 +1,75 @@
+-- One piece more of a reader: what was read with it, and what that leads to.
+use Rattle.std.proofs.Common.{◌≡◌, ◌∙◌, ◌<◌, ◌≤◌, ◌+◌, ◌-◌, ◌^◌, min, ℕ, Bool, true, false, List, [], ◌++◌, length, take, drop, Option, Some, refl, sym, ap, subst, arith, append_assoc, length-append, length-take-le, take-take, take-append-drop}
+use Rattle.std.proofs.lemmas.Bool.{false≢true}
+use Rattle.std.proofs.KnownBytes.{Consumes-trans}
+use Rattle.std.specs.Io.KnownBytes.{Consumes}
+use Rattle.wasm_module_validator_pieces.specs.Pieces.{HasCome, RefusesAll, ReadsSome}
+use Rattle.wasm_module_validator_pieces.specs.Reads.{Gives}
+use Rattle.wasm_module_validator_pieces.specs.Taking.{IsMidst, Carries, DeniesFrom}
+
+-- a law of what takes bytes: more may come
+abbrev pub MayGrow : {S : Type 0} → (S → List ℕ → Bool → List ℕ → S → Type 0) → Type 0
+MayGrow {S} stands = (first : S) (got : List ℕ) (rest : List ℕ) (now : S) (bytes : List ℕ) → stands first got false rest now → stands first (got ++ bytes) false (rest ++ bytes) now
+
+module _ {S : Type 0} (stands : S → List ℕ → Bool → List ℕ → S → Type 0) (grow : MayGrow stands) (first now : S) (most room : ℕ) (few : most < 2 ^ 64 - 1)
+    (before mid after : Option (List ℕ)) (rest : List ℕ) (come : HasCome stands first most room before mid rest now)
+    (count k : ℕ) (chunk : List ℕ) (gives : Gives mid after (Some count) chunk) (kept : k ≡ min count room) where
+  got : List ℕ
+  got = come.0
+
+  all_read : Consumes before after (got ++ take count chunk)
+  unfolding got
+  all_read = Consumes-trans before mid after got (take count chunk) come.2 gives.1
+
+  length_read : length (got ++ take count chunk) ≡ length got + count
+  length_read = length-append got (take count chunk) ∙ ap (λ (n : ℕ). length got + n) (length-take-le count chunk gives.0)
+
+  length_kept : length (got ++ take k chunk) ≡ length got + k
+  length_kept = length-append got (take k chunk) ∙ ap (λ (n : ℕ). length got + n) (length-take-le k chunk (let fits = gives.0 in omega (arith, kept, fits)))
+
+  room_kept : length (got ++ take k chunk) < 2 ^ 64
+  unfolding got
+  room_kept = let total = come.1 in omega (arith, length_kept, total, kept, few)
+
+  there : stands first (got ++ take k chunk) false (rest ++ take k chunk) now
+  unfolding got
+  there = grow first got rest now (take k chunk) come.3
+
+  -- what is kept of the piece may come behind what is left
+  pub kept_midst : IsMidst stands false (rest ++ take k chunk) now
+  kept_midst = record { first = first; got = got ++ take k chunk; there = there; room = room_kept }
+
+  -- the piece was refused, and so is whatever begins with what was read
+  pub piece_refused : {E : Type 0} (denied : S → List ℕ → E → Type 0) (e : E) → DeniesFrom stands denied false (rest ++ take k chunk) now e → RefusesAll (denied first) before after e
+  piece_refused denied e h = record {
+    got = got ++ take count chunk;
+    read = all_read;
+    eof = false;
+    ended = λ t. absurd (false≢true t);
+    refused = λ more none room'. subst (λ (text : List ℕ). denied first text e) (sym (parts more))
+        (h first (got ++ take k chunk) there room_kept (drop k (take count chunk) ++ more) (λ t. absurd (false≢true t)) (subst (λ (text : List ℕ). length text < 2 ^ 64) (parts more) room'));
+  }
+    where
+      front : take k chunk ++ drop k (take count chunk) ≡ take count chunk
+      front = ap (λ (l : List ℕ). l ++ drop k (take count chunk)) (sym (take-take k count chunk (omega (arith, kept)))) ∙ take-append-drop k (take count chunk)
+
+      parts : (more : List ℕ) → (got ++ take count chunk) ++ more ≡ (got ++ take k chunk) ++ (drop k (take count chunk) ++ more)
+      parts more = ap (λ (l : List ℕ). l ++ more) (ap (λ (l : List ℕ). got ++ l) (sym front) ∙ sym (append_assoc got (take k chunk) (drop k (take count chunk))))
+          ∙ append_assoc (got ++ take k chunk) (drop k (take count chunk)) more
+
+  -- more came than there is room for
+  pub too_long : k < count → ReadsSome (λ n. most < n) before after
+  unfolding got
+  too_long more = (got ++ take count chunk, all_read, let total = come.1 in omega (arith, length_read, total, kept, more))
+
+  -- all of the piece was kept, and taken
+  pub has_come : count ≤ k → (left : List ℕ) (then : S) → Carries stands false (rest ++ take k chunk) now left then → HasCome stands first most (room - k) before after left then
+  unfolding got
+  has_come all left then h =
+      let same : k ≡ count = omega (arith, kept, all) in
+      let total = come.1 in (
+        got ++ take k chunk,
+        omega (arith, length_kept, total, kept),
+        subst (λ (n : ℕ). Consumes before after (got ++ take n chunk)) (sym same) all_read,
+        h first (got ++ take k chunk) there room_kept,
+      )

@@ -1,0 +1,131 @@
+-- What a step of a module that comes in pieces leads to, by the laws of `specs/laws`.
+use Rattle.std.proofs.Common.{◌≡◌, ◌∙◌, ◌⊎◌, ◌<◌, ◌≤◌, ◌+◌, ◌^◌, ℕ, Bool, true, false, List, [], ◌++◌, length, drop, Option, Result, Ok, Err, inl, inr, refl, sym, ap, subst, arith}
+use Rattle.wasm_types.specs.error.Denials.{Denies, Tells}
+use Rattle.wasm_types.specs.error.DenialLaws.{denies}
+use Rattle.wasm_types.specs.error.ErrorValue.{ErrorValue}
+use Rattle.wasm_types.specs.limits.Limits.{IsWithinCeilings}
+use Rattle.wasm_types.specs.limits.Settings.{Settings}
+use Rattle.wasm_sections_parser.specs.declared.frame.Frame.{Frame}
+use Rattle.wasm_sections_parser.specs.declared.parser.Chunk.TheVariants.{NeedMoreData, Parsed}
+use Rattle.wasm_sections_parser.specs.Parsers.{Parser}
+use Rattle.wasm_sections_parser.specs.Parsing.{Parses}
+use Rattle.wasm_sections_parser_laws.specs.calls.Advance.{is_end, parsed_is_over, parsed_within}
+use Rattle.wasm_sections_payloads.specs.declared.payload.Payload.{Payload}
+use Rattle.wasm_sections_payloads.specs.declared.parser.Chunk.TheVariants as chunks
+use Rattle.wasm_sections_payloads.specs.Parsing.{ParsesPayload}
+use Rattle.wasm_sections_payloads.specs.Payloads.{IsPayloadOf}
+use Rattle.wasm_module_validator_resources.specs.Reading.{context_of}
+use Rattle.wasm_module_validator_module.specs.declared.view.validator_id.ValidatorId.{ValidatorId}
+use Rattle.wasm_module_validator_sharing.specs.reading.judging.functions.code.Code.{IsFunctionOf}
+use Rattle.wasm_module_validator_sharing.specs.reading.progress.Progress.{Kept}
+use Rattle.wasm_module_validator_sharing.specs.reading.progress.standing.steps.contexts.rules.Accepts.{AcceptsUnder}
+use Rattle.wasm_module_validator_runs.proofs.Validity.{accepted_sound}
+use Rattle.wasm_module_validator.specs.declared.validator.State.TheVariants.{Unparsed}
+use Rattle.wasm_module_validator.specs.declared.validator.Validator.{Validator}
+use Rattle.wasm_module_validator.specs.declared.payloads.ValidPayload.TheVariants as valid
+use Rattle.wasm_module_validator.specs.Payloads.{TakesPayload}
+use Rattle.wasm_module_validator.specs.Shown.{Learned}
+use Rattle.wasm_module_validator_pieces.specs.declared.judging.Judging.{Judging}
+use Rattle.wasm_module_validator_pieces.specs.declared.reading.ReadError.{ReadError}
+use Rattle.wasm_module_validator_pieces.specs.declared.reading.ReadError.TheVariants as errors
+use Rattle.wasm_module_validator_pieces.specs.declared.taking.Taken.{Taken}
+use Rattle.wasm_module_validator_pieces.specs.declared.taking.Taken.TheVariants as taken
+use Rattle.wasm_module_validator_pieces.specs.Pieces.{Answers}
+use Rattle.wasm_module_validator_pieces.specs.Payloads.{JudgesFunction, StepsPayload}
+use Rattle.wasm_module_validator_pieces.specs.Taking.{IsMidst, Takes}
+use Rattle.wasm_module_validator_pieces.specs.Verdicts.{IsVerdict, IsRefusal, StandsAt, ShownAt, DeniedAt, AnswersReader}
+use Rattle.wasm_module_validator_pieces.specs.laws.Payloads.{handed_out, body_handed}
+use Rattle.wasm_module_validator_pieces.specs.laws.Running.{Goes, begins, goes_first, asked, goes_place, goes_on, payload_denied, body_read, body_goes_on, body_denied, end_accepts, bytes_refused}
+
+module _ (z : Settings) (id : ValidatorId) (got : List ℕ) (eof : Bool) (q : Parser) (rest : List ℕ) (v : Validator) (g : Goes z id got eof q rest v)
+    (n : ℕ) (f : Frame) (r : Parser) (parses : Parses q rest eof (Ok (Parsed n f)) r) (x : Payload) (is : IsPayloadOf f x) (w : Validator) where
+  -- the answer tells whether a body is that of a valid function of the module as it is kept
+  judged_here : (answer : Result (Unit {0}) ErrorValue) (j : JudgesFunction x v answer w)
+      → Tells answer (IsFunctionOf z (context_of v.reached.progress.kept.groups v.reached.progress.kept.items.spaces) j.handed.ty j.body.rest)
+  judged_here answer j =
+      let read = body_read z id got eof q rest v g n f r parses x is w j.handed j.body j.taken in
+      let handed = body_handed j.body v w j.handed (handed_out x v w j.handed j.body j.taken).1 in
+      subst (λ (k : Kept). Tells answer (IsFunctionOf z (context_of k.groups k.items.spaces) j.handed.ty j.body.rest)) handed.resources (j.told z read.0 read.1)
+
+  passed_on : TakesPayload x v (Ok valid.Ok) w ⊎ JudgesFunction x v (Ok tt) w → Goes z id got eof r (drop n rest) w
+  passed_on (inl t) = goes_on z id got eof q rest v g n f r parses x is w t
+  passed_on (inr j) = body_goes_on z id got eof q rest v g n f r parses x is w j.handed j.body j.taken (judged_here (Ok tt) j)
+
+  item_taken : (k : ℕ) → StepsPayload x n v (taken.Item k) w → (0 < k) × (k ≤ length rest) × Goes z id got eof r (drop k rest) w
+  item_taken k (same, t) =
+      let next = passed_on t in
+      let within = parsed_within q rest eof n f r parses in
+      let some = within.1 (sym (parsed_is_over q rest eof n f r parses) ∙ next.going) in
+      subst (λ (m : ℕ). (0 < m) × (m ≤ length rest) × Goes z id got eof r (drop m rest) w) (sym same) (some, within.0, next)
+
+  end_is_verdict : (t : Learned) → StepsPayload x n v (taken.Ended t) w → length got < 2 ^ 64 → (eof ≡ true) × IsVerdict z id got t
+  end_is_verdict t told room =
+      let k = end_accepts z id got eof q rest v g n f r parses x is w t told room in
+      (k.0, k.1, k.2, accepted_sound z got k.1, k.3)
+
+  refusal_denies : (e : ErrorValue) → StepsPayload x n v (taken.Refused e) w → (more : List ℕ) → (eof ≡ true → more ≡ []) → length (got ++ more) < 2 ^ 64 → IsRefusal z (got ++ more) e
+  refusal_denies e (inl t) more last room = payload_denied z id got eof q rest v g n f r parses x is w e t more last room
+  refusal_denies e (inr j) more last room = body_denied z id got eof q rest v g n f r parses x is w j.handed j.body j.taken e.kind (judged_here (Err e) j) more last room
+
+-- ---- a call
+
+module _ (first now after : Judging) (got : List ℕ) (eof : Bool) (rest : List ℕ) (g : StandsAt first got eof rest now) where
+  -- a payload was taken
+  pub payload_takes : (n : ℕ) (x : Payload) → ParsesPayload now.parser.frames rest eof (Ok (chunks.Parsed n x)) after.parser.frames → length got < 2 ^ 64
+      → (result : Taken Learned) → StepsPayload x n now.validator result after.validator → Takes StandsAt ShownAt DeniedAt first got eof rest result after
+  payload_takes n x (f, parses, is) room (taken.Item k) s = item_taken first.validator.settings first.validator.id got eof now.parser.frames rest now.validator g n f after.parser.frames parses x is after.validator k s
+  payload_takes n x (f, parses, is) room (taken.Waits k) s = absurd s
+  payload_takes n x (f, parses, is) room (taken.Ended t) s = end_is_verdict first.validator.settings first.validator.id got eof now.parser.frames rest now.validator g n f after.parser.frames parses x is after.validator t s room
+  payload_takes n x (f, parses, is) room (taken.Refused e) s = refusal_denies first.validator.settings first.validator.id got eof now.parser.frames rest now.validator g n f after.parser.frames parses x is after.validator e s
+
+  -- more bytes are needed
+  pub wait_takes : (n : ℕ) → ParsesPayload now.parser.frames rest eof (Ok (chunks.NeedMoreData n)) after.parser.frames → after.validator ≡ now.validator
+      → Takes StandsAt ShownAt DeniedAt first got eof rest (taken.Waits n) after
+  wait_takes n h same =
+      let k = asked now.parser.frames rest eof n after.parser.frames h in (
+        k.0,
+        subst (λ (q : Parser). Goes first.validator.settings first.validator.id got eof q rest after.validator) (sym k.1)
+            (subst (λ (v : Validator). Goes first.validator.settings first.validator.id got eof now.parser.frames rest v) (sym same) g),
+      )
+
+  -- the bytes are refused
+  pub refusal_takes : (e : ErrorValue) (r : Parser) → ParsesPayload now.parser.frames rest eof (Err e) r → Takes StandsAt ShownAt DeniedAt first got eof rest (taken.Refused e) after
+  refusal_takes e r h = λ more last room. denies e.kind (AcceptsUnder first.validator.settings (got ++ more))
+      (λ a. bytes_refused first.validator.settings first.validator.id got eof now.parser.frames rest now.validator e r g h more last room a)
+
+-- offsets have 64 bits
+pub midst_room : (eof : Bool) (rest : List ℕ) (now : Judging) → IsMidst StandsAt eof rest now → now.parser.frames.offset + length rest < 2 ^ 64
+midst_room eof rest now m =
+    let there = goes_place m.first.validator.settings m.first.validator.id m.got eof now.parser.frames rest now.validator m.there in
+    let room = m.room in
+    omega (arith, there, room)
+
+-- ---- the first and the last
+
+-- one that is new stands behind no bytes
+pub begins_there : (z : Settings) (j : Judging) → IsWithinCeilings z.limits → j.validator.state ≡ Unparsed → j.validator.settings ≡ z → j.validator.reached.progress.kept.groups ≡ []
+    → j.parser.frames ≡ begins z → StandsAt j [] false [] j
+begins_there z j within unparsed same none there =
+    let y = j.validator.settings in
+    subst (λ (q : Parser). Goes y j.validator.id [] false q [] j.validator) (ap begins same ∙ sym there)
+    (goes_first y j.validator.id j.validator (subst (λ (s : Settings). IsWithinCeilings s.limits) (sym same) within) unparsed none refl refl)
+
+-- what is answered is of the settings that it judges by
+pub answers_reader : (z : Settings) (id : ValidatorId) (j : Judging) → j.validator.settings ≡ z → j.validator.id ≡ id → (most : ℕ) (before after : Option (List ℕ))
+    → (result : Result Learned ReadError) → Answers (ShownAt j) (DeniedAt j) most before after result → AnswersReader z id most before after result
+answers_reader z id j same own most before after (Ok t) a = record {
+  all = a.all;
+  read = a.read;
+  ended = a.ended;
+  within = a.within;
+  known = subst (λ (y : Settings). IsVerdict y id a.all t) same (subst (λ (i : ValidatorId). IsVerdict j.validator.settings i a.all t) own a.known);
+}
+answers_reader z id j same own most before after (Err (errors.Refused e)) a = record {
+  got = a.got;
+  read = a.read;
+  eof = a.eof;
+  ended = a.ended;
+  refused = λ more last room. subst (λ (y : Settings). IsRefusal y (a.got ++ more) e) same (a.refused more last room);
+}
+answers_reader z id j same own most before after (Err errors.Read) a = a
+answers_reader z id j same own most before after (Err errors.TooLong) a = a

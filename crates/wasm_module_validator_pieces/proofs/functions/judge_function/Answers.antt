@@ -1,0 +1,8 @@
+-- By the law of a body that a judge accepts.
+use Rattle.wasm_module_validator_functions.specs.code.CodeLaws.{accepted}
+use Rattle.wasm_module_validator_pieces.proofs.functions.judge_function.Goals as goal
+
+pub returns-then-accepts : goal.returns-then-accepts
+returns-then-accepts g c = λ z held read.
+    accepted z (g.R.WasmModuleResources.meaning c.args.function.resources) c.args.function.features.0 c.args.function.limits c.args.function.ty c.args.body.now held read
+    (c.accepts.ensures c.if-accepts.true)

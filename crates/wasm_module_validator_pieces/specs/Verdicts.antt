@@ -1,0 +1,37 @@
+-- What is said of the bytes of a module: accepted, and what is known then; or refused (WebAssembly 3.0, binary format and validation, modules).
+use Rattle.std.specs.Prelude.{◌≡◌, Bool, ℕ, List, Option, Result}
+use Rattle.wasm_types.specs.error.Denials.{Denies}
+use Rattle.wasm_types.specs.error.ErrorValue.{ErrorValue}
+use Rattle.wasm_types.specs.limits.Settings.{Settings}
+use Rattle.wasm_module_validator_module.specs.declared.view.validator_id.ValidatorId.{ValidatorId}
+use Rattle.wasm_module_validator_runs.specs.Soundness.{RunsSoundly}
+use Rattle.wasm_module_validator_sharing.specs.reading.progress.standing.steps.contexts.rules.Accepts.{AcceptsUnder}
+use Rattle.wasm_module_validator.specs.Accepts.{IsShown}
+use Rattle.wasm_module_validator.specs.Shown.{Learned}
+use Rattle.wasm_module_validator_pieces.specs.declared.reading.ReadError.{ReadError}
+use Rattle.wasm_module_validator_pieces.specs.Pieces.{Answers}
+use Rattle.wasm_module_validator_pieces.specs.declared.judging.Judging.{Judging}
+use Rattle.wasm_module_validator_pieces.specs.laws.Running.{Goes}
+
+-- The bytes spell a valid module, all of it but its code is shown, it runs soundly, and what is known of it has this id.
+abbrev pub IsVerdict : Settings → ValidatorId → List ℕ → Learned → Type 0
+IsVerdict z id text t = AcceptsUnder z text × IsShown z text t × RunsSoundly z text × (t.id ≡ id)
+
+-- an error denies that they do, memory aside
+abbrev pub IsRefusal : Settings → List ℕ → ErrorValue → Type 0
+IsRefusal z text e = Denies e.kind (AcceptsUnder z text)
+
+-- where what judges a module stands behind some bytes of it, by what it was at first
+abbrev pub StandsAt : Judging → List ℕ → Bool → List ℕ → Judging → Type 0
+StandsAt first got eof rest now = Goes first.validator.settings first.validator.id got eof now.parser.frames rest now.validator
+
+-- by what it was at first all the bytes are accepted, or an error denies that
+abbrev pub ShownAt : Judging → List ℕ → Learned → Type 0
+ShownAt first text t = IsVerdict first.validator.settings first.validator.id text t
+
+abbrev pub DeniedAt : Judging → List ℕ → ErrorValue → Type 0
+DeniedAt first text e = IsRefusal first.validator.settings text e
+
+-- what is answered of a reader that may have so many bytes
+abbrev pub AnswersReader : Settings → ValidatorId → ℕ → Option (List ℕ) → Option (List ℕ) → Result Learned ReadError → Type 0
+AnswersReader z id most before after result = Answers (IsVerdict z id) (IsRefusal z) most before after result

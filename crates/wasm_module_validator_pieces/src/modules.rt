@@ -1,0 +1,34 @@
+//! A module's bytes, taken payload by payload.
+
+ghost use Rattle.std.specs.Prelude.{◌≡◌};
+ghost use Rattle.wasm_module_validator_pieces.specs.Verdicts.{StandsAt, ShownAt, DeniedAt};
+ghost use Rattle.wasm_module_validator_pieces.specs.laws.Running.{goes_read, goes_last, memory_denies};
+
+use crate::judging::Judging;
+use crate::taking::{Taken, TakesBytes};
+use wasm_module_validator::Types;
+use wasm_sections_payloads::Chunk;
+
+impl TakesBytes for Judging {
+    type Done = Types;
+
+    ghost stands = { StandsAt };
+
+    ghost shown = { ShownAt };
+
+    ghost denied = { DeniedAt };
+
+    fn take(&mut self, bytes: &[u8], eof: bool) -> Taken<Types> {
+        match self.parser.parse(bytes, eof) {
+            Ok(Chunk::NeedMoreData(needed)) => Taken::Waits(needed),
+            Ok(Chunk::Parsed { consumed, payload }) => self.take_payload(consumed, payload),
+            Err(error) => Taken::Refused(error),
+        }
+    }
+
+    ghost more = { λ first got rest now bytes h. goes_read first.validator.settings first.validator.id got now.parser.frames rest now.validator bytes h };
+
+    ghost last = { λ first got rest now h. goes_last first.validator.settings first.validator.id got now.parser.frames rest now.validator h };
+
+    ghost memory = { λ first text e k. memory_denies first.validator.settings text e k };
+}

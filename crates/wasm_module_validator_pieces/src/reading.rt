@@ -1,0 +1,147 @@
+//! Bytes of a reader, taken as they come.
+
+ghost use Rattle.std.specs.Prelude.{◌≡◌, ◌≤◌, ◌<◌, ◌+◌, ◌-◌, min, ◌++◌, ◌^◌, ℕ, List, [], length, false, true, vec_len, drop, IfErr, OnOk};
+ghost use Rattle.wasm_module_validator_pieces.specs.Taking.{IsMidst, Carries, DeniesFrom};
+ghost use Rattle.wasm_module_validator_pieces.specs.Pieces.{Concludes, Answers, fails};
+
+use crate::taking::{Advanced, TakesBytes, take_items};
+use crate::watched::WatchedReader;
+use std::alloc::Global;
+use std::io::Read;
+use wasm_types::Error;
+
+/// Why the bytes of a reader are not accepted.
+#[derive(Debug, Drop)]
+pub enum ReadError {
+    /// They are refused, or there is no memory (kind 3).
+    Refused(Error),
+    /// A read failed.
+    Read,
+    /// There were more bytes than are allowed before a verdict.
+    TooLong,
+}
+
+/// Bytes that came and were not taken yet.
+#[derive(Drop)]
+pub(crate) struct Pending {
+    bytes: Vec<u8>,
+    /// With fewer bytes nothing more can be taken.
+    needed: usize,
+}
+
+/// Drops so many bytes at the front.
+fn drop_front(bytes: &mut Vec<u8>, count: usize)
+    requires { count ≤ vec_len bytes.old }
+    ensures { bytes.new.items ≡ drop count bytes.old.items }
+{
+    let left = bytes.len() - count;
+    bytes.copy_within(count.., 0);
+    bytes.truncate(left);
+}
+
+/// Takes all whole items of the bytes that came, which are more than were needed.
+fn take_pending<T: TakesBytes>(taker: &mut T, pending: &mut Pending) -> Result<(), Error>
+    requires { IsMidst T.stands false pending.old.bytes.items taker.old }
+    ensures ok { OnOk result (Carries T.stands false pending.old.bytes.items taker.old pending.new.bytes.items taker.new) }
+    ensures err { IfErr result (DeniesFrom T.stands T.denied false pending.old.bytes.items taker.old) }
+{
+    match take_items(taker, pending.bytes.as_slice(), false) {
+        Advanced::Waits { passed, needed } => {
+            drop_front(&mut pending.bytes, passed);
+            pending.needed = pending.bytes.len().saturating_add(needed);
+            Ok(())
+        }
+        Advanced::Ended(_done) => unreachable!(),
+        Advanced::Refused(error) => Err(error),
+    }
+}
+
+/// Puts a piece behind the bytes that came, and takes all items that are whole then.
+fn take_piece<T: TakesBytes>(
+    taker: &mut T,
+    pending: &mut Pending,
+    piece: &[u8],
+) -> Result<(), Error>
+    requires { IsMidst T.stands false (pending.old.bytes.items ++ piece.now) taker.old }
+    ensures ok { OnOk result (Carries T.stands false (pending.old.bytes.items ++ piece.now) taker.old pending.new.bytes.items taker.new) }
+    ensures err { IfErr result (DeniesFrom T.stands T.denied false (pending.old.bytes.items ++ piece.now) taker.old) }
+{
+    if pending.bytes.extend_from_slice(piece).is_err() {
+        return Err(Error::out_of_memory(0));
+    }
+    if pending.bytes.len() < pending.needed {
+        return Ok(());
+    }
+    take_pending(taker, pending)
+}
+
+/// The verdict on the bytes that came, behind which none follow.
+fn take_last<T: TakesBytes>(taker: &mut T, bytes: &[u8]) -> Result<T::Done, ReadError>
+    requires { IsMidst T.stands true bytes.now taker.old }
+    ensures { (first : T) (got : List ℕ) → T.stands first got true bytes.now taker.old → length got < 2 ^ 64
+        → Concludes T.shown T.denied first got result }
+{
+    match take_items(taker, bytes, true) {
+        Advanced::Waits {
+            passed: _,
+            needed: _,
+        } => unreachable!(),
+        Advanced::Ended(done) => Ok(done),
+        Advanced::Refused(error) => Err(ReadError::Refused(error)),
+    }
+}
+
+/// Takes the bytes of a reader as they come, piece by piece, and says whether they are accepted.
+pub(crate) fn take_reader<T: TakesBytes, R: Read>(
+    alloc: Global,
+    taker: &mut T,
+    reader: &mut WatchedReader<R>,
+    piece: usize,
+    max_bytes: u64,
+) -> Result<T::Done, ReadError>
+    requires begins { T.stands taker.old [] false [] taker.old }
+    requires reads { reader.old.has_failed ≡ false }
+    requires piece { 1 ≤ piece }
+    requires most { max_bytes < 2 ^ 64 - 1 }
+    ensures answer { Answers (T.shown taker.old) (T.denied taker.old) max_bytes (R.remaining reader.old.reader) (R.remaining reader.new.reader) result }
+    ensures failed { reader.new.has_failed ≡ fails result }
+    ensures count { reader.new.reads ≤ reader.old.reads + (max_bytes + 1) }
+    ensures counted { reader.old.reads ≤ reader.new.reads }
+{
+    let Ok(mut chunk) = vec![in alloc; 0u8; piece] else {
+        return Err(ReadError::Refused(Error::out_of_memory(0)));
+    };
+    let mut pending = Pending {
+        bytes: Vec::new(alloc),
+        needed: 1,
+    };
+    let mut room = max_bytes;
+    for _turn in 0..=max_bytes {
+        let Some(count) = reader.read_once(&mut chunk) else {
+            return Err(ReadError::Read);
+        };
+        if count == 0 {
+            return take_last(taker, pending.bytes.as_slice());
+        }
+        let kept = within(count, room);
+        match take_piece(taker, &mut pending, &chunk[..kept]) {
+            Ok(()) => (),
+            Err(error) => return Err(ReadError::Refused(error)),
+        }
+        if kept < count {
+            return Err(ReadError::TooLong);
+        }
+        room -= kept as u64;
+    }
+    unreachable!()
+}
+
+/// So many, and no more than there is room for.
+fn within(count: usize, room: u64) -> usize
+    ensures { result ≡ min count room }
+{
+    if count as u64 <= room {
+        return count;
+    }
+    room as usize
+}
