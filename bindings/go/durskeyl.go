@@ -14,7 +14,12 @@ import (
 )
 
 // The first byte of a slice, or nil: cgo lends it for the call.
-func first(bytes []byte) *C.uint8_t { return (*C.uint8_t)(unsafe.Pointer(unsafe.SliceData(bytes))) }
+func first(bytes []byte) *C.uint8_t {
+	if len(bytes) == 0 {
+		return nil
+	}
+	return (*C.uint8_t)(unsafe.Pointer(&bytes[0]))
+}
 
 // Validate gives "" if the bytes are a valid module, and whether there is a verdict at all: no memory and bad settings are none.
 func Validate(settings *C.durskeyl_settings, bytes []byte) (fault string, verdict bool) {
@@ -30,16 +35,18 @@ func Validate(settings *C.durskeyl_settings, bytes []byte) (fault string, verdic
 
 // Imports are those of bytes that were accepted.
 func Imports(bytes []byte) []C.durskeyl_import {
-	rows := make([]C.durskeyl_import, C.durskeyl_imports(first(bytes), C.size_t(len(bytes)), nil, 0))
-	C.durskeyl_imports(first(bytes), C.size_t(len(bytes)), unsafe.SliceData(rows), C.size_t(len(rows)))
-	return rows
+	count := C.durskeyl_imports(first(bytes), C.size_t(len(bytes)), nil, 0)
+	rows := make([]C.durskeyl_import, count+1)
+	C.durskeyl_imports(first(bytes), C.size_t(len(bytes)), &rows[0], C.size_t(count))
+	return rows[:count]
 }
 
 // Exports are those of bytes that were accepted.
 func Exports(bytes []byte) []C.durskeyl_export {
-	rows := make([]C.durskeyl_export, C.durskeyl_exports(first(bytes), C.size_t(len(bytes)), nil, 0))
-	C.durskeyl_exports(first(bytes), C.size_t(len(bytes)), unsafe.SliceData(rows), C.size_t(len(rows)))
-	return rows
+	count := C.durskeyl_exports(first(bytes), C.size_t(len(bytes)), nil, 0)
+	rows := make([]C.durskeyl_export, count+1)
+	C.durskeyl_exports(first(bytes), C.size_t(len(bytes)), &rows[0], C.size_t(count))
+	return rows[:count]
 }
 
 // A name as the lines of tests/library/entries.c have it.

@@ -2,3 +2,5 @@
 pub mod Stepping
 -- One piece more of a reader.
 pub mod OnePiece
+-- One item more of the bytes that came.
+pub mod OneItem

@@ -1,15 +1,18 @@
 -- One piece more of a reader: what was read with it, and what that leads to.
-use Rattle.std.proofs.Common.{◌≡◌, ◌∙◌, ◌<◌, ◌≤◌, ◌+◌, ◌-◌, ◌^◌, min, ℕ, Bool, true, false, List, [], ◌++◌, length, take, drop, Option, Some, refl, sym, ap, subst, arith, append_assoc, length-append, length-take-le, take-take, take-append-drop}
+use Rattle.std.proofs.Common.{◌≡◌, ◌∙◌, ◌<◌, ◌≤◌, ◌+◌, ◌-◌, ◌^◌, min, ℕ, Bool, true, false, List, [], ◌++◌, length, take, drop, Option, Some, Result, Ok, Err, append-nil, refl, sym, ap, subst, arith, append_assoc, length-append, length-take-le, take-take, take-append-drop}
 use Rattle.std.proofs.lemmas.Bool.{false≢true}
 use Rattle.std.proofs.KnownBytes.{Consumes-trans}
 use Rattle.std.specs.Io.KnownBytes.{Consumes}
-use Rattle.wasm_module_validator_pieces.specs.Pieces.{HasCome, RefusesAll, ReadsSome}
+use Rattle.wasm_types.specs.error.ErrorValue.{ErrorValue}
+use Rattle.wasm_module_validator_pieces.specs.declared.reading.ReadError.{ReadError}
+use Rattle.wasm_module_validator_pieces.specs.declared.reading.ReadError.TheVariants as errors
+use Rattle.wasm_module_validator_pieces.specs.Pieces.{Answers, Concludes, HasCome, RefusesAll, ReadsSome}
 use Rattle.wasm_module_validator_pieces.specs.Reads.{Gives}
 use Rattle.wasm_module_validator_pieces.specs.Taking.{IsMidst, Carries, DeniesFrom}
 
 -- a law of what takes bytes: more may come
 abbrev pub MayGrow : {S : Type 0} → (S → List ℕ → Bool → List ℕ → S → Type 0) → Type 0
-MayGrow {S} stands = (first : S) (got : List ℕ) (rest : List ℕ) (now : S) (bytes : List ℕ) → stands first got false rest now → stands first (got ++ bytes) false (rest ++ bytes) now
+MayGrow {S = S} stands = (first : S) (got : List ℕ) (rest : List ℕ) (now : S) (bytes : List ℕ) → stands first got false rest now → stands first (got ++ bytes) false (rest ++ bytes) now
 
 module _ {S : Type 0} (stands : S → List ℕ → Bool → List ℕ → S → Type 0) (grow : MayGrow stands) (first now : S) (most room : ℕ) (few : most < 2 ^ 64 - 1)
     (before mid after : Option (List ℕ)) (rest : List ℕ) (come : HasCome stands first most room before mid rest now)
@@ -73,3 +76,48 @@ module _ {S : Type 0} (stands : S → List ℕ → Bool → List ℕ → S → T
         subst (λ (n : ℕ). Consumes before after (got ++ take n chunk)) (sym same) all_read,
         h first (got ++ take k chunk) there room_kept,
       )
+
+-- ---- the end
+
+module _ {S D : Type 0} (stands : S → List ℕ → Bool → List ℕ → S → Type 0) (shown : S → List ℕ → D → Type 0) (denied : S → List ℕ → ErrorValue → Type 0)
+    (end : (first : S) (got : List ℕ) (rest : List ℕ) (now : S) → stands first got false rest now → stands first got true rest now)
+    (first now : S) (most room : ℕ) (few : most < 2 ^ 64 - 1) (before mid after : Option (List ℕ)) (rest bytes : List ℕ) (same : bytes ≡ rest)
+    (come : HasCome stands first most room before mid rest now) (chunk : List ℕ) (gives : Gives mid after (Some 0) chunk) (some : 0 < length chunk) where
+  came : List ℕ
+  came = come.0
+
+  came_all : Consumes before after came
+  unfolding came
+  came_all = subst (Consumes before after) (append-nil come.0) (Consumes-trans before mid after come.0 [] come.2 gives.1)
+
+  at_last : stands first came true bytes now
+  unfolding came
+  at_last = subst (λ (l : List ℕ). stands first come.0 true l now) (sym same) (end first come.0 rest now come.3)
+
+  fits : length came < 2 ^ 64
+  unfolding came
+  fits = let total = come.1 in omega (arith, total, few)
+
+  pub last_midst : IsMidst stands true bytes now
+  last_midst = record { first = first; got = came; there = at_last; room = fits }
+
+  -- what is concluded of the bytes that came is answered of the reader
+  pub concluded : (result : Result D ReadError) → ((f : S) (got : List ℕ) → stands f got true bytes now → length got < 2 ^ 64 → Concludes shown denied f got result)
+      → Answers (shown first) (denied first) most before after result
+  unfolding came
+  concluded (Ok d) h = record {
+    all = came;
+    read = came_all;
+    ended = gives.2 refl some;
+    within = let total = come.1 in omega (arith, total);
+    known = h first came at_last fits;
+  }
+  concluded (Err (errors.Refused e)) h = record {
+    got = came;
+    read = came_all;
+    eof = true;
+    ended = λ t. gives.2 refl some;
+    refused = h first came at_last fits;
+  }
+  concluded (Err errors.Read) h = absurd (h first came at_last fits)
+  concluded (Err errors.TooLong) h = absurd (h first came at_last fits)

@@ -1,5 +1,6 @@
 -- What a step of a module that comes in pieces leads to, by the laws of `specs/laws`.
 use Rattle.std.proofs.Common.{◌≡◌, ◌∙◌, ◌⊎◌, ◌<◌, ◌≤◌, ◌+◌, ◌^◌, ℕ, Bool, true, false, List, [], ◌++◌, length, drop, Option, Result, Ok, Err, inl, inr, refl, sym, ap, subst, arith}
+use Rattle.wasm_types.specs.decoding.Decoder.{State as Bytes}
 use Rattle.wasm_types.specs.error.Denials.{Denies, Tells}
 use Rattle.wasm_types.specs.error.DenialLaws.{denies}
 use Rattle.wasm_types.specs.error.ErrorValue.{ErrorValue}
@@ -16,6 +17,7 @@ use Rattle.wasm_sections_payloads.specs.Parsing.{ParsesPayload}
 use Rattle.wasm_sections_payloads.specs.Payloads.{IsPayloadOf}
 use Rattle.wasm_module_validator_resources.specs.Reading.{context_of}
 use Rattle.wasm_module_validator_module.specs.declared.view.validator_id.ValidatorId.{ValidatorId}
+use Rattle.wasm_module_validator_sharing.specs.Sharing.{Handed}
 use Rattle.wasm_module_validator_sharing.specs.reading.judging.functions.code.Code.{IsFunctionOf}
 use Rattle.wasm_module_validator_sharing.specs.reading.progress.Progress.{Kept}
 use Rattle.wasm_module_validator_sharing.specs.reading.progress.standing.steps.contexts.rules.Accepts.{AcceptsUnder}
@@ -43,13 +45,13 @@ module _ (z : Settings) (id : ValidatorId) (got : List ℕ) (eof : Bool) (q : Pa
   judged_here : (answer : Result (Unit {0}) ErrorValue) (j : JudgesFunction x v answer w)
       → Tells answer (IsFunctionOf z (context_of v.reached.progress.kept.groups v.reached.progress.kept.items.spaces) j.handed.ty j.body.rest)
   judged_here answer j =
-      let read = body_read z id got eof q rest v g n f r parses x is w j.handed j.body j.taken in
-      let handed = body_handed j.body v w j.handed (handed_out x v w j.handed j.body j.taken).1 in
+      let read = body_read z id got eof q rest v g n f r parses x is w j.handed j.body j.takes in
+      let handed = body_handed j.body v w j.handed (handed_out x v w j.handed j.body j.takes).1 in
       subst (λ (k : Kept). Tells answer (IsFunctionOf z (context_of k.groups k.items.spaces) j.handed.ty j.body.rest)) handed.resources (j.told z read.0 read.1)
 
   passed_on : TakesPayload x v (Ok valid.Ok) w ⊎ JudgesFunction x v (Ok tt) w → Goes z id got eof r (drop n rest) w
   passed_on (inl t) = goes_on z id got eof q rest v g n f r parses x is w t
-  passed_on (inr j) = body_goes_on z id got eof q rest v g n f r parses x is w j.handed j.body j.taken (judged_here (Ok tt) j)
+  passed_on (inr j) = body_goes_on z id got eof q rest v g n f r parses x is w j.handed j.body j.takes (judged_here (Ok tt) j)
 
   item_taken : (k : ℕ) → StepsPayload x n v (taken.Item k) w → (0 < k) × (k ≤ length rest) × Goes z id got eof r (drop k rest) w
   item_taken k (same, t) =
@@ -61,11 +63,11 @@ module _ (z : Settings) (id : ValidatorId) (got : List ℕ) (eof : Bool) (q : Pa
   end_is_verdict : (t : Learned) → StepsPayload x n v (taken.Ended t) w → length got < 2 ^ 64 → (eof ≡ true) × IsVerdict z id got t
   end_is_verdict t told room =
       let k = end_accepts z id got eof q rest v g n f r parses x is w t told room in
-      (k.0, k.1, k.2, accepted_sound z got k.1, k.3)
+      (k.0, (k.1, k.2, accepted_sound z got k.1, k.3))
 
   refusal_denies : (e : ErrorValue) → StepsPayload x n v (taken.Refused e) w → (more : List ℕ) → (eof ≡ true → more ≡ []) → length (got ++ more) < 2 ^ 64 → IsRefusal z (got ++ more) e
   refusal_denies e (inl t) more last room = payload_denied z id got eof q rest v g n f r parses x is w e t more last room
-  refusal_denies e (inr j) more last room = body_denied z id got eof q rest v g n f r parses x is w j.handed j.body j.taken e.kind (judged_here (Err e) j) more last room
+  refusal_denies e (inr j) more last room = body_denied z id got eof q rest v g n f r parses x is w j.handed j.body j.takes e.kind (judged_here (Err e) j) more last room
 
 -- ---- a call
 
@@ -129,3 +131,7 @@ answers_reader z id j same own most before after (Err (errors.Refused e)) a = re
 }
 answers_reader z id j same own most before after (Err errors.Read) a = a
 answers_reader z id j same own most before after (Err errors.TooLong) a = a
+
+-- what judges a function that was handed out holds to limits that are within their ceilings
+pub handed_within : (x : Payload) (v w : Validator) (h : Handed) (body : Bytes) → TakesPayload x v (Ok (valid.Func h body)) w → IsWithinCeilings h.limits
+handed_within x v w h body t = (body_handed body v w h (handed_out x v w h body t).1).within

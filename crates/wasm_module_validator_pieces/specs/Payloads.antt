@@ -25,7 +25,7 @@ IsFunctionHanded z h body =
 pub record JudgesFunction (x : Payload) (v : Validator) (answer : Result (Unit {0}) ErrorValue) (w : Validator) : Type 0 where
   pub handed : Handed
   pub body : Bytes
-  pub taken : TakesPayload x v (Ok (valid.Func handed body)) w
+  pub takes : TakesPayload x v (Ok (valid.Func handed body)) w
   pub told : (z : Settings) → z.limits ≡ handed.limits → IsReadBy z handed.features.0 body → Tells answer (IsFunctionHanded z handed body)
 
 -- What a payload of so many bytes leads to: it passes, or is the body of a valid function; it is the end; or it is refused, or the body is.

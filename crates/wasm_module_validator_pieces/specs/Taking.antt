@@ -15,7 +15,7 @@ pub record IsMidst {S : Type 0} (stands : S → List ℕ → Bool → List ℕ �
 
 -- Wherever it stood, with these left of the bytes that came, it stands now, with those left.
 abbrev pub Carries : {S : Type 0} → (S → List ℕ → Bool → List ℕ → S → Type 0) → Bool → List ℕ → S → List ℕ → S → Type 0
-Carries stands eof before then rest now = (first : S) (got : List ℕ) → stands first got eof before then → length got < 2 ^ 64 → stands first got eof rest now
+Carries {S = S} stands eof before then rest now = (first : S) (got : List ℕ) → stands first got eof before then → length got < 2 ^ 64 → stands first got eof rest now
 
 -- An error denies whatever begins with the bytes that came.
 abbrev pub IsDenied : {S E : Type 0} → (S → List ℕ → E → Type 0) → S → List ℕ → Bool → E → Type 0
@@ -38,4 +38,4 @@ Advances stands shown denied first got eof rest (advanced.Refused e) now = IsDen
 
 -- Wherever it stood, the error denies whatever begins with the bytes that came.
 abbrev pub DeniesFrom : {S E : Type 0} → (S → List ℕ → Bool → List ℕ → S → Type 0) → (S → List ℕ → E → Type 0) → Bool → List ℕ → S → E → Type 0
-DeniesFrom stands denied eof before then e = (first : S) (got : List ℕ) → stands first got eof before then → length got < 2 ^ 64 → IsDenied denied first got eof e
+DeniesFrom {S = S} stands denied eof before then e = (first : S) (got : List ℕ) → stands first got eof before then → length got < 2 ^ 64 → IsDenied denied first got eof e

@@ -2,3 +2,4 @@ pub mod Bodies
 pub mod Unreadable
 pub mod Payloads
 pub mod Running
+pub mod WorkedReaders

@@ -1,4 +1,4 @@
-//! Laws of modules in pieces, each the contract of a function that does nothing.
+//! Laws of modules in pieces and of readers, each the contract of a function that does nothing.
 
 ghost use Rattle.std.specs.Prelude.{◌≡◌, ◌<◌, ◌++◌, ◌^◌, [], ℕ, Bool, List, Ok, Err, length, drop, true, false};
 ghost use Rattle.wasm_types.specs.decoding.Decoder.{State as Bytes};
@@ -26,6 +26,7 @@ ghost use Rattle.wasm_module_validator.specs.Accepts.{IsShown};
 ghost use Rattle.wasm_module_validator.specs.Payloads.{TakesPayload};
 ghost use Rattle.wasm_module_validator.specs.Shown.{Learned};
 ghost use Rattle.wasm_module_validator_pieces.specs.laws.Running.{begins, Goes};
+ghost use Rattle.wasm_module_validator_pieces.specs.laws.WorkedReaders.{ReaderRows, StepRows};
 
 /// A validator that has read nothing and has no types stands behind no bytes. More bytes may come, and it may be known that none do.
 pub const fn runs_begin()
@@ -62,4 +63,10 @@ pub const fn pieces_are_judged()
     ensures refused_bytes { (z : Settings) (id : ValidatorId) (got : List ℕ) (eof : Bool) (q : Parser) (rest : List ℕ) (v : Validator) (e : ErrorValue) (r : Parser)
         → Goes z id got eof q rest v → ParsesPayload q rest eof (Err e) r → (more : List ℕ) → (eof ≡ true → more ≡ []) → length (got ++ more) < 2 ^ 64
         → AcceptsUnder z (got ++ more) → ⊥ }
+{}
+
+/// What is said of the bytes of a reader: a case where each of these holds, and one where it does not.
+pub const fn readers_are_worked()
+    ensures readers { ReaderRows }
+    ensures steps { (e : ErrorValue) → StepRows e }
 {}

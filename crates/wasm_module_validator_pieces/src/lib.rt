@@ -22,7 +22,7 @@ mod taking;
 mod validate;
 mod watched;
 
-pub use laws::{pieces_are_judged, runs_begin};
+pub use laws::{pieces_are_judged, readers_are_worked, runs_begin};
 pub use reading::ReadError;
 pub use validate::{validate_reader, validate_reader_limited};
 pub use watched::WatchedReader;

@@ -1,6 +1,7 @@
 //! Bytes of a reader, taken as they come.
 
 ghost use Rattle.std.specs.Prelude.{◌≡◌, ◌≤◌, ◌<◌, ◌+◌, ◌-◌, min, ◌++◌, ◌^◌, ℕ, List, [], length, false, true, vec_len, drop, IfErr, OnOk};
+ghost use Rattle.wasm_types.specs.error.declared.error.ErrorKind.TheVariants.{OutOfMemory};
 ghost use Rattle.wasm_module_validator_pieces.specs.Taking.{IsMidst, Carries, DeniesFrom};
 ghost use Rattle.wasm_module_validator_pieces.specs.Pieces.{Concludes, Answers, fails};
 
@@ -39,6 +40,17 @@ fn drop_front(bytes: &mut Vec<u8>, count: usize)
     bytes.truncate(left);
 }
 
+/// Puts a piece behind the bytes.
+fn append(bytes: &mut Vec<u8>, piece: &[u8]) -> Result<(), Error>
+    ensures ok { OnOk result (bytes.new.items ≡ bytes.old.items ++ piece.now) }
+    ensures err { IfErr result (λ e. e.kind ≡ OutOfMemory) }
+{
+    match bytes.extend_from_slice(piece) {
+        Ok(()) => Ok(()),
+        Err(_error) => Err(Error::out_of_memory(0)),
+    }
+}
+
 /// Takes all whole items of the bytes that came, which are more than were needed.
 fn take_pending<T: TakesBytes>(taker: &mut T, pending: &mut Pending) -> Result<(), Error>
     requires { IsMidst T.stands false pending.old.bytes.items taker.old }
@@ -66,8 +78,9 @@ fn take_piece<T: TakesBytes>(
     ensures ok { OnOk result (Carries T.stands false (pending.old.bytes.items ++ piece.now) taker.old pending.new.bytes.items taker.new) }
     ensures err { IfErr result (DeniesFrom T.stands T.denied false (pending.old.bytes.items ++ piece.now) taker.old) }
 {
-    if pending.bytes.extend_from_slice(piece).is_err() {
-        return Err(Error::out_of_memory(0));
+    match append(&mut pending.bytes, piece) {
+        Ok(()) => (),
+        Err(error) => return Err(error),
     }
     if pending.bytes.len() < pending.needed {
         return Ok(());
@@ -91,33 +104,31 @@ fn take_last<T: TakesBytes>(taker: &mut T, bytes: &[u8]) -> Result<T::Done, Read
     }
 }
 
-/// Takes the bytes of a reader as they come, piece by piece, and says whether they are accepted.
-pub(crate) fn take_reader<T: TakesBytes, R: Read>(
+/// Takes the bytes of a reader as they come, with at most as many bytes a read as the chunk has.
+fn take_chunks<T: TakesBytes, R: Read>(
     alloc: Global,
     taker: &mut T,
     reader: &mut WatchedReader<R>,
-    piece: usize,
+    chunk: &mut [u8],
     max_bytes: u64,
 ) -> Result<T::Done, ReadError>
     requires begins { T.stands taker.old [] false [] taker.old }
     requires reads { reader.old.has_failed ≡ false }
-    requires piece { 1 ≤ piece }
+    requires chunk { 1 ≤ length chunk.old }
     requires most { max_bytes < 2 ^ 64 - 1 }
-    ensures answer { Answers (T.shown taker.old) (T.denied taker.old) max_bytes (R.remaining reader.old.reader) (R.remaining reader.new.reader) result }
+    ensures answer { Answers (T.shown taker.old) (T.denied taker.old) max_bytes (R.remaining reader.old.reader)
+        (R.remaining reader.new.reader) result }
     ensures failed { reader.new.has_failed ≡ fails result }
     ensures count { reader.new.reads ≤ reader.old.reads + (max_bytes + 1) }
     ensures counted { reader.old.reads ≤ reader.new.reads }
 {
-    let Ok(mut chunk) = vec![in alloc; 0u8; piece] else {
-        return Err(ReadError::Refused(Error::out_of_memory(0)));
-    };
     let mut pending = Pending {
         bytes: Vec::new(alloc),
         needed: 1,
     };
     let mut room = max_bytes;
     for _turn in 0..=max_bytes {
-        let Some(count) = reader.read_once(&mut chunk) else {
+        let Some(count) = reader.read_once(chunk) else {
             return Err(ReadError::Read);
         };
         if count == 0 {
@@ -134,6 +145,30 @@ pub(crate) fn take_reader<T: TakesBytes, R: Read>(
         room -= kept as u64;
     }
     unreachable!()
+}
+
+/// Takes the bytes of a reader as they come, piece by piece, and says whether they are accepted.
+pub(crate) fn take_reader<T: TakesBytes, R: Read>(
+    alloc: Global,
+    taker: &mut T,
+    reader: &mut WatchedReader<R>,
+    piece: usize,
+    max_bytes: u64,
+) -> Result<T::Done, ReadError>
+    requires begins { T.stands taker.old [] false [] taker.old }
+    requires reads { reader.old.has_failed ≡ false }
+    requires piece { 1 ≤ piece }
+    requires most { max_bytes < 2 ^ 64 - 1 }
+    ensures answer { Answers (T.shown taker.old) (T.denied taker.old) max_bytes (R.remaining reader.old.reader)
+        (R.remaining reader.new.reader) result }
+    ensures failed { reader.new.has_failed ≡ fails result }
+    ensures count { reader.new.reads ≤ reader.old.reads + (max_bytes + 1) }
+    ensures counted { reader.old.reads ≤ reader.new.reads }
+{
+    let Ok(mut chunk) = vec![in alloc; 0u8; piece] else {
+        return Err(ReadError::Refused(Error::out_of_memory(0)));
+    };
+    take_chunks(alloc, taker, reader, &mut chunk, max_bytes)
 }
 
 /// So many, and no more than there is room for.

@@ -3,9 +3,9 @@ use Rattle.wasm_module_validator_module.specs.view.Entities.{placed_entities}
 use Rattle.wasm_module_validator_module.proofs.view.named.CoreImportsIterator.next.Given as goal
 
 -- what is left stays, and grows shorter
-abbrev pub invariant-loop-named : goal.invariant-loop-named
-invariant-loop-named l =
+abbrev pub invariant-loop-module : goal.invariant-loop-module
+invariant-loop-module l =
     placed_entities l.initial.self-inside.«module».now l.initial.self-inside.places ≡ placed_entities l.self-inside.«module».now l.self-inside.places
 
-abbrev pub decreases-loop-named : goal.decreases-loop-named
-decreases-loop-named l = length l.self-inside.places
+abbrev pub decreases-loop-module : goal.decreases-loop-module
+decreases-loop-module l = length l.self-inside.places

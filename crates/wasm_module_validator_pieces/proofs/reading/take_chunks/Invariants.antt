@@ -1,12 +1,11 @@
-use Rattle.std.proofs.Common.{◌≡◌, ◌≤◌, ◌+◌, false, vec_len}
+use Rattle.std.proofs.Common.{◌≡◌, ◌≤◌, ◌+◌, false}
 use Rattle.wasm_module_validator_pieces.specs.Pieces.{HasCome}
-use Rattle.wasm_module_validator_pieces.proofs.reading.take_reader.Given as goal
+use Rattle.wasm_module_validator_pieces.proofs.reading.take_chunks.Given as goal
 
 -- the reader gave some bytes, at least one for each turn, and what was not taken yet is left of them
 abbrev pub invariant-loop-turn : goal.invariant-loop-turn
 invariant-loop-turn g l = record {
   not_failed : l.reader.has_failed ≡ false;
-  piece : vec_len l.chunk ≡ l.fn.piece;
   turns : l._turn + l.room ≤ l.fn.max_bytes;
   reads : l.reader.reads ≤ l.initial.reader.reads + l._turn;
   counted : l.initial.reader.reads ≤ l.reader.reads;

@@ -1,0 +1,15 @@
+-- By the laws of all whole items.
+use Rattle.wasm_module_validator_pieces.proofs.OneItem.{waits_carries, refused_denies}
+use Rattle.wasm_module_validator_pieces.proofs.reading.take_pending.Goals as goal
+
+pub returns-in-Waits-clause-ok : goal.returns-in-Waits-clause-ok
+returns-in-Waits-clause-ok g c =
+    let b = g.T.TakesBytes in
+    waits_carries b.stands b.shown b.denied c.as_slice.result.now c.args.pending.now.bytes.items c.as_slice.ensures.value c.args.taker.now c.take_items.new.taker
+    c.in-Waits.passed c.in-Waits.needed c.in-Waits.ensures c.drop_front.new.bytes.items c.drop_front.ensures
+
+pub returns-in-Refused-clause-err : goal.returns-in-Refused-clause-err
+returns-in-Refused-clause-err g c =
+    let b = g.T.TakesBytes in
+    refused_denies b.stands b.shown b.denied c.as_slice.result.now c.args.pending.now.bytes.items c.as_slice.ensures.value c.args.taker.now c.take_items.new.taker c.in-Refused.error
+    c.in-Refused.ensures
