@@ -1,15 +1,16 @@
-/* durskeyl.h: a validator of WebAssembly core modules that is proved right. Interface 1.0. The library needs the C library alone.
+/* durskeyl.h: a validator of WebAssembly core modules that is proved right. Interface 1.1. The library needs the C library alone.
  *
  * PROVED, of the library's source: durskeyl_validate answers DURSKEYL_VALID only if the bytes spell a module that is valid by the written
  * rules under the settings (docs/SPECIFICATION.md names them), and a kind that is a verdict only if they do not; fault->kind is that
- * answer; the text ends in a 0. It ends on all bytes, reads only what it is given, and writes only the fault. No call depends on an
- * earlier one, keeps anything, or leaves anything to free.
+ * answer; the text ends in a 0. durskeyl_imports and durskeyl_exports, of bytes that durskeyl_validate accepted by whatever settings: how
+ * many there are, and in each row the names, the kind and the index that the module has, in its order. All calls end on all bytes, read only
+ * what they are given, and write only the fault or the rows. No call depends on an earlier one, keeps anything, or leaves anything to free.
  * NOT PROVED: which of several faults is told, its kind, offset and text; time, memory and stack; this header; the C library.
  *
  * THE CALLER PROMISES, and nothing checks it:
  *   - settings and fault are not null, and aligned; bytes may be null only with length 0; length is at most PTRDIFF_MAX, and so many
  *     bytes can be read during the whole call. Nobody writes them meanwhile: no other thread, and no process, so no file mapped as shared.
- *   - the fault overlaps neither the bytes nor the settings.
+ *   - the fault overlaps neither the bytes nor the settings. rows are so many, apart from the bytes, and aligned; null only with capacity 0.
  *   - malloc, realloc and free belong together and align to 16; there are 64 KiB of stack; no call comes from a signal handler, nor
  *     after fork in the child of a process with threads, before exec.
  * Any number of threads may call at once. */
@@ -22,7 +23,7 @@ extern "C" {
 #endif
 
 /* The first number times 2^16, and the second: a new second number only adds functions, features or limits. */
-#define DURSKEYL_VERSION UINT32_C(0x10000)
+#define DURSKEYL_VERSION UINT32_C(0x10001)
 
 enum durskeyl_kind {
     DURSKEYL_VALID = 0,
@@ -85,10 +86,45 @@ typedef struct {
                                    * any characters: escape it before it is printed to a terminal or a log */
 } durskeyl_fault;
 
+/* What is imported or exported. */
+enum durskeyl_external {
+    DURSKEYL_FUNCTION = 0,
+    DURSKEYL_TABLE = 1,
+    DURSKEYL_MEMORY = 2,
+    DURSKEYL_GLOBAL = 3,
+    DURSKEYL_TAG = 4
+};
+
+/* Names are bytes + offset, so many bytes, UTF-8 with any characters, and no 0 after them. */
+typedef struct {
+    uint64_t module_offset;
+    uint64_t name_offset;
+    uint32_t module_length;
+    uint32_t name_length;
+    uint32_t kind;                /* an enum durskeyl_external */
+    uint32_t index;               /* that the import gets among those of its kind: imports come before what the module defines */
+} durskeyl_import;
+
+typedef struct {
+    uint64_t name_offset;
+    uint32_t name_length;
+    uint32_t kind;                /* an enum durskeyl_external */
+    uint32_t index;               /* among those of its kind */
+    uint32_t later;               /* kept for later: 0 */
+} durskeyl_export;
+
+/* Not an answer of durskeyl_imports or durskeyl_exports for a module that was accepted. */
+#define DURSKEYL_NO_MODULE UINT64_MAX
+
 uint32_t durskeyl_version(void);
 uint64_t durskeyl_features(uint32_t set);
 void durskeyl_settings_default(durskeyl_settings *settings);
 uint32_t durskeyl_validate(const durskeyl_settings *settings, const uint8_t *bytes, size_t length, durskeyl_fault *fault);
+
+/* Of bytes that were accepted, all of them: answers how many imports (exports) the module has, and writes the first of them, as many as
+ * capacity. With capacity 0 it only counts. Of other bytes nothing is promised of the answer and the rows: do not follow their offsets. */
+uint64_t durskeyl_imports(const uint8_t *bytes, size_t length, durskeyl_import *rows, size_t capacity);
+uint64_t durskeyl_exports(const uint8_t *bytes, size_t length, durskeyl_export *rows, size_t capacity);
 
 #ifdef __cplusplus
 }

@@ -2,13 +2,15 @@
 //!
 //! Whole bytes go in; a number and a fault come out (`include/durskeyl.h` says the same in C's words). No call keeps anything, none
 //! depends on an earlier one, and nothing has to be freed, so any number of threads may call at once. `specs/Told.antt` says what
-//! the number tells.
+//! the number tells, and `specs/Listed.antt` what the rows of imports and exports do.
 #![tactic(auto)]
 
 mod fault;
+mod listing;
 mod settings;
 mod validate;
 
 pub use fault::DurskeylFault;
+pub use listing::{durskeyl_exports, durskeyl_imports};
 pub use settings::{DurskeylSettings, durskeyl_features, durskeyl_settings_default};
 pub use validate::{durskeyl_validate, durskeyl_version};

@@ -1,12 +1,15 @@
 -- What a call says of the bytes of a reader, as the program asks it of a judge.
-use Rattle.std.proofs.Common.{◌≡◌, ◌∙◌, ◌<◌, ◌≤◌, ◌^◌, ℕ, List, [], ◌++◌, Bool, true, length, IfSome, Option, Some, None, refl, sym, ap, subst, append-nil, arith}
+use Rattle.std.proofs.Common.{◌≡◌, ◌∙◌, ◌<◌, ◌≤◌, ◌^◌, ℕ, List, [], ◌++◌, Bool, true, length, Option, Some, None, Result, Err, refl, sym, ap, subst, append-nil, arith}
 use Rattle.std.specs.Io.KnownBytes.{Consumes, IsAtEnd}
 use Rattle.wasm_types.specs.error.Denials.{Denies, UnlessMemory}
 use Rattle.wasm_types.specs.error.ErrorValue.{ErrorValue}
 use Rattle.wasm_types.specs.error.declared.error.ErrorKind.{ErrorKind}
 use Rattle.wasm_types.specs.error.declared.error.ErrorKind.TheVariants as kinds
-use Rattle.wasm_module_validator_pieces.specs.Pieces.{AcceptsAll, RefusesAll, ReadsSome}
-use Rattle.wasm_check_command.specs.Modes.{AreLeft, IsShort, IsTooLong, HasValid, HasInvalid}
+use Rattle.wasm_module_validator_pieces.specs.declared.reading.ReadError.{ReadError}
+use Rattle.wasm_module_validator_pieces.specs.declared.reading.ReadError.TheVariants as faults
+use Rattle.wasm_module_validator_pieces.specs.Pieces.{AcceptsAll, Answers, RefusesAll, ReadsSome}
+use Rattle.wasm_check_command.specs.Modes.{AreLeft, FailsJudging, IsShort, IsTooLong, HasValid, HasInvalid}
+use Rattle.wasm_check_program.specs.Faults.{unjudged}
 
 -- all that a reader had was accepted
 pub all_valid : {D : Type 0} (accepts : List ℕ → Type 0) (shown : List ℕ → D → Type 0) (before after : Option (List ℕ)) (d : D)
@@ -45,3 +48,10 @@ too_long (Some x) (Some y) (got, read, many) = subst (λ (l : List ℕ). 2 ^ 30 
   where
     longer : (got y : List ℕ) → 2 ^ 30 < length got → 2 ^ 30 < length (got ++ y)
     longer got y many = grind (arith)
+
+-- why it is not said that what a reader has is valid
+pub fails_judging : {D : Type 0} (accepts : List ℕ → Type 0) (shown : List ℕ → D → Type 0) (before after : Option (List ℕ)) (fault : ReadError)
+    → Answers shown (λ text x. Denies x.kind (accepts text)) (2 ^ 30) before after (Err {A = D} fault) → FailsJudging accepts before (unjudged fault)
+fails_judging accepts shown before after (faults.Refused e) h = some_invalid accepts before after e h
+fails_judging accepts shown before after faults.Read h = tt
+fails_judging accepts shown before after faults.TooLong h = too_long before after h

@@ -1,10 +1,11 @@
 //! Inputs are judged by the validator of modules.
-ghost use Rattle.std.specs.Prelude.{IfOk, IfErr};
+ghost use Rattle.std.specs.Prelude.{◌≡◌, IfOk, IfErr};
 ghost use Rattle.wasm_module_validator.specs.rules.Accepts.{AcceptsUnder};
 ghost use Rattle.wasm_types.specs.limits.Limits.{IsWithinCeilings};
 ghost use Rattle.wasm_check_command.specs.Modes.{HasPieces, ruled};
 ghost use Rattle.wasm_check_command.specs.Settings.{settings_by};
 ghost use Rattle.wasm_check_command.specs.Reports.{sources_of, IsReported, Stops};
+ghost use Rattle.wasm_check_program.specs.Faults.{unjudged};
 
 use std::alloc::Global;
 use std::io::{Read, Write};
@@ -50,10 +51,19 @@ impl Judge for Validating {
         let piece = piece as usize;
         match validate_reader_limited(alloc, id, features, limits, &mut watched, piece, most) {
             Ok(_types) => Ok(()),
-            Err(ReadError::Refused(error)) => Err(Unjudged::Refused(error)),
-            Err(ReadError::Read) => Err(Unjudged::Read),
-            Err(ReadError::TooLong) => Err(Unjudged::TooLong),
+            Err(fault) => Err(unjudged(fault)),
         }
+    }
+}
+
+/// What stopped the reading of a module, as the program asks it of a judge.
+fn unjudged(fault: ReadError) -> Unjudged
+    ensures { result ≡ unjudged fault }
+{
+    match fault {
+        ReadError::Refused(error) => Unjudged::Refused(error),
+        ReadError::Read => Unjudged::Read,
+        ReadError::TooLong => Unjudged::TooLong,
     }
 }
 

@@ -1,0 +1,4 @@
+use Rattle.durskeyl_c.proofs.listing.durskeyl_exports.Goals as goal
+
+pub returns-in-None : goal.returns-in-None
+returns-in-None c z m h = absurd (c.in-None.ensures z m h)

@@ -1,0 +1,32 @@
+//! What an accepted module imports and exports.
+
+ghost use Rattle.durskeyl_c.specs.Listed.{TellsImports, TellsExports};
+
+use std::alloc::Global;
+use wasm_module_entries::{ExportRow, ImportRow, list_exports, list_imports};
+
+/// The answer where bytes spell no module.
+const NO_MODULE: u64 = u64::MAX;
+
+/// Writes the imports of the module that these bytes spell, in their order, as many as there are rows for, and answers how many there
+/// are. The bytes are those of a module that was accepted: of others nothing is promised but an end, and that only the rows are written.
+#[unsafe(no_mangle)]
+pub extern "C" fn durskeyl_imports(alloc: Global, bytes: &[u8], rows: &mut [ImportRow]) -> u64
+    ensures { TellsImports result bytes.now rows.new }
+{
+    match list_imports(alloc, bytes, rows) {
+        Some(count) => count as u64,
+        None => NO_MODULE,
+    }
+}
+
+/// The same of its exports.
+#[unsafe(no_mangle)]
+pub extern "C" fn durskeyl_exports(alloc: Global, bytes: &[u8], rows: &mut [ExportRow]) -> u64
+    ensures { TellsExports result bytes.now rows.new }
+{
+    match list_exports(alloc, bytes, rows) {
+        Some(count) => count as u64,
+        None => NO_MODULE,
+    }
+}
