@@ -1,16 +1,16 @@
 -- What a step of a module that comes in pieces leads to, by the laws of `specs/laws`.
 use Rattle.std.proofs.Common.{◌≡◌, ◌∙◌, ◌⊎◌, ◌<◌, ◌≤◌, ◌+◌, ◌^◌, ℕ, Bool, true, false, List, [], ◌++◌, length, drop, Option, Result, Ok, Err, inl, inr, refl, sym, ap, subst, arith}
 use Rattle.wasm_types.specs.decoding.Decoder.{State as Bytes}
-use Rattle.wasm_types.specs.error.Denials.{Denies, Tells}
+use Rattle.wasm_types.specs.error.Denials.{Tells}
 use Rattle.wasm_types.specs.error.DenialLaws.{denies}
 use Rattle.wasm_types.specs.error.ErrorValue.{ErrorValue}
 use Rattle.wasm_types.specs.limits.Limits.{IsWithinCeilings}
 use Rattle.wasm_types.specs.limits.Settings.{Settings}
 use Rattle.wasm_sections_parser.specs.declared.frame.Frame.{Frame}
-use Rattle.wasm_sections_parser.specs.declared.parser.Chunk.TheVariants.{NeedMoreData, Parsed}
+use Rattle.wasm_sections_parser.specs.declared.parser.Chunk.TheVariants.{Parsed}
 use Rattle.wasm_sections_parser.specs.Parsers.{Parser}
 use Rattle.wasm_sections_parser.specs.Parsing.{Parses}
-use Rattle.wasm_sections_parser_laws.specs.calls.Advance.{is_end, parsed_is_over, parsed_within}
+use Rattle.wasm_sections_parser_laws.specs.calls.Advance.{parsed_is_over, parsed_within}
 use Rattle.wasm_sections_payloads.specs.declared.payload.Payload.{Payload}
 use Rattle.wasm_sections_payloads.specs.declared.parser.Chunk.TheVariants as chunks
 use Rattle.wasm_sections_payloads.specs.Parsing.{ParsesPayload}

@@ -1,9 +1,9 @@
 -- What a payload that a validator takes in turn tells of the frame that it is that of, and what the validator stands for then.
-use Rattle.std.proofs.Common.{◌≡◌, ◌∙◌, ◌⊎◌, inl, inr, ◌<◌, ◌≤◌, ◌+◌, ℕ, List, [], length, Option, Some, None, Result, Ok, Err, true, false, refl, sym, ap, subst, arith}
+use Rattle.std.proofs.Common.{◌≡◌, ◌∙◌, ◌⊎◌, inl, inr, ◌<◌, ◌≤◌, ◌+◌, ℕ, List, [], length, Option, Some, None, Result, Ok, Err, true, refl, sym, ap, subst, arith}
 use Rattle.std.specs.Prelude.{is_some, option_map, slice_get}
 use Rattle.std.specs.declared.ops.Range.{Range}
 use Rattle.wasm_types.specs.decoding.Decoder.{State as Bytes}
-use Rattle.wasm_types.specs.error.Denials.{Denies, Tells}
+use Rattle.wasm_types.specs.error.Denials.{Denies}
 use Rattle.wasm_types.specs.error.DenialLaws.{denies, denies_from}
 use Rattle.wasm_types.specs.error.ErrorValue.{ErrorValue}
 use Rattle.wasm_types.specs.error.declared.error.ErrorKind.{ErrorKind}
@@ -37,7 +37,7 @@ use Rattle.wasm_module_validator.specs.declared.validator.State.TheVariants.{Unp
 use Rattle.wasm_module_validator.specs.declared.validator.Validator.{Validator}
 use Rattle.wasm_module_validator.specs.declared.payloads.ValidPayload.{ValidPayload}
 use Rattle.wasm_module_validator.specs.declared.payloads.ValidPayload.TheVariants as valid
-use Rattle.wasm_module_validator.specs.Methods.{refusal, header_refusal, failure, InTurn, Takes, TakesData, BeginsCode, TakesBody, RefusesUnknown, ReadsHeader, Ends, EndsFrom, IsTaken, IsEnded, learned}
+use Rattle.wasm_module_validator.specs.Methods.{refusal, header_refusal, failure, Takes, TakesData, BeginsCode, TakesBody, ReadsHeader, Ends, EndsFrom, IsTaken, learned}
 use Rattle.wasm_module_validator.specs.Payloads.{Answer, passed, with_body, ended, TakesPayload}
 use Rattle.wasm_module_validator.specs.Shown.{Learned}
 use Rattle.wasm_module_validator.specs.laws.Beginning.{nothing_is_reached}

@@ -1,5 +1,5 @@
 -- A validator that is told of a module as its bytes come: where it stands behind some frames, and what it has told by then.
-use Rattle.std.proofs.Common.{◌≡◌, ◌∙◌, ◌⊎◌, ◌<◌, ◌≤◌, ◌+◌, ◌-◌, ◌^◌, length-append, length-drop, ℕ, zero, suc, Bool, true, false, List, [], ◌∷◌, ◌++◌, length, drop, Option, Some, None, Result, Ok, Err, cond, refl, sym, ap, subst, inl, inr, arith, append_assoc}
+use Rattle.std.proofs.Common.{◌≡◌, ◌∙◌, ◌⊎◌, ◌<◌, ◌≤◌, ◌+◌, ◌-◌, ◌^◌, length-append, length-drop, ℕ, zero, suc, Bool, true, false, List, [], ◌∷◌, ◌++◌, length, drop, Ok, Err, cond, refl, sym, ap, subst, inl, inr, arith, append_assoc}
 use Rattle.std.specs.Prelude.{◌==◌}
 use Rattle.std.proofs.lemmas.List.{append-nil}
 use Rattle.std.specs.declared.ops.Range.{Range}
@@ -30,7 +30,7 @@ use Rattle.wasm_sections_parser_laws.specs.calls.Runs.{fresh, entries, Framed, A
 use Rattle.wasm_sections_parser_laws.specs.steps.StepCases.{header_given, no_end}
 use Rattle.wasm_sections_payloads.specs.declared.payload.Payload.{Payload}
 use Rattle.wasm_sections_payloads.specs.declared.payload.Payload.TheVariants as payloads
-use Rattle.wasm_sections_payloads.specs.Parsing.{IsUnreadable, ParsesPayload}
+use Rattle.wasm_sections_payloads.specs.Parsing.{ParsesPayload}
 use Rattle.wasm_sections_payloads.specs.Payloads.{IsPayloadOf, IsRefusedAs}
 use Rattle.wasm_module_validator_resources.specs.Reading.{context_of}
 use Rattle.wasm_module_validator_module.specs.declared.view.validator_id.ValidatorId.{ValidatorId}
@@ -38,18 +38,18 @@ use Rattle.wasm_module_validator_sharing.specs.Sharing.{Handed}
 use Rattle.wasm_module_validator_sharing.specs.reading.Reading.{IsReadAs}
 use Rattle.wasm_module_validator_sharing.specs.reading.judging.functions.code.Code.{IsFunctionOf}
 use Rattle.wasm_module_validator_sharing.specs.reading.progress.adding.Bodies.{IsReadBy}
-use Rattle.wasm_module_validator_sharing.specs.reading.progress.Progress.{Kept, Grows, nothing_kept}
+use Rattle.wasm_module_validator_sharing.specs.reading.progress.Progress.{Grows, nothing_kept}
 use Rattle.wasm_module_validator_sharing.specs.reading.progress.declaring.Total.{IsPastTotal}
 use Rattle.wasm_module_validator_sharing.specs.reading.progress.declaring.TotalLaws.{none_past}
 use Rattle.wasm_module_validator_sharing.specs.reading.progress.laws.Growing.{grows_further, total_before}
-use Rattle.wasm_module_validator_sharing.specs.reading.progress.fronts.FrontLaws.{modules_one, calls_joined, calls_with_end, shapes_joined, shapes_before, called_settings}
+use Rattle.wasm_module_validator_sharing.specs.reading.progress.fronts.FrontLaws.{modules_one, calls_joined, calls_with_end, shapes_before, called_settings}
 use Rattle.wasm_module_validator_sharing.specs.reading.progress.fronts.JudgedLaws.{judged_more, judged_less}
 use Rattle.wasm_module_validator_sharing.specs.reading.progress.fronts.Walks.{HasSettings}
 use Rattle.wasm_module_validator_sharing.specs.reading.progress.fronts.framed.laws.Complete.{module_comes}
 use Rattle.wasm_module_validator_sharing.specs.reading.progress.laws.Shapes.{frame_is}
 use Rattle.wasm_module_validator_sharing.specs.reading.progress.standing.Standing.{Stands}
-use Rattle.wasm_module_validator_sharing.specs.reading.progress.standing.steps.Steps.{SoFar, nothing, JudgesBody, JudgesShape, JudgesShapes, IsJudged}
-use Rattle.wasm_module_validator_sharing.specs.reading.progress.standing.steps.contexts.rules.Accepts.{AcceptsUnder, Judges}
+use Rattle.wasm_module_validator_sharing.specs.reading.progress.standing.steps.Steps.{SoFar, nothing, JudgesShape, JudgesShapes}
+use Rattle.wasm_module_validator_sharing.specs.reading.progress.standing.steps.contexts.rules.Accepts.{AcceptsUnder}
 use Rattle.wasm_module_validator_sharing.specs.reading.progress.standing.steps.contexts.rules.Syntax.{ModuleTree}
 use Rattle.wasm_module_validator_sharing.specs.reading.progress.standing.steps.laws.Judged.{judged_joined, judged_split, shape_keeps}
 use Rattle.wasm_module_validator.specs.declared.payloads.ValidPayload.TheVariants as valid
