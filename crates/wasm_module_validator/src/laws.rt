@@ -21,7 +21,6 @@ pub const fn states_are_worked()
 {}
 
 /// Lists of verdicts, and how far a validator is behind them.
-#[tactic(auto, using(crate::specs::laws::ListRows::list_rows))]
 pub const fn lists_are_worked()
     ensures { (z : Settings) (id : ValidatorId) (held : List Group) (x y : List ℕ) (t : Learned) (e : ErrorValue) → ListRows z id held x y t e }
 {}

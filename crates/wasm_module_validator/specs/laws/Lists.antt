@@ -101,11 +101,11 @@ module _ (z : Settings) (held : List Group) (bytes : List ℕ) (e : ErrorValue) 
       subst (λ (b : Bool). IsVerdict z id held bytes (Refused e b)) (sym (ap can_reset is)) (m, inr (denied e.kind (IsValidOutsideBodies z bytes) m none))
 
   pub refused_state : IsNotMemory e.kind → Leaves {X = Learned} held z bytes (Err e) s → s ≡ state_behind (Refused e (can_reset s))
-  refused_state m (inl (is, others)) = is ∙ ap (λ t. state_behind (Refused e (can_reset t))) (sym is)
+  refused_state m (inl (is, n, read, none)) = is ∙ ap (λ t. state_behind (Refused e (can_reset t))) (sym is)
   refused_state m (inr (is, others)) = is ∙ ap (λ t. state_behind (Refused e (can_reset t))) (sym is)
 
   pub memory_fails : e.kind ≡ OutOfMemory → Leaves {X = Learned} held z bytes (Err e) s → s ≡ Failed
-  memory_fails k (inl (is, n, others)) = absurd (subst IsNotMemory k n)
+  memory_fails k (inl (is, n, read, none)) = absurd (subst IsNotMemory k n)
   memory_fails k (inr (is, others)) = is
 
 -- ---- the list of types

@@ -85,8 +85,8 @@ pub alone_told : {X : Type 0} (z : Settings) (k : Kept) → k.groups ≡ [] → 
 alone_told z k none w r P h = within_total z w r P (subst (λ (gs : List Group). TellsWithinTotal gs (no_items z) r P) (none_held z k none) h)
 
 -- behind a function that was refused it has ended, but where there was no memory
-pub left_behind : {X : Type 0} (groups : List Group) (z : Settings) (bytes : List ℕ) (e : ErrorValue) (s : State) → IsLeft e.kind s → (q : SoFar) × IsReadAs z bytes q
+pub left_behind : (X : Type 0) (groups : List Group) (z : Settings) (bytes : List ℕ) (e : ErrorValue) (s : State) → IsLeft e.kind s → (q : SoFar) × IsReadAs z bytes q
     → Denies e.kind (AcceptsUnder z bytes) → Leaves {X = X} groups z bytes (Err e) s
-left_behind groups z bytes e s (inl (is, n)) read d = inl (is, n, read, denied e.kind (AcceptsUnder z bytes) n d)
-left_behind groups z bytes e s (inr (is, memory)) read d =
+left_behind X groups z bytes e s (inl (is, n)) read d = inl (is, n, read, denied e.kind (AcceptsUnder z bytes) n d)
+left_behind X groups z bytes e s (inr (is, memory)) read d =
     inr (is, inr (subst (λ (k : ErrorKind). Denies k ((q : SoFar) × IsReadAs z bytes q)) (sym memory) tt))

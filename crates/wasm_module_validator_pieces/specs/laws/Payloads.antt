@@ -192,13 +192,13 @@ module _ (z : Settings) (v w : Validator) (going : v.state ≡ Module) where
 
     module _ (x : Payload) (none : frame_back x ≡ None) (is : IsPayloadOf f x) where
       section_denied : (e : ErrorValue) → NotFull e → ((id : ℕ) (b : Bytes) → IsSectionOf id b x → id ≡ 11 → ⊥) → Takes {X = Unit {0}} x v (Err e) w → Denies e.kind (Next z m f)
-      section_denied e none other t = go v.reached.code refl
+      section_denied e few other t = go v.reached.code refl
         where
           late : (k : ℕ) → v.reached.code ≡ Some k → Next z m f → ⊥
           late k c n = of_section (λ (g : Frame). JudgesShape z m (shape_of g) n.0 → ⊥) f x none (λ id b h j. too_late k c id b.rest n.0 j.0 j.1 j.2 (other id b h)) is n.1
 
           go : (o : Option ℕ) → v.reached.code ≡ o → Denies e.kind (Next z m f)
-          go None c = not_full x v.reached.progress.kept e (TellsFrame {X = Unit {0}} v.reached x (Err e)) none (t.told (before_code c)) z m f s.reached has is
+          go None c = not_full x v.reached.progress.kept e (TellsFrame {X = Unit {0}} v.reached x (Err e)) few (t.told (before_code c)) z m f s.reached has is
           go (Some k) c = denies e.kind (Next z m f) (late k c)
 
       -- what is left behind a section that was taken
@@ -219,7 +219,7 @@ module _ (z : Settings) (v w : Validator) (going : v.state ≡ Module) where
           go (Some k) c = absurd (not_some kinds.Other (t.out kinds.Other (behind_code k c)).0)
 
       data_denied : (e : ErrorValue) → NotFull e → TakesData {X = Unit {0}} x v (Err e) w → Denies e.kind (Next z m f)
-      data_denied e none t = not_full x v.reached.progress.kept e (TellsFrame {X = Unit {0}} v.reached x (Err e)) none (t.told at_any_time) z m f s.reached has is
+      data_denied e few t = not_full x v.reached.progress.kept e (TellsFrame {X = Unit {0}} v.reached x (Err e)) few (t.told at_any_time) z m f s.reached has is
 
       data_taken : TakesData {X = Unit {0}} x v (Ok tt) w → IsLeft z v m f w
       data_taken t = let left = t.left at_any_time in (left.0, t.told at_any_time z m f s.reached has is, section_left left, left.3)

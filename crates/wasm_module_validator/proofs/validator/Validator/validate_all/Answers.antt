@@ -69,6 +69,6 @@ returns-in-Err-judge-clause-state c =
     let r : Progress = c.read.new.self.progress in
     let told : Tells c.judge.result (AcceptsUnder z c.args.bytes.now) = tells_accepted z c.args.bytes.now r c.in-Ok.bodies.items c.in-Ok.ensures.answer c.in-Ok.ensures.stands c.judge.result
     (subst (λ (xs : List Body). (q : SoFar) → IsAt z r xs q → length q.bodies ≡ length q.tree.functions → Tells c.judge.result (AreBodies z q)) c.as_slice.ensures.value (c.judge.ensures z)) in
-    left_behind (held_by c.args.self.now) z c.args.bytes.now c.in-Err-judge.error c.state_after.result
-    (subst (λ k. IsLeft k c.state_after.result) c.kind.ensures c.state_after.ensures) c.in-Ok.ensures.answer
+    left_behind (Unit {0}) (held_by c.args.self.now) z c.args.bytes.now c.in-Err-judge.error c.state_after-self.result
+    (subst (λ k. IsLeft k c.state_after-self.result) c.kind.ensures c.state_after-self.ensures) c.in-Ok.ensures.answer
     (subst (λ answer. Tells answer (AcceptsUnder z c.args.bytes.now)) c.in-Err-judge.is told)

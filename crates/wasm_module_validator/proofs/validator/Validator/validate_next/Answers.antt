@@ -7,9 +7,10 @@ use Rattle.wasm_sections_parser.specs.Parsing.{one_of}
 use Rattle.wasm_module_validator_sharing.specs.reading.progress.standing.type_trees.Groups.{Group}
 use Rattle.wasm_module_validator.specs.declared.lists.Verdict.TheVariants.{Accepted, Refused}
 use Rattle.wasm_module_validator.specs.declared.validator.Validator.{Validator}
-use Rattle.wasm_module_validator.specs.Lists.{AreToldUnder, IsVerdict}
+use Rattle.wasm_module_validator.specs.Lists.{AreToldUnder, IsVerdict, LeavesGroups}
+use Rattle.wasm_module_validator.specs.Methods.{can_reset}
 use Rattle.wasm_module_validator.specs.States.{held_by}
-use Rattle.wasm_module_validator.specs.laws.Lists.{groups_begun, groups_grown, refused_verdict}
+use Rattle.wasm_module_validator.specs.laws.Lists.{groups_begun, groups_grown, refused_leaves, refused_state, refused_verdict}
 use Rattle.wasm_module_validator.proofs.validator.Validator.validate_next.Goals as goal
 
 pub returns-in-Ok-clause-verdict : goal.returns-in-Ok-clause-verdict
@@ -31,6 +32,18 @@ returns-else-is_memory-clause-verdict c =
     let over : IsVerdict u.settings u.id (held_by v) c.args.bytes.now (Refused e c.can_reset-ended.result) =
     subst (λ (gs : List Group). IsVerdict u.settings u.id gs c.args.bytes.now (Refused e c.can_reset-ended.result)) (groups_begun v u w c.reset.ensures c.validate_all.ensures.others) refused in
     subst (λ (y : Validator). IsVerdict y.settings y.id (held_by v) c.args.bytes.now (Refused e c.can_reset-ended.result)) c.reset.ensures over
+
+pub returns-else-is_memory-clause-groups : goal.returns-else-is_memory-clause-groups
+returns-else-is_memory-clause-groups c =
+    let v : Validator = c.args.self.now in
+    let u : Validator = c.reset.new.self in
+    let w : Validator = c.validate_all.new.self in
+    let e : ErrorValue = c.in-Err.error in
+    let known : IsNotMemory c.kind.result =
+    subst (λ (b : Bool). one_of b (c.kind.result ≡ kinds.OutOfMemory) (IsNotMemory c.kind.result)) c.if-is_memory.false c.is_memory.ensures in
+    let state = refused_state u.settings (held_by u) c.args.bytes.now e w.state (subst IsNotMemory c.kind.ensures known) c.in-Err.ensures.state in
+    subst (λ (b : Bool). LeavesGroups v (Refused e b) w) (sym c.can_reset-ended.ensures)
+    (refused_leaves v u w c.reset.ensures c.validate_all.ensures.others e (can_reset w.state) c.validate_all.ensures.kept state)
 
 pub returns-in-Ok-clause-groups : goal.returns-in-Ok-clause-groups
 returns-in-Ok-clause-groups c =
