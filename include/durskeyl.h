@@ -3,7 +3,8 @@
  * PROVED, of the library's source: durskeyl_validate answers DURSKEYL_VALID only if the bytes spell a module that is valid by the written
  * rules under the settings (docs/SPECIFICATION.md names them), and a kind that is a verdict only if they do not; fault->kind is that
  * answer; the text ends in a 0. durskeyl_imports and durskeyl_exports, of bytes that durskeyl_validate accepted by whatever settings: how
- * many there are, and in each row the names, the kind and the index that the module has, in its order. All calls end on all bytes, read only
+ * many there are, and in each row the names, the kind and the index that the module has, in its order; of any other bytes, that the names of
+ * all rows that were written lie in the bytes, unless the answer is DURSKEYL_NO_MODULE. All calls end on all bytes, read only
  * what they are given, and write only the fault or the rows. No call depends on an earlier one, keeps anything, or leaves anything to free.
  * NOT PROVED: which of several faults is told, its kind, offset and text; time, memory and stack; this header; the C library.
  *
@@ -113,7 +114,7 @@ typedef struct {
     uint32_t later;               /* kept for later: 0 */
 } durskeyl_export;
 
-/* Not an answer of durskeyl_imports or durskeyl_exports for a module that was accepted. */
+/* Never the answer of durskeyl_imports or durskeyl_exports for a module that was accepted. The rows may hold anything then. */
 #define DURSKEYL_NO_MODULE UINT64_MAX
 
 uint32_t durskeyl_version(void);
@@ -122,7 +123,7 @@ void durskeyl_settings_default(durskeyl_settings *settings);
 uint32_t durskeyl_validate(const durskeyl_settings *settings, const uint8_t *bytes, size_t length, durskeyl_fault *fault);
 
 /* Of bytes that were accepted, all of them: answers how many imports (exports) the module has, and writes the first of them, as many as
- * capacity. With capacity 0 it only counts. Of other bytes nothing is promised of the answer and the rows: do not follow their offsets. */
+ * capacity. With capacity 0 it only counts. Of other bytes the answer and the rows mean nothing. */
 uint64_t durskeyl_imports(const uint8_t *bytes, size_t length, durskeyl_import *rows, size_t capacity);
 uint64_t durskeyl_exports(const uint8_t *bytes, size_t length, durskeyl_export *rows, size_t capacity);
 

@@ -90,16 +90,21 @@ static void calls(void) {
     want("no exports", durskeyl_exports(module, 8, out, 4), 0);
     want("null of length 0", durskeyl_imports(NULL, 0, NULL, 0), DURSKEYL_NO_MODULE);
     want("a section that is cut off", durskeyl_exports(module, sizeof module - 1, NULL, 0), DURSKEYL_NO_MODULE);
-    // bytes that are no module: an end, and nothing is written behind the rows
+    // bytes that are mostly no module: an end, names that lie in the bytes, and nothing is written behind the rows
     uint8_t torn[sizeof module];
+    size_t outside = 0;
     for (size_t at = 8; at < sizeof module; at++) {
         for (int byte = 0; byte < 256; byte++) {
             memcpy(torn, module, sizeof module);
             torn[at] = byte;
-            durskeyl_imports(torn, sizeof torn, in, 3);
-            durskeyl_exports(torn, sizeof torn, out, 3);
+            uint64_t imports = durskeyl_imports(torn, sizeof torn, in, 3), exports = durskeyl_exports(torn, sizeof torn, out, 3);
+            for (uint64_t i = 0; imports != DURSKEYL_NO_MODULE && i < imports && i < 3; i++)
+                outside += in[i].module_offset + in[i].module_length > sizeof torn || in[i].name_offset + in[i].name_length > sizeof torn;
+            for (uint64_t i = 0; exports != DURSKEYL_NO_MODULE && i < exports && i < 3; i++)
+                outside += out[i].name_offset + out[i].name_length > sizeof torn;
         }
     }
+    want("names outside of the bytes", outside, 0);
     want("behind the rows", in[3].kind == 0x23232323 && out[3].kind == 0x23232323, 1);
     pthread_t threads[4];
     for (int i = 0; i < 4; i++)

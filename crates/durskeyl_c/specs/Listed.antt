@@ -1,10 +1,11 @@
 -- What the rows tell C of a module's imports and exports.
-use Rattle.std.specs.Prelude.{◌≡◌, ℕ, List, length}
+use Rattle.std.specs.Prelude.{◌≡◌, ◌^◌, ◌-◌, ℕ, List, length}
 use Rattle.wasm_types.specs.limits.Settings.{Settings}
 use Rattle.wasm_module_validator_rules.specs.Syntax.{ModuleTree}
 use Rattle.wasm_module_validator_rules.specs.Binary.{SpelledModule}
 use Rattle.wasm_module_entries.specs.declared.rows.ImportRow.{ImportRow}
 use Rattle.wasm_module_entries.specs.declared.rows.ExportRow.{ExportRow}
+use Rattle.wasm_module_entries.specs.Entries.{ImportWithin, ExportWithin, First}
 use Rattle.wasm_module_entries.specs.Listing.{WritesImports, WritesExports}
 
 -- how many imports the module has that the bytes spell, by whatever settings, and a row for each as far as there are rows
@@ -14,3 +15,15 @@ TellsImports count bytes rows = (z : Settings) (m : ModuleTree) → SpelledModul
 -- the same of its exports
 abbrev pub TellsExports : ℕ → List ℕ → List ExportRow → Type 0
 TellsExports count bytes rows = (z : Settings) (m : ModuleTree) → SpelledModule z m bytes → (count ≡ length m.exports) × WritesExports bytes m.exports rows
+
+-- the answer for bytes of no module
+abbrev pub no_module : ℕ
+no_module = 2 ^ 64 - 1
+
+-- of whatever bytes: unless the answer is that, the names of all rows that were written lie in the bytes
+abbrev pub ImportsWithin : ℕ → List ℕ → List ImportRow → Type 0
+ImportsWithin count bytes rows = ¬ (count ≡ no_module) → First (ImportWithin bytes) count rows
+
+-- the same of exports
+abbrev pub ExportsWithin : ℕ → List ℕ → List ExportRow → Type 0
+ExportsWithin count bytes rows = ¬ (count ≡ no_module) → First (ExportWithin bytes) count rows

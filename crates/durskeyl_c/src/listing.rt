@@ -1,6 +1,6 @@
 //! What an accepted module imports and exports.
 
-ghost use Rattle.durskeyl_c.specs.Listed.{TellsImports, TellsExports};
+ghost use Rattle.durskeyl_c.specs.Listed.{TellsImports, TellsExports, ImportsWithin, ExportsWithin};
 
 use std::alloc::Global;
 use wasm_module_entries::{ExportRow, ImportRow, list_exports, list_imports};
@@ -9,10 +9,11 @@ use wasm_module_entries::{ExportRow, ImportRow, list_exports, list_imports};
 const NO_MODULE: u64 = u64::MAX;
 
 /// Writes the imports of the module that these bytes spell, in their order, as many as there are rows for, and answers how many there
-/// are. The bytes are those of a module that was accepted: of others nothing is promised but an end, and that only the rows are written.
+/// are. The bytes are those of a module that was accepted. Of others the answer may be `NO_MODULE`, or rows whose names lie in the bytes.
 #[unsafe(no_mangle)]
 pub extern "C" fn durskeyl_imports(alloc: Global, bytes: &[u8], rows: &mut [ImportRow]) -> u64
-    ensures { TellsImports result bytes.now rows.new }
+    ensures listed { TellsImports result bytes.now rows.new }
+    ensures within { ImportsWithin result bytes.now rows.new }
 {
     match list_imports(alloc, bytes, rows) {
         Some(count) => count as u64,
@@ -23,7 +24,8 @@ pub extern "C" fn durskeyl_imports(alloc: Global, bytes: &[u8], rows: &mut [Impo
 /// The same of its exports.
 #[unsafe(no_mangle)]
 pub extern "C" fn durskeyl_exports(alloc: Global, bytes: &[u8], rows: &mut [ExportRow]) -> u64
-    ensures { TellsExports result bytes.now rows.new }
+    ensures listed { TellsExports result bytes.now rows.new }
+    ensures within { ExportsWithin result bytes.now rows.new }
 {
     match list_exports(alloc, bytes, rows) {
         Some(count) => count as u64,

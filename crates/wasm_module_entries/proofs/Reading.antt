@@ -6,7 +6,7 @@ use Rattle.wasm_types.specs.limits.Settings.{Settings}
 use Rattle.wasm_sections_items.specs.imports.Spells.{ImportTree, ExportTree, SpelledImport, SpelledExport}
 use Rattle.wasm_module_entries.specs.declared.rows.ImportRow.{ImportRow}
 use Rattle.wasm_module_entries.specs.declared.rows.ExportRow.{ExportRow}
-use Rattle.wasm_module_entries.specs.Entries.{TellsImport, TellsExport, TellsNumbered, Rows, numbered, none_taken, import_kind}
+use Rattle.wasm_module_entries.specs.Entries.{TellsImport, TellsExport, TellsNumbered, Rows, First, numbered, none_taken, import_kind}
 
 -- ---- rows
 
@@ -25,6 +25,20 @@ drop_next [] zero x more e = absurd cc
 drop_next (y ∷ xs) zero x more e = cc
 drop_next [] (suc i) x more e = absurd cc
 drop_next (y ∷ xs) (suc i) x more e = drop_next xs i x more e
+
+first_next : {R : Type 0} (P : R → Type 0) (rows : List R) (i : ℕ) (row : R) → P row → First P i rows → First P (suc i) (slice_set rows i row)
+first_next P [] i row p h = tt
+first_next P (x ∷ rows) zero row p h = (p, tt)
+first_next P (x ∷ rows) (suc i) row p h = (h.0, first_next P rows i row p h.1)
+
+-- the same of rows of any bytes
+pub first_more : {R : Type 0} (P : R → Type 0) (rows : List R) (i : ℕ) (row : R) (now : List R) → P row → First P i rows → now ≡ slice_set rows i row → First P (i + 1) now
+first_more P rows i row now p h q =
+    let k : suc i ≡ i + 1 = omega arith in
+    subst (First P (i + 1)) (sym q) (subst (λ n. First P n (slice_set rows i row)) k (first_next P rows i row p h))
+
+pub first_all : {R : Type 0} (P : R → Type 0) (rows : List R) (i n : ℕ) → i ≡ n → First P i rows → First P n rows
+first_all P rows i n e h = subst (λ m. First P m rows) e h
 
 -- ---- what is left
 

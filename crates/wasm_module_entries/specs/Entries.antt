@@ -1,5 +1,5 @@
 -- What a row tells of an import and of an export.
-use Rattle.std.specs.Prelude.{◌≡◌, ℕ, ◌+◌, List, [], ◌∷◌, ◌++◌, length, drop, slice_index_or, slice_set}
+use Rattle.std.specs.Prelude.{◌≡◌, ◌≤◌, ℕ, zero, suc, ◌+◌, List, [], ◌∷◌, ◌++◌, length, drop, slice_index_or, slice_set}
 use Rattle.wasm_types.specs.limits.Settings.{Settings}
 use Rattle.wasm_sections_items.specs.declared.imports.kind.ExternalKind.{ExternalKind}
 use Rattle.wasm_sections_items.specs.declared.imports.kind.ExternalKind.TheVariants as kind
@@ -59,6 +59,23 @@ abbrev pub Rows : {E R : Type 0} → (E → R → Type 0) → List E → List R 
 Rows tells [] rows = Unit {0}
 Rows tells (e ∷ es) [] = Unit {0}
 Rows tells (e ∷ es) (row ∷ rows) = tells e row × Rows tells es rows
+
+-- ---- rows of any bytes
+
+-- the names lie in the bytes
+pub record ImportWithin (text : List ℕ) (row : ImportRow) : Type 0 where
+  pub from_module : row.module_offset + row.module_length ≤ length text
+  pub named : row.name_offset + row.name_length ≤ length text
+
+-- the name lies in the bytes
+abbrev pub ExportWithin : List ℕ → ExportRow → Type 0
+ExportWithin text row = row.name_offset + row.name_length ≤ length text
+
+-- so many of the first rows are so, as far as there are rows
+abbrev pub First : {R : Type 0} → (R → Type 0) → ℕ → List R → Type 0
+First P zero rows = Unit {0}
+First P (suc n) [] = Unit {0}
+First P (suc n) (row ∷ rows) = P row × First P n rows
 
 -- ---- what spells the parts of an entry
 

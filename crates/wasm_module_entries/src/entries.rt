@@ -3,7 +3,7 @@
 ghost use Rattle.std.specs.Prelude.{◌≡◌, ◌<◌, ◌≤◌, length, IfSome};
 ghost use Rattle.wasm_sections_items.specs.imports.Spells.{kind_of as kind};
 ghost use Rattle.wasm_module_entries.specs.Finding.{Finds};
-ghost use Rattle.wasm_module_entries.specs.Entries.{kind_number, IsType, IsKindOf, IsImport, IsExport, TellsImport, TellsExport, IsExportKind, IsKindNumber};
+ghost use Rattle.wasm_module_entries.specs.Entries.{kind_number, IsType, IsKindOf, IsImport, IsExport, TellsImport, TellsExport, ImportWithin, ExportWithin, IsExportKind, IsKindNumber};
 
 use crate::names::{name_at, number_at};
 use crate::rows::{ExportRow, ImportRow};
@@ -73,6 +73,7 @@ fn kind_at(alloc: Global, bytes: &[u8], at: usize) -> Option<(u32, usize)>
 pub(crate) fn import_at(alloc: Global, bytes: &[u8], at: usize) -> Option<(ImportRow, usize)>
     requires { at ≤ length bytes.now }
     ensures found { Finds IsImport (TellsImport bytes.now) bytes.now at result }
+    ensures within { IfSome result (λ r. ImportWithin bytes.now r.0) }
     ensures inside { IfSome result (λ r. r.1 ≤ length bytes.now) }
     ensures kind { IfSome result (λ r. r.0.kind < 5) }
 {
@@ -100,6 +101,7 @@ pub(crate) fn import_at(alloc: Global, bytes: &[u8], at: usize) -> Option<(Impor
 pub(crate) fn export_at(alloc: Global, bytes: &[u8], at: usize) -> Option<(ExportRow, usize)>
     requires { at ≤ length bytes.now }
     ensures found { Finds IsExport (TellsExport bytes.now) bytes.now at result }
+    ensures within { IfSome result (λ r. ExportWithin bytes.now r.0) }
     ensures inside { IfSome result (λ r. r.1 ≤ length bytes.now) }
 {
     let Some((name, next)) = name_at(bytes, at) else {

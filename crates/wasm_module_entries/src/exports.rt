@@ -1,6 +1,7 @@
 //! All exports of a module.
 
-ghost use Rattle.std.specs.Prelude.{◌≤◌, length};
+ghost use Rattle.std.specs.Prelude.{◌≤◌, length, IfSome};
+ghost use Rattle.wasm_module_entries.specs.Entries.{ExportWithin, First};
 ghost use Rattle.wasm_module_entries.specs.Listing.{ListsExports, ListsFrom, AreExports, WritesExports};
 
 use crate::entries::export_at;
@@ -13,9 +14,10 @@ use std::alloc::Global;
 const EXPORTS: u8 = 7;
 
 /// Writes the exports of the module that these bytes spell, as many as there are rows for, and answers how many there are. None only if
-/// the bytes spell no module.
+/// the bytes spell no module. Of whatever bytes, the names of the rows that were written lie in them.
 pub fn list_exports(alloc: Global, bytes: &[u8], rows: &mut [ExportRow]) -> Option<u32>
-    ensures { ListsExports bytes.now result rows.new }
+    ensures listed { ListsExports bytes.now result rows.new }
+    ensures within { IfSome result (λ n. First (ExportWithin bytes.now) n rows.new) }
 {
     match section_of(bytes, EXPORTS) {
         Section::Broken => None,
@@ -27,7 +29,8 @@ pub fn list_exports(alloc: Global, bytes: &[u8], rows: &mut [ExportRow]) -> Opti
 // The same, of the section's contents.
 fn exports_from(alloc: Global, bytes: &[u8], start: usize, rows: &mut [ExportRow]) -> Option<u32>
     requires { start ≤ length bytes.now }
-    ensures { ListsFrom AreExports WritesExports bytes.now start result rows.new }
+    ensures listed { ListsFrom AreExports WritesExports bytes.now start result rows.new }
+    ensures within { IfSome result (λ n. First (ExportWithin bytes.now) n rows.new) }
 {
     let Some((count, first)) = number_at(bytes, start) else {
         return None;

@@ -1,6 +1,7 @@
 //! All imports of a module.
 
-ghost use Rattle.std.specs.Prelude.{◌≡◌, ◌+◌, ◌<◌, ◌≤◌, ◌^◌, length, slice_index_or, slice_set};
+ghost use Rattle.std.specs.Prelude.{◌≡◌, ◌+◌, ◌<◌, ◌≤◌, ◌^◌, length, slice_index_or, slice_set, IfSome};
+ghost use Rattle.wasm_module_entries.specs.Entries.{ImportWithin, First};
 ghost use Rattle.wasm_module_entries.specs.Listing.{ListsImports, ListsFrom, AreImports, WritesImports};
 
 use crate::entries::import_at;
@@ -13,9 +14,10 @@ use std::alloc::Global;
 const IMPORTS: u8 = 2;
 
 /// Writes the imports of the module that these bytes spell, as many as there are rows for, and answers how many there are. None only if
-/// the bytes spell no module.
+/// the bytes spell no module. Of whatever bytes, the names of the rows that were written lie in them.
 pub fn list_imports(alloc: Global, bytes: &[u8], rows: &mut [ImportRow]) -> Option<u32>
-    ensures { ListsImports bytes.now result rows.new }
+    ensures listed { ListsImports bytes.now result rows.new }
+    ensures within { IfSome result (λ n. First (ImportWithin bytes.now) n rows.new) }
 {
     match section_of(bytes, IMPORTS) {
         Section::Broken => None,
@@ -39,7 +41,8 @@ fn next_index(taken: &mut [u32; 5], kind: u32) -> u32
 // The same, of the section's contents.
 fn imports_from(alloc: Global, bytes: &[u8], start: usize, rows: &mut [ImportRow]) -> Option<u32>
     requires { start ≤ length bytes.now }
-    ensures { ListsFrom AreImports WritesImports bytes.now start result rows.new }
+    ensures listed { ListsFrom AreImports WritesImports bytes.now start result rows.new }
+    ensures within { IfSome result (λ n. First (ImportWithin bytes.now) n rows.new) }
 {
     let Some((count, first)) = number_at(bytes, start) else {
         return None;

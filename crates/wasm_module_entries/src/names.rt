@@ -1,6 +1,6 @@
 //! Numbers and names where they stand.
 
-ghost use Rattle.std.specs.Prelude.{◌<◌, ◌≤◌, length, IfSome};
+ghost use Rattle.std.specs.Prelude.{◌+◌, ◌<◌, ◌≤◌, length, IfSome};
 ghost use Rattle.wasm_module_entries.specs.Finding.{Finds, IsNumber, IsNameBy, Same, IsAt};
 
 use wasm_types_numbers::short_u32_at;
@@ -26,6 +26,7 @@ pub(crate) fn number_at(bytes: &[u8], at: usize) -> Option<(u32, usize)>
 pub(crate) fn name_at(bytes: &[u8], at: usize) -> Option<(Name, usize)>
     requires { at ≤ length bytes.now }
     ensures found { Finds IsNameBy (IsAt bytes.now) bytes.now at result }
+    ensures within { IfSome result (λ r. r.0.offset + r.0.length ≤ length bytes.now) }
     ensures inside { IfSome result (λ r. r.1 ≤ length bytes.now) }
 {
     let Some((length, offset)) = number_at(bytes, at) else {

@@ -2,6 +2,7 @@ use Rattle.std.proofs.Common.{◌≡◌, ◌≤◌, ◌++◌, ℕ, List, length,
 use Rattle.wasm_types.specs.decoding.Decoder.{Many}
 use Rattle.wasm_types.specs.limits.Settings.{Settings}
 use Rattle.wasm_sections_items.specs.imports.Spells.{ImportTree, SpelledImport}
+use Rattle.wasm_module_entries.specs.Entries.{ImportWithin, First}
 use Rattle.wasm_module_entries.proofs.Reading.{ImportsGo}
 use Rattle.wasm_module_entries.proofs.imports.imports_from.Given as goal
 
@@ -10,6 +11,7 @@ abbrev pub invariant-loop-place : goal.invariant-loop-place
 invariant-loop-place l =
     record {
       inside : l.at ≤ length l.bytes;
+      within : First (ImportWithin l.bytes) l.place l.rows;
       kinds : length l.taken ≡ 5;
       few : (k : ℕ) → get_or l.taken k 0 ≤ l.place;
       entries : (z : Settings) (xs : List ImportTree) (values rest : List ℕ) → Many (SpelledImport z) (length xs) xs values → drop l.first l.bytes ≡ values ++ rest → length xs ≡ l.count
