@@ -1,5 +1,5 @@
 -- What a call says of the bytes of a reader, as the program asks it of a judge.
-use Rattle.std.proofs.Common.{◌≡◌, ◌∙◌, ◌<◌, ◌≤◌, ◌^◌, ℕ, List, [], ◌++◌, Bool, true, length, Option, Some, None, Result, Err, refl, sym, ap, subst, append-nil, arith}
+use Rattle.std.proofs.Common.{◌≡◌, ◌∙◌, ◌<◌, ◌≤◌, ◌^◌, ℕ, List, [], ◌++◌, Bool, true, length, length-append, Option, Some, None, Result, Err, refl, sym, ap, subst, append-nil, arith}
 use Rattle.std.specs.Io.KnownBytes.{Consumes, IsAtEnd}
 use Rattle.wasm_types.specs.error.Denials.{Denies, UnlessMemory}
 use Rattle.wasm_types.specs.error.ErrorValue.{ErrorValue}
@@ -47,11 +47,11 @@ too_long (Some x) None r = absurd r.1
 too_long (Some x) (Some y) (got, read, many) = subst (λ (l : List ℕ). 2 ^ 30 < length l) (sym read) (longer got y many)
   where
     longer : (got y : List ℕ) → 2 ^ 30 < length got → 2 ^ 30 < length (got ++ y)
-    longer got y many = grind (arith)
+    longer got y many = let both = length-append got y in omega (arith, many, both)
 
 -- why it is not said that what a reader has is valid
 pub fails_judging : {D : Type 0} (accepts : List ℕ → Type 0) (shown : List ℕ → D → Type 0) (before after : Option (List ℕ)) (fault : ReadError)
-    → Answers shown (λ text x. Denies x.kind (accepts text)) (2 ^ 30) before after (Err {A = D} fault) → FailsJudging accepts before (unjudged fault)
+    → Answers {D = D} shown (λ text x. Denies x.kind (accepts text)) (2 ^ 30) before after (Err fault) → FailsJudging accepts before (unjudged fault)
 fails_judging accepts shown before after (faults.Refused e) h = some_invalid accepts before after e h
 fails_judging accepts shown before after faults.Read h = tt
 fails_judging accepts shown before after faults.TooLong h = too_long before after h
