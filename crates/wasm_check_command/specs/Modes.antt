@@ -3,13 +3,14 @@
 use Rattle.std.specs.Prelude.{◌≡◌, ℕ, ◌≤◌, ◌<◌, ◌^◌, List, length, IfSome, Option}
 use Rattle.wasm_types.specs.error.Denials.{UnlessMemory}
 use Rattle.wasm_types.specs.limits.Limits.{IsWithinCeilings}
+use Rattle.wasm_types.specs.limits.declared.Limits.{Limits}
 use Rattle.wasm_types.specs.limits.Settings.{Settings}
 use Rattle.wasm_check_command.specs.declared.judging.Chosen.{Chosen}
 use Rattle.wasm_check_command.specs.declared.judging.Mode.{Mode}
 use Rattle.wasm_check_command.specs.declared.judging.Mode.TheVariants.{Whole, Pieces}
 use Rattle.wasm_check_command.specs.declared.judging.Unjudged.{Unjudged}
 use Rattle.wasm_check_command.specs.declared.judging.Unjudged.TheVariants.{Refused, Read, TooLong}
-use Rattle.wasm_check_command.specs.Settings.{settings_of}
+use Rattle.wasm_check_command.specs.Settings.{settings_by}
 
 -- the most bytes that an input may have: 2^30
 abbrev pub IsShort : List ℕ → Type 0
@@ -29,9 +30,13 @@ abbrev pub ruled : Mode → (List ℕ → Type 0) → Ruling
 ruled Whole accepts = record { accepts = accepts; fits = IsShort }
 ruled (Pieces piece) accepts = record { accepts = λ bytes. IsShort bytes × accepts bytes; fits = λ bytes. Unit {0} }
 
+-- by these features and limits, and as inputs are read
+abbrev pub ruling_by : (Settings → List ℕ → Type 0) → ℕ → Limits → Mode → Ruling
+ruling_by accepts features limits mode = ruled mode (accepts (settings_by features limits))
+
 -- by what was chosen
 abbrev pub ruling_of : (Settings → List ℕ → Type 0) → Chosen → Ruling
-ruling_of accepts c = ruled c.mode (accepts (settings_of c))
+ruling_of accepts c = ruling_by accepts c.features.0 c.limits c.mode
 
 -- pieces have some bytes
 abbrev pub HasPieces : Mode → Type 0

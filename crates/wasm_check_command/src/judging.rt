@@ -6,7 +6,7 @@ ghost use Rattle.wasm_types.specs.limits.Settings.{Settings};
 ghost use Rattle.wasm_types.specs.limits.Limits.{IsWithinCeilings};
 ghost use Rattle.wasm_check_command.specs.Settings.{settings_by, settings_of};
 ghost use Rattle.wasm_check_command.specs.Lines.{invalid_line, valid_line};
-ghost use Rattle.wasm_check_command.specs.Modes.{AreLeft, CanJudge, FailsJudging, HasPieces, HasValid, IsShort, ruled, ruling_of};
+ghost use Rattle.wasm_check_command.specs.Modes.{AreLeft, CanJudge, FailsJudging, HasPieces, HasValid, IsShort, ruled, ruling_by, ruling_of};
 ghost use Rattle.wasm_check_command.specs.Faults.{FailsReading};
 ghost use Rattle.wasm_check_command.specs.Verdict.{WritesFront, IsVerdict, WritesLine, IsJudged, FailsWriting, FailsAt};
 ghost use Rattle.wasm_check_command.specs.declared.error.CheckError.TheVariants.{Write as TheWrite};
@@ -393,9 +393,9 @@ pub fn check_by<J: Judge, R: Read + Drop, W: Write>(
 ) -> Result<Status, CheckError>
     requires within { IsWithinCeilings limits }
     requires pieces { HasPieces mode }
-    ensures ok { IfOk result (IsReported (ruled mode (J.accepts (settings_by features.0 limits))) (sources_of R.remaining inputs.entry.items)
+    ensures ok { IfOk result (IsReported (ruling_by J.accepts features.0 limits mode) (sources_of R.remaining inputs.entry.items)
         (W.contents out.old) (W.contents out.new)) }
-    ensures err { IfErr result (Stops (ruled mode (J.accepts (settings_by features.0 limits))) (sources_of R.remaining inputs.entry.items)
+    ensures err { IfErr result (Stops (ruling_by J.accepts features.0 limits mode) (sources_of R.remaining inputs.entry.items)
         (W.contents out.old) (W.contents out.new)) }
 {
     let chosen = Chosen {

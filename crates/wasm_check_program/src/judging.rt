@@ -2,8 +2,7 @@
 ghost use Rattle.std.specs.Prelude.{◌≡◌, IfOk, IfErr};
 ghost use Rattle.wasm_module_validator.specs.rules.Accepts.{AcceptsUnder};
 ghost use Rattle.wasm_types.specs.limits.Limits.{IsWithinCeilings};
-ghost use Rattle.wasm_check_command.specs.Modes.{HasPieces, ruled};
-ghost use Rattle.wasm_check_command.specs.Settings.{settings_by};
+ghost use Rattle.wasm_check_command.specs.Modes.{HasPieces, ruling_by};
 ghost use Rattle.wasm_check_command.specs.Reports.{sources_of, IsReported, Stops};
 ghost use Rattle.wasm_check_program.specs.Faults.{unjudged};
 
@@ -79,9 +78,9 @@ pub fn check<R: Read + Drop, W: Write>(
 ) -> Result<Status, CheckError>
     requires within { IsWithinCeilings limits }
     requires pieces { HasPieces mode }
-    ensures ok { IfOk result (IsReported (ruled mode (AcceptsUnder (settings_by features.0 limits))) (sources_of R.remaining inputs.entry.items)
+    ensures ok { IfOk result (IsReported (ruling_by AcceptsUnder features.0 limits mode) (sources_of R.remaining inputs.entry.items)
         (W.contents out.old) (W.contents out.new)) }
-    ensures err { IfErr result (Stops (ruled mode (AcceptsUnder (settings_by features.0 limits))) (sources_of R.remaining inputs.entry.items)
+    ensures err { IfErr result (Stops (ruling_by AcceptsUnder features.0 limits mode) (sources_of R.remaining inputs.entry.items)
         (W.contents out.old) (W.contents out.new)) }
 {
     check_by(&Validating, alloc, inputs, features, limits, mode, out)

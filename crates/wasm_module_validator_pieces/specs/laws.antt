@@ -3,3 +3,5 @@ pub mod Unreadable
 pub mod Payloads
 pub mod Running
 pub mod WorkedReaders
+pub mod Judging
+pub mod Statements

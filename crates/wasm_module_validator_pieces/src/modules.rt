@@ -2,7 +2,8 @@
 
 ghost use Rattle.std.specs.Prelude.{◌≡◌};
 ghost use Rattle.wasm_module_validator_pieces.specs.Verdicts.{StandsAt, ShownAt, DeniedAt};
-ghost use Rattle.wasm_module_validator_pieces.specs.laws.Running.{goes_read, goes_last, memory_denies};
+ghost use Rattle.wasm_module_validator_pieces.specs.laws.Judging.{stands_more, stands_last};
+ghost use Rattle.wasm_module_validator_pieces.specs.laws.Running.{memory_denies};
 
 use crate::judging::Judging;
 use crate::taking::{Taken, TakesBytes};
@@ -26,9 +27,9 @@ impl TakesBytes for Judging {
         }
     }
 
-    ghost more = { λ first got rest now bytes h. goes_read first.validator.settings first.validator.id got now.parser.frames rest now.validator bytes h };
+    ghost more = { stands_more };
 
-    ghost last = { λ first got rest now h. goes_last first.validator.settings first.validator.id got now.parser.frames rest now.validator h };
+    ghost last = { stands_last };
 
     ghost memory = { λ first text e k. memory_denies first.validator.settings text e k };
 }

@@ -45,7 +45,8 @@ pub(crate) trait TakesBytes {
         → stands first got false rest now → stands first (got ++ bytes) false (rest ++ bytes) now };
 
     /// It may be known that no more come.
-    ghost last: { (first : Self) (got : List ℕ) (rest : List ℕ) (now : Self) → stands first got false rest now → stands first got true rest now };
+    ghost last: { (first : Self) (got : List ℕ) (rest : List ℕ) (now : Self)
+        → stands first got false rest now → stands first got true rest now };
 
     /// Out of memory denies nothing.
     ghost memory: { (first : Self) (text : List ℕ) (e : ErrorValue) → e.kind ≡ OutOfMemory → denied first text e };
