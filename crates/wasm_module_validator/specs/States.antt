@@ -6,7 +6,7 @@ use Rattle.wasm_types.specs.error.declared.error.ErrorKind.{ErrorKind}
 use Rattle.wasm_types.specs.error.declared.error.ErrorKind.TheVariants.{OutOfMemory}
 use Rattle.wasm_types.specs.limits.Settings.{Settings}
 use Rattle.wasm_types.specs.reader.Reading.{IsNotMemory}
-use Rattle.wasm_module_validator_sharing.specs.reading.progress.declaring.Total.{IsPastTotal}
+use Rattle.wasm_module_validator_sharing.specs.reading.progress.declaring.Total.{IsPastTotal, TellsWithinTotal}
 use Rattle.wasm_module_validator_sharing.specs.reading.progress.standing.items.Items.{no_items}
 use Rattle.wasm_module_validator_sharing.specs.reading.progress.standing.type_trees.Groups.{Group}
 use Rattle.wasm_module_validator_sharing.specs.reading.progress.standing.steps.Steps.{SoFar}
@@ -32,6 +32,10 @@ Leaves groups z bytes (Err e) s = ((s ≡ Ended) × IsNotMemory e.kind × ((q : 
 -- the groups that the list of types has where a validator begins with a module
 abbrev pub held_by : Validator → List Group
 held_by v = kept_groups v.settings v.reached.progress.kept
+
+-- Ok exactly where the bytes are accepted, unless memory ran out, or the total of types was passed behind those that the list has.
+abbrev pub TellsBehind : {X : Type 0} → Validator → Result X ErrorValue → List ℕ → Type 0
+TellsBehind v result bytes = TellsWithinTotal (held_by v) (no_items v.settings) result (AcceptsUnder v.settings bytes)
 
 -- Behind a module that was accepted, or of which a function alone was refused, the list of types has what it had, with further groups or
 -- none; and the module was read by the validator's features and limits.

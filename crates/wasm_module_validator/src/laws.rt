@@ -22,7 +22,8 @@ pub const fn states_are_worked()
 
 /// Lists of verdicts, and how far a validator is behind them.
 pub const fn lists_are_worked()
-    ensures { (z : Settings) (id : ValidatorId) (held : List Group) (x y : List ℕ) (t : Learned) (e : ErrorValue) → ListRows z id held x y t e }
+    ensures { (z : Settings) (id : ValidatorId) (held : List Group) (x y : List ℕ) (t : Learned) (e : ErrorValue)
+        → ListRows z id held x y t e }
 {}
 
 /// A validator behind a header stands for a module of which nothing was judged, whatever it read before.

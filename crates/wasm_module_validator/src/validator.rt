@@ -3,14 +3,12 @@
 ghost use Rattle.std.specs.Prelude.{◌≡◌, ◌↔◌, [], IsTrue, IfOk};
 ghost use Rattle.wasm_types.specs.error.Denials.{Tells};
 ghost use Rattle.wasm_types.specs.limits.Limits.{default_limits, IsWithinCeilings};
-ghost use Rattle.wasm_module_validator_sharing.specs.reading.progress.declaring.Total.{TellsWithinTotal};
-ghost use Rattle.wasm_module_validator_sharing.specs.reading.progress.standing.items.Items.{no_items};
 ghost use Rattle.wasm_module_validator_sharing.specs.reading.progress.standing.steps.contexts.rules.Accepts.{AcceptsUnder};
 ghost use Rattle.wasm_module_validator_runs.specs.Soundness.{RunsSoundly};
 ghost use Rattle.wasm_module_validator_sharing.specs.Sharing.{nothing_reached};
 ghost use Rattle.wasm_module_validator.specs.declared.validator.State.TheVariants as states;
 ghost use Rattle.wasm_module_validator.specs.Accepts.{Accepts, IsShown, default_settings};
-ghost use Rattle.wasm_module_validator.specs.States.{IsLeft, Keeps, Leaves, held_by};
+ghost use Rattle.wasm_module_validator.specs.States.{IsLeft, Keeps, Leaves, TellsBehind, held_by};
 
 use crate::types::Types;
 use std::alloc::Global;
@@ -129,7 +127,7 @@ impl Validator {
     /// list with no types has room for each module that is within the limit of types.
     pub fn validate_all(&mut self, bytes: &[u8]) -> Result<Types>
         requires { self.old.state ≡ states.Unparsed }
-        ensures verdict { TellsWithinTotal (held_by self.old) (no_items self.old.settings) result (AcceptsUnder self.old.settings bytes.now) }
+        ensures verdict { TellsBehind self.old result bytes.now }
         ensures alone { self.old.reached.progress.kept.groups ≡ [] → Tells result (AcceptsUnder self.old.settings bytes.now) }
         ensures sound { IfOk result (λ _. RunsSoundly self.old.settings bytes.now) }
         ensures shown { IfOk result (IsShown self.old.settings bytes.now) }

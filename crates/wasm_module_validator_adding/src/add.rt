@@ -39,9 +39,11 @@ pub trait AddItem<'a, T: FromReader<'a>> {
     /// Checks an item that was read, which begins at this offset, and adds it.
     fn add(&mut self, item: T, offset: u64) -> Result<()>
         requires read { (z : Settings) × (s : State) × (t : State) × (T.decoder z s ≡ Done (T.view item) t) }
-        ensures answer { UnlessFull (full self.old) result ((m : Tree) → reads self.old m → Tells result ((n : Tree) × adds m (of item) n)) }
+        ensures answer { UnlessFull (full self.old) result
+            ((m : Tree) → reads self.old m → Tells result ((n : Tree) × adds m (of item) n)) }
         ensures added { OnOk result ((m n : Tree) → reads self.old m → adds m (of item) n → reads self.new n) }
-        ensures refused { UnlessFull (full self.old) result (IfErr result (λ e. (m : Tree) → reads self.old m → refuses m (of item) offset e)) }
+        ensures refused { UnlessFull (full self.old) result
+            (IfErr result (λ e. (m : Tree) → reads self.old m → refuses m (of item) offset e)) }
         ensures grown { OnOk result (grows self.old self.new) };
 
     /// Items whose bytes are read alike are the same.
@@ -67,11 +69,13 @@ pub fn add_items<'a, T: FromReader<'a>, S: AddItem<'a, T>>(
     section: SectionLimited<'a, T>,
 ) -> Result<()>
     ensures answer { UnlessFull (S.full state.old) result ((m : S.Tree) → S.reads state.old m
-        → Tells result ((t : S.Tree) × AreAdded (Spelled T.view S.of (T.grammar section.entry.reader.settings)) S.adds section.entry.count section.entry.reader.rest m t)) }
+        → Tells result ((t : S.Tree) × AreAdded (Spelled T.view S.of (T.grammar section.entry.reader.settings)) S.adds
+        section.entry.count section.entry.reader.rest m t)) }
     ensures added { OnOk result ((m t : S.Tree) → S.reads state.old m
         → AreAdded (Spelled T.view S.of (T.grammar section.entry.reader.settings)) S.adds section.entry.count section.entry.reader.rest m t → S.reads state.new t) }
     ensures refused { UnlessFull (S.full state.old) result ((m : S.Tree) → S.reads state.old m
-        → IfErr result (λ e. StopsAdding T.view S.of (T.decoder section.entry.reader.settings) S.adds S.refuses section.entry.count section.entry.reader m e)) }
+        → IfErr result (λ e. StopsAdding T.view S.of (T.decoder section.entry.reader.settings) S.adds S.refuses
+        section.entry.count section.entry.reader m e)) }
     ensures grown { OnOk result (S.grows state.old state.new) }
 {
     for item in section.into_iter_with_offsets() {

@@ -85,7 +85,8 @@ pub fn add_group(
     requires read { IsReadOver types.old.groups state.old.spaces }
     requires within { IsWithinCeilings state.old.spaces.settings.limits }
     requires indices { AreModuleIndices (declared_types rec_group) }
-    ensures answer { UnlessFull (IsPastTotal types.old.groups state.old) result ((z : Settings) (m : ModuleTree) → IsReading section.types types.old.groups state.old z m → groups ≡ length m.types
+    ensures answer { UnlessFull (IsPastTotal types.old.groups state.old) result ((z : Settings) (m : ModuleTree)
+        → IsReading section.types types.old.groups state.old z m → groups ≡ length m.types
         → Tells result ((n : ModuleTree) × AddsRead z section.types m (written_group rec_group) n)) }
     ensures added { OnOk result (AddsItem section.types types.old.groups state.old (written_group rec_group) types.new.groups state.new) }
     ensures fewer { OnOk result (groups < state.old.spaces.settings.limits.types) }

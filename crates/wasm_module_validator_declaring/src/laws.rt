@@ -28,7 +28,8 @@ pub fn groups_are_read_alike()
 /// of another kind or text is of it.
 pub fn totals_are_worked()
     ensures full { (groups : List Interned) (z : Settings) → count groups ≡ max_types → 1 ≤ z.limits.types
-        → IsPastTotal groups (no_items z) (record { kind = Other; offset = 7; message = codes "implementation limit: too many core types" }) }
+        → IsPastTotal groups (no_items z)
+        (record { kind = Other; offset = 7; message = codes "implementation limit: too many core types" }) }
     ensures none { (z : Settings) → IsWithinCeilings z.limits → (e : ErrorValue) → IsPastTotal [] (no_items z) e → ⊥ }
     ensures otherwise { (groups : List Interned) (s : Items) (e : ErrorValue) → e.kind ≡ Failed → IsPastTotal groups s e → ⊥ }
     ensures unsaid { (groups : List Interned) (s : Items) (e : ErrorValue) → e.message ≡ [] → IsPastTotal groups s e → ⊥ }

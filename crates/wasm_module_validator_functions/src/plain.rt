@@ -59,7 +59,8 @@ impl PlainJudge {
         body: &FunctionBody<'_>,
     ) -> bool
         requires { IsJudgeOf (R.meaning resources.now).«module» features.0 self.old }
-        ensures valid { result ≡ true → SpellsValidFunction (judged_by features.0 limits) (R.meaning resources.now).«module» ty body.now.rest }
+        ensures valid { result ≡ true
+            → SpellsValidFunction (judged_by features.0 limits) (R.meaning resources.now).«module» ty body.now.rest }
         ensures stays { IsJudgeOf (R.meaning resources.now).«module» features.0 self.new }
     {
         let Some(sub_type) = resources.sub_type_at(ty) else {

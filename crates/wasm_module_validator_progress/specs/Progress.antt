@@ -1,5 +1,6 @@
 -- A module that is being read, as contracts see it, and when it stands for what was judged (WebAssembly 3.0, validation, modules).
-use Rattle.std.specs.Prelude.{◌≡◌, ◌==◌, ◌+◌, ◌≤◌, ◌&&◌, if◌then◌else◌, Bool, ℕ, List, [], length, map, take}
+use Rattle.std.specs.Prelude.{◌≡◌, ◌==◌, ◌+◌, ◌≤◌, ◌&&◌, if◌then◌else◌, Bool, ℕ, List, [], length, map, take, Result}
+use Rattle.wasm_types.specs.error.Denials.{Tells}
 use Rattle.wasm_types.specs.error.ErrorValue.{ErrorValue}
 use Rattle.wasm_types.specs.limits.contracts.LimitsPartialEq.TheImpl as limits
 use Rattle.wasm_types.specs.limits.Limits.{IsWithinCeilings}
@@ -16,9 +17,11 @@ use Rattle.wasm_module_validator_standing.specs.steps.contexts.rules.Valid.{Each
 use Rattle.wasm_module_validator_standing.specs.steps.Sections.{Section}
 use Rattle.wasm_module_validator_standing.specs.steps.Sections as section
 use Rattle.wasm_module_validator_standing.specs.steps.Steps.{SoFar, IsJudged}
+use Rattle.wasm_module_validator_standing.specs.steps.Texts.{ItemRead, AddsRead}
 use Rattle.wasm_module_validator_standing.specs.Standing.{IsGrown, Stands, IsReading}
 use Rattle.wasm_module_validator_declaring.specs.Total.{IsPastTotal}
 use Rattle.wasm_module_validator_texts.specs.Sections.{Reading}
+use Rattle.wasm_module_validator_adding.specs.Adding.{UnlessFull}
 use Rattle.wasm_module_validator_adding.specs.Bodies.{IsReadBy}
 use Rattle.wasm_module_validator_adding.specs.declared.bodies.Body.{Body}
 
@@ -87,6 +90,11 @@ IsRead s k u = Reads s k.groups k.items k.count u.settings u.tree
 -- only a group of types is refused because the list is full
 abbrev pub FullIn : Section → List Group → Items → ErrorValue → Type 0
 FullIn s groups items e = (s ≡ section.types) × IsPastTotal groups items e
+
+-- What is told of an item that was read: whether the tree may have it, unless the list of types is full.
+abbrev pub TellsRead : {X : Type 0} (s : Section) → List Group → Items → ℕ → ItemRead s → Result X ErrorValue → Type 0
+TellsRead s groups items count x result = UnlessFull (FullIn s groups items) result
+    ((z : Settings) (m : ModuleTree) → Reads s groups items count z m → Tells result ((n : ModuleTree) × AddsRead z s m x n))
 
 -- ---- frames
 

@@ -106,7 +106,8 @@ impl InProgress {
         &mut self,
         section: SectionLimited<'a, T>,
     ) -> Result<()>
-        ensures answer { UnlessFull (FullIn T.section self.old.kept.groups self.old.kept.items) result ((z : Settings) (p : SoFar) (bodies : List TheBody) (b : State) → IsAt z self.old bodies p → b.settings ≡ z
+        ensures answer { UnlessFull (FullIn T.section self.old.kept.groups self.old.kept.items) result
+            ((z : Settings) (p : SoFar) (bodies : List TheBody) (b : State) → IsAt z self.old bodies p → b.settings ≡ z
             → Counts b section.entry.count section.entry.reader → Tells result ((q : SoFar) × JudgesSection z p T.section b.rest q)) }
         ensures added { OnOk result ((z : Settings) (p q : SoFar) (bodies : List TheBody) (b : State) → IsAt z self.old bodies p → b.settings ≡ z
             → Counts b section.entry.count section.entry.reader → JudgesSection z p T.section b.rest q → IsAt z self.new bodies q) }

@@ -6,7 +6,6 @@ ghost use Rattle.wasm_types.specs.error.Denials.{Tells};
 ghost use Rattle.wasm_types.specs.reader.Reading.{IsNotMemory};
 ghost use Rattle.wasm_types.specs.limits.Limits.{IsWithinCeilings};
 ghost use Rattle.wasm_types.specs.limits.Settings.{Settings};
-ghost use Rattle.wasm_module_validator_adding.specs.Adding.{UnlessFull};
 ghost use Rattle.wasm_module_validator_resources.specs.Named.{IsReadOver};
 ghost use Rattle.wasm_module_validator_type_trees.specs.Groups.{Group};
 ghost use Rattle.wasm_module_validator_standing.specs.steps.contexts.rules.Syntax.{ModuleTree};
@@ -16,7 +15,7 @@ ghost use Rattle.wasm_module_validator_standing.specs.steps.Texts.{ItemRead, Add
 ghost use Rattle.wasm_module_validator_standing.specs.Standing.{GrowsWith, Stands};
 ghost use Rattle.wasm_module_validator_texts.specs.Sections.{Reading, AddsIn, RefusesIn, MayBegin};
 ghost use Rattle.wasm_module_validator_texts.specs.Kinds.{WalksTell};
-ghost use Rattle.wasm_module_validator_progress.specs.Progress.{FullIn, Grows, IsOver, Reads, IsRead};
+ghost use Rattle.wasm_module_validator_progress.specs.Progress.{FullIn, Grows, IsOver, IsRead, Reads, TellsRead};
 ghost use Rattle.wasm_module_validator_progress.specs.laws.Growing.{full_before, grows_by_nothing, grows_further};
 
 use crate::Collected;
@@ -57,8 +56,7 @@ pub trait SectionItem<'a>: FromReader<'a> {
         requires interning { types.old.can_intern ≡ true }
         requires ceilings { IsWithinCeilings state.old.spaces.settings.limits }
         requires read { (z : Settings) × (s : State) × (t : State) × (Self.FromReader.decoder z s ≡ Done (Self.FromReader.view self) t) }
-        ensures answer { UnlessFull (FullIn section types.old.groups state.old) result ((z : Settings) (m : ModuleTree) → Reads section types.old.groups state.old groups.old z m
-            → Tells result ((n : ModuleTree) × AddsRead z section m (of self) n)) }
+        ensures answer { TellsRead section types.old.groups state.old groups.old (of self) result }
         ensures added { OnOk result ((z : Settings) (m n : ModuleTree) → Reads section types.old.groups state.old groups.old z m → AddsRead z section m (of self) n
             → Reads section types.new.groups state.new groups.new z n) }
         ensures over { OnOk result (IsReadOver types.new.groups state.new.spaces) }
@@ -86,8 +84,7 @@ fn add_or_forget<'a, T: SectionItem<'a>>(
     requires over { IsOver types.old state.old.spaces }
     requires interning { types.old.can_intern ≡ true }
     requires read { (z : Settings) × (s : State) × (t : State) × (T.FromReader.decoder z s ≡ Done (T.FromReader.view item) t) }
-    ensures answer { UnlessFull (FullIn T.section types.old.groups state.old) result ((z : Settings) (m : ModuleTree) → Reads T.section types.old.groups state.old groups.old z m
-        → Tells result ((n : ModuleTree) × AddsRead z T.section m (T.of item) n)) }
+    ensures answer { TellsRead T.section types.old.groups state.old groups.old (T.of item) result }
     ensures added { OnOk result ((z : Settings) (m n : ModuleTree) → Reads T.section types.old.groups state.old groups.old z m → AddsRead z T.section m (T.of item) n
         → Reads T.section types.new.groups state.new groups.new z n) }
     ensures kept { (types.new.can_intern ≡ true) × IsOver types.new state.new.spaces }

@@ -5,7 +5,6 @@ ghost use Rattle.wasm_types.specs.error.Denials.{Tells};
 ghost use Rattle.wasm_types.specs.reader.Reading.{IsNotMemory};
 ghost use Rattle.wasm_types.specs.limits.Limits.{IsWithinCeilings};
 ghost use Rattle.wasm_types.specs.limits.Settings.{Settings};
-ghost use Rattle.wasm_module_validator_adding.specs.Adding.{UnlessFull};
 ghost use Rattle.wasm_module_validator_resources.specs.Named.{IsReadOver};
 ghost use Rattle.wasm_module_validator_type_trees.specs.Groups.{Group};
 ghost use Rattle.wasm_module_validator_standing.specs.steps.contexts.rules.Syntax.{ModuleTree};
@@ -16,7 +15,7 @@ ghost use Rattle.wasm_module_validator_standing.specs.steps.Texts.{AddsRead};
 ghost use Rattle.wasm_module_validator_standing.specs.Standing.{GrowsWith, Stands};
 ghost use Rattle.wasm_module_validator_texts.specs.Sections.{MayBegin};
 ghost use Rattle.wasm_module_validator_texts.specs.Kinds.{table_read, global_read, export_read, element_read, data_read};
-ghost use Rattle.wasm_module_validator_progress.specs.Progress.{FullIn, Reads};
+ghost use Rattle.wasm_module_validator_progress.specs.Progress.{Reads, TellsRead};
 
 use crate::SectionItem;
 use std::alloc::Global;
@@ -139,8 +138,7 @@ impl<'a> SectionItem<'a> for TableOf<ConstExpr<'a>> {
         requires over { IsReadOver types.old.groups state.old.spaces }
         requires interning { types.old.can_intern ≡ true }
         requires ceilings { IsWithinCeilings state.old.spaces.settings.limits }
-        ensures answer { UnlessFull (FullIn section.tables types.old.groups state.old) result ((z : Settings) (m : ModuleTree) → Reads section.tables types.old.groups state.old groups.old z m
-            → Tells result ((n : ModuleTree) × AddsRead z section.tables m (table_read self.entry) n)) }
+        ensures answer { TellsRead section.tables types.old.groups state.old groups.old (table_read self.entry) result }
         ensures added { OnOk result ((z : Settings) (m n : ModuleTree) → Reads section.tables types.old.groups state.old groups.old z m → AddsRead z section.tables m (table_read self.entry) n
             → Reads section.tables types.new.groups state.new groups.new z n) }
         ensures over { OnOk result (IsReadOver types.new.groups state.new.spaces) }
@@ -264,8 +262,7 @@ impl<'a> SectionItem<'a> for GlobalOf<ConstExpr<'a>> {
         requires over { IsReadOver types.old.groups state.old.spaces }
         requires interning { types.old.can_intern ≡ true }
         requires ceilings { IsWithinCeilings state.old.spaces.settings.limits }
-        ensures answer { UnlessFull (FullIn section.globals types.old.groups state.old) result ((z : Settings) (m : ModuleTree) → Reads section.globals types.old.groups state.old groups.old z m
-            → Tells result ((n : ModuleTree) × AddsRead z section.globals m (global_read self.entry) n)) }
+        ensures answer { TellsRead section.globals types.old.groups state.old groups.old (global_read self.entry) result }
         ensures added { OnOk result ((z : Settings) (m n : ModuleTree) → Reads section.globals types.old.groups state.old groups.old z m → AddsRead z section.globals m (global_read self.entry) n
             → Reads section.globals types.new.groups state.new groups.new z n) }
         ensures over { OnOk result (IsReadOver types.new.groups state.new.spaces) }
@@ -316,8 +313,7 @@ impl<'a> SectionItem<'a> for Export<'a> {
         requires over { IsReadOver types.old.groups state.old.spaces }
         requires interning { types.old.can_intern ≡ true }
         requires ceilings { IsWithinCeilings state.old.spaces.settings.limits }
-        ensures answer { UnlessFull (FullIn section.exports types.old.groups state.old) result ((z : Settings) (m : ModuleTree) → Reads section.exports types.old.groups state.old groups.old z m
-            → Tells result ((n : ModuleTree) × AddsRead z section.exports m (export_read self.entry) n)) }
+        ensures answer { TellsRead section.exports types.old.groups state.old groups.old (export_read self.entry) result }
         ensures added { OnOk result ((z : Settings) (m n : ModuleTree) → Reads section.exports types.old.groups state.old groups.old z m → AddsRead z section.exports m (export_read self.entry) n
             → Reads section.exports types.new.groups state.new groups.new z n) }
         ensures over { OnOk result (IsReadOver types.new.groups state.new.spaces) }
@@ -368,8 +364,7 @@ impl<'a> SectionItem<'a> for ElementOf<'a, ConstExpr<'a>> {
         requires over { IsReadOver types.old.groups state.old.spaces }
         requires interning { types.old.can_intern ≡ true }
         requires ceilings { IsWithinCeilings state.old.spaces.settings.limits }
-        ensures answer { UnlessFull (FullIn section.element_segments types.old.groups state.old) result ((z : Settings) (m : ModuleTree) → Reads section.element_segments types.old.groups state.old groups.old z m
-            → Tells result ((n : ModuleTree) × AddsRead z section.element_segments m (element_read self.entry) n)) }
+        ensures answer { TellsRead section.element_segments types.old.groups state.old groups.old (element_read self.entry) result }
         ensures added { OnOk result ((z : Settings) (m n : ModuleTree) → Reads section.element_segments types.old.groups state.old groups.old z m → AddsRead z section.element_segments m (element_read self.entry) n
             → Reads section.element_segments types.new.groups state.new groups.new z n) }
         ensures over { OnOk result (IsReadOver types.new.groups state.new.spaces) }
@@ -420,8 +415,7 @@ impl<'a> SectionItem<'a> for DataOf<'a, ConstExpr<'a>> {
         requires over { IsReadOver types.old.groups state.old.spaces }
         requires interning { types.old.can_intern ≡ true }
         requires ceilings { IsWithinCeilings state.old.spaces.settings.limits }
-        ensures answer { UnlessFull (FullIn section.data_segments types.old.groups state.old) result ((z : Settings) (m : ModuleTree) → Reads section.data_segments types.old.groups state.old groups.old z m
-            → Tells result ((n : ModuleTree) × AddsRead z section.data_segments m (data_read self.entry) n)) }
+        ensures answer { TellsRead section.data_segments types.old.groups state.old groups.old (data_read self.entry) result }
         ensures added { OnOk result ((z : Settings) (m n : ModuleTree) → Reads section.data_segments types.old.groups state.old groups.old z m → AddsRead z section.data_segments m (data_read self.entry) n
             → Reads section.data_segments types.new.groups state.new groups.new z n) }
         ensures over { OnOk result (IsReadOver types.new.groups state.new.spaces) }

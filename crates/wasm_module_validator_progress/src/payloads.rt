@@ -1,6 +1,6 @@
 //! What each payload does to a module in progress.
 
-ghost use Rattle.std.specs.Prelude.{◌≡◌, ◌⊎◌, ℕ, List, OnOk, IfErr};
+ghost use Rattle.std.specs.Prelude.{◌≡◌, ◌⊎◌, List, OnOk, IfErr};
 ghost use Rattle.wasm_types.specs.decoding.Decoder.{State, Done};
 ghost use Rattle.wasm_types.specs.error.Denials.{Tells};
 ghost use Rattle.wasm_types.specs.reader.Reading.{IsNotMemory};
@@ -112,7 +112,8 @@ impl InProgress {
         payload: Payload<'a>,
         bodies: &mut Vec<Body<'a>>,
     ) -> Result<()>
-        ensures answer { UnlessFull (FullBy payload.entry self.old.kept) result ((z : Settings) (p : SoFar) (f : Frame) → IsAt z self.old bodies.old.items p → HasSettings z f → IsPayloadOf f payload.entry
+        ensures answer { UnlessFull (FullBy payload.entry self.old.kept) result
+            ((z : Settings) (p : SoFar) (f : Frame) → IsAt z self.old bodies.old.items p → HasSettings z f → IsPayloadOf f payload.entry
             → Tells result ((q : SoFar) × JudgesShape z p (shape_of f) q)) }
         ensures added { OnOk result ((z : Settings) (p q : SoFar) (f : Frame) → IsAt z self.old bodies.old.items p → HasSettings z f → IsPayloadOf f payload.entry
             → JudgesShape z p (shape_of f) q → IsAt z self.new bodies.new.items q) }

@@ -40,7 +40,8 @@ impl<'a> WasmModuleResources for OperatorValidatorResources<'a> {
     ghost meaning = { λ r. meaning_of r.types.now.groups r.«module».now };
 
     fn table_at(&self, at: u32) -> Option<TableType>
-        ensures meaning { option_map (table_in (meaning_of self.now.types.now.groups self.now.«module».now)) result ≡ slice_get (meaning_of self.now.types.now.groups self.now.«module».now).«module».tables at }
+        ensures meaning { option_map (table_in (meaning_of self.now.types.now.groups self.now.«module».now)) result
+            ≡ slice_get (meaning_of self.now.types.now.groups self.now.«module».now).«module».tables at }
         ensures exact { result ≡ slice_get self.now.«module».now.tables at }
     {
         self.module.table_at(at)

@@ -115,7 +115,8 @@ impl SharedProgress {
     ///
     /// As `read_module`. What is kept then stands for nothing.
     pub fn read<'a>(&mut self, settings: &HeldSettings, bytes: &'a [u8]) -> Result<Vec<Body<'a>>>
-        ensures answer { TellsWithinTotal (kept_groups settings.now self.old.progress.kept) (no_items settings.now) result ((q : SoFar) × IsReadAs settings.now bytes.now q) }
+        ensures answer { TellsWithinTotal (kept_groups settings.now self.old.progress.kept) (no_items settings.now) result
+            ((q : SoFar) × IsReadAs settings.now bytes.now q) }
         ensures stands { IfOk result (λ bodies. (q : SoFar) → IsReadAs settings.now bytes.now q → IsAt settings.now self.new.progress bodies.items q) }
         ensures grown { OnOk result (Grows (renewed settings.now self.old.progress.kept).kept self.new.progress.kept) }
         ensures own { self.new.code ≡ None }

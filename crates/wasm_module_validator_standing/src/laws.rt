@@ -129,7 +129,8 @@ pub fn items_stand()
 /// The same of items with constants, which are kept by types over ids; code may refer to the functions that they name.
 pub fn items_with_constants_stand()
     ensures tables { (groups : List Group) (s : Items) (z : Settings) (m : ModuleTree) → Stands groups s z m → m ≡ up_to section.tables m → (x : TableTree Code) (kept : TableType)
-        → table_in (constants_of groups s.spaces) kept ≡ tree.table_in (context_of groups s.spaces).types x.ty → sizes_of kept ≡ sizes_of x.ty → (n : ModuleTree) → Adds z section.tables m x n
+        → table_in (constants_of groups s.spaces) kept ≡ tree.table_in (context_of groups s.spaces).types x.ty
+        → sizes_of kept ≡ sizes_of x.ty → (n : ModuleTree) → Adds z section.tables m x n
         → Stands groups (record s { spaces = marking (referred_in_option x.init) (adding_table kept s.spaces) }) z n }
     ensures globals { (groups : List Group) (s : Items) (z : Settings) (m : ModuleTree) → Stands groups s z m → m ≡ up_to section.globals m → (x : GlobalTree Code) (kept : GlobalType)
         → global_in (constants_of groups s.spaces) kept ≡ tree.global_in (context_of groups s.spaces).types x.ty → (n : ModuleTree) → Adds z section.globals m x n

@@ -54,7 +54,8 @@ fn find<'a>(found: &Found<'a>, key: &(&'a str, &'a str)) -> Option<usize>
 // One import more by names that are there.
 fn push_at<'a>(names: &mut Vec<NamedImports<'a>>, at: usize, place: Place) -> Result<()>
     requires { at < length names.old.items }
-    ensures added { (m f : List ℕ) → index_of m f (map named_of names.old.items) ≡ Some at → OnOk result (map named_of names.new.items ≡ with_import m f place (map named_of names.old.items)) }
+    ensures added { (m f : List ℕ) → index_of m f (map named_of names.old.items) ≡ Some at
+        → OnOk result (map named_of names.new.items ≡ with_import m f place (map named_of names.old.items)) }
     ensures kept { OnErr result (map named_of names.new.items ≡ map named_of names.old.items) }
     ensures refused { IfErr result (λ e. e.kind ≡ OutOfMemory) }
 {
@@ -81,7 +82,8 @@ fn push_new<'a>(
 ) -> Result<()>
     requires found { Finds found.old (map named_of names.old.items) }
     requires new { find_names found.old key.0.now key.1.now ≡ None }
-    ensures added { OnOk result (map named_of names.new.items ≡ with_import key.entry.0.now key.entry.1.now place (map named_of names.old.items)) }
+    ensures added { OnOk result (map named_of names.new.items
+        ≡ with_import key.entry.0.now key.entry.1.now place (map named_of names.old.items)) }
     ensures kept { OnErr result (map named_of names.new.items ≡ map named_of names.old.items) }
     ensures found { Finds found.new (map named_of names.new.items) }
     ensures refused { IfErr result (λ e. e.kind ≡ OutOfMemory) }

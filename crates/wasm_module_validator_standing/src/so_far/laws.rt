@@ -57,7 +57,11 @@ pub fn items_are_added()
     ensures groups { (old new : List Group) (s : Spaces) (ids : List CoreTypeId) (gs : List Written) (g : Written) → IsReadAs old s (types_alone gs)
         → space_of new ids ≡ space_of old s.types ++ types_of (space_of old s.types) g → IsReadAs new (record s { types = ids }) (types_alone (gs ++ g ∷ [])) }
     ensures functions { (groups : List Group) (s : Spaces) (m : ModuleTree) → IsReadAs groups s m → (x : ℕ) → IsReadAs groups (record s { functions = s.functions ++ own_function x ∷ [] }) (record m { functions = m.functions ++ x ∷ [] }) }
-    ensures tables { (groups : List Group) (s : Spaces) (m : ModuleTree) → IsReadAs groups s m → (x : TableTree Code) (kept : TableType) → table_in (names_in groups s.types) kept ≡ tree.table_in (types_behind [] m.types) x.ty → sizes_of kept ≡ sizes_of x.ty → IsReadAs groups (record s { tables = s.tables ++ kept ∷ [] }) (record m { tables = m.tables ++ x ∷ [] }) }
+    ensures tables { (groups : List Group) (s : Spaces) (m : ModuleTree) → IsReadAs groups s m
+        → (x : TableTree Code) (kept : TableType)
+        → table_in (names_in groups s.types) kept ≡ tree.table_in (types_behind [] m.types) x.ty
+        → sizes_of kept ≡ sizes_of x.ty
+        → IsReadAs groups (record s { tables = s.tables ++ kept ∷ [] }) (record m { tables = m.tables ++ x ∷ [] }) }
     ensures memories { (groups : List Group) (s : Spaces) (m : ModuleTree) → IsReadAs groups s m → (x : MemoryType) → IsReadAs groups (record s { memories = s.memories ++ x ∷ [] }) (record m { memories = m.memories ++ x ∷ [] }) }
     ensures tags { (groups : List Group) (s : Spaces) (m : ModuleTree) → IsReadAs groups s m → (x : TagType) → x.func_type_idx < length s.types → IsReadAs groups (record s { tags = s.tags ++ id_at s.types x.func_type_idx ∷ [] }) (record m { tags = m.tags ++ x ∷ [] }) }
     ensures globals { (groups : List Group) (s : Spaces) (m : ModuleTree) → IsReadAs groups s m → (x : GlobalTree Code) (kept : GlobalType) → global_in (names_in groups s.types) kept ≡ tree.global_in (types_behind [] m.types) x.ty → IsReadAs groups (record s { globals = s.globals ++ kept ∷ [] }) (record m { globals = m.globals ++ x ∷ [] }) }
@@ -71,7 +75,10 @@ pub fn items_are_added()
 pub fn imports_are_added()
     ensures functions { (groups : List Group) (s : Spaces) (gs : List Written) (is : List ImportTree) → IsReadAs groups s (imports_alone gs is) → (i : ImportTree) → (x : ℕ) → i.ty ≡ import.Func x → IsReadAs groups (record s { functions = s.functions ++ imported_function false x ∷ []; imported_functions = s.imported_functions + 1 }) (imports_alone gs (is ++ i ∷ [])) }
     ensures exact_functions { (groups : List Group) (s : Spaces) (gs : List Written) (is : List ImportTree) → IsReadAs groups s (imports_alone gs is) → (i : ImportTree) → (x : ℕ) → i.ty ≡ import.FuncExact x → IsReadAs groups (record s { functions = s.functions ++ imported_function true x ∷ []; imported_functions = s.imported_functions + 1 }) (imports_alone gs (is ++ i ∷ [])) }
-    ensures tables { (groups : List Group) (s : Spaces) (gs : List Written) (is : List ImportTree) → IsReadAs groups s (imports_alone gs is) → (i : ImportTree) → (t kept : TableType) → i.ty ≡ import.Table t → table_in (names_in groups s.types) kept ≡ tree.table_in (types_behind [] gs) t → sizes_of kept ≡ sizes_of t → IsReadAs groups (record s { tables = s.tables ++ kept ∷ [] }) (imports_alone gs (is ++ i ∷ [])) }
+    ensures tables { (groups : List Group) (s : Spaces) (gs : List Written) (is : List ImportTree)
+        → IsReadAs groups s (imports_alone gs is) → (i : ImportTree) → (t kept : TableType) → i.ty ≡ import.Table t
+        → table_in (names_in groups s.types) kept ≡ tree.table_in (types_behind [] gs) t → sizes_of kept ≡ sizes_of t
+        → IsReadAs groups (record s { tables = s.tables ++ kept ∷ [] }) (imports_alone gs (is ++ i ∷ [])) }
     ensures memories { (groups : List Group) (s : Spaces) (gs : List Written) (is : List ImportTree) → IsReadAs groups s (imports_alone gs is) → (i : ImportTree) → (t : MemoryType) → i.ty ≡ import.Memory t → IsReadAs groups (record s { memories = s.memories ++ t ∷ [] }) (imports_alone gs (is ++ i ∷ [])) }
     ensures globals { (groups : List Group) (s : Spaces) (gs : List Written) (is : List ImportTree) → IsReadAs groups s (imports_alone gs is) → (i : ImportTree) → (t kept : GlobalType) → i.ty ≡ import.Global t → global_in (names_in groups s.types) kept ≡ tree.global_in (types_behind [] gs) t → IsReadAs groups (record s { globals = s.globals ++ kept ∷ []; imported_globals = s.imported_globals + 1 }) (imports_alone gs (is ++ i ∷ [])) }
     ensures tags { (groups : List Group) (s : Spaces) (gs : List Written) (is : List ImportTree) → IsReadAs groups s (imports_alone gs is) → (i : ImportTree) → (t : TagType) → i.ty ≡ import.Tag t → t.func_type_idx < length s.types → IsReadAs groups (record s { tags = s.tags ++ id_at s.types t.func_type_idx ∷ [] }) (imports_alone gs (is ++ i ∷ [])) }
@@ -146,6 +153,10 @@ pub fn marks_are_worked()
 /// Worked tables: a table has the sizes that are written, and a module is not read as one whose table has others.
 pub fn table_sizes_are_worked()
     ensures sizes { (t : TableType) → sizes_of (record t { initial = 1; maximum = Some 2 }) ≡ (1, Some 2) }
-    ensures initial { (groups : List Group) (z : Settings) (t : TableType) (x : TableTree Code) → t.initial ≡ 0 → x.ty.initial ≡ 1 → IsReadAs groups (record (nothing_read z) { tables = t ∷ [] }) (record no_items { tables = x ∷ [] }) → ⊥ }
-    ensures maximum { (groups : List Group) (z : Settings) (t : TableType) (x : TableTree Code) → t.maximum ≡ None → x.ty.maximum ≡ Some 1 → IsReadAs groups (record (nothing_read z) { tables = t ∷ [] }) (record no_items { tables = x ∷ [] }) → ⊥ }
+    ensures initial { (groups : List Group) (z : Settings) (t : TableType) (x : TableTree Code) → t.initial ≡ 0
+        → x.ty.initial ≡ 1
+        → IsReadAs groups (record (nothing_read z) { tables = t ∷ [] }) (record no_items { tables = x ∷ [] }) → ⊥ }
+    ensures maximum { (groups : List Group) (z : Settings) (t : TableType) (x : TableTree Code) → t.maximum ≡ None
+        → x.ty.maximum ≡ Some 1
+        → IsReadAs groups (record (nothing_read z) { tables = t ∷ [] }) (record no_items { tables = x ∷ [] }) → ⊥ }
 {}
