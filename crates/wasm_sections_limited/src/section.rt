@@ -56,4 +56,11 @@ impl<'a, T: FromReader<'a>> SectionLimited<'a, T> {
     {
         self.reader.range()
     }
+
+    /// A reader of the items' bytes.
+    pub fn get_binary_reader(&self) -> BinaryReader<'a>
+        ensures { result ≡ self.now.reader }
+    {
+        self.reader.clone()
+    }
 }
