@@ -1,6 +1,6 @@
 -- Walks over the items of a section.
-use Rattle.std.specs.Prelude.{◌≡◌, ◌⊎◌, ℕ, ◌+◌, ◌<◌, Bool, true, false, List, [], ◌∷◌, length, Result, Ok, Err, Option, Some, None}
-use Rattle.wasm_types.specs.decoding.Decoder.{State, Decoder, Done}
+use Rattle.std.specs.Prelude.{◌≡◌, ◌⊎◌, ℕ, ◌+◌, ◌<◌, Bool, true, false, List, [], ◌∷◌, length, take, Result, Ok, Err, Option, Some, None}
+use Rattle.wasm_types.specs.decoding.Decoder.{State, Decoder, Done, Takes}
 use Rattle.wasm_types.specs.error.declared.error.ErrorKind.TheVariants.{Other}
 use Rattle.wasm_types.specs.error.ErrorValue.{ErrorValue}
 use Rattle.wasm_types.specs.reader.Reading.{Fails, IsNotMemory}
@@ -26,6 +26,10 @@ abbrev pub NextIn : {X : Type 0} → (State → X → State → Type 0) → (Sta
 NextIn reads refuses w None v = ((w.over ≡ true) ⊎ ((w.left ≡ 0) × (w.reader.rest ≡ []))) × (v.over ≡ true)
 NextIn reads refuses w (Some (Ok x)) v = (w.over ≡ false) × (v.over ≡ false) × (w.left ≡ v.left + 1) × reads w.reader x v.reader
 NextIn reads refuses w (Some (Err e)) v = (w.over ≡ false) × (v.over ≡ true) × (IsTrailing w e ⊎ ((0 < w.left) × refuses w.reader e))
+
+-- from one place so many bytes are passed, and so many items are left then
+abbrev pub Passes : ℕ → ℕ → Walk → Walk → Type 0
+Passes n left w v = Takes w.reader (take n w.reader.rest) v.reader × (v.left ≡ left) × (v.over ≡ w.over)
 
 -- the same of values, where they are read by d
 abbrev pub plainly : {A : Type 0} → Decoder A → Walk → Option (Result A ErrorValue) → Walk → Type 0

@@ -1,11 +1,11 @@
 //! The items of a section, one by one.
 
-ghost use Rattle.std.specs.Prelude.{◌≡◌, false, IfSome};
+ghost use Rattle.std.specs.Prelude.{◌≡◌, ◌≤◌, false, length, IfSome};
 ghost use Rattle.std.specs.Iterator.{at_most};
 ghost use Rattle.wasm_types.specs.decoding.Decoder.{Done};
 ghost use Rattle.wasm_types.specs.error.declared.error.ErrorKind.TheVariants.{Other};
 ghost use Rattle.wasm_types.specs.reader.Reading.{Fails, MemoryOnlyIf};
-ghost use Rattle.wasm_sections_limited.specs.Walking.{items_left};
+ghost use Rattle.wasm_sections_limited.specs.Walking.{items_left, Passes};
 ghost use Rattle.wasm_sections_limited.specs.Runs.{place_in, place_with_offsets, told, plain, with_offset, Steps};
 
 use crate::SectionLimited;
@@ -133,5 +133,36 @@ impl<'a, T: FromReader<'a>> SectionLimited<'a, T> {
             remaining: count,
             end: false,
         }
+    }
+}
+
+impl<'a, T: FromReader<'a>> SectionLimitedIntoIterWithOffsets<'a, T> {
+    /// How many items were counted and were not passed yet.
+    pub fn left(&self) -> u32
+        ensures { result ≡ self.now.remaining }
+    {
+        self.remaining
+    }
+
+    /// The bytes that are left.
+    pub fn bytes(&self) -> &'a [u8]
+        ensures { result.now ≡ self.now.section.reader.rest }
+    {
+        let mut behind = self.section.get_binary_reader();
+        let Ok(bytes) = behind.read_bytes(behind.bytes_remaining()) else {
+            unreachable!()
+        };
+        bytes
+    }
+
+    /// Goes past so many bytes, with so many items left behind them.
+    pub fn pass(&mut self, count: usize, left: u32)
+        requires { count ≤ length self.old.section.reader.rest }
+        ensures passed { Passes count left (place_with_offsets self.old) (place_with_offsets self.new) }
+    {
+        let Ok(_bytes) = self.section.reader.read_bytes(count) else {
+            unreachable!()
+        };
+        self.remaining = left;
     }
 }
