@@ -1,6 +1,7 @@
 -- A walk that adds each item to what was read: the whole section leads from what was read at first to where what is left of it leads
 -- from what may have been read by then.
-use Rattle.std.proofs.Common.{◌≡◌, ℕ, zero, suc, ◌+◌, ◌<◌, List, [], ◌∷◌, ◌++◌, length, refl, sym, ap, ◌∙◌, subst, arith, false, Option, Some, None, Result, Ok, Err, inl, inr}
+use Rattle.std.proofs.Common.{◌≡◌, ℕ, zero, suc, ◌+◌, ◌<◌, ◌≤◌, List, [], ◌∷◌, ◌++◌, length, take, drop, refl, sym, ap, ◌∙◌, subst, arith, false, Option, Some, None, Result, Ok, Err, inl, inr}
+use Rattle.std.proofs.lemmas.List.{append_cancel_left, take-append-drop, length-take-le}
 use Rattle.wasm_types.specs.limits.Settings.{Settings}
 use Rattle.wasm_types.specs.decoding.Decoder.{State, Outcome, Done, Decoder, Grammar, Decides, Many}
 use Rattle.wasm_types.specs.decoding.ExactLaws.{value_is, state_is}
@@ -10,9 +11,9 @@ use Rattle.wasm_types.specs.error.ErrorValue.{ErrorValue}
 use Rattle.wasm_types.specs.error.Denials.{Denies}
 use Rattle.wasm_types.specs.error.DenialLaws.{denies}
 use Rattle.wasm_types.specs.reader.Reading.{FailsAt, Fails}
-use Rattle.wasm_sections_limited.specs.Walking.{Walk, NextIn, fresh}
+use Rattle.wasm_sections_limited.specs.Walking.{Walk, NextIn, Passes, fresh}
 use Rattle.wasm_sections_limited.specs.Runs.{with_offset}
-use Rattle.wasm_module_validator_adding.specs.Adding.{Spelled, AddsEach, AreAdded, IsRead, StopsAdding}
+use Rattle.wasm_module_validator_adding.specs.Adding.{Spelled, AddsEach, AreAdded, AddsShort, IsRead, StopsAdding}
 
 -- what would have to be read is denied by what refused it
 unread : {Y : Type 0} (k : ErrorKind) (p : ℕ) (o : Outcome Y) (P : Type 0) → FailsAt k p o → (P → (y : Y) × (t : State) × (o ≡ Done y t)) → Denies k P
@@ -50,6 +51,14 @@ one_longer [] x = refl
 one_longer (y ∷ xs) x = omega (arith, one_longer xs x)
 
 -- ---- where a walk stands
+
+-- a walk behind some bytes of it, with so many items left
+abbrev pub behind : Walk → ℕ → ℕ → Walk
+behind w i k = record {
+  left = k;
+  reader = record { rest = drop i w.reader.rest; place = w.reader.place + i; settings = w.reader.settings; start = w.reader.start };
+  over = w.over;
+}
 
 module _ {T V A M : Type 0} (view : T → V) (of : T → A) (d : Settings → Decoder V) (g : Settings → Grammar V) (adds : M → A → M → Type 0) (z : Settings) where
   -- what is left of the section is added
@@ -195,6 +204,46 @@ module _ {T V A M : Type 0} (view : T → V) (of : T → A) (alike : (x y : T) �
                   let a = without_last adds m l.front (of x.1) k is in
                   l.from a.0 t a.1 (spelled_first w v x a.0 t read (k, a.2, all));
             }
+
+    -- behind no bytes a walk stands as it is
+    pub stands_at_once : (k : ℕ) (w : Walk) (u : S) → w.left ≡ k → Standing w u → Standing (behind w 0 k) u
+    stands_at_once k w u e h =
+        let r = w.reader in
+        let none : r.place ≡ r.place + 0 = omega arith in
+        subst (λ (p : ℕ). Standing (record { left = k; reader = record { rest = r.rest; place = p; settings = r.settings; start = r.start }; over = w.over }) u) none
+        (subst (λ (j : ℕ). Standing (record { left = j; reader = r; over = w.over }) u) e h)
+
+    -- what stands behind some bytes of a walk stands where the walk has passed them
+    pub stands_passed : (i k : ℕ) (w v : Walk) (u : S) → i ≤ length w.reader.rest → Passes i k w v → Standing (behind w i k) u → Standing v u
+    stands_passed i k w v u inside (taken, left, over) h =
+        let r = w.reader in
+        let rest : v.reader.rest ≡ drop i r.rest = append_cancel_left (take i r.rest) v.reader.rest (drop i r.rest) (sym taken.parts ∙ sym (take-append-drop i r.rest)) in
+        let place : v.reader.place ≡ r.place + i = omega (arith, taken.place, length-take-le i r.rest inside) in
+        let settings = taken.settings in
+        let start = taken.start in
+        let whole : v ≡ record {
+          left = v.left;
+          reader = record { rest = v.reader.rest; place = v.reader.place; settings = v.reader.settings; start = v.reader.start };
+          over = v.over;
+        } = refl in
+        let here : v ≡ behind w i k = whole ∙ cc in
+        subst (λ (y : Walk). Standing y u) (sym here) h
+
+    -- the same of an item that is told from its bytes alone
+    pub stands_behind_short : (text : List ℕ) (i j k : ℕ) (w : Walk) (u u' : S) → w.reader.rest ≡ text → AddsShort view of g adds reads u u' text i j
+        → Standing (behind w i (suc k)) u → Standing (behind w j k) u'
+    stands_behind_short text i j k w u u' e a h =
+        let before = behind w i (suc k) in
+        let then = behind w j k in
+        let read : d before.reader.settings before.reader ≡ Done (view a.item) then.reader
+        = (exact before.reader.settings).complete before.reader then.reader (view a.item) a.front
+            (record {
+              parts = subst (λ (t : List ℕ). drop i t ≡ a.front ++ drop j t) (sym e) a.whole;
+              place = omega (arith, a.place);
+              settings = refl;
+              start = refl;
+            }) (a.spelled before.reader.settings) in
+        stands_behind before then u u' (before.reader.place, a.item) h (h.going, h.going, omega arith, (refl, read)) refl a.may a.added
 
     -- an item that may not be added
     pub refused_item : (w v : Walk) (u : S) (x : ℕ × T) (k : ErrorKind) → Standing w u → Step w (Some (Ok x)) v

@@ -1,13 +1,16 @@
 //! Items added one by one.
 
-ghost use Rattle.std.specs.Prelude.{◌≡◌, ℕ, OnOk, IfErr};
+ghost use Rattle.std.specs.Prelude.{◌≡◌, ◌≤◌, ℕ, length, OnOk, IfErr, IfSome, IfNone};
 ghost use Rattle.wasm_types.specs.limits.Settings.{Settings};
 ghost use Rattle.wasm_types.specs.decoding.Decoder.{State, Done};
 ghost use Rattle.wasm_types.specs.error.Denials.{Tells};
 ghost use Rattle.wasm_types.specs.error.ErrorValue.{ErrorValue};
-ghost use Rattle.wasm_module_validator_adding.specs.Adding.{AreAdded, Spelled, StopsAdding, UnlessFull};
+ghost use Rattle.wasm_module_validator_adding.specs.Adding.{AddsShort, AreAdded, Spelled, StopsAdding, UnlessFull};
+ghost use Rattle.wasm_module_validator_adding.specs.AddingLaws.{Stands, behind};
+ghost use Rattle.wasm_sections_limited.specs.Walking.{Walk};
+ghost use Rattle.wasm_sections_limited.specs.Runs.{place_with_offsets};
 
-use wasm_sections_limited::SectionLimited;
+use wasm_sections_limited::{SectionLimited, SectionLimitedIntoIterWithOffsets};
 use wasm_types::{FromReader, Result};
 
 /// What items of this kind are added to.
@@ -46,6 +49,14 @@ pub trait AddItem<'a, T: FromReader<'a>> {
             (IfErr result (λ e. (m : Tree) → reads self.old m → refuses m (of item) offset e)) }
         ensures grown { OnOk result (grows self.old self.new) };
 
+    /// Adds the item that begins at an offset of these bytes, if the bytes alone tell that it may be added, and answers where it ends.
+    /// Else nothing has changed.
+    fn add_short(&mut self, bytes: &[u8], at: usize) -> Option<usize>
+        requires inside { at ≤ length bytes.now }
+        ensures added { IfSome result (AddsShort T.view of T.grammar adds reads self.old self.new bytes.now at) }
+        ensures stays { IfNone result (self.new ≡ self.old) }
+        ensures grown { IfSome result (λ _. grows self.old self.new) };
+
     /// Items whose bytes are read alike are the same.
     ghost alike: { (x y : T) → T.view x ≡ T.view y → of x ≡ of y };
 
@@ -57,6 +68,45 @@ pub trait AddItem<'a, T: FromReader<'a>> {
 
     /// What is full with items more is so because of what it was before.
     ghost full_before: { (r s : Self) (e : ErrorValue) → grows r s → full s e → full r e };
+}
+
+/// Adds the items at the front of these bytes that the bytes alone tell, at most so many: how many are left, and where those end.
+fn add_front<'a, T: FromReader<'a>, S: AddItem<'a, T>>(
+    state: &mut S,
+    bytes: &[u8],
+    most: u32,
+) -> (u32, usize)
+    ensures left { result.0 ≤ most }
+    ensures inside { result.1 ≤ length bytes.now }
+    ensures stands { (z : Settings) (n : ℕ) (b : State) (s : S) (w : Walk) → w.reader.rest ≡ bytes.now → w.left ≡ most
+        → Stands T.view S.of T.decoder T.grammar S.adds z S.reads n b s w state.old
+        → Stands T.view S.of T.decoder T.grammar S.adds z S.reads n b s (behind w result.1 result.0) state.new }
+    ensures grown { S.grows state.old state.new }
+{
+    let mut at = 0;
+    for passed in 0..most {
+        let Some(end) = state.add_short(bytes, at) else {
+            return (most - passed, at);
+        };
+        at = end;
+    }
+    (0, at)
+}
+
+/// Adds the items that come next and that their bytes alone tell, and goes past them.
+fn pass_front<'a, T: FromReader<'a>, S: AddItem<'a, T>>(
+    state: &mut S,
+    items: &mut SectionLimitedIntoIterWithOffsets<'a, T>,
+)
+    ensures left { items.new.remaining ≤ items.old.remaining }
+    ensures over { items.new.end ≡ items.old.end }
+    ensures stands { (z : Settings) (n : ℕ) (b : State) (s : S)
+        → Stands T.view S.of T.decoder T.grammar S.adds z S.reads n b s (place_with_offsets items.old) state.old
+        → Stands T.view S.of T.decoder T.grammar S.adds z S.reads n b s (place_with_offsets items.new) state.new }
+    ensures grown { S.grows state.old state.new }
+{
+    let (left, at) = add_front::<T, S>(state, items.bytes(), items.left());
+    items.pass(at, left);
 }
 
 /// Reads the items of a section and adds each.
@@ -78,15 +128,17 @@ pub fn add_items<'a, T: FromReader<'a>, S: AddItem<'a, T>>(
         section.entry.count section.entry.reader m e)) }
     ensures grown { OnOk result (S.grows state.old state.new) }
 {
-    for item in section.into_iter_with_offsets() {
-        let item = match item {
-            Ok(item) => item,
-            Err(error) => return Err(error),
+    let mut items = section.into_iter_with_offsets();
+    'items: loop {
+        pass_front(state, &mut items);
+        let item = match items.next() {
+            None => return Ok(()),
+            Some(Ok(item)) => item,
+            Some(Err(error)) => return Err(error),
         };
         match state.add(item.1, item.0) {
             Ok(()) => (),
             Err(error) => return Err(error),
         }
     }
-    Ok(())
 }

@@ -43,6 +43,10 @@ impl<'a> AddItem<'a, u32> for Total {
         Ok(())
     }
 
+    fn add_short(&mut self, _bytes: &[u8], _at: usize) -> Option<usize> {
+        None
+    }
+
     ghost alike = { λ x y is. is };
 
     ghost grows_by_nothing = { λ s. refl };
