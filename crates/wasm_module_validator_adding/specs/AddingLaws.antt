@@ -237,12 +237,12 @@ module _ {T V A M : Type 0} (view : T → V) (of : T → A) (alike : (x y : T) �
         let then = behind w j k in
         let read : d before.reader.settings before.reader ≡ Done (view a.item) then.reader
         = (exact before.reader.settings).complete before.reader then.reader (view a.item) a.front
-            (record {
-              parts = subst (λ (t : List ℕ). drop i t ≡ a.front ++ drop j t) (sym e) a.whole;
-              place = omega (arith, a.place);
-              settings = refl;
-              start = refl;
-            }) (a.spelled before.reader.settings) in
+        (record {
+          parts = subst (λ (t : List ℕ). drop i t ≡ a.front ++ drop j t) (sym e) a.whole;
+          place = omega (arith, a.place);
+          settings = refl;
+          start = refl;
+        }) (a.spelled before.reader.settings) in
         stands_behind before then u u' (before.reader.place, a.item) h (h.going, h.going, omega arith, (refl, read)) refl a.may a.added
 
     -- an item that may not be added

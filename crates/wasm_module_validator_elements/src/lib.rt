@@ -18,6 +18,6 @@ pub use elements::check_element;
 pub use wasm_module_validator_referring::{ReferringToAll, name_references};
 pub use wasm_module_validator_segments::{
     ConstExpr, DataOf, GlobalOf, OperatorValidatorAllocations, Settings, TableInitOf, TableOf,
-    WasmModuleResources, check_data, check_global, check_table, reader_by,
+    WasmModuleResources, check_data, check_global, check_short_data, check_table, reader_by,
 };
 pub use wasm_sections_items::elements::{ElementItemsOf, ElementKindOf, ElementOf};

@@ -4,3 +4,5 @@ pub mod Read
 pub mod Refusals
 -- Worked rows.
 pub mod Worked
+-- The rules of the crates below, under their names: crates above cite them here.
+pub use Rattle.wasm_module_validator_elements.specs.segments as segments

@@ -1,6 +1,7 @@
 //! Data segments.
 
-ghost use Rattle.std.specs.Prelude.{◌≡◌, IfErr, OnOk};
+ghost use Rattle.std.specs.Prelude.{◌≡◌, ◌≤◌, length, IfErr, IfSome, OnOk};
+ghost use Rattle.wasm_module_validator_elements.specs.segments.Short.{IsShortData, in_first_memory};
 ghost use Rattle.wasm_types.specs.error.Denials.{Tells, UnlessMemory};
 ghost use Rattle.wasm_types.specs.limits.Limits.{IsWithinCeilings};
 ghost use Rattle.wasm_module_validator_standing.specs.resources.Named.{IsReadOver};
@@ -9,11 +10,11 @@ ghost use Rattle.wasm_module_validator_elements.specs.segments.Judged.{IsData};
 ghost use Rattle.wasm_module_validator_elements.specs.segments.Refusals.{RefusesData};
 ghost use Rattle.wasm_module_validator_standing.specs.steps.Sections as section;
 ghost use Rattle.wasm_module_validator_standing.specs.Standing.{constants_of, AddsItem, TellsItem};
-ghost use Rattle.wasm_module_validator_initialising.specs.Read.{data_tree};
+ghost use Rattle.wasm_module_validator_initialising.specs.Read.{AllowsData, data_tree};
 
 use std::alloc::Global;
 use wasm_module_validator_elements::{
-    ConstExpr, DataOf, OperatorValidatorAllocations, ReferringToAll, check_data,
+    ConstExpr, DataOf, OperatorValidatorAllocations, ReferringToAll, check_data, check_short_data,
 };
 use wasm_module_validator_standing::ModuleState;
 use wasm_module_validator_types::TypeList;
@@ -95,4 +96,21 @@ pub fn check_data_item(
     let answer = judge_data(alloc, &segment, state, types, &mut allocs, offset);
     state.keep_const_expr_allocs(allocs);
     answer
+}
+
+/// Where the data segment at an offset of these bytes ends, if the bytes alone tell that it may be added to the module so far. The state
+/// keeps nothing of it.
+pub fn check_short_data_item(
+    state: &ModuleState,
+    types: &TypeList,
+    bytes: &[u8],
+    at: usize,
+) -> Option<usize>
+    requires { at ≤ length bytes.now }
+    ensures short { IfSome result (IsShortData bytes.now at) }
+    ensures allowed { IfSome result (λ j. (s : IsShortData bytes.now at j)
+        → AllowsData types.now.groups state.now (in_first_memory s.constant s.content)) }
+{
+    let module = state.resources(types);
+    check_short_data(&ReferringToAll::new(&module), bytes, at)
 }

@@ -16,7 +16,7 @@ mod marking;
 mod naming;
 mod tables;
 
-pub use data::{check_data_item, check_data_with};
+pub use data::{check_data_item, check_data_with, check_short_data_item};
 pub use elements::add_element;
 pub use globals::add_global;
 pub use tables::add_table;

@@ -13,5 +13,5 @@ pub use wasm_module_validator_functions::{
 };
 pub use wasm_module_validator_progress::{
     Body, HeldSettings, InProgress, ModuleState, OperatorValidatorAllocations, SectionItem,
-    SharedModule, TypeList, check_data_with, check_header,
+    SharedModule, TypeList, check_data_with, check_header, check_short_data_item,
 };

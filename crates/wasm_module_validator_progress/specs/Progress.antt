@@ -33,6 +33,9 @@ pub record Kept : Type 0 where
   pub items : Items
   pub count : ℕ
 
+abbrev pub kept : List Group → Items → ℕ → Kept
+kept groups items count = record { groups = groups; items = items; count = count }
+
 -- the same, and the place of the last section
 pub record Progress : Type 0 where
   pub kept : Kept

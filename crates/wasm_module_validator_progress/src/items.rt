@@ -1,6 +1,6 @@
 //! The items of a section, whatever they are.
 
-ghost use Rattle.std.specs.Prelude.{◌≡◌, List, OnOk, IfErr, true};
+ghost use Rattle.std.specs.Prelude.{◌≡◌, ◌≤◌, ℕ, List, length, OnOk, IfErr, IfSome, IfNone, true};
 ghost use Rattle.wasm_types.specs.decoding.Decoder.{State, Done};
 ghost use Rattle.wasm_types.specs.error.Denials.{Tells};
 ghost use Rattle.wasm_types.specs.reader.Reading.{IsNotMemory};
@@ -13,9 +13,10 @@ ghost use Rattle.wasm_module_validator_standing.specs.steps.Sections.{Section, p
 ghost use Rattle.wasm_module_validator_standing.specs.steps.Adding.{Fits};
 ghost use Rattle.wasm_module_validator_standing.specs.steps.Texts.{ItemRead, AddsRead};
 ghost use Rattle.wasm_module_validator_standing.specs.Standing.{GrowsWith, Stands};
+ghost use Rattle.wasm_module_validator_adding.specs.Adding.{AddsShort};
 ghost use Rattle.wasm_module_validator_texts.specs.Sections.{Reading, AddsIn, RefusesIn, MayBegin};
 ghost use Rattle.wasm_module_validator_texts.specs.Kinds.{WalksTell};
-ghost use Rattle.wasm_module_validator_progress.specs.Progress.{FullIn, Grows, IsOver, IsRead, Reads, TellsRead};
+ghost use Rattle.wasm_module_validator_progress.specs.Progress.{FullIn, Grows, IsOver, IsRead, Reads, TellsRead, kept};
 ghost use Rattle.wasm_module_validator_progress.specs.laws.Growing.{full_before, grows_by_nothing, grows_further};
 
 use crate::Collected;
@@ -64,6 +65,23 @@ pub trait SectionItem<'a>: FromReader<'a> {
         ensures kept { state.new.spaces.settings ≡ state.old.spaces.settings }
         ensures limits { types.new.limits ≡ types.old.limits }
         ensures grown { OnOk result (GrowsWith types.old.groups state.old.spaces types.new.groups state.new.spaces) };
+
+    /// Adds the item that begins at an offset of these bytes, if the bytes alone tell that it may be added, and answers where it ends.
+    /// Else nothing has changed.
+    fn add_short(
+        state: &mut ModuleState,
+        types: &TypeList,
+        bytes: &[u8],
+        at: usize,
+    ) -> Option<usize>
+        requires over { IsReadOver types.now.groups state.old.spaces }
+        requires inside { at ≤ length bytes.now }
+        ensures added { IfSome result (λ j. (count : ℕ) → AddsShort Self.FromReader.view of Self.FromReader.grammar (AddsIn section)
+            (IsRead section) (kept types.now.groups state.old count) (kept types.now.groups state.new count) bytes.now at j) }
+        ensures stays { IfNone result (state.new ≡ state.old) }
+        ensures over { IfSome result (λ _. IsReadOver types.now.groups state.new.spaces) }
+        ensures settings { IfSome result (λ _. state.new.spaces.settings ≡ state.old.spaces.settings) }
+        ensures grown { IfSome result (λ _. GrowsWith types.now.groups state.old.spaces types.now.groups state.new.spaces) };
 
     /// Items whose bytes are read alike are the same.
     ghost alike: { (x y : Self) → Self.FromReader.view x ≡ Self.FromReader.view y → of x ≡ of y };
@@ -129,6 +147,10 @@ impl<'a, T: SectionItem<'a>> AddItem<'a, T> for Collected {
             &mut self.groups,
             offset,
         )
+    }
+
+    fn add_short(&mut self, bytes: &[u8], at: usize) -> Option<usize> {
+        T::add_short(&mut self.state, &self.types, bytes, at)
     }
 
     ghost alike = { T.alike };

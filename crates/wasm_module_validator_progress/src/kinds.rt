@@ -22,7 +22,9 @@ use std::alloc::Global;
 use wasm_module_validator_declaring::{
     add_export_item, add_function_item, add_group, add_memory_item, add_tag_item,
 };
-use wasm_module_validator_initialising::{add_element, add_global, add_table, check_data_item};
+use wasm_module_validator_initialising::{
+    add_element, add_global, add_table, check_data_item, check_short_data_item,
+};
 use wasm_module_validator_standing::ModuleState;
 use wasm_module_validator_types::TypeList;
 use wasm_operators_bodies::ConstExpr;
@@ -66,6 +68,15 @@ impl<'a> SectionItem<'a> for RecGroup {
         }
     }
 
+    fn add_short(
+        _state: &mut ModuleState,
+        _types: &TypeList,
+        _bytes: &[u8],
+        _at: usize,
+    ) -> Option<usize> {
+        None
+    }
+
     ghost alike = { groups_alike };
 
     ghost tells = { types_tell };
@@ -97,6 +108,15 @@ impl<'a> SectionItem<'a> for u32 {
         offset: u64,
     ) -> Result<()> {
         add_function_item(state, types, self, offset)
+    }
+
+    fn add_short(
+        _state: &mut ModuleState,
+        _types: &TypeList,
+        _bytes: &[u8],
+        _at: usize,
+    ) -> Option<usize> {
+        None
     }
 
     ghost alike = { λ x y is. is };
@@ -150,6 +170,15 @@ impl<'a> SectionItem<'a> for TableOf<ConstExpr<'a>> {
         add_table(alloc, state, types, self, offset)
     }
 
+    fn add_short(
+        _state: &mut ModuleState,
+        _types: &TypeList,
+        _bytes: &[u8],
+        _at: usize,
+    ) -> Option<usize> {
+        None
+    }
+
     ghost alike = { λ x y is. is };
 
     ghost tells = { tables_tell };
@@ -181,6 +210,15 @@ impl<'a> SectionItem<'a> for MemoryType {
         offset: u64,
     ) -> Result<()> {
         add_memory_item(state, self, offset)
+    }
+
+    fn add_short(
+        _state: &mut ModuleState,
+        _types: &TypeList,
+        _bytes: &[u8],
+        _at: usize,
+    ) -> Option<usize> {
+        None
     }
 
     ghost alike = { λ x y is. is };
@@ -221,6 +259,15 @@ impl<'a> SectionItem<'a> for TagType {
         offset: u64,
     ) -> Result<()> {
         add_tag_item(state, types, self, offset)
+    }
+
+    fn add_short(
+        _state: &mut ModuleState,
+        _types: &TypeList,
+        _bytes: &[u8],
+        _at: usize,
+    ) -> Option<usize> {
+        None
     }
 
     ghost alike = { λ x y is. is };
@@ -274,6 +321,15 @@ impl<'a> SectionItem<'a> for GlobalOf<ConstExpr<'a>> {
         add_global(alloc, state, types, self, offset)
     }
 
+    fn add_short(
+        _state: &mut ModuleState,
+        _types: &TypeList,
+        _bytes: &[u8],
+        _at: usize,
+    ) -> Option<usize> {
+        None
+    }
+
     ghost alike = { λ x y is. is };
 
     ghost tells = { globals_tell };
@@ -323,6 +379,15 @@ impl<'a> SectionItem<'a> for Export<'a> {
         ensures grown { OnOk result (GrowsWith types.old.groups state.old.spaces types.new.groups state.new.spaces) }
     {
         add_export_item(state, types, self, offset)
+    }
+
+    fn add_short(
+        _state: &mut ModuleState,
+        _types: &TypeList,
+        _bytes: &[u8],
+        _at: usize,
+    ) -> Option<usize> {
+        None
     }
 
     ghost alike = { λ x y is. is };
@@ -376,6 +441,15 @@ impl<'a> SectionItem<'a> for ElementOf<'a, ConstExpr<'a>> {
         add_element(alloc, state, types, self, offset)
     }
 
+    fn add_short(
+        _state: &mut ModuleState,
+        _types: &TypeList,
+        _bytes: &[u8],
+        _at: usize,
+    ) -> Option<usize> {
+        None
+    }
+
     ghost alike = { λ x y is. is };
 
     ghost tells = { elements_tell };
@@ -425,6 +499,15 @@ impl<'a> SectionItem<'a> for DataOf<'a, ConstExpr<'a>> {
         ensures grown { OnOk result (GrowsWith types.old.groups state.old.spaces types.new.groups state.new.spaces) }
     {
         check_data_item(alloc, state, types, self, offset)
+    }
+
+    fn add_short(
+        state: &mut ModuleState,
+        types: &TypeList,
+        bytes: &[u8],
+        at: usize,
+    ) -> Option<usize> {
+        check_short_data_item(state, types, bytes, at)
     }
 
     ghost alike = { λ x y is. is };

@@ -27,6 +27,8 @@ pub use progress::InProgress;
 pub use settings::HeldSettings;
 pub use shared::SharedModule;
 pub use wasm_module_validator_adding::Body;
-pub use wasm_module_validator_initialising::{OperatorValidatorAllocations, check_data_with};
+pub use wasm_module_validator_initialising::{
+    OperatorValidatorAllocations, check_data_with, check_short_data_item,
+};
 pub use wasm_module_validator_standing::ModuleState;
 pub use wasm_module_validator_types::TypeList;

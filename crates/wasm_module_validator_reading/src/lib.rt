@@ -10,5 +10,5 @@ pub use reading::read_module;
 pub use wasm_module_validator_judging::{
     Body, FuncToValidate, FuncValidator, FuncValidatorAllocations, HeldSettings, InProgress,
     ModuleState, OperatorValidatorAllocations, SectionItem, SharedModule, TypeList,
-    check_data_with, check_header, judge, judge_bodies,
+    check_data_with, check_header, check_short_data_item, judge, judge_bodies,
 };

@@ -1,3 +1,4 @@
 mod Numbers
 mod Parts
+mod ShortData
 pub mod Worked

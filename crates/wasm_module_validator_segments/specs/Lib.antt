@@ -2,6 +2,7 @@
 -- the order in which they are read.
 pub mod Trees
 pub mod Judged
+pub mod Short
 pub mod Refusals
 -- Laws of answers and addresses.
 pub mod Laws

@@ -13,7 +13,7 @@ ghost use Rattle.wasm_module_validator_reading.specs.progress.Progress.{IsAt};
 use std::alloc::Global;
 use wasm_module_validator_adding::{AddItem, add_items};
 use wasm_module_validator_reading::{
-    OperatorValidatorAllocations, SectionItem, SharedModule, check_data_with,
+    OperatorValidatorAllocations, SectionItem, SharedModule, check_data_with, check_short_data_item,
 };
 use wasm_sections_payloads::{Data, DataSectionReader};
 use wasm_types::{Error, Result};
@@ -61,6 +61,11 @@ impl<'a, 'b> AddItem<'a, Data<'a>> for DataCheck<'b> {
             &mut self.allocs,
             offset,
         )
+    }
+
+    fn add_short(&mut self, bytes: &[u8], at: usize) -> Option<usize> {
+        let module = self.module;
+        check_short_data_item(module.state(), module.types(), bytes, at)
     }
 
     ghost alike = { λ x y is. is };

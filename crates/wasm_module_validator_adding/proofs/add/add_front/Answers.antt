@@ -42,7 +42,7 @@ loop-passed-preserved g c =
       (λ z n b s w rest left here. stands_behind_short i.view a.of law.alike i.decoder i.grammar (g.met.T.FromReader c.lifetimes (assumption c)).exact a.adds z a.reads n b s
           c.args.bytes.now c.loop-passed.at c.in-Some.end k w c.loop-passed.state c.add_short.new.self rest c.in-Some.ensures.added
           (subst (λ (j : ℕ). Stands i.view a.of i.decoder i.grammar a.adds z a.reads n b s (behind w c.loop-passed.at j) c.loop-passed.state) one_more
-              (c.loop-passed.invariant.1 z n b s w rest left here))),
+          (c.loop-passed.invariant.1 z n b s w rest left here))),
       law.grows_further c.args.state.now c.loop-passed.state c.add_short.new.self c.loop-passed.invariant.2 c.in-Some.ensures.grown,
     )
 

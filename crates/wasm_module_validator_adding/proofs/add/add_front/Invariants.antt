@@ -12,6 +12,6 @@ invariant-loop-passed g l =
     let a = g.S.AddItem in
     (l.at ≤ length l.fn.bytes)
     × ((z : Settings) (n : ℕ) (b : State) (s : g.row.S.Denot) (w : Walk) → w.reader.rest ≡ l.fn.bytes → w.left ≡ l.fn.most
-        → Stands i.view a.of i.decoder i.grammar a.adds z a.reads n b s w l.fn.state
-        → Stands i.view a.of i.decoder i.grammar a.adds z a.reads n b s (behind w l.at (l.fn.most - l.passed)) l.state)
+    → Stands i.view a.of i.decoder i.grammar a.adds z a.reads n b s w l.fn.state
+    → Stands i.view a.of i.decoder i.grammar a.adds z a.reads n b s (behind w l.at (l.fn.most - l.passed)) l.state)
     × a.grows l.fn.state l.state
