@@ -13,9 +13,10 @@ use wasm_operators_bodies::FunctionBody;
 use wasm_types::{Limits, WasmFeatures};
 use wasm_types_numbers::short_u32_at;
 
-/// Judges bodies of one module, and says of each no more than that it is valid, or nothing.
+/// Judges bodies of one module in one loop over operands of one byte, and says of each no more than that it is valid, or nothing. It keeps
+/// tables of the module, made once, and says nothing of a body that uses what they do not tell: then a [`BodyJudge`](crate::BodyJudge) may.
 #[derive(Drop)]
-pub(crate) struct PlainJudge {
+pub struct PlainJudge {
     pub(crate) tables: Tables,
     room: Room,
     pub(crate) usable: bool,
@@ -24,7 +25,7 @@ pub(crate) struct PlainJudge {
 impl PlainJudge {
     /// One for a module, as far as so many entries of each of its tables tell. It says nothing of any body if a feature that the loop asks is
     /// off, or there is no memory.
-    pub(crate) fn new<R: WasmModuleResources>(
+    pub fn new<R: WasmModuleResources>(
         alloc: Global,
         resources: &R,
         features: WasmFeatures,
@@ -49,8 +50,9 @@ impl PlainJudge {
     }
 
     /// Whether the bytes of a body spell a valid function of the type at an index of the module's types, by these features and limits. It may
-    /// say no of a valid one too.
-    pub(crate) fn accepts<R: WasmModuleResources>(
+    /// say no of a valid one too: then [`BodyJudge::accepts`](crate::BodyJudge::accepts) may tell, or
+    /// [`FuncValidator::validate`](crate::FuncValidator::validate).
+    pub fn accepts<R: WasmModuleResources>(
         &mut self,
         resources: &R,
         ty: u32,
