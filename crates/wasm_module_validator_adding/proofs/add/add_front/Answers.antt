@@ -1,5 +1,4 @@
 use Rattle.std.proofs.Common.{◌≡◌, ◌+◌, ◌-◌, ℕ, suc, arith, refl, sym, subst}
-use Rattle.wasm_sections_limited.specs.Walking.{Walk}
 use Rattle.wasm_module_validator_adding.specs.AddingLaws.{Stands, behind, stands_at_once, stands_behind_short}
 use Rattle.wasm_module_validator_adding.proofs.add.add_front.Goals as goal
 
