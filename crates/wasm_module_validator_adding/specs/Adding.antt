@@ -3,6 +3,7 @@
 -- `adds` says what is read with an item more: it is a relation, since of a constant expression the bytes are an item and the code is
 -- what is added. An item that may not be added stands in it to nothing.
 use Rattle.std.specs.Prelude.{◌≡◌, ◌⊎◌, ◌<◌, ◌≤◌, ◌+◌, ℕ, List, [], ◌∷◌, ◌++◌, length, drop, Result, Ok, Err}
+use Rattle.wasm_types.specs.limits.declared.Limits.{Limits}
 use Rattle.wasm_types.specs.limits.Settings.{Settings}
 use Rattle.wasm_types.specs.decoding.Decoder.{State, Done, Decoder, Grammar, Many}
 use Rattle.wasm_types.specs.error.declared.error.ErrorKind.TheVariants.{Other}
@@ -26,16 +27,16 @@ pub record AreAdded {M A : Type 0} (g : Grammar A) (adds : M → A → M → Typ
 
 -- ---- an item that is told from its bytes alone
 
--- From one offset of a text to another stand the bytes of an item, whatever the settings are. It may be added to whatever was read
--- before, and the state stands for what is read then.
+-- From one offset of a text to another stand the bytes of an item, by any settings with these limits. It may be added to whatever was
+-- read before, and the state stands for what is read then.
 pub record AddsShort {T V A M S : Type 0} (view : T → V) (of : T → A) (g : Settings → Grammar V) (adds : M → A → M → Type 0) (reads : S → M → Type 0)
-    (before after : S) (text : List ℕ) (i j : ℕ) : Type 0 where
+    (before after : S) (l : Limits) (text : List ℕ) (i j : ℕ) : Type 0 where
   pub item : T
   pub front : List ℕ
   pub whole : drop i text ≡ front ++ drop j text
   pub place : j ≡ i + length front
   pub inside : j ≤ length text
-  pub spelled : (z : Settings) → g z (view item) front
+  pub spelled : (z : Settings) → z.limits ≡ l → g z (view item) front
   pub may : (m : M) → reads before m → (n : M) × adds m (of item) n
   pub added : (m n : M) → reads before m → adds m (of item) n → reads after n
 

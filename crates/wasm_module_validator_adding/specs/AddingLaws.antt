@@ -2,6 +2,7 @@
 -- from what may have been read by then.
 use Rattle.std.proofs.Common.{◌≡◌, ℕ, zero, suc, ◌+◌, ◌<◌, ◌≤◌, List, [], ◌∷◌, ◌++◌, length, take, drop, refl, sym, ap, ◌∙◌, subst, arith, false, Option, Some, None, Result, Ok, Err, inl, inr}
 use Rattle.std.proofs.lemmas.List.{append_cancel_left, take-append-drop, length-take-le}
+use Rattle.wasm_types.specs.limits.declared.Limits.{Limits}
 use Rattle.wasm_types.specs.limits.Settings.{Settings}
 use Rattle.wasm_types.specs.decoding.Decoder.{State, Outcome, Done, Decoder, Grammar, Decides, Many}
 use Rattle.wasm_types.specs.decoding.ExactLaws.{value_is, state_is}
@@ -230,9 +231,9 @@ module _ {T V A M : Type 0} (view : T → V) (of : T → A) (alike : (x y : T) �
         subst (λ (y : Walk). Standing y u) (sym here) h
 
     -- the same of an item that is told from its bytes alone
-    pub stands_behind_short : (text : List ℕ) (i j k : ℕ) (w : Walk) (u u' : S) → w.reader.rest ≡ text → AddsShort view of g adds reads u u' text i j
-        → Standing (behind w i (suc k)) u → Standing (behind w j k) u'
-    stands_behind_short text i j k w u u' e a h =
+    pub stands_behind_short : (l : Limits) (text : List ℕ) (i j k : ℕ) (w : Walk) (u u' : S) → z.limits ≡ l → w.reader.rest ≡ text
+        → AddsShort view of g adds reads u u' l text i j → Standing (behind w i (suc k)) u → Standing (behind w j k) u'
+    stands_behind_short l text i j k w u u' same e a h =
         let before = behind w i (suc k) in
         let then = behind w j k in
         let read : d before.reader.settings before.reader ≡ Done (view a.item) then.reader
@@ -242,7 +243,7 @@ module _ {T V A M : Type 0} (view : T → V) (of : T → A) (alike : (x y : T) �
           place = omega (arith, a.place);
           settings = refl;
           start = refl;
-        }) (a.spelled before.reader.settings) in
+        }) (a.spelled before.reader.settings (ap (λ (y : Settings). y.limits) h.settings ∙ same)) in
         stands_behind before then u u' (before.reader.place, a.item) h (h.going, h.going, omega arith, (refl, read)) refl a.may a.added
 
     -- an item that may not be added

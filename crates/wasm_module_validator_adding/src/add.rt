@@ -11,7 +11,7 @@ ghost use Rattle.wasm_sections_limited.specs.Walking.{Walk};
 ghost use Rattle.wasm_sections_limited.specs.Runs.{place_with_offsets};
 
 use wasm_sections_limited::{SectionLimited, SectionLimitedIntoIterWithOffsets};
-use wasm_types::{FromReader, Result};
+use wasm_types::{FromReader, Limits, Result};
 
 /// What items of this kind are added to.
 pub trait AddItem<'a, T: FromReader<'a>> {
@@ -51,9 +51,9 @@ pub trait AddItem<'a, T: FromReader<'a>> {
 
     /// Adds the item that begins at an offset of these bytes, if the bytes alone tell that it may be added, and answers where it ends.
     /// Else nothing has changed.
-    fn add_short(&mut self, bytes: &[u8], at: usize) -> Option<usize>
+    fn add_short(&mut self, bytes: &[u8], at: usize, limits: &Limits) -> Option<usize>
         requires inside { at ≤ length bytes.now }
-        ensures added { IfSome result (AddsShort T.view of T.grammar adds reads self.old self.new bytes.now at) }
+        ensures added { IfSome result (AddsShort T.view of T.grammar adds reads self.old self.new limits.now bytes.now at) }
         ensures stays { IfNone result (self.new ≡ self.old) }
         ensures grown { IfSome result (λ _. grows self.old self.new) };
 
@@ -74,18 +74,19 @@ pub trait AddItem<'a, T: FromReader<'a>> {
 fn add_front<'a, T: FromReader<'a>, S: AddItem<'a, T>>(
     state: &mut S,
     bytes: &[u8],
+    limits: &Limits,
     most: u32,
 ) -> (u32, usize)
     ensures left { result.0 ≤ most }
     ensures inside { result.1 ≤ length bytes.now }
-    ensures stands { (z : Settings) (n : ℕ) (b : State) (s : S) (w : Walk) → w.reader.rest ≡ bytes.now → w.left ≡ most
+    ensures stands { (z : Settings) (n : ℕ) (b : State) (s : S) (w : Walk) → z.limits ≡ limits.now → w.reader.rest ≡ bytes.now → w.left ≡ most
         → Stands T.view S.of T.decoder T.grammar S.adds z S.reads n b s w state.old
         → Stands T.view S.of T.decoder T.grammar S.adds z S.reads n b s (behind w result.1 result.0) state.new }
     ensures grown { S.grows state.old state.new }
 {
     let mut at = 0;
     for passed in 0..most {
-        let Some(end) = state.add_short(bytes, at) else {
+        let Some(end) = state.add_short(bytes, at, limits) else {
             return (most - passed, at);
         };
         at = end;
@@ -97,15 +98,16 @@ fn add_front<'a, T: FromReader<'a>, S: AddItem<'a, T>>(
 fn pass_front<'a, T: FromReader<'a>, S: AddItem<'a, T>>(
     state: &mut S,
     items: &mut SectionLimitedIntoIterWithOffsets<'a, T>,
+    limits: &Limits,
 )
     ensures left { items.new.remaining ≤ items.old.remaining }
     ensures over { items.new.end ≡ items.old.end }
-    ensures stands { (z : Settings) (n : ℕ) (b : State) (s : S)
+    ensures stands { (z : Settings) (n : ℕ) (b : State) (s : S) → z.limits ≡ limits.now
         → Stands T.view S.of T.decoder T.grammar S.adds z S.reads n b s (place_with_offsets items.old) state.old
         → Stands T.view S.of T.decoder T.grammar S.adds z S.reads n b s (place_with_offsets items.new) state.new }
     ensures grown { S.grows state.old state.new }
 {
-    let (left, at) = add_front::<T, S>(state, items.bytes(), items.left());
+    let (left, at) = add_front::<T, S>(state, items.bytes(), limits, items.left());
     items.pass(at, left);
 }
 
@@ -128,9 +130,10 @@ pub fn add_items<'a, T: FromReader<'a>, S: AddItem<'a, T>>(
         section.entry.count section.entry.reader m e)) }
     ensures grown { OnOk result (S.grows state.old state.new) }
 {
+    let limits = section.get_binary_reader().limits();
     let mut items = section.into_iter_with_offsets();
     'items: loop {
-        pass_front(state, &mut items);
+        pass_front(state, &mut items, &limits);
         let item = match items.next() {
             None => return Ok(()),
             Some(Ok(item)) => item,

@@ -7,7 +7,7 @@ use crate::{AddItem, AddLent, add_items, add_lent_items};
 use std::alloc::Global;
 use std::process::Abort;
 use wasm_sections_limited::SectionLimited;
-use wasm_types::{BinaryReader, Error, Result};
+use wasm_types::{BinaryReader, Error, Limits, Result};
 
 /// The sum of the numbers that were read, and the most that it may be.
 #[derive(Drop)]
@@ -43,7 +43,7 @@ impl<'a> AddItem<'a, u32> for Total {
         Ok(())
     }
 
-    fn add_short(&mut self, _bytes: &[u8], _at: usize) -> Option<usize> {
+    fn add_short(&mut self, _bytes: &[u8], _at: usize, _limits: &Limits) -> Option<usize> {
         None
     }
 

@@ -24,7 +24,7 @@ use std::alloc::Global;
 use wasm_module_validator_adding::AddItem;
 use wasm_module_validator_standing::ModuleState;
 use wasm_module_validator_types::TypeList;
-use wasm_types::{FromReader, Result};
+use wasm_types::{FromReader, Limits, Result};
 
 /// An item of a section: what is asked where the section begins, and how an item is added.
 pub trait SectionItem<'a>: FromReader<'a> {
@@ -73,11 +73,12 @@ pub trait SectionItem<'a>: FromReader<'a> {
         types: &TypeList,
         bytes: &[u8],
         at: usize,
+        limits: &Limits,
     ) -> Option<usize>
         requires over { IsReadOver types.now.groups state.old.spaces }
         requires inside { at ≤ length bytes.now }
         ensures added { IfSome result (λ j. (count : ℕ) → AddsShort Self.FromReader.view of Self.FromReader.grammar (AddsIn section)
-            (IsRead section) (kept types.now.groups state.old count) (kept types.now.groups state.new count) bytes.now at j) }
+            (IsRead section) (kept types.now.groups state.old count) (kept types.now.groups state.new count) limits.now bytes.now at j) }
         ensures stays { IfNone result (state.new ≡ state.old) }
         ensures over { IfSome result (λ _. IsReadOver types.now.groups state.new.spaces) }
         ensures settings { IfSome result (λ _. state.new.spaces.settings ≡ state.old.spaces.settings) }
@@ -149,8 +150,8 @@ impl<'a, T: SectionItem<'a>> AddItem<'a, T> for Collected {
         )
     }
 
-    fn add_short(&mut self, bytes: &[u8], at: usize) -> Option<usize> {
-        T::add_short(&mut self.state, &self.types, bytes, at)
+    fn add_short(&mut self, bytes: &[u8], at: usize, limits: &Limits) -> Option<usize> {
+        T::add_short(&mut self.state, &self.types, bytes, at, limits)
     }
 
     ghost alike = { T.alike };

@@ -31,7 +31,7 @@ use wasm_operators_bodies::ConstExpr;
 use wasm_sections_items::elements::ElementOf;
 use wasm_sections_items::imports::Export;
 use wasm_sections_items::segments::{DataOf, GlobalOf, TableOf};
-use wasm_types::{Error, MemoryType, RecGroup, Result, TagType, WasmFeatures};
+use wasm_types::{Error, Limits, MemoryType, RecGroup, Result, TagType, WasmFeatures};
 
 impl<'a> SectionItem<'a> for RecGroup {
     ghost use Rattle.wasm_module_validator_standing.specs.steps.Sections as section;
@@ -73,6 +73,7 @@ impl<'a> SectionItem<'a> for RecGroup {
         _types: &TypeList,
         _bytes: &[u8],
         _at: usize,
+        _limits: &Limits,
     ) -> Option<usize> {
         None
     }
@@ -115,6 +116,7 @@ impl<'a> SectionItem<'a> for u32 {
         _types: &TypeList,
         _bytes: &[u8],
         _at: usize,
+        _limits: &Limits,
     ) -> Option<usize> {
         None
     }
@@ -175,6 +177,7 @@ impl<'a> SectionItem<'a> for TableOf<ConstExpr<'a>> {
         _types: &TypeList,
         _bytes: &[u8],
         _at: usize,
+        _limits: &Limits,
     ) -> Option<usize> {
         None
     }
@@ -217,6 +220,7 @@ impl<'a> SectionItem<'a> for MemoryType {
         _types: &TypeList,
         _bytes: &[u8],
         _at: usize,
+        _limits: &Limits,
     ) -> Option<usize> {
         None
     }
@@ -266,6 +270,7 @@ impl<'a> SectionItem<'a> for TagType {
         _types: &TypeList,
         _bytes: &[u8],
         _at: usize,
+        _limits: &Limits,
     ) -> Option<usize> {
         None
     }
@@ -326,6 +331,7 @@ impl<'a> SectionItem<'a> for GlobalOf<ConstExpr<'a>> {
         _types: &TypeList,
         _bytes: &[u8],
         _at: usize,
+        _limits: &Limits,
     ) -> Option<usize> {
         None
     }
@@ -386,6 +392,7 @@ impl<'a> SectionItem<'a> for Export<'a> {
         _types: &TypeList,
         _bytes: &[u8],
         _at: usize,
+        _limits: &Limits,
     ) -> Option<usize> {
         None
     }
@@ -446,6 +453,7 @@ impl<'a> SectionItem<'a> for ElementOf<'a, ConstExpr<'a>> {
         _types: &TypeList,
         _bytes: &[u8],
         _at: usize,
+        _limits: &Limits,
     ) -> Option<usize> {
         None
     }
@@ -506,6 +514,7 @@ impl<'a> SectionItem<'a> for DataOf<'a, ConstExpr<'a>> {
         types: &TypeList,
         bytes: &[u8],
         at: usize,
+        _limits: &Limits,
     ) -> Option<usize> {
         check_short_data_item(state, types, bytes, at)
     }

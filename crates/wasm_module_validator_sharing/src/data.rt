@@ -16,7 +16,7 @@ use wasm_module_validator_reading::{
     OperatorValidatorAllocations, SectionItem, SharedModule, check_data_with, check_short_data_item,
 };
 use wasm_sections_payloads::{Data, DataSectionReader};
-use wasm_types::{Error, Result};
+use wasm_types::{Error, Limits, Result};
 
 // A module whose data segments are checked, and the memory of the checks.
 #[derive(Drop)]
@@ -63,7 +63,7 @@ impl<'a, 'b> AddItem<'a, Data<'a>> for DataCheck<'b> {
         )
     }
 
-    fn add_short(&mut self, bytes: &[u8], at: usize) -> Option<usize> {
+    fn add_short(&mut self, bytes: &[u8], at: usize, _limits: &Limits) -> Option<usize> {
         let module = self.module;
         check_short_data_item(module.state(), module.types(), bytes, at)
     }

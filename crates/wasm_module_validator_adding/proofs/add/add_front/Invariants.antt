@@ -11,7 +11,7 @@ invariant-loop-passed g l =
     let i = g.T.FromReader in
     let a = g.S.AddItem in
     (l.at ≤ length l.fn.bytes)
-    × ((z : Settings) (n : ℕ) (b : State) (s : g.row.S.Denot) (w : Walk) → w.reader.rest ≡ l.fn.bytes → w.left ≡ l.fn.most
+    × ((z : Settings) (n : ℕ) (b : State) (s : g.row.S.Denot) (w : Walk) → z.limits ≡ l.fn.limits → w.reader.rest ≡ l.fn.bytes → w.left ≡ l.fn.most
     → Stands i.view a.of i.decoder i.grammar a.adds z a.reads n b s w l.fn.state
     → Stands i.view a.of i.decoder i.grammar a.adds z a.reads n b s (behind w l.at (l.fn.most - l.passed)) l.state)
     × a.grows l.fn.state l.state

@@ -1,4 +1,5 @@
 use Rattle.std.proofs.Common.{◌≡◌, ◌∙◌, refl, sym, ap, subst, Some, Result, inr, ℕ}
+use Rattle.wasm_types.specs.decoding.Decoder.{State}
 use Rattle.wasm_types.specs.error.ErrorValue.{ErrorValue}
 use Rattle.wasm_types.specs.reader.Reading.{Fails}
 use Rattle.wasm_sections_limited.specs.Walking.{Walk, NextIn, fresh}
@@ -32,7 +33,7 @@ returns-in-None-clause-answer g c =
     let s = c.args.state.now in
     are_added_at_the_end i.view a.of law.alike i.decoder i.grammar (g.met.T.FromReader c.lifetimes (assumption c)).exact a.adds b.settings a.reads n b s
     (place_with_offsets c.pass_front.new.items) (place_with_offsets c.next.new.self) c.pass_front.new.state
-    (c.pass_front.ensures.stands b.settings n b s c.items.invariant.0) c.in-None.ensures.steps.0
+    (c.pass_front.ensures.stands b.settings n b s (sym (c.limits-limits.ensures.value ∙ ap (λ (r : State). r.settings.limits) c.get_binary_reader.ensures)) c.items.invariant.0) c.in-None.ensures.steps.0
 
 pub returns-in-None-clause-added : goal.returns-in-None-clause-added
 returns-in-None-clause-added g c =
@@ -44,7 +45,7 @@ returns-in-None-clause-added g c =
     let s = c.args.state.now in
     stands_at_the_end i.view a.of law.alike i.decoder i.grammar (g.met.T.FromReader c.lifetimes (assumption c)).exact a.adds b.settings a.reads n b s
     (place_with_offsets c.pass_front.new.items) (place_with_offsets c.next.new.self) c.pass_front.new.state
-    (c.pass_front.ensures.stands b.settings n b s c.items.invariant.0) c.in-None.ensures.steps.0
+    (c.pass_front.ensures.stands b.settings n b s (sym (c.limits-limits.ensures.value ∙ ap (λ (r : State). r.settings.limits) c.get_binary_reader.ensures)) c.items.invariant.0) c.in-None.ensures.steps.0
 
 pub returns-in-None-clause-grown : goal.returns-in-None-clause-grown
 returns-in-None-clause-grown g c =
@@ -65,7 +66,7 @@ returns-in-Some-Err-clause-answer g c =
     c.in-Some-Err.field-0-is c.in-Some-Err.ensures.steps.0 in
     inr (refused_bytes i.view a.of law.alike i.decoder i.grammar (g.met.T.FromReader c.lifetimes (assumption c)).exact a.adds b.settings a.reads n b s
     w v c.pass_front.new.state c.in-Some-Err.error
-    (c.pass_front.ensures.stands b.settings n b s c.items.invariant.0) step)
+    (c.pass_front.ensures.stands b.settings n b s (sym (c.limits-limits.ensures.value ∙ ap (λ (r : State). r.settings.limits) c.get_binary_reader.ensures)) c.items.invariant.0) step)
 
 pub returns-in-Some-Err-clause-refused : goal.returns-in-Some-Err-clause-refused
 returns-in-Some-Err-clause-refused g c =
@@ -81,7 +82,7 @@ returns-in-Some-Err-clause-refused g c =
     c.in-Some-Err.field-0-is c.in-Some-Err.ensures.steps.0 in
     inr (stops_at_bytes i.view a.of law.alike i.decoder i.grammar (g.met.T.FromReader c.lifetimes (assumption c)).exact a.adds b.settings a.reads n b s
     a.refuses w v c.pass_front.new.state c.in-Some-Err.error
-    (c.pass_front.ensures.stands b.settings n b s c.items.invariant.0) step)
+    (c.pass_front.ensures.stands b.settings n b s (sym (c.limits-limits.ensures.value ∙ ap (λ (r : State). r.settings.limits) c.get_binary_reader.ensures)) c.items.invariant.0) step)
 
 pub items-preserved : goal.items-preserved
 items-preserved g c =
@@ -98,7 +99,7 @@ items-preserved g c =
     let steps = c.in-Some-Ok.ensures.steps in (
       stands_behind i.view a.of law.alike i.decoder i.grammar (g.met.T.FromReader c.lifetimes (assumption c)).exact a.adds b.settings a.reads n b s
           w v c.pass_front.new.state c.add.new.self c.in-Some-Ok.item
-          (c.pass_front.ensures.stands b.settings n b s c.items.invariant.0) step steps.2 c.in-Ok.ensures.answer c.in-Ok.ensures.added,
+          (c.pass_front.ensures.stands b.settings n b s (sym (c.limits-limits.ensures.value ∙ ap (λ (r : State). r.settings.limits) c.get_binary_reader.ensures)) c.items.invariant.0) step steps.2 c.in-Ok.ensures.answer c.in-Ok.ensures.added,
       law.grows_further s c.pass_front.new.state c.add.new.self
           (law.grows_further s c.items.state c.pass_front.new.state c.items.invariant.1 c.pass_front.ensures.grown) c.in-Ok.ensures.grown,
     )
@@ -119,7 +120,7 @@ returns-in-Err-clause-answer g c =
     either_from (law.full_before s c.pass_front.new.state c.in-Err.error grown)
     (λ told. refused_item i.view a.of law.alike i.decoder i.grammar (g.met.T.FromReader c.lifetimes (assumption c)).exact a.adds b.settings a.reads n b s
     w v c.pass_front.new.state c.in-Some-Ok.item c.in-Err.error.kind
-    (c.pass_front.ensures.stands b.settings n b s c.items.invariant.0) step told) c.in-Err.ensures.answer
+    (c.pass_front.ensures.stands b.settings n b s (sym (c.limits-limits.ensures.value ∙ ap (λ (r : State). r.settings.limits) c.get_binary_reader.ensures)) c.items.invariant.0) step told) c.in-Err.ensures.answer
 
 pub returns-in-Err-clause-refused : goal.returns-in-Err-clause-refused
 returns-in-Err-clause-refused g c =
@@ -137,4 +138,4 @@ returns-in-Err-clause-refused g c =
     either_from (law.full_before s c.pass_front.new.state c.in-Err.error grown)
     (λ told. stops_at_an_item i.view a.of law.alike i.decoder i.grammar (g.met.T.FromReader c.lifetimes (assumption c)).exact a.adds b.settings a.reads n b s
     a.refuses w v c.pass_front.new.state c.in-Some-Ok.item c.in-Err.error
-    (c.pass_front.ensures.stands b.settings n b s c.items.invariant.0) step told) c.in-Err.ensures.refused
+    (c.pass_front.ensures.stands b.settings n b s (sym (c.limits-limits.ensures.value ∙ ap (λ (r : State). r.settings.limits) c.get_binary_reader.ensures)) c.items.invariant.0) step told) c.in-Err.ensures.refused
