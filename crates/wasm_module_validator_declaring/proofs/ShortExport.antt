@@ -17,10 +17,10 @@ byte_between : (text : List ℕ) (i : ℕ) → i < length text → IsBetween (λ
 byte_between text i inside = record { front = get_or text i 0 ∷ []; whole = drop_more text i 0 inside; place = omega arith; inside = omega (arith, inside); such = refl }
 
 module _ (text : List ℕ) (i count first index end : ℕ) (kind : ExternalKind) (name : List ℕ) (l : Limits) where
-  Parts : List ℕ → Type 0
+  abbrev Parts : List ℕ → Type 0
   Parts = InTurn (InTurn (IsUnsigned 32 count) (λ t. t ≡ take count (drop first text))) (InTurn (λ t. t ≡ get_or text (first + count) 0 ∷ []) (IsUnsigned 32 index))
 
-  tree : ExportTree
+  abbrev tree : ExportTree
   tree = record { name = name; kind = kind; index = index }
 
   spells : name ≡ take count (drop first text) → length name ≡ count → IsUtf8 name → count ≤ l.string_bytes → get_or text (first + count) 0 ≡ kind_byte kind

@@ -12,13 +12,13 @@ use Rattle.wasm_module_validator_steps.specs.BetweenLaws.{InTurn, in_turn, betwe
 use Rattle.wasm_module_validator_segments.specs.Short.{IsShortData, SpellsInFirst}
 
 module _ (text : List ℕ) (i first long count start : ℕ) where
-  constant : List ℕ
+  abbrev constant : List ℕ
   constant = take long (drop first text)
 
-  content : List ℕ
+  abbrev content : List ℕ
   content = take count (drop start text)
 
-  Parts : List ℕ → Type 0
+  abbrev Parts : List ℕ → Type 0
   Parts = InTurn (IsUnsigned 32 0) (InTurn (λ t. t ≡ constant) (InTurn (IsUnsigned 32 count) (λ t. t ≡ content)))
 
   -- the parts are those of a segment
