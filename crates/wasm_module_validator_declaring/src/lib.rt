@@ -13,6 +13,7 @@ mod imports;
 mod laws;
 mod numbers;
 mod own;
+mod short;
 
 pub use counts::{
     begin_data, begin_elements, begin_exports, begin_functions, begin_globals, begin_imports,
@@ -24,3 +25,4 @@ pub use imports::add_import_item;
 pub use laws::groups_are_read_alike;
 pub use numbers::{take_data_count, take_start};
 pub use own::{add_function_item, add_memory_item, add_tag_item};
+pub use short::{add_short_export, add_short_function};

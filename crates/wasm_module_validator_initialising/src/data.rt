@@ -9,8 +9,8 @@ ghost use Rattle.wasm_module_validator_elements.specs.segments.Trees.{data_read}
 ghost use Rattle.wasm_module_validator_elements.specs.segments.Judged.{IsData};
 ghost use Rattle.wasm_module_validator_elements.specs.segments.Refusals.{RefusesData};
 ghost use Rattle.wasm_module_validator_standing.specs.steps.Sections as section;
-ghost use Rattle.wasm_module_validator_standing.specs.Standing.{constants_of, AddsItem, TellsItem};
-ghost use Rattle.wasm_module_validator_initialising.specs.Read.{AllowsData, data_tree};
+ghost use Rattle.wasm_module_validator_standing.specs.Standing.{constants_of, AddsItem, IsAdded, TellsItem};
+ghost use Rattle.wasm_module_validator_initialising.specs.Read.{data_tree};
 
 use std::alloc::Global;
 use wasm_module_validator_elements::{
@@ -108,8 +108,8 @@ pub fn check_short_data_item(
 ) -> Option<usize>
     requires { at ≤ length bytes.now }
     ensures short { IfSome result (IsShortData bytes.now at) }
-    ensures allowed { IfSome result (λ j. (s : IsShortData bytes.now at j)
-        → AllowsData types.now.groups state.now (in_first_memory s.constant s.content)) }
+    ensures added { IfSome result (λ j. (s : IsShortData bytes.now at j)
+        → IsAdded section.data_segments types.now.groups state.now (in_first_memory s.constant s.content) state.now) }
 {
     let module = state.resources(types);
     check_short_data(&ReferringToAll::new(&module), bytes, at)

@@ -20,7 +20,8 @@ ghost use Rattle.wasm_module_validator_progress.specs.Progress.{Reads, TellsRead
 use crate::SectionItem;
 use std::alloc::Global;
 use wasm_module_validator_declaring::{
-    add_export_item, add_function_item, add_group, add_memory_item, add_tag_item,
+    add_export_item, add_function_item, add_group, add_memory_item, add_short_export,
+    add_short_function, add_tag_item,
 };
 use wasm_module_validator_initialising::{
     add_element, add_global, add_table, check_data_item, check_short_data_item,
@@ -112,13 +113,13 @@ impl<'a> SectionItem<'a> for u32 {
     }
 
     fn add_short(
-        _state: &mut ModuleState,
-        _types: &TypeList,
-        _bytes: &[u8],
-        _at: usize,
+        state: &mut ModuleState,
+        types: &TypeList,
+        bytes: &[u8],
+        at: usize,
         _limits: &Limits,
     ) -> Option<usize> {
-        None
+        add_short_function(state, types, bytes, at)
     }
 
     ghost alike = { λ x y is. is };
@@ -388,13 +389,13 @@ impl<'a> SectionItem<'a> for Export<'a> {
     }
 
     fn add_short(
-        _state: &mut ModuleState,
-        _types: &TypeList,
-        _bytes: &[u8],
-        _at: usize,
-        _limits: &Limits,
+        state: &mut ModuleState,
+        types: &TypeList,
+        bytes: &[u8],
+        at: usize,
+        limits: &Limits,
     ) -> Option<usize> {
-        None
+        add_short_export(state, types, bytes, at, limits)
     }
 
     ghost alike = { λ x y is. is };

@@ -1,22 +1,23 @@
 -- Data segments that their bytes alone tell (WebAssembly 3.0, binary format, modules, data section).
-use Rattle.std.specs.Prelude.{◌≡◌, ◌+◌, ◌≤◌, ℕ, List, ◌++◌, length, drop}
+use Rattle.std.specs.Prelude.{ℕ, List}
 use Rattle.wasm_types.specs.limits.Settings.{Settings}
 use Rattle.wasm_operators_bodies.specs.declared.short.ShortConstant.TheVariants as short
 use Rattle.wasm_operators_bodies.specs.Short.{SpellsShort}
 use Rattle.wasm_operators_bodies.specs.ConstantDecoder.{ConstantText}
 use Rattle.wasm_sections_items.specs.segments.Spells.{DataTree, SpelledData, active}
+use Rattle.wasm_module_validator_steps.specs.Between.{IsBetween}
 
 -- a segment with these bytes, at an offset in memory 0 that these bytes spell
 abbrev pub in_first_memory : List ℕ → List ℕ → DataTree (List ℕ)
 in_first_memory constant content = record { mode = active 0 constant; content = content }
 
--- From one offset of a text to another stand the bytes of a data segment in memory 0 at a number of 32 bits, whatever the settings are.
+-- the bytes of such a segment, whatever the settings are
+abbrev pub SpellsInFirst : List ℕ → List ℕ → List ℕ → Type 0
+SpellsInFirst constant content front = (z : Settings) → SpelledData (ConstantText z) (in_first_memory constant content) front
+
+-- From one offset of a text to another stand the bytes of a data segment in memory 0 at a number of 32 bits.
 pub record IsShortData (text : List ℕ) (i j : ℕ) : Type 0 where
   pub constant : List ℕ
   pub content : List ℕ
-  pub front : List ℕ
-  pub whole : drop i text ≡ front ++ drop j text
-  pub place : j ≡ i + length front
-  pub inside : j ≤ length text
   pub number : SpellsShort short.I32 constant
-  pub spelled : (z : Settings) → SpelledData (ConstantText z) (in_first_memory constant content) front
+  pub bytes : IsBetween (SpellsInFirst constant content) text i j

@@ -107,6 +107,10 @@ TellsItem s groups i x result = (z : Settings) (m : ModuleTree) → IsReading s 
 abbrev pub AddsItem : (s : Section) → List Group → Items → ItemRead s → List Group → Items → Type 0
 AddsItem s groups i x grown j = (z : Settings) (m n : ModuleTree) → IsReading s groups i z m → AddsRead z s m x n → IsReading s grown j z n
 
+-- An item may be added to each tree that the state stands for, and that state stands for the tree with it.
+abbrev pub IsAdded : (s : Section) → List Group → Items → ItemRead s → Items → Type 0
+IsAdded s groups i x j = ((z : Settings) (m : ModuleTree) → IsReading s groups i z m → (n : ModuleTree) × AddsRead z s m x n) × AddsItem s groups i x groups j
+
 -- What is tested where a section begins: Ok exactly where so many items fit, for each such tree.
 abbrev pub TellsFit : {X : Type 0} → (s : Section) → List Group → Items → ℕ → Result X ErrorValue → Type 0
 TellsFit s groups i n result = (z : Settings) (m : ModuleTree) → IsBefore s groups i z m → Tells result (Fits z s m n)

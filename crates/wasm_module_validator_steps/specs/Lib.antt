@@ -6,6 +6,9 @@ pub mod Adding
 pub mod Texts
 -- Rules: what each frame does.
 pub mod Steps
+-- Bytes that stand from one offset to another, with laws.
+pub mod Between
+pub mod BetweenLaws
 -- Worked items, sections and frames.
 pub mod Worked
 -- Laws, with the proofs.

@@ -1,0 +1,34 @@
+-- Items that their bytes alone tell, from what the calls of the state promise.
+use Rattle.std.proofs.Common.{◌≡◌, ◌∙◌, ℕ, List, length, refl, sym, ap, subst}
+use Rattle.wasm_types.specs.decoding.Decoder.{Grammar}
+use Rattle.wasm_types.specs.limits.declared.Limits.{Limits}
+use Rattle.wasm_types.specs.limits.Settings.{Settings}
+use Rattle.wasm_module_validator_type_trees.specs.Groups.{Group}
+use Rattle.wasm_module_validator_standing.specs.items.Items.{Items}
+use Rattle.wasm_module_validator_standing.specs.steps.contexts.rules.Syntax.{ModuleTree}
+use Rattle.wasm_module_validator_standing.specs.steps.Between.{IsBetween}
+use Rattle.wasm_module_validator_standing.specs.steps.Sections.{Section}
+use Rattle.wasm_module_validator_standing.specs.steps.Texts.{ItemRead, AddsRead}
+use Rattle.wasm_module_validator_standing.specs.Standing.{IsAdded}
+use Rattle.wasm_module_validator_texts.specs.Sections.{AddsIn, reading}
+use Rattle.wasm_module_validator_adding.specs.Adding.{AddsShort}
+use Rattle.wasm_module_validator_progress.specs.Progress.{IsRead, kept}
+
+-- an item between two offsets, which is added and leaves the groups of the module
+pub adds_short : {T V : Type 0} (s : Section) (view : T → V) (of : T → ItemRead s) (g : Settings → Grammar V) (x : T) (groups : List Group) (i j : Items) (l : Limits)
+    (text : List ℕ) (from to : ℕ) → ((z : Settings) (m n : ModuleTree) → AddsRead z s m (of x) n → n.types ≡ m.types) → IsAdded s groups i (of x) j
+    → IsBetween (λ front. (z : Settings) → z.limits ≡ l → g z (view x) front) text from to → (count : ℕ)
+    → AddsShort view of g (AddsIn s) (IsRead s) (kept groups i count) (kept groups j count) l text from to
+adds_short s view of g x groups i j l text from to types added b count = record {
+  item = x;
+  front = b.front;
+  whole = b.whole;
+  place = b.place;
+  inside = b.inside;
+  spelled = b.such;
+  may = λ u h. let a = added.0 u.settings u.tree h.reading in (reading u.settings a.0, (a.1, refl));
+  added = λ u v h a.
+      let after = added.1 u.settings u.tree v.tree h.reading a.0 in
+      subst (λ (z : Settings). IsRead s (kept groups j count) (reading z v.tree)) (sym a.1)
+      (record { reading = after; counted = h.counted ∙ sym (ap length (types u.settings u.tree v.tree a.0)) });
+}
