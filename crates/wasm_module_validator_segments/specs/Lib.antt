@@ -3,6 +3,7 @@
 pub mod Trees
 pub mod Judged
 pub mod Short
+pub mod ShortLaws
 pub mod Refusals
 -- Laws of answers and addresses.
 pub mod Laws

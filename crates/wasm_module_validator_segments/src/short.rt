@@ -3,18 +3,15 @@
 //! Most data segments of a module are copied into memory 0 at a number of 32 bits. [`check_short_data`] tells these with no reader of operators;
 //! of all others it says nothing.
 
-ghost use Rattle.std.specs.Prelude.{◌≤◌, ℕ, length, IfSome};
-ghost use Rattle.wasm_types.specs.limits.Settings.{Settings as Given};
-ghost use Rattle.wasm_sections_items.specs.segments.Spells.{active};
-ghost use Rattle.wasm_module_validator_segments.specs.Judged.{IsData};
-ghost use Rattle.wasm_module_validator_segments.specs.Short.{IsShortData};
+ghost use Rattle.std.specs.Prelude.{◌≤◌, length, IfSome};
+ghost use Rattle.wasm_module_validator_segments.specs.Short.{HasNarrowMemory, IsShortData};
 
 use wasm_operator_validator_constants::WasmModuleResources;
 use wasm_operators_bodies::{ShortConstant, short_constant};
 use wasm_types_numbers::short_u32_at;
 
 /// Where the data segment at an offset ends, if the bytes alone tell that it is valid in the module so far: it is copied into memory 0,
-/// whose addresses have 32 bits, at a number.
+/// whose addresses have 32 bits, at a number (`short_data_is_valid` of `specs/ShortLaws.antt`).
 pub fn check_short_data<R: WasmModuleResources>(
     resources: &R,
     bytes: &[u8],
@@ -22,8 +19,7 @@ pub fn check_short_data<R: WasmModuleResources>(
 ) -> Option<usize>
     requires { at ≤ length bytes.now }
     ensures short { IfSome result (IsShortData bytes.now at) }
-    ensures valid { IfSome result (λ j. (s : IsShortData bytes.now at j) (z : Given) (count : ℕ)
-        → IsData z (R.meaning resources.now).«module» count (active 0 s.constant)) }
+    ensures memory { IfSome result (λ _. HasNarrowMemory (R.meaning resources.now).«module») }
 {
     let Some(memory) = resources.memory_at(0) else {
         return None;
