@@ -146,6 +146,7 @@ impl<'a, 'v, 'r, R: WasmModuleResources> TellOperator<'a> for ValidatingWalk<'v,
             0x10 => tell_index(&mut self.visitor, bytes, at, 0x10, features),
             0x11 => tell_indirect(&mut self.visitor, bytes, at, 0x11, features),
             0x02..=0x04 => tell_block(&mut self.visitor, bytes, at, code, features),
+            0x14..=0x15 => tell_reference(&mut self.visitor, bytes, at, code, features),
             _ => None,
         }
     }
