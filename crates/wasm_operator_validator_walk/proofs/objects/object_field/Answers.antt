@@ -5,7 +5,7 @@ use Rattle.wasm_operators_visit_operator.specs.operator.Op as op
 use Rattle.wasm_operators_visit_operator.specs.groups.declared.gc.GcOperator.TheVariants as gc
 use Rattle.wasm_operators_visit_short.proofs.Reading.{is_told_with_two, prefixed_of}
 use Rattle.wasm_operators_visit_short.proofs.Carried.{index_of}
-use Rattle.wasm_operator_validator_walk.proofs.Counts.{count_of}
+use Rattle.wasm_operator_validator_walk.proofs.Carried.{count_of}
 use Rattle.wasm_operator_validator_walk.proofs.objects.object_field.Goals as goal
 
 pub returns-in-2-clause-told : goal.returns-in-2-clause-told
