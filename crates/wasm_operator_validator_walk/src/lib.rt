@@ -5,6 +5,7 @@
 //! [`accepts_expression`] does the same, and does not say why.
 #![tactic(auto)]
 
+mod objects;
 mod operators;
 mod short;
 mod walk;

@@ -6,6 +6,7 @@ ghost use Rattle.wasm_operator_validator_expression.specs.state.State.{Visits};
 ghost use Rattle.wasm_operator_validator_expression.specs.state.Refusals.{refused};
 ghost use Rattle.wasm_operator_validator_expression.specs.Validating.{Validates};
 
+use crate::objects::{tell_object, tell_reference};
 use crate::operators::{
     tell_atomic, tell_bulk, tell_const, tell_continuation, tell_control, tell_descriptor,
     tell_exception, tell_gc, tell_memory, tell_numeric, tell_parametric, tell_shared,
@@ -110,9 +111,12 @@ impl<'a, 'v, 'r, R: WasmModuleResources> TellOperator<'a> for ValidatingWalk<'v,
             0x76 => tell_number(&mut self.visitor, bytes, at, 0x76, features),
             0x77 => tell_number(&mut self.visitor, bytes, at, 0x77, features),
             0x78 => tell_number(&mut self.visitor, bytes, at, 0x78, features),
+            0x25..=0x26 => tell_reference(&mut self.visitor, bytes, at, code, features),
             0x28..=0x35 => tell_load(&mut self.visitor, bytes, at, code, features),
             0x36..=0x3e => tell_store(&mut self.visitor, bytes, at, code, features),
             0x45..=0xc4 => tell_number(&mut self.visitor, bytes, at, code, features),
+            0xd0..=0xd6 => tell_reference(&mut self.visitor, bytes, at, code, features),
+            0xfb => tell_object(&mut self.visitor, bytes, at, features),
             0xfc => tell_prefixed(&mut self.visitor, bytes, at, features),
             _ => None,
         }
@@ -142,6 +146,7 @@ impl<'a, 'v, 'r, R: WasmModuleResources> TellOperator<'a> for ValidatingWalk<'v,
             0x10 => tell_index(&mut self.visitor, bytes, at, 0x10, features),
             0x11 => tell_indirect(&mut self.visitor, bytes, at, 0x11, features),
             0x02..=0x04 => tell_block(&mut self.visitor, bytes, at, code, features),
+            0x14..=0x15 => tell_reference(&mut self.visitor, bytes, at, code, features),
             _ => None,
         }
     }
