@@ -5,3 +5,4 @@ mod NewGlobals
 mod NewTables
 mod NewElements
 mod NewData
+mod ShortData

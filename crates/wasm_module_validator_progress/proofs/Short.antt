@@ -10,6 +10,16 @@ use Rattle.wasm_module_validator_standing.specs.steps.Between.{IsBetween}
 use Rattle.wasm_module_validator_standing.specs.steps.Sections.{Section}
 use Rattle.wasm_module_validator_standing.specs.steps.Texts.{ItemRead, AddsRead}
 use Rattle.wasm_module_validator_standing.specs.Standing.{IsAdded}
+use Rattle.wasm_types.specs.decoding.Decoder.{State}
+use Rattle.wasm_types.specs.limits.Settings.{no_features}
+use Rattle.wasm_sections_items.specs.declared.segments.segment.DataOf.{DataOf}
+use Rattle.wasm_sections_items.specs.declared.segments.segment.DataKindOf.TheVariants as data_kind
+use Rattle.wasm_sections_items.specs.segments.Spells.{SpelledData}
+use Rattle.wasm_operators_bodies.specs.ConstantDecoder.{ConstantText}
+use Rattle.wasm_module_validator_initialising.specs.segments.Short.{IsShortData, in_first_memory}
+use Rattle.wasm_module_validator_standing.specs.steps.BetweenLaws.{between_so}
+use Rattle.wasm_module_validator_standing.specs.steps.Sections as section
+use Rattle.wasm_module_validator_texts.specs.Kinds.{data_read}
 use Rattle.wasm_module_validator_texts.specs.Sections.{AddsIn, reading}
 use Rattle.wasm_module_validator_adding.specs.Adding.{AddsShort}
 use Rattle.wasm_module_validator_progress.specs.Progress.{IsRead, kept}
@@ -32,3 +42,20 @@ adds_short s view of g x groups i j l text from to types added b count = record 
       subst (λ (z : Settings). IsRead s (kept groups j count) (reading z v.tree)) (sym a.1)
       (record { reading = after; counted = h.counted ∙ sym (ap length (types u.settings u.tree v.tree a.0)) });
 }
+
+-- a data segment of the code at such a number
+segment : List ℕ → List ℕ → DataOf State
+segment constant content = record {
+  kind = data_kind.Active 0 (record { rest = constant; place = 0; settings = no_features; start = 0 });
+  bytes = record { ref_ptr = (0, 0); now = content };
+  range = record { start = 0; end = 0 };
+}
+
+-- a data segment at a number, of which nothing is kept
+pub adds_data : (groups : List Group) (i : Items) (l : Limits) (text : List ℕ) (from to : ℕ) (s : IsShortData text from to)
+    → IsAdded section.data_segments groups i (in_first_memory s.constant s.content) i → (count : ℕ)
+    → AddsShort data_read data_read (λ z. SpelledData (ConstantText z)) (AddsIn section.data_segments) (IsRead section.data_segments) (kept groups i count) (kept groups i count) l text from to
+unfolding segment
+adds_data groups i l text from to s added =
+    adds_short section.data_segments data_read data_read (λ z. SpelledData (ConstantText z)) (segment s.constant s.content) groups i i l text from to
+    (λ z m n h. ap (λ (t : ModuleTree). t.types) h.2.added) added (between_so _ _ text from to (λ t h z same. h z) s.bytes)

@@ -119,7 +119,10 @@ impl<'a> SectionItem<'a> for u32 {
         at: usize,
         _limits: &Limits,
     ) -> Option<usize> {
-        add_short_function(state, types, bytes, at)
+        match add_short_function(state, types, bytes, at) {
+            Some(end) => Some(end),
+            None => None,
+        }
     }
 
     ghost alike = { λ x y is. is };
@@ -395,7 +398,10 @@ impl<'a> SectionItem<'a> for Export<'a> {
         at: usize,
         limits: &Limits,
     ) -> Option<usize> {
-        add_short_export(state, types, bytes, at, limits)
+        match add_short_export(state, types, bytes, at, limits) {
+            Some(end) => Some(end),
+            None => None,
+        }
     }
 
     ghost alike = { λ x y is. is };
@@ -517,7 +523,10 @@ impl<'a> SectionItem<'a> for DataOf<'a, ConstExpr<'a>> {
         at: usize,
         _limits: &Limits,
     ) -> Option<usize> {
-        check_short_data_item(state, types, bytes, at)
+        match check_short_data_item(state, types, bytes, at) {
+            Some(end) => Some(end),
+            None => None,
+        }
     }
 
     ghost alike = { λ x y is. is };
