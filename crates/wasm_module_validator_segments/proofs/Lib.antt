@@ -1,4 +1,3 @@
-mod Numbers
 mod Parts
 mod ShortData
 pub mod Worked

@@ -2,7 +2,9 @@
 -- the order in which they are read.
 pub mod Trees
 pub mod Judged
+-- Items that their bytes alone tell, with laws.
 pub mod Short
+pub mod NumberLaws
 pub mod ShortLaws
 pub mod Refusals
 -- Laws of answers and addresses.

@@ -8,7 +8,7 @@ use Rattle.wasm_operator_validator_constants.specs.rules.constants.Constants.{Is
 use Rattle.wasm_sections_items.specs.segments.Spells.{active}
 use Rattle.wasm_module_validator_segments.specs.Judged.{IsData}
 use Rattle.wasm_module_validator_segments.specs.Short.{HasNarrowMemory, IsShortData}
-use Rattle.wasm_module_validator_segments.proofs.Numbers.{i32_text}
+use Rattle.wasm_module_validator_segments.specs.NumberLaws.{i32_text}
 
 pub short_data_is_valid : (text : List ℕ) (i j : ℕ) (s : IsShortData text i j) (z : Settings) (g : Module) (count : ℕ) → HasNarrowMemory g
     → IsData z g count (active 0 s.constant)

@@ -5,7 +5,7 @@ use Rattle.wasm_operators_bodies.specs.declared.short.ShortConstant.{ShortConsta
 use Rattle.wasm_operators_bodies.specs.declared.short.ShortConstant.TheVariants as short
 use Rattle.wasm_operators_bodies.specs.Short.{SpellsShort}
 use Rattle.wasm_module_validator_segments.specs.Judged.{IsConstantText}
-use Rattle.wasm_module_validator_segments.proofs.Numbers.{i32_text, i64_text}
+use Rattle.wasm_module_validator_segments.specs.NumberLaws.{i32_text, i64_text}
 use Rattle.wasm_module_validator_segments.proofs.constants.is_number.Goals as goal
 
 pub returns-in-I32 : goal.returns-in-I32
