@@ -106,7 +106,8 @@ pub fn check_short_data_item(
     bytes: &[u8],
     at: usize,
 ) -> Option<usize>
-    requires { at ≤ length bytes.now }
+    requires over { IsReadOver types.now.groups state.now.spaces }
+    requires inside { at ≤ length bytes.now }
     ensures short { IfSome result (IsShortData bytes.now at) }
     ensures added { IfSome result (λ j. (s : IsShortData bytes.now at j)
         → IsAdded section.data_segments types.now.groups state.now (in_first_memory s.constant s.content) state.now) }
