@@ -1,5 +1,5 @@
 pub mod Adding
 pub mod Comparing
 pub mod Counting
-mod Short
+pub mod Short
 pub mod Arms

@@ -1,5 +1,6 @@
 -- Items that their bytes alone tell, from what the calls of the state promise.
-use Rattle.std.proofs.Common.{◌≡◌, ◌∙◌, ℕ, List, length, refl, sym, ap, subst}
+use Rattle.std.proofs.Common.{◌≡◌, ◌∙◌, ℕ, List, length, refl, sym, ap, subst, Option, Some, None}
+use Rattle.std.specs.Prelude.{IfSome}
 use Rattle.wasm_types.specs.decoding.Decoder.{Grammar}
 use Rattle.wasm_types.specs.limits.declared.Limits.{Limits}
 use Rattle.wasm_types.specs.limits.Settings.{Settings}
@@ -59,3 +60,8 @@ unfolding segment
 adds_data groups i l text from to s added =
     adds_short section.data_segments data_read data_read (λ z. SpelledData (ConstantText z)) (segment s.constant s.content) groups i i l text from to
     (λ z m n h. ap (λ (t : ModuleTree). t.types) h.2.added) added (between_so _ _ text from to (λ t h z same. h z) s.bytes)
+
+-- what follows of what holds of an answer
+pub some_from : {X : Type 0} (r : Option X) (P Q : X → Type 0) → ((x : X) → P x → Q x) → IfSome r P → IfSome r Q
+some_from (Some x) P Q f h = f x h
+some_from None P Q f h = tt

@@ -2,6 +2,8 @@
 use Rattle.std.specs.Prelude.{◌≡◌, ◌==◌, ◌+◌, ◌≤◌, ◌&&◌, if◌then◌else◌, Bool, ℕ, List, [], length, map, take, Result}
 use Rattle.wasm_types.specs.error.Denials.{Tells}
 use Rattle.wasm_types.specs.error.ErrorValue.{ErrorValue}
+use Rattle.wasm_types.specs.decoding.Decoder.{Grammar}
+use Rattle.wasm_types.specs.limits.declared.Limits.{Limits}
 use Rattle.wasm_types.specs.limits.contracts.LimitsPartialEq.TheImpl as limits
 use Rattle.wasm_types.specs.limits.Limits.{IsWithinCeilings}
 use Rattle.wasm_types.specs.limits.Settings.{Settings}
@@ -20,8 +22,8 @@ use Rattle.wasm_module_validator_standing.specs.steps.Steps.{SoFar, IsJudged}
 use Rattle.wasm_module_validator_standing.specs.steps.Texts.{ItemRead, AddsRead}
 use Rattle.wasm_module_validator_standing.specs.Standing.{IsGrown, Stands, IsReading}
 use Rattle.wasm_module_validator_declaring.specs.Total.{IsPastTotal}
-use Rattle.wasm_module_validator_texts.specs.Sections.{Reading}
-use Rattle.wasm_module_validator_adding.specs.Adding.{UnlessFull}
+use Rattle.wasm_module_validator_texts.specs.Sections.{Reading, AddsIn}
+use Rattle.wasm_module_validator_adding.specs.Adding.{AddsShort, UnlessFull}
 use Rattle.wasm_module_validator_adding.specs.Bodies.{IsReadBy}
 use Rattle.wasm_module_validator_adding.specs.declared.bodies.Body.{Body}
 
@@ -89,6 +91,13 @@ pub record Reads (s : Section) (groups : List Group) (items : Items) (count : �
 
 abbrev pub IsRead : Section → Kept → Reading → Type 0
 IsRead s k u = Reads s k.groups k.items k.count u.settings u.tree
+
+-- From one offset of a text to another stand the bytes of an item, by any settings with these limits; it is added to what was read, and the
+-- list of types stays.
+abbrev pub AddsShortIn : {T V : Type 0} (s : Section) → (T → V) → (T → ItemRead s) → (Settings → Grammar V) → List Group → Items → Items → Limits → List ℕ → ℕ → ℕ
+    → Type 0
+AddsShortIn s view of g groups i j l text from to =
+    (count : ℕ) → AddsShort view of g (AddsIn s) (IsRead s) (kept groups i count) (kept groups j count) l text from to
 
 -- only a group of types is refused because the list is full
 abbrev pub FullIn : Section → List Group → Items → ErrorValue → Type 0

@@ -1,6 +1,6 @@
 //! The items of a section, whatever they are.
 
-ghost use Rattle.std.specs.Prelude.{◌≡◌, ◌≤◌, ℕ, List, length, OnOk, IfErr, IfSome, IfNone, true};
+ghost use Rattle.std.specs.Prelude.{◌≡◌, ◌≤◌, List, length, OnOk, IfErr, IfSome, IfNone, true};
 ghost use Rattle.wasm_types.specs.decoding.Decoder.{State, Done};
 ghost use Rattle.wasm_types.specs.error.Denials.{Tells};
 ghost use Rattle.wasm_types.specs.reader.Reading.{IsNotMemory};
@@ -13,10 +13,9 @@ ghost use Rattle.wasm_module_validator_standing.specs.steps.Sections.{Section, p
 ghost use Rattle.wasm_module_validator_standing.specs.steps.Adding.{Fits};
 ghost use Rattle.wasm_module_validator_standing.specs.steps.Texts.{ItemRead, AddsRead};
 ghost use Rattle.wasm_module_validator_standing.specs.Standing.{GrowsWith, Stands};
-ghost use Rattle.wasm_module_validator_adding.specs.Adding.{AddsShort};
 ghost use Rattle.wasm_module_validator_texts.specs.Sections.{Reading, AddsIn, RefusesIn, MayBegin};
 ghost use Rattle.wasm_module_validator_texts.specs.Kinds.{WalksTell};
-ghost use Rattle.wasm_module_validator_progress.specs.Progress.{FullIn, Grows, IsOver, IsRead, Reads, TellsRead, kept};
+ghost use Rattle.wasm_module_validator_progress.specs.Progress.{AddsShortIn, FullIn, Grows, IsOver, IsRead, Reads, TellsRead};
 ghost use Rattle.wasm_module_validator_progress.specs.laws.Growing.{full_before, grows_by_nothing, grows_further};
 
 use crate::Collected;
@@ -77,8 +76,8 @@ pub trait SectionItem<'a>: FromReader<'a> {
     ) -> Option<usize>
         requires over { IsReadOver types.now.groups state.old.spaces }
         requires inside { at ≤ length bytes.now }
-        ensures added { IfSome result (λ j. (count : ℕ) → AddsShort Self.FromReader.view of Self.FromReader.grammar (AddsIn section)
-            (IsRead section) (kept types.now.groups state.old count) (kept types.now.groups state.new count) limits.now bytes.now at j) }
+        ensures added { IfSome result (AddsShortIn section Self.FromReader.view of Self.FromReader.grammar types.now.groups state.old
+            state.new limits.now bytes.now at) }
         ensures stays { IfNone result (state.new ≡ state.old) }
         ensures over { IfSome result (λ _. IsReadOver types.now.groups state.new.spaces) }
         ensures settings { IfSome result (λ _. state.new.spaces.settings ≡ state.old.spaces.settings) }

@@ -1,6 +1,6 @@
 //! The items of each kind of section.
 
-ghost use Rattle.std.specs.Prelude.{◌≡◌, List, OnOk, IfErr, true};
+ghost use Rattle.std.specs.Prelude.{◌≡◌, ◌≤◌, List, length, OnOk, IfErr, IfSome, IfNone, true};
 ghost use Rattle.wasm_types.specs.error.Denials.{Tells};
 ghost use Rattle.wasm_types.specs.reader.Reading.{IsNotMemory};
 ghost use Rattle.wasm_types.specs.limits.Limits.{IsWithinCeilings};
@@ -15,7 +15,12 @@ ghost use Rattle.wasm_module_validator_standing.specs.steps.Texts.{AddsRead};
 ghost use Rattle.wasm_module_validator_standing.specs.Standing.{GrowsWith, Stands};
 ghost use Rattle.wasm_module_validator_texts.specs.Sections.{MayBegin};
 ghost use Rattle.wasm_module_validator_texts.specs.Kinds.{table_read, global_read, export_read, element_read, data_read};
-ghost use Rattle.wasm_module_validator_progress.specs.Progress.{Reads, TellsRead};
+ghost use Rattle.wasm_sections_payloads.specs.bodies.ConstantDecoder.{ConstantText};
+ghost use Rattle.wasm_module_validator_standing.specs.steps.contexts.imports.Spells.{SpelledExport};
+ghost use Rattle.wasm_module_validator_standing.specs.steps.contexts.segments.Spells.{SpelledData, SpelledGlobalItem};
+ghost use Rattle.wasm_module_validator_standing.specs.steps.contexts.segments.Tables.{SpelledTableItem};
+ghost use Rattle.wasm_module_validator_standing.specs.steps.contexts.elements.Spells.{SpelledSegment};
+ghost use Rattle.wasm_module_validator_progress.specs.Progress.{AddsShortIn, Reads, TellsRead};
 
 use crate::SectionItem;
 use std::alloc::Global;
@@ -182,7 +187,16 @@ impl<'a> SectionItem<'a> for TableOf<ConstExpr<'a>> {
         _bytes: &[u8],
         _at: usize,
         _limits: &Limits,
-    ) -> Option<usize> {
+    ) -> Option<usize>
+        requires over { IsReadOver _types.now.groups _state.old.spaces }
+        requires inside { _at ≤ length _bytes.now }
+        ensures added { IfSome result (AddsShortIn section.tables table_read table_read (λ z. SpelledTableItem (ConstantText z))
+            _types.now.groups _state.old _state.new _limits.now _bytes.now _at) }
+        ensures stays { IfNone result (_state.new ≡ _state.old) }
+        ensures over { IfSome result (λ _. IsReadOver _types.now.groups _state.new.spaces) }
+        ensures settings { IfSome result (λ _. _state.new.spaces.settings ≡ _state.old.spaces.settings) }
+        ensures grown { IfSome result (λ _. GrowsWith _types.now.groups _state.old.spaces _types.now.groups _state.new.spaces) }
+    {
         None
     }
 
@@ -336,7 +350,16 @@ impl<'a> SectionItem<'a> for GlobalOf<ConstExpr<'a>> {
         _bytes: &[u8],
         _at: usize,
         _limits: &Limits,
-    ) -> Option<usize> {
+    ) -> Option<usize>
+        requires over { IsReadOver _types.now.groups _state.old.spaces }
+        requires inside { _at ≤ length _bytes.now }
+        ensures added { IfSome result (AddsShortIn section.globals global_read global_read (λ z. SpelledGlobalItem (ConstantText z))
+            _types.now.groups _state.old _state.new _limits.now _bytes.now _at) }
+        ensures stays { IfNone result (_state.new ≡ _state.old) }
+        ensures over { IfSome result (λ _. IsReadOver _types.now.groups _state.new.spaces) }
+        ensures settings { IfSome result (λ _. _state.new.spaces.settings ≡ _state.old.spaces.settings) }
+        ensures grown { IfSome result (λ _. GrowsWith _types.now.groups _state.old.spaces _types.now.groups _state.new.spaces) }
+    {
         None
     }
 
@@ -397,7 +420,16 @@ impl<'a> SectionItem<'a> for Export<'a> {
         bytes: &[u8],
         at: usize,
         limits: &Limits,
-    ) -> Option<usize> {
+    ) -> Option<usize>
+        requires over { IsReadOver types.now.groups state.old.spaces }
+        requires inside { at ≤ length bytes.now }
+        ensures added { IfSome result (AddsShortIn section.exports export_read export_read SpelledExport
+            types.now.groups state.old state.new limits.now bytes.now at) }
+        ensures stays { IfNone result (state.new ≡ state.old) }
+        ensures over { IfSome result (λ _. IsReadOver types.now.groups state.new.spaces) }
+        ensures settings { IfSome result (λ _. state.new.spaces.settings ≡ state.old.spaces.settings) }
+        ensures grown { IfSome result (λ _. GrowsWith types.now.groups state.old.spaces types.now.groups state.new.spaces) }
+    {
         match add_short_export(state, types, bytes, at, limits) {
             Some(end) => Some(end),
             None => None,
@@ -461,7 +493,16 @@ impl<'a> SectionItem<'a> for ElementOf<'a, ConstExpr<'a>> {
         _bytes: &[u8],
         _at: usize,
         _limits: &Limits,
-    ) -> Option<usize> {
+    ) -> Option<usize>
+        requires over { IsReadOver _types.now.groups _state.old.spaces }
+        requires inside { _at ≤ length _bytes.now }
+        ensures added { IfSome result (AddsShortIn section.element_segments element_read element_read (λ z. SpelledSegment (ConstantText z))
+            _types.now.groups _state.old _state.new _limits.now _bytes.now _at) }
+        ensures stays { IfNone result (_state.new ≡ _state.old) }
+        ensures over { IfSome result (λ _. IsReadOver _types.now.groups _state.new.spaces) }
+        ensures settings { IfSome result (λ _. _state.new.spaces.settings ≡ _state.old.spaces.settings) }
+        ensures grown { IfSome result (λ _. GrowsWith _types.now.groups _state.old.spaces _types.now.groups _state.new.spaces) }
+    {
         None
     }
 
@@ -522,7 +563,16 @@ impl<'a> SectionItem<'a> for DataOf<'a, ConstExpr<'a>> {
         bytes: &[u8],
         at: usize,
         _limits: &Limits,
-    ) -> Option<usize> {
+    ) -> Option<usize>
+        requires over { IsReadOver types.now.groups state.old.spaces }
+        requires inside { at ≤ length bytes.now }
+        ensures added { IfSome result (AddsShortIn section.data_segments data_read data_read (λ z. SpelledData (ConstantText z))
+            types.now.groups state.old state.new _limits.now bytes.now at) }
+        ensures stays { IfNone result (state.new ≡ state.old) }
+        ensures over { IfSome result (λ _. IsReadOver types.now.groups state.new.spaces) }
+        ensures settings { IfSome result (λ _. state.new.spaces.settings ≡ state.old.spaces.settings) }
+        ensures grown { IfSome result (λ _. GrowsWith types.now.groups state.old.spaces types.now.groups state.new.spaces) }
+    {
         match check_short_data_item(state, types, bytes, at) {
             Some(end) => Some(end),
             None => None,

@@ -65,7 +65,10 @@ impl<'a, 'b> AddItem<'a, Data<'a>> for DataCheck<'b> {
 
     fn add_short(&mut self, bytes: &[u8], at: usize, _limits: &Limits) -> Option<usize> {
         let module = self.module;
-        check_short_data_item(module.state(), module.types(), bytes, at)
+        match check_short_data_item(module.state(), module.types(), bytes, at) {
+            Some(end) => Some(end),
+            None => None,
+        }
     }
 
     ghost alike = { λ x y is. is };
