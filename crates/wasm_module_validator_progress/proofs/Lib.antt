@@ -1,5 +1,4 @@
 pub mod Adding
 pub mod Comparing
 pub mod Counting
-pub mod Short
 pub mod Arms

@@ -3,3 +3,4 @@ pub mod Taking
 pub mod Bodies
 pub mod Shapes
 pub mod Growing
+pub mod Short

@@ -2,7 +2,7 @@ use Rattle.std.proofs.Common.{◌≡◌, ℕ, subst}
 use Rattle.wasm_module_validator_texts.specs.Sections.{AddsIn}
 use Rattle.wasm_module_validator_adding.specs.Adding.{AddsShort}
 use Rattle.wasm_module_validator_progress.specs.Progress.{Kept, Grows, IsRead, kept}
-use Rattle.wasm_module_validator_progress.proofs.Short.{some_from}
+use Rattle.wasm_module_validator_progress.specs.laws.Short.{some_from}
 use Rattle.wasm_module_validator_progress.proofs.items.CollectedAddItem.add_short.Goals as goal
 
 pub returns-clause-added : goal.returns-clause-added

@@ -5,7 +5,7 @@ use Rattle.wasm_module_validator_standing.specs.steps.contexts.items.declared.im
 use Rattle.wasm_module_validator_standing.specs.steps.contexts.rules.Syntax.{ModuleTree}
 use Rattle.wasm_module_validator_standing.specs.steps.Sections as section
 use Rattle.wasm_module_validator_texts.specs.Kinds.{export_read}
-use Rattle.wasm_module_validator_progress.proofs.Short.{adds_short}
+use Rattle.wasm_module_validator_progress.specs.laws.Short.{adds_short}
 use Rattle.wasm_module_validator_progress.proofs.kinds.ExportSectionItem.add_short.Goals as goal
 
 -- an export of the code that is this

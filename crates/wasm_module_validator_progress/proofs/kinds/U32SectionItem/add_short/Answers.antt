@@ -5,7 +5,7 @@ use Rattle.wasm_module_validator_standing.specs.steps.BetweenLaws.{between_so}
 use Rattle.wasm_module_validator_standing.specs.steps.contexts.rules.Syntax.{ModuleTree}
 use Rattle.wasm_module_validator_standing.specs.steps.Sections as section
 use Rattle.wasm_module_validator_texts.specs.Kinds.{index_read}
-use Rattle.wasm_module_validator_progress.proofs.Short.{adds_short}
+use Rattle.wasm_module_validator_progress.specs.laws.Short.{adds_short}
 use Rattle.wasm_module_validator_progress.proofs.kinds.U32SectionItem.add_short.Goals as goal
 
 pub returns-in-Some-clause-added : goal.returns-in-Some-clause-added

@@ -15,7 +15,7 @@ use Rattle.wasm_types.specs.decoding.Decoder.{State}
 use Rattle.wasm_types.specs.limits.Settings.{no_features}
 use Rattle.wasm_sections_items.specs.declared.segments.segment.DataOf.{DataOf}
 use Rattle.wasm_sections_items.specs.declared.segments.segment.DataKindOf.TheVariants as data_kind
-use Rattle.wasm_sections_items.specs.segments.Spells.{SpelledData}
+use Rattle.wasm_sections_items.specs.segments.Spells.{DataTree, SpelledData}
 use Rattle.wasm_operators_bodies.specs.ConstantDecoder.{ConstantText}
 use Rattle.wasm_module_validator_initialising.specs.segments.Short.{IsShortData, in_first_memory}
 use Rattle.wasm_module_validator_standing.specs.steps.BetweenLaws.{between_so}
@@ -51,6 +51,10 @@ segment constant content = record {
   bytes = record { ref_ptr = (0, 0); now = content };
   range = record { start = 0; end = 0 };
 }
+
+-- what such bytes are
+abbrev pub in_first : {text : List ℕ} {from to : ℕ} → IsShortData text from to → DataTree (List ℕ)
+in_first s = in_first_memory s.constant s.content
 
 -- a data segment at a number, of which nothing is kept
 pub adds_data : (groups : List Group) (i : Items) (l : Limits) (text : List ℕ) (from to : ℕ) (s : IsShortData text from to)
