@@ -4,3 +4,5 @@ pub mod Stepping
 pub mod OnePiece
 -- One item more of the bytes that came.
 pub mod OneItem
+-- The judge that is kept from body to body.
+pub mod KeptJudge

@@ -32,6 +32,7 @@ use Rattle.wasm_module_validator_pieces.specs.declared.reading.ReadError.{ReadEr
 use Rattle.wasm_module_validator_pieces.specs.declared.reading.ReadError.TheVariants as errors
 use Rattle.wasm_module_validator_pieces.specs.declared.taking.Taken.{Taken}
 use Rattle.wasm_module_validator_pieces.specs.declared.taking.Taken.TheVariants as taken
+use Rattle.wasm_module_validator_pieces.specs.Judges.{HasItsJudge}
 use Rattle.wasm_module_validator_pieces.specs.Pieces.{Answers}
 use Rattle.wasm_module_validator_pieces.specs.Payloads.{JudgesFunction, StepsPayload}
 use Rattle.wasm_module_validator_pieces.specs.Taking.{IsMidst, Takes}
@@ -74,31 +75,36 @@ module _ (z : Settings) (id : ValidatorId) (got : List ℕ) (eof : Bool) (q : Pa
 module _ (first now after : Judging) (got : List ℕ) (eof : Bool) (rest : List ℕ) (g : StandsAt first got eof rest now) where
   -- a payload was taken
   pub payload_takes : (n : ℕ) (x : Payload) → ParsesPayload now.parser.frames rest eof (Ok (chunks.Parsed n x)) after.parser.frames → length got < 2 ^ 64
-      → (result : Taken Learned) → StepsPayload x n now.validator result after.validator → Takes StandsAt ShownAt DeniedAt first got eof rest result after
-  payload_takes n x (f, parses, is) room (taken.Item k) s = item_taken first.validator.settings first.validator.id got eof now.parser.frames rest now.validator g n f after.parser.frames parses x is after.validator k s
-  payload_takes n x (f, parses, is) room (taken.Waits k) s = absurd s
-  payload_takes n x (f, parses, is) room (taken.Ended t) s = end_is_verdict first.validator.settings first.validator.id got eof now.parser.frames rest now.validator g n f after.parser.frames parses x is after.validator t s room
-  payload_takes n x (f, parses, is) room (taken.Refused e) s = refusal_denies first.validator.settings first.validator.id got eof now.parser.frames rest now.validator g n f after.parser.frames parses x is after.validator e s
+      → (result : Taken Learned) → StepsPayload x n now.validator result after.validator → HasItsJudge after → Takes StandsAt ShownAt DeniedAt first got eof rest result after
+  payload_takes n x (f, parses, is) room (taken.Item k) s judge =
+      let t = item_taken first.validator.settings first.validator.id got eof now.parser.frames rest now.validator g.goes n f after.parser.frames parses x is after.validator k s in
+      (t.0, t.1, record { goes = t.2; judge = judge })
+  payload_takes n x (f, parses, is) room (taken.Waits k) s judge = absurd s
+  payload_takes n x (f, parses, is) room (taken.Ended t) s judge = end_is_verdict first.validator.settings first.validator.id got eof now.parser.frames rest now.validator g.goes n f after.parser.frames parses x is after.validator t s room
+  payload_takes n x (f, parses, is) room (taken.Refused e) s judge = refusal_denies first.validator.settings first.validator.id got eof now.parser.frames rest now.validator g.goes n f after.parser.frames parses x is after.validator e s
 
   -- more bytes are needed
   pub wait_takes : (n : ℕ) → ParsesPayload now.parser.frames rest eof (Ok (chunks.NeedMoreData n)) after.parser.frames → after.validator ≡ now.validator
-      → Takes StandsAt ShownAt DeniedAt first got eof rest (taken.Waits n) after
-  wait_takes n h same =
+      → HasItsJudge after → Takes StandsAt ShownAt DeniedAt first got eof rest (taken.Waits n) after
+  wait_takes n h same judge =
       let k = asked now.parser.frames rest eof n after.parser.frames h in (
         k.0,
-        subst (λ (q : Parser). Goes first.validator.settings first.validator.id got eof q rest after.validator) (sym k.1)
-            (subst (λ (v : Validator). Goes first.validator.settings first.validator.id got eof now.parser.frames rest v) (sym same) g),
+        record {
+          goes = subst (λ (q : Parser). Goes first.validator.settings first.validator.id got eof q rest after.validator) (sym k.1)
+              (subst (λ (v : Validator). Goes first.validator.settings first.validator.id got eof now.parser.frames rest v) (sym same) g.goes);
+          judge = judge;
+        },
       )
 
   -- the bytes are refused
   pub refusal_takes : (e : ErrorValue) (r : Parser) → ParsesPayload now.parser.frames rest eof (Err e) r → Takes StandsAt ShownAt DeniedAt first got eof rest (taken.Refused e) after
   refusal_takes e r h = λ more last room. denies e.kind (AcceptsUnder first.validator.settings (got ++ more))
-      (λ a. bytes_refused first.validator.settings first.validator.id got eof now.parser.frames rest now.validator e r g h more last room a)
+      (λ a. bytes_refused first.validator.settings first.validator.id got eof now.parser.frames rest now.validator e r g.goes h more last room a)
 
 -- offsets have 64 bits
 pub midst_room : (eof : Bool) (rest : List ℕ) (now : Judging) → IsMidst StandsAt eof rest now → now.parser.frames.offset + length rest < 2 ^ 64
 midst_room eof rest now m =
-    let there = goes_place m.first.validator.settings m.first.validator.id m.got eof now.parser.frames rest now.validator m.there in
+    let there = goes_place m.first.validator.settings m.first.validator.id m.got eof now.parser.frames rest now.validator m.there.goes in
     let room = m.room in
     omega (arith, there, room)
 
@@ -106,11 +112,14 @@ midst_room eof rest now m =
 
 -- one that is new stands behind no bytes
 pub begins_there : (z : Settings) (j : Judging) → IsWithinCeilings z.limits → j.validator.state ≡ Unparsed → j.validator.settings ≡ z → j.validator.reached.progress.kept.groups ≡ []
-    → j.parser.frames ≡ begins z → StandsAt j [] false [] j
-begins_there z j within unparsed same none there =
+    → j.parser.frames ≡ begins z → HasItsJudge j → StandsAt j [] false [] j
+begins_there z j within unparsed same none there judge =
     let y = j.validator.settings in
-    subst (λ (q : Parser). Goes y j.validator.id [] false q [] j.validator) (ap begins same ∙ sym there)
-    (goes_first y j.validator.id j.validator (subst (λ (s : Settings). IsWithinCeilings s.limits) (sym same) within) unparsed none refl refl)
+    record {
+      goes = subst (λ (q : Parser). Goes y j.validator.id [] false q [] j.validator) (ap begins same ∙ sym there)
+          (goes_first y j.validator.id j.validator (subst (λ (s : Settings). IsWithinCeilings s.limits) (sym same) within) unparsed none refl refl);
+      judge = judge;
+    }
 
 -- what is answered is of the settings that it judges by
 pub answers_reader : (z : Settings) (id : ValidatorId) (j : Judging) → j.validator.settings ≡ z → j.validator.id ≡ id → (most : ℕ) (before after : Option (List ℕ))

@@ -9,6 +9,7 @@ use Rattle.wasm_module_validator_sharing.specs.reading.progress.standing.steps.c
 use Rattle.wasm_module_validator.specs.Accepts.{IsShown}
 use Rattle.wasm_module_validator.specs.Shown.{Learned}
 use Rattle.wasm_module_validator_pieces.specs.declared.reading.ReadError.{ReadError}
+use Rattle.wasm_module_validator_pieces.specs.Judges.{HasItsJudge}
 use Rattle.wasm_module_validator_pieces.specs.Pieces.{Answers}
 use Rattle.wasm_module_validator_pieces.specs.declared.judging.Judging.{Judging}
 use Rattle.wasm_module_validator_pieces.specs.laws.Running.{Goes}
@@ -22,8 +23,9 @@ abbrev pub IsRefusal : Settings → List ℕ → ErrorValue → Type 0
 IsRefusal z text e = Denies e.kind (AcceptsUnder z text)
 
 -- where what judges a module stands behind some bytes of it, by what it was at first
-abbrev pub StandsAt : Judging → List ℕ → Bool → List ℕ → Judging → Type 0
-StandsAt first got eof rest now = Goes first.validator.settings first.validator.id got eof now.parser.frames rest now.validator
+pub record StandsAt (first : Judging) (got : List ℕ) (eof : Bool) (rest : List ℕ) (now : Judging) : Type 0 where
+  pub goes : Goes first.validator.settings first.validator.id got eof now.parser.frames rest now.validator
+  pub judge : HasItsJudge now
 
 -- by what it was at first all the bytes are accepted, or an error denies that
 abbrev pub ShownAt : Judging → List ℕ → Learned → Type 0

@@ -5,7 +5,7 @@ use Rattle.wasm_module_validator_pieces.proofs.validate.validate_reader_limited.
 pub take_reader-requires-clause-begins : goal.take_reader-requires-clause-begins
 take_reader-requires-clause-begins g c =
     begins_there (record { features = c.args.features.0; limits = c.args.limits }) c.new-judging.result c.requires.within c.new-judging.ensures.state c.new-judging.ensures.settings
-    c.new-judging.ensures.empty c.new-judging.ensures.parser
+    c.new-judging.ensures.empty c.new-judging.ensures.parser c.new-judging.ensures.judge
 
 pub returns-clause-answer : goal.returns-clause-answer
 returns-clause-answer g c =
