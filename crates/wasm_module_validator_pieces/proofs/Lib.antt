@@ -6,3 +6,5 @@ pub mod OnePiece
 pub mod OneItem
 -- The judge that is kept from body to body.
 pub mod KeptJudge
+-- Bytes that hold no whole item.
+pub mod Waiting

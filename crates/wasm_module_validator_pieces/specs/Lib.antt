@@ -10,6 +10,8 @@ pub mod Pieces
 pub mod Payloads
 -- The judge that is kept from body to body.
 pub mod Judges
+-- What is read where nothing is refused yet.
+pub mod Awaiting
 -- What is said of the bytes of a module.
 pub mod Verdicts
 -- Laws, with the proofs.
