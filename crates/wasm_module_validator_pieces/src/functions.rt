@@ -66,14 +66,7 @@ fn accepts_plainly<R: WasmModuleResources>(
         (R.meaning function.now.resources).«module» function.now.ty body.now.rest }
     ensures stays { IsJudgeKept (R.meaning function.now.resources).«module» function.now.features.0 plain.new }
 {
-    if plain.is_none() {
-        *plain = Some(PlainJudge::new(
-            alloc,
-            &function.resources,
-            function.features,
-            entries_for(bodies),
-        ));
-    }
+    begin_judge(alloc, plain, bodies, function);
     match plain {
         Some(judge) => judge.accepts(
             &function.resources,
@@ -83,6 +76,26 @@ fn accepts_plainly<R: WasmModuleResources>(
             body,
         ),
         None => false,
+    }
+}
+
+/// Makes the judge of a module of so many bodies, if there is none yet.
+fn begin_judge<R: WasmModuleResources>(
+    alloc: Global,
+    plain: &mut Option<PlainJudge>,
+    bodies: u32,
+    function: &FuncToValidate<R>,
+)
+    requires { IsJudgeKept (R.meaning function.now.resources).«module» function.now.features.0 plain.old }
+    ensures { IsJudgeKept (R.meaning function.now.resources).«module» function.now.features.0 plain.new }
+{
+    if plain.is_none() {
+        *plain = Some(PlainJudge::new(
+            alloc,
+            &function.resources,
+            function.features,
+            entries_for(bodies),
+        ));
     }
 }
 
