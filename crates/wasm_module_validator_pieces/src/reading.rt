@@ -144,8 +144,8 @@ fn take_chunks<T: TakesBytes, R: Read>(
     requires most { max_bytes < 2 ^ 64 - 1 }
     ensures answer { Answers (T.shown taker.old) (T.denied taker.old) max_bytes (R.remaining reader.old.reader)
         (R.remaining reader.new.reader) result }
-    ensures stops { Stops (IsPassed T.stands T.waits taker.old) max_bytes (length chunk.old) (R.remaining reader.old.reader)
-        (R.remaining reader.new.reader) result }
+    ensures stops { Stops (IsPassed T.stands T.waits taker.old) max_bytes (length chunk.old)
+        (R.remaining reader.old.reader) (R.remaining reader.new.reader) result }
     ensures failed { reader.new.has_failed ≡ fails result }
     ensures count { reader.new.reads ≤ reader.old.reads + (max_bytes + 1) }
     ensures counted { reader.old.reads ≤ reader.new.reads }

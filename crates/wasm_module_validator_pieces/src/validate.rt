@@ -34,8 +34,8 @@ pub fn validate_reader<R: Read>(
     requires most { max_bytes < 2 ^ 64 - 1 }
     ensures answer { AnswersReader (record { features = features.0; limits = default_limits }) id max_bytes (R.remaining reader.old.reader)
         (R.remaining reader.new.reader) result }
-    ensures stops { StopsReader (record { features = features.0; limits = default_limits }) max_bytes piece (R.remaining reader.old.reader)
-        (R.remaining reader.new.reader) result }
+    ensures stops { StopsReader (record { features = features.0; limits = default_limits }) max_bytes piece
+        (R.remaining reader.old.reader) (R.remaining reader.new.reader) result }
     ensures failed { reader.new.has_failed ≡ fails result }
     ensures count { reader.new.reads ≤ reader.old.reads + (max_bytes + 1) }
     ensures counted { reader.old.reads ≤ reader.new.reads }
@@ -80,8 +80,8 @@ pub fn validate_reader_limited<R: Read>(
     requires most { max_bytes < 2 ^ 64 - 1 }
     ensures answer { AnswersReader (record { features = features.0; limits = limits }) id max_bytes (R.remaining reader.old.reader)
         (R.remaining reader.new.reader) result }
-    ensures stops { StopsReader (record { features = features.0; limits = limits }) max_bytes piece (R.remaining reader.old.reader)
-        (R.remaining reader.new.reader) result }
+    ensures stops { StopsReader (record { features = features.0; limits = limits }) max_bytes piece
+        (R.remaining reader.old.reader) (R.remaining reader.new.reader) result }
     ensures failed { reader.new.has_failed ≡ fails result }
     ensures count { reader.new.reads ≤ reader.old.reads + (max_bytes + 1) }
     ensures counted { reader.old.reads ≤ reader.new.reads }
