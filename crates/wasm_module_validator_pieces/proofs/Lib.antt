@@ -4,3 +4,7 @@ pub mod Stepping
 pub mod OnePiece
 -- One item more of the bytes that came.
 pub mod OneItem
+-- The judge that is kept from body to body.
+pub mod KeptJudge
+-- Bytes that hold no whole item.
+pub mod Waiting

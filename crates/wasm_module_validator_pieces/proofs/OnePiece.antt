@@ -1,18 +1,45 @@
 -- One piece more of a reader: what was read with it, and what that leads to.
-use Rattle.std.proofs.Common.{◌≡◌, ◌∙◌, ◌<◌, ◌≤◌, ◌+◌, ◌-◌, ◌^◌, min, ℕ, Bool, true, false, List, [], ◌++◌, length, take, drop, Option, Some, Result, Ok, Err, append-nil, refl, sym, ap, subst, arith, append_assoc, length-append, length-take-le, take-take, take-append-drop}
+use Rattle.std.proofs.Common.{◌≡◌, ◌∙◌, ◌<◌, ◌≤◌, ◌+◌, ◌-◌, ◌^◌, min, ℕ, Bool, true, false, List, [], ◌++◌, length, take, drop, Option, Some, Result, Ok, Err, append-nil, refl, sym, ap, subst, arith, append_assoc, length-append, length-drop, length-take-le, take-take, take-append-drop}
 use Rattle.std.proofs.lemmas.Bool.{false≢true}
-use Rattle.std.proofs.KnownBytes.{Consumes-trans}
-use Rattle.std.specs.Io.KnownBytes.{Consumes}
+use Rattle.std.proofs.KnownBytes.{Consumes-trans, Consumes-kept}
+use Rattle.std.specs.Io.KnownBytes.{Consumes, Keeps}
 use Rattle.wasm_types.specs.error.ErrorValue.{ErrorValue}
 use Rattle.wasm_module_validator_pieces.specs.declared.reading.ReadError.{ReadError}
 use Rattle.wasm_module_validator_pieces.specs.declared.reading.ReadError.TheVariants as errors
-use Rattle.wasm_module_validator_pieces.specs.Pieces.{Answers, Concludes, HasCome, RefusesAll, ReadsSome}
+use Rattle.wasm_module_validator_pieces.specs.Pieces.{Answers, Concludes, HasCome, RefusesAll, ReadsSome, StopsWithin, takes_most}
 use Rattle.wasm_module_validator_pieces.specs.Reads.{Gives}
-use Rattle.wasm_module_validator_pieces.specs.Taking.{IsMidst, Carries, DeniesFrom}
+use Rattle.wasm_module_validator_pieces.specs.Taking.{IsMidst, IsPassed, Carries, DeniesFrom}
 
 -- a law of what takes bytes: more may come
 abbrev pub MayGrow : {S : Type 0} → (S → List ℕ → Bool → List ℕ → S → Type 0) → Type 0
 MayGrow {S = S} stands = (first : S) (got : List ℕ) (rest : List ℕ) (now : S) (bytes : List ℕ) → stands first got false rest now → stands first (got ++ bytes) false (rest ++ bytes) now
+
+-- ---- how far was read
+
+module _ {S : Type 0} (stands : S → List ℕ → Bool → List ℕ → S → Type 0) (waits : S → List ℕ → Type 0) (first now : S) (most room piece : ℕ)
+    (before mid after : Option (List ℕ)) (rest : List ℕ) (come : HasCome stands first most room before mid rest now) (here : waits now rest) where
+  -- what was read before the last piece was taken
+  pub stops_behind : (last : List ℕ) → Consumes mid after last → length last ≤ piece → (many : ℕ → Type 0) → ((n : ℕ) → n ≤ most → many n)
+      → StopsWithin (IsPassed stands waits first) piece many before after
+  stops_behind last read few many within = record {
+    front = come.0;
+    last = last;
+    read = Consumes-trans before mid after come.0 last come.2 read;
+    taken = (rest, now, come.3, here);
+    few = few;
+    count = within (length come.0) (let total = come.1 in omega (arith, total));
+  }
+
+  -- where a read failed
+  pub stops_failed : Keeps mid after → StopsWithin (IsPassed stands waits first) piece (λ n. n ≤ most) before after
+  stops_failed kept = record {
+    front = come.0;
+    last = [];
+    read = subst (Consumes before after) (sym (append-nil come.0)) (Consumes-kept before mid after come.0 come.2 kept);
+    taken = (rest, now, come.3, here);
+    few = omega arith;
+    count = let total = come.1 in omega (arith, total);
+  }
 
 module _ {S : Type 0} (stands : S → List ℕ → Bool → List ℕ → S → Type 0) (grow : MayGrow stands) (first now : S) (most room : ℕ) (few : most < 2 ^ 64 - 1)
     (before mid after : Option (List ℕ)) (rest : List ℕ) (come : HasCome stands first most room before mid rest now)
@@ -64,6 +91,25 @@ module _ {S : Type 0} (stands : S → List ℕ → Bool → List ℕ → S → T
   pub too_long : k < count → ReadsSome (λ n. most < n) before after
   unfolding got
   too_long more = (got ++ take count chunk, all_read, let total = come.1 in omega (arith, length_read, total, kept, more))
+
+  -- what there was room for was taken
+  pub stops_full : (waits : S → List ℕ → Type 0) (piece : ℕ) → count ≤ piece → k < count → (left : List ℕ) (then : S) → Carries stands false (rest ++ take k chunk) now left then
+      → waits then left → StopsWithin (IsPassed stands waits first) piece (λ n. n ≡ most) before after
+  unfolding got
+  stops_full waits piece few more left then h here = record {
+    front = got ++ take k chunk;
+    last = drop k (take count chunk);
+    read = subst (Consumes before after) (sym (append_assoc got (take k chunk) (drop k (take count chunk)) ∙ ap (λ (l : List ℕ). got ++ l) front_is)) all_read;
+    taken = (left, then, h first (got ++ take k chunk) there room_kept, here);
+    few =
+        let n : length (drop k (take count chunk)) ≡ length (take count chunk) - k = length-drop k (take count chunk) in
+        let m = length-take-le count chunk gives.0 in
+        omega (arith, n, m, few);
+    count = let total = come.1 in omega (arith, length_kept, total, kept, more);
+  }
+    where
+      front_is : take k chunk ++ drop k (take count chunk) ≡ take count chunk
+      front_is = ap (λ (l : List ℕ). l ++ drop k (take count chunk)) (sym (take-take k count chunk (omega (arith, kept)))) ∙ take-append-drop k (take count chunk)
 
   -- all of the piece was kept, and taken
   pub has_come : count ≤ k → (left : List ℕ) (then : S) → Carries stands false (rest ++ take k chunk) now left then → HasCome stands first most (room - k) before after left then
@@ -121,3 +167,11 @@ module _ {S D : Type 0} (stands : S → List ℕ → Bool → List ℕ → S →
   }
   concluded (Err errors.Read) h = absurd (h first came at_last fits)
   concluded (Err errors.TooLong) h = absurd (h first came at_last fits)
+
+  -- no more came than may
+  pub all_within : (result : Result D ReadError) → ((f : S) (got : List ℕ) → stands f got true bytes now → length got < 2 ^ 64 → Concludes shown denied f got result)
+      → (n : ℕ) → n ≤ most → takes_most most result n
+  all_within (Ok d) h n few = few
+  all_within (Err (errors.Refused e)) h n few = few
+  all_within (Err errors.Read) h n few = few
+  all_within (Err errors.TooLong) h n few = absurd (h first came at_last fits)

@@ -8,6 +8,10 @@ pub mod Taking
 pub mod Pieces
 -- What a payload leads to where each body is judged as soon as it comes.
 pub mod Payloads
+-- The judge that is kept from body to body.
+pub mod Judges
+-- What is read where nothing is refused yet.
+pub mod Awaiting
 -- What is said of the bytes of a module.
 pub mod Verdicts
 -- Laws, with the proofs.

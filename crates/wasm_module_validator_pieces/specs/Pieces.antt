@@ -26,6 +26,27 @@ pub record RefusesAll {E : Type 0} (denied : List ℕ → E → Type 0) (before 
 abbrev pub ReadsSome : (ℕ → Type 0) → Option (List ℕ) → Option (List ℕ) → Type 0
 ReadsSome many before after = (got : List ℕ) × Consumes before after got × many (length got)
 
+-- What was read is bytes of which all whole items were taken and none was refused, so many; and no more than a piece behind them. So in
+-- whatever item a call stops, no more than a piece was read behind the end of it.
+pub record StopsWithin (passed : List ℕ → Type 0) (piece : ℕ) (many : ℕ → Type 0) (before after : Option (List ℕ)) : Type 0 where
+  pub front : List ℕ
+  pub last : List ℕ
+  pub read : Consumes before after (front ++ last)
+  pub taken : passed front
+  pub few : length last ≤ piece
+  pub count : many (length front)
+
+-- so many bytes are taken where there may be so many: all that there may be, if more came
+abbrev pub takes_most : {D : Type 0} → ℕ → Result D ReadError → ℕ → Type 0
+takes_most most (Ok d) n = n ≤ most
+takes_most most (Err (errors.Refused e)) n = n ≤ most
+takes_most most (Err errors.Read) n = n ≤ most
+takes_most most (Err errors.TooLong) n = n ≡ most
+
+-- how far a call has read where it gives this answer
+abbrev pub Stops : {D : Type 0} → (List ℕ → Type 0) → ℕ → ℕ → Option (List ℕ) → Option (List ℕ) → Result D ReadError → Type 0
+Stops passed most piece before after result = StopsWithin passed piece (takes_most most result) before after
+
 -- whether a read failed
 abbrev pub fails : {D : Type 0} → Result D ReadError → Bool
 fails (Ok d) = false

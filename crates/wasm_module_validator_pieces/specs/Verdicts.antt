@@ -9,7 +9,9 @@ use Rattle.wasm_module_validator_sharing.specs.reading.progress.standing.steps.c
 use Rattle.wasm_module_validator.specs.Accepts.{IsShown}
 use Rattle.wasm_module_validator.specs.Shown.{Learned}
 use Rattle.wasm_module_validator_pieces.specs.declared.reading.ReadError.{ReadError}
-use Rattle.wasm_module_validator_pieces.specs.Pieces.{Answers}
+use Rattle.wasm_module_validator_pieces.specs.Awaiting.{Awaits, IsNotRefused}
+use Rattle.wasm_module_validator_pieces.specs.Judges.{HasItsJudge}
+use Rattle.wasm_module_validator_pieces.specs.Pieces.{Answers, Stops}
 use Rattle.wasm_module_validator_pieces.specs.declared.judging.Judging.{Judging}
 use Rattle.wasm_module_validator_pieces.specs.laws.Running.{Goes}
 
@@ -22,8 +24,13 @@ abbrev pub IsRefusal : Settings → List ℕ → ErrorValue → Type 0
 IsRefusal z text e = Denies e.kind (AcceptsUnder z text)
 
 -- where what judges a module stands behind some bytes of it, by what it was at first
-abbrev pub StandsAt : Judging → List ℕ → Bool → List ℕ → Judging → Type 0
-StandsAt first got eof rest now = Goes first.validator.settings first.validator.id got eof now.parser.frames rest now.validator
+pub record StandsAt (first : Judging) (got : List ℕ) (eof : Bool) (rest : List ℕ) (now : Judging) : Type 0 where
+  pub goes : Goes first.validator.settings first.validator.id got eof now.parser.frames rest now.validator
+  pub judge : HasItsJudge now
+
+-- of these bytes it has nothing more to judge
+abbrev pub WaitsAt : Judging → List ℕ → Type 0
+WaitsAt now rest = Awaits now.parser.frames rest
 
 -- by what it was at first all the bytes are accepted, or an error denies that
 abbrev pub ShownAt : Judging → List ℕ → Learned → Type 0
@@ -35,3 +42,8 @@ DeniedAt first text e = IsRefusal first.validator.settings text e
 -- what is answered of a reader that may have so many bytes
 abbrev pub AnswersReader : Settings → ValidatorId → ℕ → Option (List ℕ) → Option (List ℕ) → Result Learned ReadError → Type 0
 AnswersReader z id most before after result = Answers (IsVerdict z id) (IsRefusal z) most before after result
+
+-- How far it was read: all but the last piece, at most, was judged and not refused, so that no more than a piece is held behind the item that
+-- a call stops in; and where there were too many bytes, those that may be there were not refused.
+abbrev pub StopsReader : Settings → ℕ → ℕ → Option (List ℕ) → Option (List ℕ) → Result Learned ReadError → Type 0
+StopsReader z most piece before after result = Stops (IsNotRefused z) most piece before after result

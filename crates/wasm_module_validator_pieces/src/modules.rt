@@ -1,7 +1,7 @@
 //! A module's bytes, taken payload by payload.
 
 ghost use Rattle.std.specs.Prelude.{◌≡◌};
-ghost use Rattle.wasm_module_validator_pieces.specs.Verdicts.{StandsAt, ShownAt, DeniedAt};
+ghost use Rattle.wasm_module_validator_pieces.specs.Verdicts.{StandsAt, ShownAt, DeniedAt, WaitsAt};
 ghost use Rattle.wasm_module_validator_pieces.specs.laws.Judging.{stands_more, stands_last};
 ghost use Rattle.wasm_module_validator_pieces.specs.laws.Running.{memory_denies};
 
@@ -18,6 +18,8 @@ impl TakesBytes for Judging {
     ghost shown = { ShownAt };
 
     ghost denied = { DeniedAt };
+
+    ghost waits = { WaitsAt };
 
     fn take(&mut self, bytes: &[u8], eof: bool) -> Taken<Types> {
         match self.parser.parse(bytes, eof) {

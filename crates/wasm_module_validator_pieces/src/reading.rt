@@ -1,9 +1,9 @@
 //! Bytes of a reader, taken as they come.
 
-ghost use Rattle.std.specs.Prelude.{◌≡◌, ◌≤◌, ◌<◌, ◌+◌, ◌-◌, min, ◌++◌, ◌^◌, ℕ, List, [], length, false, true, vec_len, drop, IfErr, OnOk};
+ghost use Rattle.std.specs.Prelude.{◌≡◌, ◌≤◌, ◌<◌, ◌+◌, ◌-◌, min, ◌++◌, ◌^◌, ℕ, List, [], length, false, true, vec_len, drop, IfErr, IfOk, OnOk};
 ghost use Rattle.wasm_types.specs.error.declared.error.ErrorKind.TheVariants.{OutOfMemory};
-ghost use Rattle.wasm_module_validator_pieces.specs.Taking.{IsMidst, Carries, DeniesFrom};
-ghost use Rattle.wasm_module_validator_pieces.specs.Pieces.{Concludes, Answers, fails};
+ghost use Rattle.wasm_module_validator_pieces.specs.Taking.{IsMidst, IsPending, IsPassed, Carries, DeniesFrom};
+ghost use Rattle.wasm_module_validator_pieces.specs.Pieces.{Concludes, Answers, Stops, fails};
 
 use crate::taking::{Advanced, TakesBytes, take_items};
 use crate::watched::WatchedReader;
@@ -22,12 +22,13 @@ pub enum ReadError {
     TooLong,
 }
 
-/// Bytes that came and were not taken yet.
+/// Bytes that came and were not taken yet: fewer than can bring an item or a refusal (`IsPending`).
 #[derive(Drop)]
 pub(crate) struct Pending {
     bytes: Vec<u8>,
     /// With fewer bytes nothing more can be taken.
     needed: usize,
+    ghost few: { vec_len bytes < needed },
 }
 
 /// Drops so many bytes at the front.
@@ -51,41 +52,65 @@ fn append(bytes: &mut Vec<u8>, piece: &[u8]) -> Result<(), Error>
     }
 }
 
-/// Takes all whole items of the bytes that came, which are more than were needed.
-fn take_pending<T: TakesBytes>(taker: &mut T, pending: &mut Pending) -> Result<(), Error>
-    requires { IsMidst T.stands false pending.old.bytes.items taker.old }
-    ensures ok { OnOk result (Carries T.stands false pending.old.bytes.items taker.old pending.new.bytes.items taker.new) }
-    ensures err { IfErr result (DeniesFrom T.stands T.denied false pending.old.bytes.items taker.old) }
+/// Takes all whole items of the bytes that came, and gives what is left of them.
+fn take_pending<T: TakesBytes>(taker: &mut T, bytes: Vec<u8>) -> Result<Pending, Error>
+    requires { IsMidst T.stands false bytes.items taker.old }
+    ensures ok { IfOk result (λ p. Carries T.stands false bytes.items taker.old p.bytes.items taker.new) }
+    ensures pending { IfOk result (λ p. IsPending T.waits p.needed p.bytes.items taker.new) }
+    ensures err { IfErr result (DeniesFrom T.stands T.denied false bytes.items taker.old) }
 {
-    match take_items(taker, pending.bytes.as_slice(), false) {
-        Advanced::Waits { passed, needed } => {
-            drop_front(&mut pending.bytes, passed);
-            pending.needed = pending.bytes.len().saturating_add(needed);
-            Ok(())
-        }
+    match take_items(taker, bytes.as_slice(), false) {
+        Advanced::Waits { passed, needed } => Ok(left_behind(bytes, passed, needed)),
         Advanced::Ended(_done) => unreachable!(),
         Advanced::Refused(error) => Err(error),
     }
 }
 
+/// What is left behind so many bytes, where so many more than that are needed.
+fn left_behind(bytes: Vec<u8>, passed: usize, more: usize) -> Pending
+    requires passed { passed ≤ vec_len bytes }
+    requires more { 0 < more }
+    ensures left { result.bytes.items ≡ drop passed bytes.items }
+    ensures needed { result.needed ≤ length result.bytes.items + more }
+{
+    let mut left = bytes;
+    drop_front(&mut left, passed);
+    let count = left.as_slice().len();
+    Pending {
+        bytes: left,
+        needed: count.saturating_add(more),
+    }
+}
+
 /// Puts a piece behind the bytes that came, and takes all items that are whole then.
 fn take_piece<T: TakesBytes>(
+    alloc: Global,
     taker: &mut T,
     pending: &mut Pending,
     piece: &[u8],
 ) -> Result<(), Error>
-    requires { IsMidst T.stands false (pending.old.bytes.items ++ piece.now) taker.old }
+    requires midst { IsMidst T.stands false (pending.old.bytes.items ++ piece.now) taker.old }
+    requires pending { IsPending T.waits pending.old.needed pending.old.bytes.items taker.old }
     ensures ok { OnOk result (Carries T.stands false (pending.old.bytes.items ++ piece.now) taker.old pending.new.bytes.items taker.new) }
+    ensures pending { OnOk result (IsPending T.waits pending.new.needed pending.new.bytes.items taker.new) }
     ensures err { IfErr result (DeniesFrom T.stands T.denied false (pending.old.bytes.items ++ piece.now) taker.old) }
 {
-    match append(&mut pending.bytes, piece) {
+    let mut bytes = std::mem::replace(&mut pending.bytes, Vec::new(alloc));
+    match append(&mut bytes, piece) {
         Ok(()) => (),
         Err(error) => return Err(error),
     }
-    if pending.bytes.len() < pending.needed {
+    if bytes.as_slice().len() < pending.needed {
+        pending.bytes = bytes;
         return Ok(());
     }
-    take_pending(taker, pending)
+    match take_pending(taker, bytes) {
+        Ok(left) => {
+            *pending = left;
+            Ok(())
+        }
+        Err(error) => Err(error),
+    }
 }
 
 /// The verdict on the bytes that came, behind which none follow.
@@ -113,11 +138,14 @@ fn take_chunks<T: TakesBytes, R: Read>(
     max_bytes: u64,
 ) -> Result<T::Done, ReadError>
     requires begins { T.stands taker.old [] false [] taker.old }
+    requires waits { T.waits taker.old [] }
     requires reads { reader.old.has_failed ≡ false }
     requires chunk { 1 ≤ length chunk.old }
     requires most { max_bytes < 2 ^ 64 - 1 }
     ensures answer { Answers (T.shown taker.old) (T.denied taker.old) max_bytes (R.remaining reader.old.reader)
         (R.remaining reader.new.reader) result }
+    ensures stops { Stops (IsPassed T.stands T.waits taker.old) max_bytes (length chunk.old)
+        (R.remaining reader.old.reader) (R.remaining reader.new.reader) result }
     ensures failed { reader.new.has_failed ≡ fails result }
     ensures count { reader.new.reads ≤ reader.old.reads + (max_bytes + 1) }
     ensures counted { reader.old.reads ≤ reader.new.reads }
@@ -135,7 +163,7 @@ fn take_chunks<T: TakesBytes, R: Read>(
             return take_last(taker, pending.bytes.as_slice());
         }
         let kept = within(count, room);
-        match take_piece(taker, &mut pending, &chunk[..kept]) {
+        match take_piece(alloc, taker, &mut pending, &chunk[..kept]) {
             Ok(()) => (),
             Err(error) => return Err(ReadError::Refused(error)),
         }
@@ -156,10 +184,13 @@ pub(crate) fn take_reader<T: TakesBytes, R: Read>(
     max_bytes: u64,
 ) -> Result<T::Done, ReadError>
     requires begins { T.stands taker.old [] false [] taker.old }
+    requires waits { T.waits taker.old [] }
     requires reads { reader.old.has_failed ≡ false }
     requires piece { 1 ≤ piece }
     requires most { max_bytes < 2 ^ 64 - 1 }
     ensures answer { Answers (T.shown taker.old) (T.denied taker.old) max_bytes (R.remaining reader.old.reader)
+        (R.remaining reader.new.reader) result }
+    ensures stops { Stops (IsPassed T.stands T.waits taker.old) max_bytes piece (R.remaining reader.old.reader)
         (R.remaining reader.new.reader) result }
     ensures failed { reader.new.has_failed ≡ fails result }
     ensures count { reader.new.reads ≤ reader.old.reads + (max_bytes + 1) }

@@ -34,11 +34,14 @@ pub(crate) trait TakesBytes {
     /// By what it was at first this error denies that all these bytes are accepted.
     ghost denied: { Self → List ℕ → ErrorValue → Type 0 };
 
+    /// Of these bytes no item is whole, and none is refused.
+    ghost waits: { Self → List ℕ → Type 0 };
+
     /// Takes the item at the front of the bytes that are left, if it is whole. Behind them no byte follows if `eof` says so.
     fn take(&mut self, bytes: &[u8], eof: bool) -> Taken<Self::Done>
         requires { IsMidst stands eof bytes.now self.old }
         ensures { (first : Self) (got : List ℕ) → stands first got eof bytes.now self.old → length got < 2 ^ 64
-            → Takes stands shown denied first got eof bytes.now result self.new };
+            → Takes stands shown denied waits first got eof bytes.now result self.new };
 
     /// More bytes may come.
     ghost more: { (first : Self) (got : List ℕ) (rest : List ℕ) (now : Self) (bytes : List ℕ)
@@ -72,7 +75,7 @@ pub(crate) enum Advanced<D> {
 pub(crate) fn take_items<T: TakesBytes>(taker: &mut T, bytes: &[u8], eof: bool) -> Advanced<T::Done>
     requires { IsMidst T.stands eof bytes.now taker.old }
     ensures { (first : T) (got : List ℕ) → T.stands first got eof bytes.now taker.old → length got < 2 ^ 64
-        → Advances T.stands T.shown T.denied first got eof bytes.now result taker.new }
+        → Advances T.stands T.shown T.denied T.waits first got eof bytes.now result taker.new }
 {
     let mut passed = 0;
     for _turn in 0..=bytes.len() {

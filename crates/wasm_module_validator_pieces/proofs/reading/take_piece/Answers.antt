@@ -1,9 +1,9 @@
--- Out of memory denies nothing.
-use Rattle.std.proofs.Common.{List, ℕ, ◌++◌, false, subst, sym}
+-- What was too few stays so; and out of memory denies nothing.
+use Rattle.std.proofs.Common.{rules, arith}
+use Rattle.wasm_module_validator_pieces.proofs.Waiting.{are_bytes, still_pending}
 use Rattle.wasm_module_validator_pieces.proofs.reading.take_piece.Goals as goal
 
-pub returns-in-Err-clause-err : goal.returns-in-Err-clause-err
-returns-in-Err-clause-err g c = λ first got s room more last fits. g.met.T.TakesBytes.memory first (got ++ more) c.in-Err.error c.in-Err.ensures.err
-
-pub returns-then-len-pending-clause-ok : goal.returns-then-len-pending-clause-ok
-returns-then-len-pending-clause-ok g c = λ first got s room. subst (λ (l : List ℕ). g.T.TakesBytes.stands first got false l c.args.taker.now) (sym c.in-Ok.ensures.ok) s
+pub returns-then-as_slice-pending-clause-pending : goal.returns-then-as_slice-pending-clause-pending
+returns-then-as_slice-pending-clause-pending g c =
+    still_pending g.T.TakesBytes.waits c.args.pending.now.needed c.args.pending.now.bytes.items c.args.piece.now c.args.taker.now c.requires.pending
+    (are_bytes c.args.piece.now (λ i. omega (arith, c.type_inv.piece i))) c.append.new.bytes.items (search rules) (search rules)
