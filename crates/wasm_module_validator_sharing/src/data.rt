@@ -1,6 +1,11 @@
 //! Data segments checked in a module that is shared: the check changes nothing that is kept.
 
-ghost use Rattle.std.specs.Prelude.{◌≡◌, List, OnOk};
+ghost use Rattle.std.specs.Prelude.{◌≡◌, ◌≤◌, List, length, IfSome, IfNone, OnOk};
+ghost use Rattle.wasm_sections_payloads.specs.bodies.ConstantDecoder.{ConstantText};
+ghost use Rattle.wasm_module_validator_adding.specs.Adding.{AddsShort};
+ghost use Rattle.wasm_module_validator_texts.specs.Sections.{AddsIn};
+ghost use Rattle.wasm_module_validator_texts.specs.Kinds.{data_read};
+ghost use Rattle.wasm_module_validator_reading.specs.progress.standing.steps.contexts.segments.Spells.{SpelledData};
 ghost use Rattle.wasm_types.specs.decoding.Decoder.{State};
 ghost use Rattle.wasm_types.specs.error.Denials.{Tells};
 ghost use Rattle.wasm_types.specs.limits.Settings.{Settings};
@@ -8,7 +13,7 @@ ghost use Rattle.wasm_sections_payloads.specs.Payloads.{Counts};
 ghost use Rattle.wasm_module_validator_reading.specs.progress.adding.declared.bodies.Body.{Body};
 ghost use Rattle.wasm_module_validator_reading.specs.progress.standing.steps.Sections as section;
 ghost use Rattle.wasm_module_validator_reading.specs.progress.standing.steps.Steps.{SoFar, JudgesSection};
-ghost use Rattle.wasm_module_validator_reading.specs.progress.Progress.{IsAt};
+ghost use Rattle.wasm_module_validator_reading.specs.progress.Progress.{IsAt, IsRead};
 
 use std::alloc::Global;
 use wasm_module_validator_adding::{AddItem, add_items};
@@ -63,7 +68,13 @@ impl<'a, 'b> AddItem<'a, Data<'a>> for DataCheck<'b> {
         )
     }
 
-    fn add_short(&mut self, bytes: &[u8], at: usize, _limits: &Limits) -> Option<usize> {
+    fn add_short(&mut self, bytes: &[u8], at: usize, _limits: &Limits) -> Option<usize>
+        requires inside { at ≤ length bytes.now }
+        ensures added { IfSome result (AddsShort data_read data_read (λ z. SpelledData (ConstantText z)) (AddsIn section.data_segments)
+            (λ d u. IsRead section.data_segments d.«module».now u) self.old self.new _limits.now bytes.now at) }
+        ensures stays { IfNone result (self.new ≡ self.old) }
+        ensures grown { IfSome result (λ _. self.old.«module».now ≡ self.new.«module».now) }
+    {
         let module = self.module;
         match check_short_data_item(module.state(), module.types(), bytes, at) {
             Some(end) => Some(end),
