@@ -82,6 +82,12 @@ module _ {T V A M : Type 0} (view : T → V) (of : T → A) (d : Settings → De
     pub settings : w.reader.settings ≡ z
     pub leads : (m : M) → reads s m → Leads reads n b w u m
 
+-- While a walk by these limits went from one place to another a state became another: whatever stood there stands here.
+abbrev pub StandsOn : {T V A M S : Type 0} → (T → V) → (T → A) → (Settings → Decoder V) → (Settings → Grammar V) → (M → A → M → Type 0)
+    → (S → M → Type 0) → Limits → Walk → Walk → S → S → Type 0
+StandsOn {S = S} view of d g adds reads l w v before after = (z : Settings) (n : ℕ) (b : State) (s : S) → z.limits ≡ l
+    → Stands view of d g adds z reads n b s w before → Stands view of d g adds z reads n b s v after
+
 module _ {T V A M : Type 0} (view : T → V) (of : T → A) (alike : (x y : T) → view x ≡ view y → of x ≡ of y) (d : Settings → Decoder V) (g : Settings → Grammar V)
     (exact : (z : Settings) → Decides (d z) (g z)) (adds : M → A → M → Type 0) (z : Settings) where
   abbrev Here : Walk → M → M → Type 0

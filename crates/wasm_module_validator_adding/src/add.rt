@@ -6,7 +6,7 @@ ghost use Rattle.wasm_types.specs.decoding.Decoder.{State, Done};
 ghost use Rattle.wasm_types.specs.error.Denials.{Tells};
 ghost use Rattle.wasm_types.specs.error.ErrorValue.{ErrorValue};
 ghost use Rattle.wasm_module_validator_adding.specs.Adding.{AddsShort, AreAdded, Spelled, StopsAdding, UnlessFull};
-ghost use Rattle.wasm_module_validator_adding.specs.AddingLaws.{Stands, behind};
+ghost use Rattle.wasm_module_validator_adding.specs.AddingLaws.{StandsOn, behind};
 ghost use Rattle.wasm_sections_limited.specs.Walking.{Walk};
 ghost use Rattle.wasm_sections_limited.specs.Runs.{place_with_offsets};
 
@@ -79,9 +79,8 @@ fn add_front<'a, T: FromReader<'a>, S: AddItem<'a, T>>(
 ) -> (u32, usize)
     ensures left { result.0 ≤ most }
     ensures inside { result.1 ≤ length bytes.now }
-    ensures stands { (z : Settings) (n : ℕ) (b : State) (s : S) (w : Walk) → z.limits ≡ limits.now → w.reader.rest ≡ bytes.now → w.left ≡ most
-        → Stands T.view S.of T.decoder T.grammar S.adds z S.reads n b s w state.old
-        → Stands T.view S.of T.decoder T.grammar S.adds z S.reads n b s (behind w result.1 result.0) state.new }
+    ensures stands { (w : Walk) → w.reader.rest ≡ bytes.now → w.left ≡ most
+        → StandsOn T.view S.of T.decoder T.grammar S.adds S.reads limits.now w (behind w result.1 result.0) state.old state.new }
     ensures grown { S.grows state.old state.new }
 {
     let mut at = 0;
@@ -102,9 +101,8 @@ fn pass_front<'a, T: FromReader<'a>, S: AddItem<'a, T>>(
 )
     ensures left { items.new.remaining ≤ items.old.remaining }
     ensures over { items.new.end ≡ items.old.end }
-    ensures stands { (z : Settings) (n : ℕ) (b : State) (s : S) → z.limits ≡ limits.now
-        → Stands T.view S.of T.decoder T.grammar S.adds z S.reads n b s (place_with_offsets items.old) state.old
-        → Stands T.view S.of T.decoder T.grammar S.adds z S.reads n b s (place_with_offsets items.new) state.new }
+    ensures stands { StandsOn T.view S.of T.decoder T.grammar S.adds S.reads limits.now (place_with_offsets items.old)
+        (place_with_offsets items.new) state.old state.new }
     ensures grown { S.grows state.old state.new }
 {
     let (left, at) = add_front::<T, S>(state, items.bytes(), limits, items.left());

@@ -23,7 +23,7 @@ pub returns-in_default-clause-stands : goal.returns-in_default-clause-stands
 returns-in_default-clause-stands g c =
     let i = g.T.FromReader in
     let a = g.S.AddItem in
-    λ z n b s w same rest left here. subst (λ (u : g.row.S.Denot). Stands i.view a.of i.decoder i.grammar a.adds z a.reads n b s (behind w c.loop-passed.at (c.args.most - c.loop-passed.passed)) u)
+    λ w rest left z n b s same here. subst (λ (u : g.row.S.Denot). Stands i.view a.of i.decoder i.grammar a.adds z a.reads n b s (behind w c.loop-passed.at (c.args.most - c.loop-passed.passed)) u)
     (sym c.in_default.ensures.stays) (c.loop-passed.invariant.1 z n b s w same rest left here)
 
 pub returns-in_default-clause-grown : goal.returns-in_default-clause-grown
@@ -53,7 +53,7 @@ returns-clause-stands g c =
     let i = g.T.FromReader in
     let a = g.S.AddItem in
     let all : c.args.most - c.loop-passed.passed ≡ 0 = omega (arith, c.loop-passed-test.false) in
-    λ z n b s w same rest left here. subst (λ (j : ℕ). Stands i.view a.of i.decoder i.grammar a.adds z a.reads n b s (behind w c.loop-passed.at j) c.loop-passed.state) all
+    λ w rest left z n b s same here. subst (λ (j : ℕ). Stands i.view a.of i.decoder i.grammar a.adds z a.reads n b s (behind w c.loop-passed.at j) c.loop-passed.state) all
     (c.loop-passed.invariant.1 z n b s w same rest left here)
 
 pub returns-clause-grown : goal.returns-clause-grown

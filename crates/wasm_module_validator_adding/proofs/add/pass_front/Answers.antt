@@ -12,4 +12,4 @@ returns-clause-stands g c =
     let e = c.add_front-left.ensures in
     λ z n b s same here. stands_passed i.view a.of law.alike i.decoder i.grammar (g.met.T.FromReader c.lifetimes (assumption c)).exact a.adds z a.reads n b s
     c.add_front-left.result.1 c.add_front-left.result.0 w (place_with_offsets c.pass.new.self) c.add_front-left.new.state (subst (λ (t : List ℕ). c.add_front-left.result.1 ≤ length t) c.bytes.ensures e.inside) c.pass.ensures.passed
-    (e.stands z n b s w same (sym c.bytes.ensures) (sym c.left.ensures) here)
+    (e.stands w (sym c.bytes.ensures) (sym c.left.ensures) z n b s same here)
