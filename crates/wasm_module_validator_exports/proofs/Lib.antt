@@ -2,3 +2,4 @@ mod Growing
 mod Keeping
 mod Taking
 mod Naming
+mod Functions

@@ -1,7 +1,8 @@
 //! Imports.
 
-ghost use Rattle.std.specs.Prelude.{◌≡◌, IfErr, OnOk, OnErr};
+ghost use Rattle.std.specs.Prelude.{◌≡◌, IsTrue, IfErr, OnOk, OnErr};
 ghost use Rattle.wasm_types.specs.error.Denials.{Tells};
+ghost use Rattle.wasm_types.specs.error.declared.error.ErrorKind.TheVariants.{Other};
 ghost use Rattle.wasm_module_validator_checks.specs.limits.rules.Valid.{IsValidImport, IsFunctionIndex, IsValidGlobalType, IsValidTagType, MayCross};
 ghost use Rattle.wasm_module_validator_checks.specs.limits.rules.Spaces.{global_in as global_written};
 ghost use Rattle.wasm_module_validator_checks.specs.externs.state.resources.Meaning.{global_in};
@@ -12,12 +13,51 @@ ghost use Rattle.wasm_module_validator_exports.specs.Imports.{IsNamedImport};
 
 use wasm_module_validator_checks::externs::{
     Settings, WasmModuleResources, check_global_type, check_memory_type, check_table_type,
-    check_tag_type, func_type_at, require,
+    check_tag_type, func_type_at, function_of, require,
 };
 use wasm_sections_items::imports::TypeRef;
 use wasm_types::{GlobalType, Result, TagType, WasmFeatures};
 
+// Whether a function type stands at an index: nearly always, so no error is thought of here.
+#[inline]
+fn is_function<R: WasmModuleResources>(resources: &R, type_index: u32) -> bool
+    ensures { IsTrue result → IsFunctionIndex (R.meaning resources.now).«module» type_index }
+{
+    let Some(sub_type) = resources.sub_type_at(type_index) else {
+        return false;
+    };
+    function_of(sub_type).is_some()
+}
+
+// A function, asked for with the reason of a refusal.
+#[cold]
+#[inline(never)]
+fn check_function_named<R: WasmModuleResources>(
+    resources: &R,
+    type_index: u32,
+    offset: u64,
+) -> Result<()>
+    ensures answer { Tells result (IsFunctionIndex (R.meaning resources.now).«module» type_index) }
+    ensures refused { IfErr result (λ e. (e.kind ≡ Other) × (e.offset ≡ offset)) }
+{
+    func_type_at(resources, type_index, offset)?;
+    Ok(())
+}
+
+// A function that is imported.
+#[inline]
+fn check_function<R: WasmModuleResources>(resources: &R, type_index: u32, offset: u64) -> Result<()>
+    ensures answer { Tells result (IsFunctionIndex (R.meaning resources.now).«module» type_index) }
+    ensures refused { IfErr result (λ e. (e.kind ≡ Other) × (e.offset ≡ offset)) }
+{
+    if is_function(resources, type_index) {
+        return Ok(());
+    }
+    check_function_named(resources, type_index, offset)
+}
+
 // A function that is imported exactly, by a feature.
+#[inline(never)]
 #[tactic(auto, unfolding(crate::specs::Imports::has))]
 fn check_exact_function<R: WasmModuleResources>(
     resources: &R,
@@ -40,6 +80,7 @@ fn check_exact_function<R: WasmModuleResources>(
 }
 
 // A global that is imported, a mutable one by a feature.
+#[inline(never)]
 #[tactic(auto, unfolding(crate::specs::Imports::has))]
 fn check_global<R: WasmModuleResources>(
     resources: &R,
@@ -65,6 +106,7 @@ fn check_global<R: WasmModuleResources>(
 }
 
 // A tag, of which the function type is not asked for here.
+#[inline(never)]
 fn check_tag<R: WasmModuleResources>(
     resources: &R,
     ty: &TagType,
@@ -100,10 +142,7 @@ pub fn check_import<R: WasmModuleResources>(
     ensures at { IfErr result (λ e. e.offset ≡ offset) }
 {
     match ty {
-        TypeRef::Func(type_index) => {
-            func_type_at(resources, *type_index, offset)?;
-            Ok(())
-        }
+        TypeRef::Func(type_index) => check_function(resources, *type_index, offset),
         TypeRef::FuncExact(type_index) => {
             check_exact_function(resources, *type_index, settings, offset)
         }

@@ -8,6 +8,7 @@ mod exports;
 mod groups;
 mod imports;
 pub mod laws;
+mod slots;
 
 pub use exports::{Exports, NamedExport};
 pub use groups::NamedImports;

@@ -1,61 +1,92 @@
 //! The sizes of types of imports and exports.
+//!
+//! A size is added to a sum without an error; where the sum is not below the limit, one function makes it.
 
 ghost use Rattle.std.specs.Prelude.{◌≡◌, ◌+◌, ◌<◌, IfErr, IfOk, length, slice_get};
 ghost use Rattle.wasm_types.specs.error.Denials.{Tells};
 ghost use Rattle.wasm_types.specs.error.declared.error.ErrorKind.TheVariants.{Other};
 ghost use Rattle.wasm_module_validator_checks.specs.limits.rules.Valid.{size_at, import_size, export_size};
+ghost use Rattle.wasm_module_validator_exports.specs.Sizes.{IsSumBelow};
 
-use wasm_module_validator_checks::externs::{
-    Settings, WasmModuleResources, combine_type_sizes, function_of,
-};
+use wasm_module_validator_checks::externs::{Settings, WasmModuleResources, function_of};
 use wasm_sections_items::imports::{ExternalKind, TypeRef};
 use wasm_types::{Error, FuncType, Result};
 
-// A count behind a sum of sizes, where the sum stays below the limit.
-fn combine_count(sum: u32, count: usize, limit: u32, offset: u64) -> Result<u32>
-    ensures answer { Tells result (sum + count < limit) }
-    ensures sum { IfOk result (λ all. all ≡ sum + count) }
-    ensures refused { IfErr result (λ e. (e.kind ≡ Other) × (e.offset ≡ offset)) }
+// The refusal of a sum that is not below the limit.
+#[cold]
+#[inline(never)]
+fn too_large(limit: u32, offset: u64) -> Error
+    ensures kind { result.kind ≡ Other }
+    ensures at { result.offset ≡ offset }
 {
-    if count < 0x1_0000_0000 {
-        return combine_type_sizes(sum, count as u32, limit, offset);
-    }
-    Err(Error::fmt(
+    Error::fmt(
         format_args!("effective type size exceeds the limit of {limit}"),
         offset,
-    ))
+    )
+}
+
+// A size behind a sum, where the new sum is below the limit.
+#[inline(always)]
+fn sum_below(sum: u32, size: usize, limit: u32) -> Option<u32>
+    ensures { IsSumBelow limit (sum + size) result }
+{
+    if sum < limit && size < (limit - sum) as usize {
+        return Some(sum + size as u32);
+    }
+    None
 }
 
 // The size of a function type behind a sum: two, and one for each parameter and each result.
-fn combine_function_size(sum: u32, ty: &FuncType, limit: u32, offset: u64) -> Result<u32>
-    ensures answer { Tells result (sum + (2 + (length ty.now.params + length ty.now.results)) < limit) }
-    ensures sum { IfOk result (λ all. all ≡ sum + (2 + (length ty.now.params + length ty.now.results))) }
-    ensures refused { IfErr result (λ e. (e.kind ≡ Other) × (e.offset ≡ offset)) }
+#[inline]
+fn function_below(sum: u32, ty: &FuncType, limit: u32) -> Option<u32>
+    ensures { IsSumBelow limit (sum + (2 + (length ty.now.params + length ty.now.results))) result }
 {
-    let begun = combine_type_sizes(sum, 2, limit, offset)?;
-    let with_params = combine_count(begun, ty.params().len(), limit, offset)?;
-    combine_count(with_params, ty.results().len(), limit, offset)
+    let Some(begun) = sum_below(sum, 2, limit) else {
+        return None;
+    };
+    let Some(with_params) = sum_below(begun, ty.params().len(), limit) else {
+        return None;
+    };
+    sum_below(with_params, ty.results().len(), limit)
 }
 
-// The size of the type at an index of the module's types, 0 where there is none.
-fn combine_size_at<R: WasmModuleResources>(
+// The size of the type at an index of the module's types behind a sum, 0 where there is none.
+#[inline]
+fn type_below<R: WasmModuleResources>(
     resources: &R,
     sum: u32,
     type_index: u32,
     limit: u32,
-    offset: u64,
-) -> Result<u32>
-    ensures answer { Tells result (sum + size_at (slice_get (R.meaning resources.now).«module».types type_index) < limit) }
-    ensures sum { IfOk result (λ all. all ≡ sum + size_at (slice_get (R.meaning resources.now).«module».types type_index)) }
-    ensures refused { IfErr result (λ e. (e.kind ≡ Other) × (e.offset ≡ offset)) }
+) -> Option<u32>
+    ensures { IsSumBelow limit (sum + size_at (slice_get (R.meaning resources.now).«module».types type_index)) result }
 {
     let Some(sub_type) = resources.sub_type_at(type_index) else {
-        return combine_type_sizes(sum, 0, limit, offset);
+        return sum_below(sum, 0, limit);
     };
     let Some(function) = function_of(sub_type) else {
-        return combine_type_sizes(sum, 2, limit, offset);
+        return sum_below(sum, 2, limit);
     };
-    combine_function_size(sum, function, limit, offset)
+    function_below(sum, function, limit)
+}
+
+// The size of an import's type behind the sum of those before it, where the new sum is below the limit.
+#[inline]
+fn import_below<R: WasmModuleResources>(
+    resources: &R,
+    sum: u32,
+    ty: &TypeRef,
+    limit: u32,
+) -> Option<u32>
+    ensures { IsSumBelow limit (sum + import_size (R.meaning resources.now).«module» ty.now) result }
+{
+    match ty {
+        TypeRef::Func(type_index) => type_below(resources, sum, *type_index, limit),
+        TypeRef::FuncExact(type_index) => type_below(resources, sum, *type_index, limit),
+        TypeRef::Tag(ty) => type_below(resources, sum, ty.func_type_idx, limit),
+        TypeRef::Table(_) => sum_below(sum, 1, limit),
+        TypeRef::Memory(_) => sum_below(sum, 1, limit),
+        TypeRef::Global(_) => sum_below(sum, 1, limit),
+    }
 }
 
 /// The size of an import's type behind the sum of those before it, where the sum stays below the limit.
@@ -63,6 +94,7 @@ fn combine_size_at<R: WasmModuleResources>(
 /// # Errors
 ///
 /// The sum does not: an error of kind `Other`, at `offset`.
+#[inline]
 pub fn combine_import_size<R: WasmModuleResources>(
     resources: &R,
     sum: u32,
@@ -75,52 +107,62 @@ pub fn combine_import_size<R: WasmModuleResources>(
     ensures refused { IfErr result (λ e. (e.kind ≡ Other) × (e.offset ≡ offset)) }
 {
     let limit = settings.limits().type_size;
-    match ty {
-        TypeRef::Func(type_index) => combine_size_at(resources, sum, *type_index, limit, offset),
-        TypeRef::FuncExact(type_index) => {
-            combine_size_at(resources, sum, *type_index, limit, offset)
-        }
-        TypeRef::Tag(ty) => combine_size_at(resources, sum, ty.func_type_idx, limit, offset),
-        TypeRef::Table(_) => combine_type_sizes(sum, 1, limit, offset),
-        TypeRef::Memory(_) => combine_type_sizes(sum, 1, limit, offset),
-        TypeRef::Global(_) => combine_type_sizes(sum, 1, limit, offset),
+    match import_below(resources, sum, ty, limit) {
+        Some(all) => Ok(all),
+        None => Err(too_large(limit, offset)),
     }
 }
 
 // The size of an exported function's type behind a sum.
-fn combine_exported_function<R: WasmModuleResources>(
+#[inline]
+fn exported_function_below<R: WasmModuleResources>(
     resources: &R,
     sum: u32,
     index: u32,
     limit: u32,
-    offset: u64,
-) -> Result<u32>
-    ensures answer { Tells result (sum + size_at (slice_get (R.meaning resources.now).«module».functions index) < limit) }
-    ensures sum { IfOk result (λ all. all ≡ sum + size_at (slice_get (R.meaning resources.now).«module».functions index)) }
-    ensures refused { IfErr result (λ e. (e.kind ≡ Other) × (e.offset ≡ offset)) }
+) -> Option<u32>
+    ensures { IsSumBelow limit (sum + size_at (slice_get (R.meaning resources.now).«module».functions index)) result }
 {
     let Some(type_index) = resources.type_index_of_function(index) else {
-        return combine_type_sizes(sum, 0, limit, offset);
+        return sum_below(sum, 0, limit);
     };
-    combine_size_at(resources, sum, type_index, limit, offset)
+    type_below(resources, sum, type_index, limit)
 }
 
 // The size of an exported tag's type behind a sum.
-fn combine_exported_tag<R: WasmModuleResources>(
+fn exported_tag_below<R: WasmModuleResources>(
     resources: &R,
     sum: u32,
     index: u32,
     limit: u32,
-    offset: u64,
-) -> Result<u32>
-    ensures answer { Tells result (sum + size_at (slice_get (R.meaning resources.now).«module».tags index) < limit) }
-    ensures sum { IfOk result (λ all. all ≡ sum + size_at (slice_get (R.meaning resources.now).«module».tags index)) }
-    ensures refused { IfErr result (λ e. (e.kind ≡ Other) × (e.offset ≡ offset)) }
+) -> Option<u32>
+    ensures { IsSumBelow limit (sum + size_at (slice_get (R.meaning resources.now).«module».tags index)) result }
 {
     let Some(function) = resources.tag_at(index) else {
-        return combine_type_sizes(sum, 0, limit, offset);
+        return sum_below(sum, 0, limit);
     };
-    combine_function_size(sum, function, limit, offset)
+    function_below(sum, function, limit)
+}
+
+// The size of an export's type behind the sum of those before it, where the new sum is below the limit.
+#[inline]
+fn export_below<R: WasmModuleResources>(
+    resources: &R,
+    sum: u32,
+    kind: ExternalKind,
+    index: u32,
+    limit: u32,
+) -> Option<u32>
+    ensures { IsSumBelow limit (sum + export_size (R.meaning resources.now).«module» kind index) result }
+{
+    match kind {
+        ExternalKind::Func => exported_function_below(resources, sum, index, limit),
+        ExternalKind::FuncExact => exported_function_below(resources, sum, index, limit),
+        ExternalKind::Tag => exported_tag_below(resources, sum, index, limit),
+        ExternalKind::Table => sum_below(sum, 1, limit),
+        ExternalKind::Memory => sum_below(sum, 1, limit),
+        ExternalKind::Global => sum_below(sum, 1, limit),
+    }
 }
 
 /// The size of an export's type behind the sum of those before it, where the sum stays below the limit.
@@ -128,6 +170,7 @@ fn combine_exported_tag<R: WasmModuleResources>(
 /// # Errors
 ///
 /// The sum does not: an error of kind `Other`, at `offset`.
+#[inline]
 pub fn combine_export_size<R: WasmModuleResources>(
     resources: &R,
     sum: u32,
@@ -141,12 +184,8 @@ pub fn combine_export_size<R: WasmModuleResources>(
     ensures refused { IfErr result (λ e. (e.kind ≡ Other) × (e.offset ≡ offset)) }
 {
     let limit = settings.limits().type_size;
-    match kind {
-        ExternalKind::Func => combine_exported_function(resources, sum, index, limit, offset),
-        ExternalKind::FuncExact => combine_exported_function(resources, sum, index, limit, offset),
-        ExternalKind::Tag => combine_exported_tag(resources, sum, index, limit, offset),
-        ExternalKind::Table => combine_type_sizes(sum, 1, limit, offset),
-        ExternalKind::Memory => combine_type_sizes(sum, 1, limit, offset),
-        ExternalKind::Global => combine_type_sizes(sum, 1, limit, offset),
+    match export_below(resources, sum, kind, index, limit) {
+        Some(all) => Ok(all),
+        None => Err(too_large(limit, offset)),
     }
 }

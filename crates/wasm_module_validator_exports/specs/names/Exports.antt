@@ -1,15 +1,16 @@
 -- What is kept of a module's exports (WebAssembly 3.0, structure, modules, exports), and which names are taken (validation, modules: no
 -- two exports have one name).
-use Rattle.std.specs.Prelude.{◌≡◌, ℕ, Bool, List, [], ◌∷◌, map, String, string_bytes}
+use Rattle.std.specs.Prelude.{◌≡◌, ◌-◌, ◌||◌, ◌==◌, ℕ, Bool, true, false, cond, List, [], ◌∷◌, ◌++◌, map, length, slice_get, bit_and, Option, Some, None, String, string_bytes}
 use Rattle.std.specs.List.{list_any}
 use Rattle.std.specs.Str.{bytes_eq}
-use Rattle.std.specs.Ordering.{ordering_then, nat_cmp}
-use Rattle.std.specs.Cmp.Lexicographic.{slice_cmp}
-use Rattle.std.specs.declared.cmp.Ordering.{Ordering}
 use Rattle.std.specs.Hash.FoldHasher.{initial, write}
-use Rattle.std.specs.BTreeSet.{BTreeSet, contains_by}
+use Rattle.std.specs.BTreeSet.{BTreeSet, contains_text}
 use Rattle.wasm_sections_items.specs.imports.Spells.{ExportTree}
 use Rattle.wasm_module_validator_exports.specs.declared.names.exports.NamedExport.{NamedExport}
+use Rattle.wasm_module_validator_exports.specs.declared.names.slots.Met.{Met}
+use Rattle.wasm_module_validator_exports.specs.declared.names.slots.Met.TheVariants as met
+use Rattle.wasm_module_validator_exports.specs.declared.names.slots.Tried.{Tried}
+use Rattle.wasm_module_validator_exports.specs.declared.names.slots.Tried.TheVariants as tried
 
 -- an export as the module writes it, by the bytes of its name
 abbrev pub export_of : NamedExport → ExportTree
@@ -24,17 +25,71 @@ abbrev pub IsNew : List ℕ → List (List ℕ) → Type 0
 IsNew n [] = Unit {0}
 IsNew n (x ∷ xs) = (n ≡ x → ⊥) × IsNew n xs
 
--- ---- the set of names
+-- ---- how names are found
 
--- the number by which a name is compared first
+-- the number of a name
 abbrev pub number_of : List ℕ → ℕ
 number_of n = (write initial n).state
 
-module _ {Y : Type 0} where
-  -- the order of names behind their numbers
-  abbrev pub compare_name : List ℕ → ℕ × String Y → Ordering
-  compare_name n k = ordering_then (nat_cmp (number_of n) k.0) (slice_cmp nat_cmp n (string_bytes k.1))
+-- the slot of a number, among so many
+abbrev pub slot_of : ℕ → ℕ → ℕ
+slot_of v slots = bit_and v (slots - 1)
 
-  -- the set has these names, each behind its number, and no others
-  abbrev pub Holds : BTreeSet (ℕ × String Y) → List (List ℕ) → Type 0
-  Holds taken names = (n : List ℕ) → contains_by (compare_name n) taken ≡ list_any (bytes_eq n) names
+-- what is in the slot of a name: an index, where there are slots
+abbrev pub in_slot : List ℕ → List ℕ → Option ℕ
+in_slot slots n = slice_get slots (slot_of (number_of n) (length slots))
+
+-- whether what stands at an index is this name
+abbrev pub is_name : List ℕ → Option (List ℕ) → Bool
+is_name n None = false
+is_name n (Some x) = bytes_eq n x
+
+-- whether this name stands at the index that is in a slot
+abbrev pub stands_at : List ℕ → List (List ℕ) → Option ℕ → Bool
+stands_at n names None = false
+stands_at n names (Some i) = is_name n (slice_get names i)
+
+-- no name stands at the index in a slot
+abbrev pub IsFree : List ℕ → List (List ℕ) → ℕ → Type 0
+IsFree slots names p = (x : ℕ) × (slice_get slots p ≡ Some x) × (slice_get names x ≡ None)
+
+-- what was found in the slot of a name: nothing, so the index behind all names may go there; the name itself; or not the name, and the slot
+-- is not free
+abbrev pub HasMet : List ℕ → List (List ℕ) → List ℕ → Met → Type 0
+HasMet slots names n (met.Free p i) = (p ≡ slot_of (number_of n) (length slots)) × (i ≡ length names) × IsFree slots names p
+HasMet slots names n met.Same = stands_at n names (in_slot slots n) ≡ true
+HasMet slots names n met.Other = (stands_at n names (in_slot slots n) ≡ false) × (IsFree slots names (slot_of (number_of n) (length slots)) → ⊥)
+
+-- an index in a slot, and in all others what was there
+abbrev pub IsPut : ℕ → ℕ → List ℕ → List ℕ → Type 0
+IsPut p x old new = (length new ≡ length old) × ((q : ℕ) → slice_get new q ≡ cond (p == q) (Some x) (slice_get old q))
+
+module _ {Y : Type 0} where
+  -- a name more in the set, where it was new
+  abbrev pub HasNoted : List ℕ → BTreeSet (String Y) → BTreeSet (String Y) → Tried → Type 0
+  HasNoted n old new tried.Added = (contains_text old n ≡ false) × ((q : List ℕ) → contains_text new q ≡ cond (bytes_eq n q) true (contains_text old q))
+  HasNoted n old new tried.Taken = (contains_text old n ≡ true) × (new.keys ≡ old.keys)
+  HasNoted n old new tried.NoMemory = new.keys ≡ old.keys
+
+  -- the set has no name whose slot is free
+  abbrev pub IsBehind : List ℕ → BTreeSet (String Y) → List (List ℕ) → Type 0
+  IsBehind slots others names = (n : List ℕ) → IsFree slots names (slot_of (number_of n) (length slots)) → contains_text others n ≡ false
+
+  -- exactly these names are found, by their slots or in the set
+  abbrev pub Finds : List ℕ → BTreeSet (String Y) → List (List ℕ) → Type 0
+  Finds slots others names = (n : List ℕ) → (stands_at n names (in_slot slots n) || contains_text others n) ≡ list_any (bytes_eq n) names
+
+  abbrev pub Holds : List ℕ → BTreeSet (String Y) → List (List ℕ) → Type 0
+  Holds slots others names = Finds slots others names × IsBehind slots others names
+
+  -- a name was added where it was new, and else these are found as before
+  abbrev pub HasSettled : List ℕ → List (List ℕ) → List ℕ → BTreeSet (String Y) → Tried → Type 0
+  HasSettled n names slots others tried.Added = IsNew n names × Holds slots others (names ++ n ∷ [])
+  HasSettled n names slots others tried.Taken = (IsNew n names → ⊥) × Holds slots others names
+  HasSettled n names slots others tried.NoMemory = Holds slots others names
+
+-- an export more where its name is new, else the same
+abbrev pub HasTried : ExportTree → List ExportTree → List ExportTree → Tried → Type 0
+HasTried e old new tried.Added = IsNew e.name (names_of old) × (new ≡ old ++ e ∷ [])
+HasTried e old new tried.Taken = (IsNew e.name (names_of old) → ⊥) × (new ≡ old)
+HasTried e old new tried.NoMemory = new ≡ old

@@ -1,11 +1,12 @@
 -- What is kept of a module's imports, by their names (WebAssembly 3.0, structure, modules, imports). Each pair of names stands once, where
 -- it came first; what is imported by it stands there in the order of the imports.
-use Rattle.std.specs.Prelude.{◌≡◌, ℕ, suc, Bool, ◌&&◌, List, [], ◌∷◌, ◌++◌, Option, Some, None, option_map, string_bytes, if◌then◌else◌}
+use Rattle.std.specs.Prelude.{◌≡◌, ◌<◌, ◌⊎◌, ℕ, suc, Bool, true, false, ◌&&◌, List, [], ◌∷◌, ◌++◌, length, slice_get, Option, Some, None, option_map, String, string_bytes, if◌then◌else◌}
 use Rattle.std.specs.Borrow.{Bor}
 use Rattle.std.specs.Str.{bytes_eq}
 use Rattle.std.specs.BTreeMap.{BTreeMap, get_by}
 use Rattle.std.specs.Ordering.{ordering_then, nat_cmp}
 use Rattle.std.specs.Cmp.Lexicographic.{slice_cmp}
+use Rattle.std.specs.declared.alloc.Global.{Global}
 use Rattle.std.specs.declared.cmp.Ordering.{Ordering}
 use Rattle.wasm_module_validator_exports.specs.declared.names.imports.Place.{Place}
 use Rattle.wasm_module_validator_exports.specs.declared.names.imports.KeptImport.{KeptImport}
@@ -28,13 +29,37 @@ with_import m f p (n ∷ ns) = if has_names m f n then record n { places = n.pla
 
 -- ---- imports one by one
 
--- these imports, one after the other
-abbrev pub grouped_behind : List ImportedName → List KeptImport → List ImportedName
-grouped_behind ns [] = ns
-grouped_behind ns (i ∷ is) = grouped_behind (with_import (string_bytes i.«module») (string_bytes i.name) i.place ns) is
+-- the bytes of a name, where there is one
+abbrev pub module_name_of : Option (String Global) → List ℕ
+module_name_of None = []
+module_name_of (Some t) = string_bytes t
 
-abbrev pub grouped : List KeptImport → List ImportedName
-grouped is = grouped_behind [] is
+-- the name of a module that is kept
+abbrev pub module_at : List (String Global) → ℕ → List ℕ
+module_at ms x = module_name_of (slice_get ms x)
+
+-- these imports, one after the other
+abbrev pub grouped_behind : List (String Global) → List ImportedName → List KeptImport → List ImportedName
+grouped_behind ms ns [] = ns
+grouped_behind ms ns (i ∷ is) = grouped_behind ms (with_import (module_at ms i.«module») (string_bytes i.name) i.place ns) is
+
+abbrev pub grouped : List (String Global) → List KeptImport → List ImportedName
+grouped ms is = grouped_behind ms [] is
+
+-- the name of each import's module is kept
+abbrev pub AreKept : List (String Global) → List KeptImport → Type 0
+AreKept ms [] = Unit {0}
+AreKept ms (i ∷ is) = (i.«module» < length ms) × AreKept ms is
+
+-- the name of a module stands at the index that is told, and behind those before it where it is kept anew
+abbrev pub HasKept : List ℕ → List (String Global) → List (String Global) → Option ℕ → Type 0
+HasKept m old new None = new ≡ old
+HasKept m old new (Some x) = (x < length new) × (module_at new x ≡ m) × ((new ≡ old) ⊎ ((t : String Global) × (new ≡ old ++ t ∷ [])))
+
+-- an import more where there was memory
+abbrev pub HasAdded : List ℕ → List ℕ → Place → List ImportedName → List ImportedName → Bool → Type 0
+HasAdded m f p old new true = new ≡ with_import m f p old
+HasAdded m f p old new false = new ≡ old
 
 -- ---- where names are found
 

@@ -3,11 +3,11 @@
 ghost use Rattle.std.specs.Prelude.{◌≡◌, ◌++◌, ◌∷◌, ◌<◌, [], map, vec_len, vec_capacity, IfErr, OnOk, OnErr};
 ghost use Rattle.wasm_types.specs.error.Denials.{Tells, UnlessMemory};
 ghost use Rattle.wasm_types.specs.error.declared.error.ErrorKind.TheVariants.{Other};
-ghost use Rattle.wasm_module_validator_exports.specs.names.Exports.{IsNew, export_of, names_of, number_of};
+ghost use Rattle.wasm_module_validator_exports.specs.names.Exports.{HasTried, IsNew, export_of, names_of};
 
+use crate::names::slots::{Tried, after, rebuilt, settle};
 use std::alloc::Global;
 use std::collections::BTreeSet;
-use std::hash::{FoldHasher, Hasher};
 use std::marker::Model;
 use wasm_sections_items::imports::ExternalKind;
 use wasm_types::{Error, Result};
@@ -25,13 +25,16 @@ pub struct NamedExport {
 
 /// The exports of a module in their order, no two by one name. A contract sees them as the module writes them.
 ///
-/// Names are found by their order, each behind a number that is computed from its bytes: nearly all comparisons end at the numbers. Strangers
-/// choose the names, and may choose many of one number: these are found by their order alone.
+/// A name is found by a number that is computed from its bytes. Strangers choose the names, and may choose many whose numbers meet: all but
+/// the first of these are found by their order.
 #[derive(Drop)]
 pub struct Exports {
     alloc: Global,
     exports: Vec<NamedExport>,
-    taken: BTreeSet<(u64, String)>,
+    // The index of an export, in the slot of the number of its name; a slot without one has an index where no export stands.
+    slots: Vec<u32>,
+    // The names whose slot another has.
+    others: BTreeSet<String>,
 }
 
 impl Model for Exports {
@@ -43,11 +46,12 @@ impl Model for Exports {
 
     ghost view = { λ e. map export_of e.exports.items };
 
-    ghost invariant = { λ e. Holds e.taken (names_of (map export_of e.exports.items)) };
+    ghost invariant = { λ e. Holds e.slots.items e.others (names_of (map export_of e.exports.items)) };
 }
 
 // The refusal of a name that is taken.
 #[cold]
+#[inline(never)]
 fn duplicate(name: &str, offset: u64) -> Error
     ensures kind { result.kind ≡ Other }
     ensures at { result.offset ≡ offset }
@@ -56,15 +60,6 @@ fn duplicate(name: &str, offset: u64) -> Error
         format_args!("duplicate export name `{name}` already defined"),
         offset,
     )
-}
-
-// The number by which a name is compared first.
-fn number(name: &str) -> u64
-    ensures { result ≡ number_of name.now }
-{
-    let mut hasher = FoldHasher::default();
-    hasher.write(name.as_bytes());
-    hasher.finish()
 }
 
 // An export behind the others, in room that is there.
@@ -83,7 +78,8 @@ impl Exports {
         Exports {
             alloc,
             exports: Vec::new(alloc),
-            taken: BTreeSet::new(alloc),
+            slots: Vec::new(alloc),
+            others: BTreeSet::new(alloc),
         }
     }
 
@@ -92,6 +88,39 @@ impl Exports {
         ensures { map export_of result.now ≡ self.now }
     {
         self.exports.as_slice()
+    }
+
+    // An export more where its name is new.
+    fn add(&mut self, name: &str, kind: ExternalKind, index: u32) -> Tried
+        ensures { HasTried (record { name = name.now; kind = kind; index = index }) self.old self.new result }
+    {
+        let Ok(kept) = String::from_str(self.alloc, name) else {
+            return Tried::NoMemory;
+        };
+        let Ok(()) = self.exports.reserve(1) else {
+            return Tried::NoMemory;
+        };
+        let exports = self.exports.as_slice();
+        let count = self.slots.as_slice().len();
+        if count / 4 <= exports.len() {
+            let Some((slots, others)) = rebuilt(self.alloc, after(count), exports) else {
+                return Tried::NoMemory;
+            };
+            self.slots = slots;
+            self.others = others;
+        }
+        match settle(self.alloc, &mut self.slots, &mut self.others, exports, name) {
+            Tried::Added => (),
+            Tried::Taken => return Tried::Taken,
+            Tried::NoMemory => return Tried::NoMemory,
+        }
+        let export = NamedExport {
+            name: kept,
+            kind,
+            index,
+        };
+        push_in_room(&mut self.exports, export);
+        Tried::Added
     }
 
     /// One export more, behind those that are there. Where it is refused they stay.
@@ -105,20 +134,10 @@ impl Exports {
         ensures kept { OnErr result (self.new ≡ self.old) }
         ensures refused { IfErr result (λ e. UnlessMemory e.kind ((e.kind ≡ Other) × (e.offset ≡ offset))) }
     {
-        let kept = String::from_str(self.alloc, name)?;
-        let text = String::from_str(self.alloc, name)?;
-        let first = number(name);
-        self.exports.reserve(1)?;
-        let is_new = self.taken.insert((first, text))?;
-        if !is_new {
-            return Err(duplicate(name, offset));
+        match self.add(name, kind, index) {
+            Tried::Added => Ok(()),
+            Tried::Taken => Err(duplicate(name, offset)),
+            Tried::NoMemory => Err(Error::out_of_memory(0)),
         }
-        let export = NamedExport {
-            name: kept,
-            kind,
-            index,
-        };
-        push_in_room(&mut self.exports, export);
-        Ok(())
     }
 }

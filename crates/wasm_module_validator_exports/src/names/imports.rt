@@ -1,14 +1,14 @@
 //! Imports, by their names.
 
-ghost use Rattle.std.specs.Prelude.{◌≡◌, ◌++◌, ◌∷◌, [], map, string_bytes, IfErr, IfOk, OnOk, OnErr};
+ghost use Rattle.std.specs.Prelude.{◌≡◌, ◌<◌, [], map, length, IfErr, IfOk, IfSome, OnOk, OnErr};
 ghost use Rattle.wasm_types.specs.error.declared.error.ErrorKind.TheVariants.{OutOfMemory};
-ghost use Rattle.wasm_module_validator_exports.specs.names.Imports.{grouped, named_of, with_import};
+ghost use Rattle.wasm_module_validator_exports.specs.names.Imports.{HasAdded, HasKept, grouped, module_at, named_of, with_import};
 
 use crate::names::groups::{Groups, NamedImports};
 use std::alloc::Global;
 use std::marker::Model;
 use wasm_sections_items::imports::ExternalKind;
-use wasm_types::Result;
+use wasm_types::{Error, Result};
 
 /// What stands at this index of the space of this kind.
 #[derive(Clone, Copy, Debug, PartialEq, Eq)]
@@ -22,7 +22,8 @@ pub struct Place {
 // An import as the module writes it.
 #[derive(Drop)]
 pub(crate) struct KeptImport {
-    pub(crate) module: String,
+    // Where the name of its module stands, among those that are kept.
+    pub(crate) module: usize,
     pub(crate) name: String,
     pub(crate) place: Place,
 }
@@ -30,34 +31,82 @@ pub(crate) struct KeptImport {
 /// The imports of a module by their names: each pair of names once, in the order in which they came first.
 ///
 /// They are kept one by one as they come, and are grouped by their names when that is asked for ([`Imports::grouped`]): a module may
-/// import by one pair of names as often as it likes, so nothing is looked up while it is read.
+/// import by one pair of names as often as it likes, so nothing is looked up while it is read. The name of a module is looked for among
+/// the last few alone, so it is mostly kept once.
 #[derive(Drop)]
 pub struct Imports {
     alloc: Global,
+    modules: Vec<String>,
     imports: Vec<KeptImport>,
 }
 
 impl Model for Imports {
     ghost use Rattle.std.specs.Prelude.{List};
-    ghost use Rattle.wasm_module_validator_exports.specs.names.Imports.{ImportedName, grouped};
+    ghost use Rattle.wasm_module_validator_exports.specs.names.Imports.{AreKept, ImportedName, grouped};
 
     ghost Value = { List ImportedName };
 
-    ghost view = { λ i. grouped i.imports.items };
+    ghost view = { λ i. grouped i.modules.items i.imports.items };
+
+    ghost invariant = { λ i. AreKept i.modules.items i.imports.items };
+}
+
+// The name of an import's module.
+fn module_of<'a>(modules: &'a [String], import: &KeptImport) -> &'a str
+    ensures { result.now ≡ module_at modules.now import.now.«module» }
+{
+    match modules.get(import.module) {
+        Some(module) => module.as_str(),
+        None => "",
+    }
 }
 
 // These imports by their names.
-fn group<'a>(alloc: Global, imports: &'a [KeptImport]) -> Result<Groups<'a>>
-    ensures told { IfOk result (λ all. all ≡ grouped imports.now) }
+fn group<'a>(alloc: Global, modules: &'a [String], imports: &'a [KeptImport]) -> Result<Groups<'a>>
+    ensures told { IfOk result (λ all. all ≡ grouped modules.now imports.now) }
     ensures refused { IfErr result (λ e. e.kind ≡ OutOfMemory) }
 {
     let mut groups = Groups::new(alloc);
     let mut left = imports;
     while let Some((import, rest)) = left.split_first() {
-        groups.insert(import.module.as_str(), import.name.as_str(), import.place)?;
+        groups.insert(
+            module_of(modules, import),
+            import.name.as_str(),
+            import.place,
+        )?;
         left = rest;
     }
     Ok(groups)
+}
+
+// Where the name of a module stands among the last few that are kept.
+fn find_module(modules: &[String], module: &str) -> Option<usize>
+    ensures { IfSome result (λ at. at < length modules.now × module_at modules.now at ≡ «module».now) }
+{
+    let count = modules.len();
+    for at in count.saturating_sub(8)..count {
+        if module == modules[at].as_str() {
+            return Some(at);
+        }
+    }
+    None
+}
+
+// Where the name of a module stands, which is kept where it was not found.
+fn keep_module(alloc: Global, modules: &mut Vec<String>, module: &str) -> Option<usize>
+    ensures { HasKept «module».now modules.old.items modules.new.items result }
+{
+    if let Some(at) = find_module(modules.as_slice(), module) {
+        return Some(at);
+    }
+    let at = modules.as_slice().len();
+    let Ok(text) = String::from_str(alloc, module) else {
+        return None;
+    };
+    let Ok(()) = modules.push(text) else {
+        return None;
+    };
+    Some(at)
 }
 
 impl Imports {
@@ -67,6 +116,7 @@ impl Imports {
     {
         Imports {
             alloc,
+            modules: Vec::new(alloc),
             imports: Vec::new(alloc),
         }
     }
@@ -80,8 +130,29 @@ impl Imports {
         ensures told { IfOk result (λ all. map named_of all.items ≡ self.now) }
         ensures refused { IfErr result (λ e. e.kind ≡ OutOfMemory) }
     {
-        let groups = group(self.alloc, self.imports.as_slice())?;
+        let groups = group(self.alloc, self.modules.as_slice(), self.imports.as_slice())?;
         Ok(groups.into_names())
+    }
+
+    // One import more, where there is memory.
+    fn add(&mut self, module: &str, name: &str, place: Place) -> bool
+        ensures { HasAdded «module».now name.now place self.old self.new result }
+    {
+        let Some(module) = keep_module(self.alloc, &mut self.modules, module) else {
+            return false;
+        };
+        let Ok(name) = String::from_str(self.alloc, name) else {
+            return false;
+        };
+        let import = KeptImport {
+            module,
+            name,
+            place,
+        };
+        let Ok(()) = self.imports.push(import) else {
+            return false;
+        };
+        true
     }
 
     /// One import more: behind those of its names, or with names of its own behind all. Where memory is refused they stay.
@@ -94,13 +165,9 @@ impl Imports {
         ensures kept { OnErr result (self.new ≡ self.old) }
         ensures refused { IfErr result (λ e. e.kind ≡ OutOfMemory) }
     {
-        let module = String::from_str(self.alloc, module)?;
-        let name = String::from_str(self.alloc, name)?;
-        self.imports.push(KeptImport {
-            module,
-            name,
-            place,
-        })?;
-        Ok(())
+        if self.add(module, name, place) {
+            return Ok(());
+        }
+        Err(Error::out_of_memory(0))
     }
 }

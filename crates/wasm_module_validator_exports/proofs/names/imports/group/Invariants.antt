@@ -4,7 +4,7 @@ use Rattle.wasm_module_validator_exports.proofs.names.imports.group.Given as goa
 
 -- what is left, behind what was grouped, is the whole, and grows shorter
 abbrev pub invariant-loop-import : goal.invariant-loop-import
-invariant-loop-import l = grouped_behind l.groups l.left ≡ grouped l.imports
+invariant-loop-import l = grouped_behind l.modules l.groups l.left ≡ grouped l.modules l.imports
 
 abbrev pub decreases-loop-import : goal.decreases-loop-import
 decreases-loop-import l = length l.left

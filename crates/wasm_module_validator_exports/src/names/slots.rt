@@ -1,0 +1,151 @@
+//! Names found by numbers that are computed from their bytes.
+//!
+//! Each slot has the index of a name; it is free where no name stands at this index. A name has one slot, that of its number. Where another
+//! name has it already, the name goes into a set, which finds it by its order: so names whose numbers meet are found no slower than by their
+//! order, whoever chooses them.
+
+ghost use Rattle.std.specs.Prelude.{◌≡◌, ◌<◌, length, map, IfSome};
+ghost use Rattle.wasm_module_validator_exports.specs.names.Exports.{HasMet, HasNoted, HasSettled, Holds, IsPut, export_of, names_of, number_of, slot_of};
+
+use crate::names::exports::NamedExport;
+use std::alloc::Global;
+use std::collections::BTreeSet;
+use std::hash::{FoldHasher, Hasher};
+
+// What an attempt to add a name did.
+pub(crate) enum Tried {
+    Added,
+    Taken,
+    NoMemory,
+}
+
+// What is in a name's slot: nothing, so an index may go there; the name itself; or another.
+pub(crate) enum Met {
+    Free(usize, u32),
+    Same,
+    Other,
+}
+
+// The number of a name.
+fn number(name: &str) -> u64
+    ensures { result ≡ number_of name.now }
+{
+    let mut hasher = FoldHasher::default();
+    hasher.write(name.as_bytes());
+    hasher.finish()
+}
+
+// The slot of a number among so many, a power of two.
+fn slot(number: u64, slots: usize) -> usize
+    ensures { result ≡ slot_of number slots }
+{
+    number as usize & slots.saturating_sub(1)
+}
+
+// What is in a name's slot.
+fn meet(slots: &[u32], exports: &[NamedExport], name: &str) -> Met
+    ensures { HasMet slots.now (names_of (map export_of exports.now)) name.now result }
+{
+    let at = slot(number(name), slots.len());
+    let Some(index) = slots.get(at) else {
+        return Met::Other;
+    };
+    let Some(export) = exports.get(*index as usize) else {
+        let last = exports.len();
+        if last < 0x1_0000_0000 {
+            return Met::Free(at, last as u32);
+        }
+        return Met::Other;
+    };
+    if name == export.name.as_str() {
+        return Met::Same;
+    }
+    Met::Other
+}
+
+// An index in a slot.
+fn put(slots: &mut Vec<u32>, at: usize, index: u32)
+    requires { at < length slots.old.items }
+    ensures { IsPut at index slots.old.items slots.new.items }
+{
+    slots[at] = index;
+}
+
+// A name in the set of those whose slot another has, where it is new there.
+#[cold]
+#[inline(never)]
+fn note(alloc: Global, others: &mut BTreeSet<String>, name: &str) -> Tried
+    ensures { HasNoted name.now others.old others.new result }
+{
+    let Ok(text) = String::from_str(alloc, name) else {
+        return Tried::NoMemory;
+    };
+    let Ok(is_new) = others.insert(text) else {
+        return Tried::NoMemory;
+    };
+    if is_new {
+        return Tried::Added;
+    }
+    Tried::Taken
+}
+
+// A name behind those of these exports, where it is none of them.
+pub(crate) fn settle(
+    alloc: Global,
+    slots: &mut Vec<u32>,
+    others: &mut BTreeSet<String>,
+    exports: &[NamedExport],
+    name: &str,
+) -> Tried
+    requires { Holds slots.old.items others.old (names_of (map export_of exports.now)) }
+    ensures { HasSettled name.now (names_of (map export_of exports.now)) slots.new.items others.new result }
+{
+    match meet(slots.as_slice(), exports, name) {
+        Met::Free(at, index) => {
+            put(slots, at, index);
+            return Tried::Added;
+        }
+        Met::Same => return Tried::Taken,
+        Met::Other => (),
+    }
+    note(alloc, others, name)
+}
+
+// How many slots come after so many, a power of two too.
+pub(crate) fn after(slots: usize) -> usize {
+    if slots < 16 {
+        return 16;
+    }
+    slots.saturating_mul(4)
+}
+
+// So many slots with the names of these exports, and the names that have none.
+#[cold]
+#[inline(never)]
+pub(crate) fn rebuilt(
+    alloc: Global,
+    slots: usize,
+    exports: &[NamedExport],
+) -> Option<(Vec<u32>, BTreeSet<String>)>
+    ensures { IfSome result (λ it. Holds it.0.items it.1 (names_of (map export_of exports.now))) }
+{
+    let Ok(mut slots) = Vec::from_elem(alloc, u32::MAX, slots) else {
+        return None;
+    };
+    let mut others = BTreeSet::new(alloc);
+    for i in 0..exports.len() {
+        let (before, _) = exports.split_at(i);
+        match settle(
+            alloc,
+            &mut slots,
+            &mut others,
+            before,
+            exports[i].name.as_str(),
+        ) {
+            Tried::Added => (),
+            Tried::Taken => return None,
+            Tried::NoMemory => return None,
+        }
+    }
+    Some((slots, others))
+}
