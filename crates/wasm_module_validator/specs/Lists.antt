@@ -6,7 +6,7 @@ use Rattle.wasm_types.specs.features.Features.{needs_canonical_types}
 use Rattle.wasm_types.specs.reader.Reading.{IsNotMemory}
 use Rattle.wasm_sections_parser.specs.Parsing.{one_of}
 use Rattle.wasm_module_validator_module.specs.declared.view.validator_id.ValidatorId.{ValidatorId}
-use Rattle.wasm_module_validator_sharing.specs.reading.Reading.{IsReadAs}
+use Rattle.wasm_module_validator_sharing.specs.reading.Reading.{HasGroupIn, IsReadAs}
 use Rattle.wasm_module_validator_sharing.specs.reading.progress.declaring.Total.{IsPastTotal}
 use Rattle.wasm_module_validator_sharing.specs.reading.progress.standing.Standing.{IsGrown}
 use Rattle.wasm_module_validator_sharing.specs.reading.progress.standing.items.Items.{no_items}
@@ -34,12 +34,12 @@ abbrev pub IsValidOutsideBodies : Settings → List ℕ → Type 0
 IsValidOutsideBodies z bytes = (q : SoFar) × IsReadAs z bytes q
 
 -- The verdict on these bytes, of the validator with this id, whose list of types has these groups: they are accepted, and what is known of
--- the module is shown; or a function alone is refused; or the module is not valid outside its bodies either, or it would have passed the
--- total of types behind these groups.
+-- the module is shown; or a function alone is refused; or the module is not valid outside its bodies either, or one of its groups would
+-- have passed the total of types behind these groups.
 abbrev pub IsVerdict : Settings → ValidatorId → List Group → List ℕ → Verdict → Type 0
 IsVerdict z id held bytes (Accepted types) = AcceptsUnder z bytes × IsShown z bytes types × (types.id ≡ id)
 IsVerdict z id held bytes (Refused error true) = (AcceptsUnder z bytes → ⊥) × IsNotMemory error.kind × IsValidOutsideBodies z bytes
-IsVerdict z id held bytes (Refused error false) = IsNotMemory error.kind × (IsPastTotal held (no_items z) error ⊎ (IsValidOutsideBodies z bytes → ⊥))
+IsVerdict z id held bytes (Refused error false) = IsNotMemory error.kind × (IsPastTotal held (no_items z) (HasGroupIn z bytes) error ⊎ (IsValidOutsideBodies z bytes → ⊥))
 
 -- ---- one module after the other
 

@@ -13,7 +13,7 @@ use Rattle.wasm_module_validator_sharing.specs.reading.progress.standing.steps.S
 use Rattle.wasm_module_validator_sharing.specs.reading.progress.standing.steps.contexts.rules.Accepts.{AcceptsUnder}
 use Rattle.wasm_module_validator_sharing.specs.reading.progress.standing.Standing.{IsGrown}
 use Rattle.wasm_module_validator_sharing.specs.reading.progress.Progress.{kept_groups}
-use Rattle.wasm_module_validator_sharing.specs.reading.Reading.{IsReadAs}
+use Rattle.wasm_module_validator_sharing.specs.reading.Reading.{HasGroupIn, IsReadAs}
 use Rattle.wasm_module_validator.specs.declared.validator.State.{State}
 use Rattle.wasm_module_validator.specs.declared.validator.State.TheVariants.{Unparsed, Module, Ended, Failed}
 use Rattle.wasm_module_validator.specs.declared.validator.Validator.{Validator}
@@ -23,19 +23,20 @@ abbrev pub IsLeft : ErrorKind → State → Type 0
 IsLeft k s = ((s ≡ Ended) × IsNotMemory k) ⊎ ((s ≡ Failed) × (k ≡ OutOfMemory))
 
 -- It has ended where the module was accepted, and where its sections were read and only a function is refused. It has failed where they
--- were not read, or the total of types was passed behind the types of these groups, or there was no memory.
+-- were not read, or a group of the module passed the total of types behind these groups, or there was no memory.
 abbrev pub Leaves : {X : Type 0} → List Group → Settings → List ℕ → Result X ErrorValue → State → Type 0
 Leaves groups z bytes (Ok types) s = s ≡ Ended
 Leaves groups z bytes (Err e) s = ((s ≡ Ended) × IsNotMemory e.kind × ((q : SoFar) × IsReadAs z bytes q) × (AcceptsUnder z bytes → ⊥))
-    ⊎ ((s ≡ Failed) × (IsPastTotal groups (no_items z) e ⊎ Denies e.kind ((q : SoFar) × IsReadAs z bytes q)))
+    ⊎ ((s ≡ Failed) × (IsPastTotal groups (no_items z) (HasGroupIn z bytes) e ⊎ Denies e.kind ((q : SoFar) × IsReadAs z bytes q)))
 
 -- the groups that the list of types has where a validator begins with a module
 abbrev pub held_by : Validator → List Group
 held_by v = kept_groups v.settings v.reached.progress.kept
 
--- Ok exactly where the bytes are accepted, unless memory ran out, or the total of types was passed behind those that the list has.
+-- Ok exactly where the bytes are accepted, unless memory ran out, or a group of the bytes passed the total of types behind those that the
+-- list has.
 abbrev pub TellsBehind : {X : Type 0} → Validator → Result X ErrorValue → List ℕ → Type 0
-TellsBehind v result bytes = TellsWithinTotal (held_by v) (no_items v.settings) result (AcceptsUnder v.settings bytes)
+TellsBehind v result bytes = TellsWithinTotal (held_by v) (no_items v.settings) (HasGroupIn v.settings bytes) result (AcceptsUnder v.settings bytes)
 
 -- Behind a module that was accepted, or of which a function alone was refused, the list of types has what it had, with further groups or
 -- none; and the module was read by the validator's features and limits.

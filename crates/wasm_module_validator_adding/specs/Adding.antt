@@ -40,13 +40,6 @@ pub record AddsShort {T V A M S : Type 0} (view : T → V) (of : T → A) (g : S
   pub may : (m : M) → reads before m → (n : M) × adds m (of item) n
   pub added : (m n : M) → reads before m → adds m (of item) n → reads after n
 
--- ---- what is full
-
--- An answer of what may be full: where it is, the refusal is one of these, and says nothing of what was to be added. Else this holds.
-abbrev pub UnlessFull : {X : Type 0} → (ErrorValue → Type 0) → Result X ErrorValue → Type 0 → Type 0
-UnlessFull Full (Ok x) P = P
-UnlessFull Full (Err e) P = Full e ⊎ P
-
 -- ---- why a section is refused
 
 -- an item is read, from one place to another
@@ -70,3 +63,25 @@ pub record StopsAdding {T V A M : Type 0} (view : T → V) (item : T → A) (d :
   pub read : AddsEach (IsRead view item d) s items here
   pub each : AddsEach adds before items now
   pub stops : ((length items ≡ n) × IsByteLeft here e) ⊎ ((length items < n) × (Fails e (d here) ⊎ IsItemRefused view item d refuses here now e))
+
+-- ---- what is full
+
+-- An answer of what may be full: where it is, the refusal is one of these, and no more is said. Else this holds.
+abbrev pub UnlessFull : {X : Type 0} → (ErrorValue → Type 0) → Result X ErrorValue → Type 0 → Type 0
+UnlessFull Full (Ok x) P = P
+UnlessFull Full (Err e) P = Full e ⊎ P
+
+-- ---- which item of a section has no room
+
+-- An item is read in a section of so many, whose first begins here, after some that were read before it.
+pub record IsItemOf {T V A : Type 0} (view : T → V) (item : T → A) (d : Settings → Decoder V) (n : ℕ) (s : State) (x : A) : Type 0 where
+  pub front : List A
+  pub here : State
+  pub there : State
+  pub read : AddsEach (IsRead view item (d s.settings)) s front here
+  pub fewer : length front < n
+  pub is : IsRead view item (d s.settings) here x there
+
+-- one of these items is refused with this, since it has no room
+abbrev pub IsFullFor : {A : Type 0} → (A → Type 0) → (A → ErrorValue → Type 0) → ErrorValue → Type 0
+IsFullFor {A} Is Full e = (x : A) × Is x × Full x e

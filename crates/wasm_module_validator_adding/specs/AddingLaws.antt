@@ -14,7 +14,7 @@ use Rattle.wasm_types.specs.error.DenialLaws.{denies}
 use Rattle.wasm_types.specs.reader.Reading.{FailsAt, Fails}
 use Rattle.wasm_sections_limited.specs.Walking.{Walk, NextIn, Passes, fresh}
 use Rattle.wasm_sections_limited.specs.Runs.{with_offset}
-use Rattle.wasm_module_validator_adding.specs.Adding.{Spelled, AddsEach, AreAdded, AddsShort, IsRead, StopsAdding}
+use Rattle.wasm_module_validator_adding.specs.Adding.{Spelled, AddsEach, AreAdded, AddsShort, IsItemOf, IsRead, StopsAdding}
 
 -- what would have to be read is denied by what refused it
 unread : {Y : Type 0} (k : ErrorKind) (p : ℕ) (o : Outcome Y) (P : Type 0) → FailsAt k p o → (P → (y : Y) × (t : State) × (o ≡ Done y t)) → Denies k P
@@ -68,10 +68,7 @@ module _ {T V A M : Type 0} (view : T → V) (of : T → A) (d : Settings → De
 
   -- What was read at first is this, and these items were added since. Something can be what is read by now, the state stands for
   -- whatever can be, and the whole section leads where what is left of it leads from there.
-  pub record Leads {S : Type 0} (reads : S → M → Type 0) (n : ℕ) (b : State) (w : Walk) (u : S) (first : M) : Type 0 where
-    pub front : List A
-    pub read : AddsEach (IsRead view of (d z)) b front w.reader
-    pub counted : w.left + length front ≡ n
+  pub record Leads {S : Type 0} (reads : S → M → Type 0) (n : ℕ) (b : State) (w : Walk) (u : S) (front : List A) (first : M) : Type 0 where
     pub some : (k : M) × AddsEach adds first front k
     pub stands : (k : M) → AddsEach adds first front k → reads u k
     pub to : (t : M) → Added (fresh n b) first t → (k : M) × AddsEach adds first front k × Added w k t
@@ -80,7 +77,10 @@ module _ {T V A M : Type 0} (view : T → V) (of : T → A) (d : Settings → De
   pub record Stands {S : Type 0} (reads : S → M → Type 0) (n : ℕ) (b : State) (s : S) (w : Walk) (u : S) : Type 0 where
     pub going : w.over ≡ false
     pub settings : w.reader.settings ≡ z
-    pub leads : (m : M) → reads s m → Leads reads n b w u m
+    pub front : List A
+    pub read : AddsEach (IsRead view of (d z)) b front w.reader
+    pub counted : w.left + length front ≡ n
+    pub leads : (m : M) → reads s m → Leads reads n b w u front m
 
 -- While a walk by these limits went from one place to another a state became another: whatever stood there stands here.
 abbrev pub StandsOn : {T V A M S : Type 0} → (T → V) → (T → A) → (Settings → Decoder V) → (Settings → Grammar V) → (M → A → M → Type 0)
@@ -158,7 +158,7 @@ module _ {T V A M : Type 0} (view : T → V) (of : T → A) (alike : (x y : T) �
       go (a ∷ xs) e = e
 
   module _ {S : Type 0} (reads : S → M → Type 0) (n : ℕ) (b : State) (s : S) where
-    abbrev Led : Walk → S → M → Type 0
+    abbrev Led : Walk → S → List A → M → Type 0
     Led = Leads view of d g adds z reads n b
 
     abbrev Standing : Walk → S → Type 0
@@ -168,10 +168,10 @@ module _ {T V A M : Type 0} (view : T → V) (of : T → A) (alike : (x y : T) �
     stands_first e = record {
       going = refl;
       settings = e;
+      front = [];
+      read = refl;
+      counted = omega arith;
       leads = λ m h. record {
-        front = [];
-        read = refl;
-        counted = omega arith;
         some = (m, refl);
         stands = λ k is. subst (λ (j : M). reads s j) is h;
         to = λ t a. (m, refl, a);
@@ -189,26 +189,36 @@ module _ {T V A M : Type 0} (view : T → V) (of : T → A) (alike : (x y : T) �
     -- with an item added it stands behind it
     pub stands_behind : (w v : Walk) (u u' : S) (x : ℕ × T) → Standing w u → Step w (Some (Ok x)) v → v.reader.settings ≡ w.reader.settings
         → ((m : M) → reads u m → (k : M) × adds m (of x.1) k) → ((m k : M) → reads u m → adds m (of x.1) k → reads u' k) → Standing v u'
-    stands_behind w v u u' x h step kept may_now added = record { going = step.1; settings = kept ∙ h.settings; leads = λ m first. behind m (h.leads m first) }
+    stands_behind w v u u' x h step kept may_now added = record {
+      going = step.1;
+      settings = kept ∙ h.settings;
+      front = h.front ++ of x.1 ∷ [];
+      read = one_more (IsRead view of (d z)) b h.front (of x.1) v.reader (w.reader, h.read, (x.1, refl, read.3.1));
+      counted = omega (arith, counts, left, one_longer h.front (of x.1));
+      leads = λ m first. behind m (h.leads m first);
+    }
       where
         read : Reads w x v
         read = is_read w v x h.settings step
 
-        behind : (m : M) → Led w u m → Led v u' m
+        counts : w.left + length h.front ≡ n
+        counts = h.counted
+
+        left : w.left ≡ v.left + 1
+        left = read.2
+
+        behind : (m : M) → Led w u h.front m → Led v u' (h.front ++ of x.1 ∷ []) m
         behind m l =
             let last = may_now l.some.0 (l.stands l.some.0 l.some.1) in
             record {
-              front = l.front ++ of x.1 ∷ [];
-              read = one_more (IsRead view of (d z)) b l.front (of x.1) v.reader (w.reader, l.read, (x.1, refl, read.3.1));
-              counted = omega (arith, l.counted, read.2, one_longer l.front (of x.1));
-              some = (last.0, one_more adds m l.front (of x.1) last.0 (l.some.0, l.some.1, last.1));
-              stands = λ k is. let a = without_last adds m l.front (of x.1) k is in added a.0 k (l.stands a.0 a.1) a.2;
+              some = (last.0, one_more adds m h.front (of x.1) last.0 (l.some.0, l.some.1, last.1));
+              stands = λ k is. let a = without_last adds m h.front (of x.1) k is in added a.0 k (l.stands a.0 a.1) a.2;
               to = λ t all.
                   let a = l.to t all in
                   let f = first_spelled w v x a.0 t read a.2 in
-                  (f.0, one_more adds m l.front (of x.1) f.0 (a.0, a.1, f.1), f.2);
+                  (f.0, one_more adds m h.front (of x.1) f.0 (a.0, a.1, f.1), f.2);
               from = λ k t is all.
-                  let a = without_last adds m l.front (of x.1) k is in
+                  let a = without_last adds m h.front (of x.1) k is in
                   l.from a.0 t a.1 (spelled_first w v x a.0 t read (k, a.2, all));
             }
 
@@ -257,8 +267,8 @@ module _ {T V A M : Type 0} (view : T → V) (of : T → A) (alike : (x y : T) �
         → ((m : M) → reads u m → Denies k ((n : M) × adds m (of x.1) n)) → (m : M) → reads s m → Denies k ((t : M) × Here (fresh n b) m t)
     refused_item w v u x k h step not_valid m first = go (h.leads m first)
       where
-        go : Led w u m → Denies k ((t : M) × Here (fresh n b) m t)
-        go l = denies_each {X = (j : M) × AddsEach adds m l.front j} k (λ j. (n : M) × adds j.0 (of x.1) n) _
+        go : Led w u h.front m → Denies k ((t : M) × Here (fresh n b) m t)
+        go l = denies_each {X = (j : M) × AddsEach adds m h.front j} k (λ j. (n : M) × adds j.0 (of x.1) n) _
             (λ all. let a = l.to all.0 all.1 in let f = first_spelled w v x a.0 all.0 (is_read w v x h.settings step) a.2 in ((a.0, a.1), (f.0, f.1)))
             (λ j. not_valid j.0 (l.stands j.0 j.1))
 
@@ -272,6 +282,22 @@ module _ {T V A M : Type 0} (view : T → V) (of : T → A) (alike : (x y : T) �
         unread e.kind e.offset (d z w.reader) _ (subst (λ (y : Settings). Fails e (d y w.reader)) h.settings refused.1)
         (λ all. let a = l.to all.0 all.1 in not_read w a.0 all.0 refused.0 a.2)
 
+    -- the item that was read last is one of the section
+    pub is_item : (w v : Walk) (u : S) (x : ℕ × T) → b.settings ≡ z → Standing w u → Step w (Some (Ok x)) v → IsItemOf view of d n b (of x.1)
+    is_item w v u x same h step = go (is_read w v x h.settings step)
+      where
+        go : Reads w x v → IsItemOf view of d n b (of x.1)
+        go (o, q, left, (place, read)) =
+            let counts = h.counted in
+            record {
+              front = h.front;
+              here = w.reader;
+              there = v.reader;
+              read = subst (λ (y : Settings). AddsEach (IsRead view of (d y)) b h.front w.reader) (sym same) h.read;
+              fewer = omega (arith, left, counts);
+              is = subst (λ (y : Settings). IsRead view of (d y) w.reader (of x.1) v.reader) (sym same) (x.1, refl, read);
+            }
+
     -- ---- why it stops
 
     module _ (refuses : M → A → ℕ → ErrorValue → Type 0) where
@@ -282,15 +308,15 @@ module _ {T V A M : Type 0} (view : T → V) (of : T → A) (alike : (x y : T) �
           → (m : M) → reads s m → Stopped m e
       stops_at_an_item w v u x e h step refused m first = go (h.leads m first) (is_read w v x h.settings step)
         where
-          go : Led w u m → Reads w x v → Stopped m e
+          go : Led w u h.front m → Reads w x v → Stopped m e
           go l (o, q, left, (place, read)) = record {
-            items = l.front;
+            items = h.front;
             here = w.reader;
             now = l.some.0;
-            read = l.read;
+            read = h.read;
             each = l.some.1;
             stops = inr (
-              omega (arith, left, l.counted),
+              omega (arith, left, h.counted),
               inr (x.1, v.reader, read, subst (λ (p : ℕ). refuses l.some.0 (of x.1) p e) place (refused l.some.0 (l.stands l.some.0 l.some.1))),
             );
           }
@@ -299,22 +325,22 @@ module _ {T V A M : Type 0} (view : T → V) (of : T → A) (alike : (x y : T) �
       stops_at_bytes w v u e h (o, p, inl trailing) m first =
           let l = h.leads m first in
           record {
-            items = l.front;
+            items = h.front;
             here = w.reader;
             now = l.some.0;
-            read = l.read;
+            read = h.read;
             each = l.some.1;
-            stops = inl (omega (arith, trailing.0, l.counted), (trailing.1, trailing.2, trailing.3));
+            stops = inl (omega (arith, trailing.0, h.counted), (trailing.1, trailing.2, trailing.3));
           }
       stops_at_bytes w v u e h (o, p, inr refused) m first =
           let l = h.leads m first in
           record {
-            items = l.front;
+            items = h.front;
             here = w.reader;
             now = l.some.0;
-            read = l.read;
+            read = h.read;
             each = l.some.1;
-            stops = inr (omega (arith, refused.0, l.counted), inl (subst (λ (y : Settings). Fails e (d y w.reader)) h.settings refused.1));
+            stops = inr (omega (arith, refused.0, h.counted), inl (subst (λ (y : Settings). Fails e (d y w.reader)) h.settings refused.1));
           }
 
     -- ---- the end

@@ -5,7 +5,7 @@ ghost use Rattle.wasm_types.specs.limits.Settings.{Settings};
 ghost use Rattle.wasm_types.specs.decoding.Decoder.{State, Done};
 ghost use Rattle.wasm_types.specs.error.Denials.{Tells};
 ghost use Rattle.wasm_types.specs.error.ErrorValue.{ErrorValue};
-ghost use Rattle.wasm_module_validator_adding.specs.Adding.{AddsShort, AreAdded, Spelled, StopsAdding, UnlessFull};
+ghost use Rattle.wasm_module_validator_adding.specs.Adding.{AddsShort, AreAdded, IsFullFor, IsItemOf, Spelled, StopsAdding, UnlessFull};
 ghost use Rattle.wasm_module_validator_adding.specs.AddingLaws.{StandsOn, behind};
 ghost use Rattle.wasm_sections_limited.specs.Walking.{Walk};
 ghost use Rattle.wasm_sections_limited.specs.Runs.{place_with_offsets};
@@ -36,16 +36,16 @@ pub trait AddItem<'a, T: FromReader<'a>> {
     /// What a state with items more has to do with it before.
     ghost grows: { Self → Self → Type 0 };
 
-    /// With what an item is refused because the state is full, whatever the item is.
-    ghost full: { Self → ErrorValue → Type 0 };
+    /// With what an item is refused because the state has no room for it.
+    ghost full: { Self → Item → ErrorValue → Type 0 };
 
     /// Checks an item that was read, which begins at this offset, and adds it.
     fn add(&mut self, item: T, offset: u64) -> Result<()>
         requires read { (z : Settings) × (s : State) × (t : State) × (T.decoder z s ≡ Done (T.view item) t) }
-        ensures answer { UnlessFull (full self.old) result
+        ensures answer { UnlessFull (full self.old (of item)) result
             ((m : Tree) → reads self.old m → Tells result ((n : Tree) × adds m (of item) n)) }
         ensures added { OnOk result ((m n : Tree) → reads self.old m → adds m (of item) n → reads self.new n) }
-        ensures refused { UnlessFull (full self.old) result
+        ensures refused { UnlessFull (full self.old (of item)) result
             (IfErr result (λ e. (m : Tree) → reads self.old m → refuses m (of item) offset e)) }
         ensures grown { OnOk result (grows self.old self.new) };
 
@@ -66,8 +66,8 @@ pub trait AddItem<'a, T: FromReader<'a>> {
     /// And over what lies between.
     ghost grows_further: { (r s t : Self) → grows r s → grows s t → grows r t };
 
-    /// What is full with items more is so because of what it was before.
-    ghost full_before: { (r s : Self) (e : ErrorValue) → grows r s → full s e → full r e };
+    /// What is full for an item with items more is so because of what it was before.
+    ghost full_before: { (r s : Self) (x : Item) (e : ErrorValue) → grows r s → full s x e → full r x e };
 }
 
 /// Adds the items at the front of these bytes that the bytes alone tell, at most so many: how many are left, and where those end.
@@ -113,19 +113,24 @@ fn pass_front<'a, T: FromReader<'a>, S: AddItem<'a, T>>(
 ///
 /// # Errors
 ///
-/// An item cannot be read, a byte is left behind the last, or an item is refused, for itself or because the state is full: the first of these.
+/// An item cannot be read, a byte is left behind the last, or an item is refused, for itself or because the state has no room for it:
+/// the first of these.
 pub fn add_items<'a, T: FromReader<'a>, S: AddItem<'a, T>>(
     state: &mut S,
     section: SectionLimited<'a, T>,
 ) -> Result<()>
-    ensures answer { UnlessFull (S.full state.old) result ((m : S.Tree) → S.reads state.old m
-        → Tells result ((t : S.Tree) × AreAdded (Spelled T.view S.of (T.grammar section.entry.reader.settings)) S.adds
-        section.entry.count section.entry.reader.rest m t)) }
+    ensures answer { UnlessFull
+        (IsFullFor (IsItemOf T.view S.of T.decoder section.entry.count section.entry.reader) (S.full state.old)) result
+        ((m : S.Tree) → S.reads state.old m → Tells result ((t : S.Tree)
+        × AreAdded (Spelled T.view S.of (T.grammar section.entry.reader.settings)) S.adds section.entry.count section.entry.reader.rest m t)) }
     ensures added { OnOk result ((m t : S.Tree) → S.reads state.old m
-        → AreAdded (Spelled T.view S.of (T.grammar section.entry.reader.settings)) S.adds section.entry.count section.entry.reader.rest m t → S.reads state.new t) }
-    ensures refused { UnlessFull (S.full state.old) result ((m : S.Tree) → S.reads state.old m
-        → IfErr result (λ e. StopsAdding T.view S.of (T.decoder section.entry.reader.settings) S.adds S.refuses
-        section.entry.count section.entry.reader m e)) }
+        → AreAdded (Spelled T.view S.of (T.grammar section.entry.reader.settings)) S.adds section.entry.count section.entry.reader.rest m t
+        → S.reads state.new t) }
+    ensures refused { UnlessFull
+        (IsFullFor (IsItemOf T.view S.of T.decoder section.entry.count section.entry.reader) (S.full state.old)) result
+        ((m : S.Tree) → S.reads state.old m
+        → IfErr result (StopsAdding T.view S.of (T.decoder section.entry.reader.settings) S.adds S.refuses section.entry.count
+        section.entry.reader m)) }
     ensures grown { OnOk result (S.grows state.old state.new) }
 {
     let limits = section.get_binary_reader().limits();

@@ -33,7 +33,7 @@ impl<'a> AddItem<'a, u32> for Total {
 
     ghost grows = { λ s t. s.most ≡ t.most };
 
-    ghost full = { λ s e. ⊥ };
+    ghost full = { λ s x e. ⊥ };
 
     fn add(&mut self, item: u32, offset: u64) -> Result<()> {
         if self.most < self.sum || self.most - self.sum < item {
@@ -53,7 +53,7 @@ impl<'a> AddItem<'a, u32> for Total {
 
     ghost grows_further = { λ r s t a b. a ∙ b };
 
-    ghost full_before = { λ r s e a b. b };
+    ghost full_before = { λ r s x e a b. b };
 }
 
 impl<'a> AddLent<'a, u32> for Total {

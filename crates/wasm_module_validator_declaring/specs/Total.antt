@@ -4,21 +4,28 @@ use Rattle.std.specs.Prelude.{◌≡◌, ◌+◌, ◌<◌, ◌≤◌, ℕ, List,
 use Rattle.wasm_types.specs.error.Denials.{Tells}
 use Rattle.wasm_types.specs.error.ErrorValue.{ErrorValue}
 use Rattle.wasm_types.specs.error.declared.error.ErrorKind.TheVariants.{Other}
+use Rattle.wasm_types.specs.trees.ValidGroup.{Written}
 use Rattle.wasm_module_validator_types.specs.List.{max_types}
 use Rattle.wasm_module_validator_adding.specs.Adding.{UnlessFull}
 use Rattle.wasm_module_validator_standing.specs.type_trees.Groups.{Group, count}
 use Rattle.wasm_module_validator_standing.specs.items.Items.{Items}
 
+-- a group, as it is written, has so many types
+abbrev pub IsSizeOf : Written → ℕ → Type 0
+IsSizeOf g n = n ≡ length g.types
+
 -- A group was refused since the types that the list held and its own are more than a list has. The list had these groups before, and the
--- module these types; and with those that came since, the module has no more than its limit.
-pub record IsPastTotal (groups : List Group) (s : Items) (e : ErrorValue) : Type 0 where
+-- module these types; and with those that came since, the module has no more than its limit. The group is one of those that are told of:
+-- `Has` says of a number whether one of them has so many types.
+pub record IsPastTotal (groups : List Group) (s : Items) (Has : ℕ → Type 0) (e : ErrorValue) : Type 0 where
   pub kind : e.kind ≡ Other
   pub text : e.message ≡ codes "implementation limit: too many core types"
   pub held : ℕ
   pub own : ℕ
+  pub has : Has own
   pub past : max_types < held + own
   pub few : held + own + length s.spaces.types ≤ count groups + s.spaces.settings.limits.types
 
 -- Ok exactly where the fact holds, unless memory ran out; or the total was passed.
-abbrev pub TellsWithinTotal : {X : Type 0} → List Group → Items → Result X ErrorValue → Type 0 → Type 0
-TellsWithinTotal groups s result P = UnlessFull (IsPastTotal groups s) result (Tells result P)
+abbrev pub TellsWithinTotal : {X : Type 0} → List Group → Items → (ℕ → Type 0) → Result X ErrorValue → Type 0 → Type 0
+TellsWithinTotal groups s Has result P = UnlessFull (IsPastTotal groups s Has) result (Tells result P)

@@ -3,6 +3,8 @@ use Rattle.std.specs.Prelude.{◌≡◌, ◌==◌, ◌+◌, ◌≤◌, ◌&&◌,
 use Rattle.wasm_types.specs.error.Denials.{Tells}
 use Rattle.wasm_types.specs.error.ErrorValue.{ErrorValue}
 use Rattle.wasm_types.specs.decoding.Decoder.{Grammar}
+use Rattle.wasm_types.specs.groups.DecodeTypes.{rec_group}
+use Rattle.wasm_types.specs.groups.SpellsTypes.{group_value}
 use Rattle.wasm_types.specs.limits.declared.Limits.{Limits}
 use Rattle.wasm_types.specs.limits.contracts.LimitsPartialEq.TheImpl as limits
 use Rattle.wasm_types.specs.limits.Limits.{IsWithinCeilings}
@@ -21,9 +23,10 @@ use Rattle.wasm_module_validator_standing.specs.steps.Sections as section
 use Rattle.wasm_module_validator_standing.specs.steps.Steps.{SoFar, IsJudged}
 use Rattle.wasm_module_validator_standing.specs.steps.Texts.{ItemRead, AddsRead}
 use Rattle.wasm_module_validator_standing.specs.Standing.{IsGrown, Stands, IsReading}
-use Rattle.wasm_module_validator_declaring.specs.Total.{IsPastTotal}
+use Rattle.wasm_module_validator_declaring.specs.Total.{IsPastTotal, IsSizeOf}
+use Rattle.wasm_module_validator_texts.specs.Kinds.{group_read}
 use Rattle.wasm_module_validator_texts.specs.Sections.{Reading, AddsIn}
-use Rattle.wasm_module_validator_adding.specs.Adding.{AddsShort, UnlessFull}
+use Rattle.wasm_module_validator_adding.specs.Adding.{AddsShort, IsItemOf, UnlessFull}
 use Rattle.wasm_module_validator_adding.specs.Bodies.{IsReadBy}
 use Rattle.wasm_module_validator_adding.specs.declared.bodies.Body.{Body}
 
@@ -99,13 +102,32 @@ abbrev pub AddsShortIn : {T V : Type 0} (s : Section) → (T → V) → (T → I
 AddsShortIn s view of g groups i j l text from to =
     (count : ℕ) → AddsShort view of g (AddsIn s) (IsRead s) (kept groups i count) (kept groups j count) l text from to
 
+-- an item that was read is a group of so many types
+abbrev pub HasTypes : (s : Section) → ItemRead s → ℕ → Type 0
+HasTypes section.types x n = IsSizeOf x n
+HasTypes section.imports x n = ⊥
+HasTypes section.functions x n = ⊥
+HasTypes section.tables x n = ⊥
+HasTypes section.memories x n = ⊥
+HasTypes section.tags x n = ⊥
+HasTypes section.globals x n = ⊥
+HasTypes section.exports x n = ⊥
+HasTypes section.start x n = ⊥
+HasTypes section.element_segments x n = ⊥
+HasTypes section.data_count x n = ⊥
+HasTypes section.data_segments x n = ⊥
+
+-- one of these items is
+abbrev pub HasItem : (s : Section) → (ItemRead s → Type 0) → ℕ → Type 0
+HasItem s Is n = (x : ItemRead s) × Is x × HasTypes s x n
+
 -- only a group of types is refused because the list is full
-abbrev pub FullIn : Section → List Group → Items → ErrorValue → Type 0
-FullIn s groups items e = (s ≡ section.types) × IsPastTotal groups items e
+abbrev pub FullIn : Section → List Group → Items → (ℕ → Type 0) → ErrorValue → Type 0
+FullIn s groups items Has e = (s ≡ section.types) × IsPastTotal groups items Has e
 
 -- What is told of an item that was read: whether the tree may have it, unless the list of types is full.
 abbrev pub TellsRead : {X : Type 0} (s : Section) → List Group → Items → ℕ → ItemRead s → Result X ErrorValue → Type 0
-TellsRead s groups items count x result = UnlessFull (FullIn s groups items) result
+TellsRead s groups items count x result = UnlessFull (FullIn s groups items (HasTypes s x)) result
     ((z : Settings) (m : ModuleTree) → Reads s groups items count z m → Tells result ((n : ModuleTree) × AddsRead z s m x n))
 
 -- ---- frames
@@ -128,10 +150,11 @@ pub record IsAt (z : Settings) (r : Progress) (bs : List Body) (p : SoFar) : Typ
   pub types : map type_of bs ≡ take (length bs) p.tree.functions
   pub read : Each (λ (b : Body). IsReadBy z z.features b.body) bs
 
--- only a type section is refused because the list is full
-abbrev pub IsOfTypes : Payload → Type 0
-IsOfTypes (payloads.TypeSection s) = Unit {0}
-IsOfTypes x = ⊥
+-- a section of types has a group of so many types
+abbrev pub HasGroup : Payload → ℕ → Type 0
+HasGroup (payloads.TypeSection s) n = HasItem section.types (IsItemOf group_value group_read rec_group s.count s.reader) n
+HasGroup x n = ⊥
 
+-- it has one for which the list has no room
 abbrev pub FullBy : Payload → Kept → ErrorValue → Type 0
-FullBy x k e = IsOfTypes x × IsPastTotal k.groups k.items e
+FullBy x k e = IsPastTotal k.groups k.items (HasGroup x) e

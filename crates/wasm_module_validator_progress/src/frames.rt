@@ -6,11 +6,11 @@ ghost use Rattle.wasm_types.specs.error.Denials.{Tells, UnlessMemory};
 ghost use Rattle.wasm_types.specs.error.declared.error.ErrorKind.TheVariants.{Other};
 ghost use Rattle.wasm_types.specs.limits.Settings.{Settings};
 ghost use Rattle.wasm_sections_payloads.specs.Payloads.{Counts};
-ghost use Rattle.wasm_module_validator_adding.specs.Adding.{UnlessFull};
+ghost use Rattle.wasm_module_validator_adding.specs.Adding.{IsItemOf, UnlessFull};
 ghost use Rattle.wasm_module_validator_adding.specs.declared.bodies.Body.{Body as TheBody};
 ghost use Rattle.wasm_module_validator_standing.specs.steps.Sections.{code_place};
 ghost use Rattle.wasm_module_validator_standing.specs.steps.Steps.{SoFar, JudgesSection, JudgesBody};
-ghost use Rattle.wasm_module_validator_progress.specs.Progress.{FullIn, Grows, IsAt};
+ghost use Rattle.wasm_module_validator_progress.specs.Progress.{FullIn, Grows, HasItem, IsAt};
 
 use crate::{Body, InProgress, SectionItem};
 use wasm_module_validator_adding::add_items;
@@ -106,7 +106,8 @@ impl InProgress {
         &mut self,
         section: SectionLimited<'a, T>,
     ) -> Result<()>
-        ensures answer { UnlessFull (FullIn T.section self.old.kept.groups self.old.kept.items) result
+        ensures answer { UnlessFull (FullIn T.section self.old.kept.groups self.old.kept.items (HasItem T.section
+            (IsItemOf T.FromReader.view T.of T.FromReader.decoder section.entry.count section.entry.reader))) result
             ((z : Settings) (p : SoFar) (bodies : List TheBody) (b : State) → IsAt z self.old bodies p → b.settings ≡ z
             → Counts b section.entry.count section.entry.reader → Tells result ((q : SoFar) × JudgesSection z p T.section b.rest q)) }
         ensures added { OnOk result ((z : Settings) (p q : SoFar) (bodies : List TheBody) (b : State) → IsAt z self.old bodies p → b.settings ≡ z

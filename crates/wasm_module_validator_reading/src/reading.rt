@@ -4,7 +4,7 @@ ghost use Rattle.std.specs.Prelude.{◌≡◌, IfOk, OnOk};
 ghost use Rattle.wasm_module_validator_judging.specs.progress.declaring.Total.{TellsWithinTotal};
 ghost use Rattle.wasm_module_validator_judging.specs.progress.standing.steps.Steps.{SoFar};
 ghost use Rattle.wasm_module_validator_judging.specs.progress.Progress.{Grows, IsAt, nothing_over};
-ghost use Rattle.wasm_module_validator_reading.specs.Reading.{IsReadAs};
+ghost use Rattle.wasm_module_validator_reading.specs.Reading.{HasGroupIn, IsReadAs};
 
 use std::alloc::Global;
 use wasm_module_validator_judging::{Body, HeldSettings, InProgress};
@@ -25,7 +25,7 @@ pub fn read_module<'a>(
     bytes: &'a [u8],
 ) -> Result<Vec<Body<'a>>>
     requires { progress.old ≡ nothing_over progress.old.kept.groups settings.now }
-    ensures answer { TellsWithinTotal progress.old.kept.groups progress.old.kept.items result
+    ensures answer { TellsWithinTotal progress.old.kept.groups progress.old.kept.items (HasGroupIn settings.now bytes.now) result
         ((q : SoFar) × IsReadAs settings.now bytes.now q) }
     ensures stands { IfOk result (λ bodies. (q : SoFar) → IsReadAs settings.now bytes.now q → IsAt settings.now progress.new bodies.items q) }
     ensures grown { OnOk result (Grows progress.old.kept progress.new.kept) }

@@ -11,7 +11,7 @@ ghost use Rattle.wasm_module_validator_reading.specs.progress.standing.steps.Sec
 ghost use Rattle.wasm_module_validator_reading.specs.progress.standing.steps.Steps.{SoFar};
 ghost use Rattle.wasm_module_validator_reading.specs.progress.Progress.{Grows, IsAt, kept_groups, renewed};
 ghost use Rattle.wasm_module_validator_reading.specs.judging.Bodies.{AreBodies};
-ghost use Rattle.wasm_module_validator_reading.specs.Reading.{IsReadAs};
+ghost use Rattle.wasm_module_validator_reading.specs.Reading.{HasGroupIn, IsReadAs};
 ghost use Rattle.wasm_module_validator_sharing.specs.Sharing.{nothing_reached, renewed_behind, next_behind, has_no_code, IsReached, IsWhole, TellsNext, Follows, IsNextFunction};
 
 use crate::data::check_data_section;
@@ -115,8 +115,8 @@ impl SharedProgress {
     ///
     /// As `read_module`. What is kept then stands for nothing.
     pub fn read<'a>(&mut self, settings: &HeldSettings, bytes: &'a [u8]) -> Result<Vec<Body<'a>>>
-        ensures answer { TellsWithinTotal (kept_groups settings.now self.old.progress.kept) (no_items settings.now) result
-            ((q : SoFar) × IsReadAs settings.now bytes.now q) }
+        ensures answer { TellsWithinTotal (kept_groups settings.now self.old.progress.kept) (no_items settings.now)
+            (HasGroupIn settings.now bytes.now) result ((q : SoFar) × IsReadAs settings.now bytes.now q) }
         ensures stands { IfOk result (λ bodies. (q : SoFar) → IsReadAs settings.now bytes.now q → IsAt settings.now self.new.progress bodies.items q) }
         ensures grown { OnOk result (Grows (renewed settings.now self.old.progress.kept).kept self.new.progress.kept) }
         ensures own { self.new.code ≡ None }

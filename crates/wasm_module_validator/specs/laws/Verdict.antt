@@ -80,9 +80,10 @@ none_held z k e = go (are_same k.items.spaces.settings z)
     go false = refl
 
 -- so it passes no total
-pub alone_told : {X : Type 0} (z : Settings) (k : Kept) → k.groups ≡ [] → IsWithinCeilings z.limits → (r : Result X ErrorValue) (P : Type 0)
-    → TellsWithinTotal (kept_groups z k) (no_items z) r P → Tells r P
-alone_told z k none w r P h = within_total z w r P (subst (λ (gs : List Group). TellsWithinTotal gs (no_items z) r P) (none_held z k none) h)
+pub alone_told : {X : Type 0} (z : Settings) (k : Kept) → k.groups ≡ [] → IsWithinCeilings z.limits → (Has : ℕ → Type 0) (r : Result X ErrorValue)
+    (P : Type 0) → TellsWithinTotal (kept_groups z k) (no_items z) Has r P → Tells r P
+alone_told z k none w Has r P h =
+    within_total z w Has r P (subst (λ (gs : List Group). TellsWithinTotal gs (no_items z) Has r P) (none_held z k none) h)
 
 -- behind a function that was refused it has ended, but where there was no memory
 pub left_behind : (X : Type 0) (groups : List Group) (z : Settings) (bytes : List ℕ) (e : ErrorValue) (s : State) → IsLeft e.kind s → (q : SoFar) × IsReadAs z bytes q

@@ -22,7 +22,7 @@ use Rattle.wasm_module_validator_resources.specs.Reading.{context_of}
 use Rattle.wasm_module_validator_sharing.specs.Sharing.{Handed, IsHandedOut, IsReached, TellsFrame, has_no_code, body_count, renewed_behind}
 use Rattle.wasm_module_validator_sharing.specs.reading.judging.functions.code.Code.{IsFunctionOf}
 use Rattle.wasm_module_validator_sharing.specs.reading.progress.adding.Bodies.{IsReadBy}
-use Rattle.wasm_module_validator_sharing.specs.reading.progress.Progress.{Kept, Grows, FullBy, nothing_over, nothing_kept, kept_groups}
+use Rattle.wasm_module_validator_sharing.specs.reading.progress.Progress.{Kept, Grows, FullBy, HasGroup, nothing_over, nothing_kept, kept_groups}
 use Rattle.wasm_module_validator_sharing.specs.reading.progress.declaring.Total.{IsPastTotal}
 use Rattle.wasm_module_validator_sharing.specs.reading.progress.fronts.Walks.{HasSettings}
 use Rattle.wasm_module_validator_sharing.specs.reading.progress.laws.Bodies.{function_is}
@@ -136,8 +136,8 @@ not_some : {A : Type 0} (x : A) → None ≡ Some x → ⊥
 not_some x e = cc
 
 -- where the list of types is not full it is told
-not_full : (x : Payload) (k : Kept) (e : ErrorValue) (P : Type 0) → (IsPastTotal k.groups k.items e → ⊥) → FullBy x k e ⊎ P → P
-not_full x k e P none (inl full) = absurd (none full.1)
+not_full : (x : Payload) (k : Kept) (e : ErrorValue) (P : Type 0) → ((Has : ℕ → Type 0) → IsPastTotal k.groups k.items Has e → ⊥) → FullBy x k e ⊎ P → P
+not_full x k e P none (inl full) = absurd (none (HasGroup x) full)
 not_full x k e P none (inr p) = p
 
 same_kept : (k l : Kept) → l ≡ k → Grows k l
@@ -163,7 +163,7 @@ is_known section.data_segments e = cc
 module _ (z : Settings) (v w : Validator) (going : v.state ≡ Module) where
   -- the list of types is not full because of this
   abbrev pub NotFull : ErrorValue → Type 0
-  NotFull e = IsPastTotal v.reached.progress.kept.groups v.reached.progress.kept.items e → ⊥
+  NotFull e = (Has : ℕ → Type 0) → IsPastTotal v.reached.progress.kept.groups v.reached.progress.kept.items Has e → ⊥
 
   before_code : v.reached.code ≡ None → refusal v.state (has_no_code v.reached.code) ≡ None
   before_code c = ap (λ (s : State). refusal s (has_no_code v.reached.code)) going ∙ ap (λ (o : Option ℕ). refusal Module (has_no_code o)) c

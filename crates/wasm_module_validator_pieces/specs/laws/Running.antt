@@ -411,8 +411,9 @@ module _ (z : Settings) (id : ValidatorId) where
               absurd (late_header v w st i l s (subst (λ (y : Payload). TakesPayload y v (Ok valid.Ok) w) (subst (λ (h : Frame). IsPayloadOf h x) e is) t))
 
       -- the list of types is not full because of this module alone
-      not_past : Grows (nothing_kept z).kept v.reached.progress.kept → (e : ErrorValue) → IsPastTotal v.reached.progress.kept.groups v.reached.progress.kept.items e → ⊥
-      not_past grown e p = none_past z g.within e (total_before (nothing_kept z).kept v.reached.progress.kept e grown p)
+      not_past : Grows (nothing_kept z).kept v.reached.progress.kept → (e : ErrorValue) (Has : ℕ → Type 0)
+          → IsPastTotal v.reached.progress.kept.groups v.reached.progress.kept.items Has e → ⊥
+      not_past grown e Has p = none_past z g.within Has e (total_before (nothing_kept z).kept v.reached.progress.kept Has e grown p)
 
       -- a payload that is refused
       pub payload_denied : (e : ErrorValue) → TakesPayload x v (Err e) w → (more : List ℕ) → (eof ≡ true → more ≡ []) → length (got ++ more) < 2 ^ 64 → Denies e.kind (AcceptsUnder z (got ++ more))

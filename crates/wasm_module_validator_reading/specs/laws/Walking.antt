@@ -11,7 +11,7 @@ use Rattle.wasm_sections_parser.specs.Parsers.{Parser}
 use Rattle.wasm_sections_parser.specs.Parsing.{shape_of}
 use Rattle.wasm_sections_parser.specs.Steps.{Shape, the_end}
 use Rattle.wasm_sections_parser_laws.specs.calls.Runs.{fresh}
-use Rattle.wasm_sections_parser_laws.specs.calls.Calls.{shapes_of}
+use Rattle.wasm_sections_parser_laws.specs.calls.Calls.{Calls, shapes_of}
 use Rattle.wasm_sections_payloads.specs.declared.payload.Payload.{Payload}
 use Rattle.wasm_sections_payloads.specs.Payloads.{IsPayloadOf}
 use Rattle.wasm_sections_payloads.specs.Walking.{Standing, NextPayload}
@@ -24,8 +24,8 @@ use Rattle.wasm_module_validator_judging.specs.progress.fronts.FrontLaws.{module
 use Rattle.wasm_module_validator_judging.specs.progress.fronts.WalkLaws.{behind_nothing, payload_next, walk_ended}
 use Rattle.wasm_module_validator_judging.specs.progress.fronts.JudgedLaws.{judged_more, judged_less, judged_next, judged_not_refused, judged_ended}
 use Rattle.wasm_module_validator_judging.specs.progress.standing.type_trees.Groups.{Group}
-use Rattle.wasm_module_validator_judging.specs.progress.Progress.{Progress, IsAt, nothing_over}
-use Rattle.wasm_module_validator_reading.specs.Reading.{IsReadAs}
+use Rattle.wasm_module_validator_judging.specs.progress.Progress.{HasGroup, Progress, IsAt, nothing_over}
+use Rattle.wasm_module_validator_reading.specs.Reading.{HasGroupIn, IsReadAs, first_parser}
 
 -- what implies one of many things, each of which is denied, is denied
 denies_each : {X : Type 0} (k : ErrorKind) (P : X → Type 0) (Q : Type 0) → (Q → (x : X) × P x) → ((x : X) → Denies k (P x)) → Denies k Q
@@ -89,6 +89,19 @@ module _ (p : Parser) (text : List ℕ) where
             some = (n.0, judged_more z g.frames taken.0 g.some.0 n.0 g.some.1 n.1);
             stands = λ m h. let a = judged_less z g.frames taken.0 m h in added z a.0 m taken.0 (g.stands a.0 a.1) taken.2 taken.1 a.2;
           }
+
+      -- a group of the payload is one of the bytes
+      pub group_in : (n : ℕ) → p ≡ first_parser z → HasGroup x n → HasGroupIn z text n
+      group_in n at h = record {
+        before = g.frames;
+        last = taken.0;
+        section = x;
+        parser = t.parser;
+        rest = t.rest;
+        calls = subst (λ (q : Parser). Calls q text (g.frames ++ taken.0 ∷ []) t.parser t.rest) at taken.3.calls;
+        is = taken.1;
+        has = h;
+      }
 
       pub refused_payload : (k : ErrorKind)
           → ((z : Settings) (q : SoFar) (f : Frame) → IsAt z r bodies q → HasSettings z f → IsPayloadOf f x → Denies k ((n : SoFar) × JudgesShape z q (shape_of f) n))

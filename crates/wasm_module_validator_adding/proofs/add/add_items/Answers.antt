@@ -4,7 +4,7 @@ use Rattle.wasm_types.specs.error.ErrorValue.{ErrorValue}
 use Rattle.wasm_types.specs.reader.Reading.{Fails}
 use Rattle.wasm_sections_limited.specs.Walking.{Walk, NextIn, fresh}
 use Rattle.wasm_sections_limited.specs.Runs.{place_with_offsets, with_offset}
-use Rattle.wasm_module_validator_adding.specs.AddingLaws.{Stands, stands_first, stands_behind, refused_item, refused_bytes, stops_at_bytes, stops_at_an_item, are_added_at_the_end, stands_at_the_end}
+use Rattle.wasm_module_validator_adding.specs.AddingLaws.{Stands, stands_first, stands_behind, refused_item, refused_bytes, stops_at_bytes, stops_at_an_item, are_added_at_the_end, stands_at_the_end, is_item}
 use Rattle.wasm_module_validator_adding.specs.FullLaws.{either_from}
 use Rattle.wasm_module_validator_adding.proofs.add.add_items.Goals as goal
 
@@ -117,10 +117,13 @@ returns-in-Err-clause-answer g c =
     let step = subst (λ (r : Result (ℕ × g.row.T.Denot) ErrorValue). NextIn (with_offset i.view i.decoder w.reader.settings) (λ d e. Fails e (i.decoder w.reader.settings d)) w (Some r) v)
     c.in-Some-Ok.field-0-is c.in-Some-Ok.ensures.steps.0 in
     let grown = law.grows_further s c.items.state c.pass_front.new.state c.items.invariant.1 c.pass_front.ensures.grown in
-    either_from (law.full_before s c.pass_front.new.state c.in-Err.error grown)
+    let standing = c.pass_front.ensures.stands b.settings n b s (sym (c.limits-limits.ensures.value ∙ ap (λ (r : State). r.settings.limits) c.get_binary_reader.ensures)) c.items.invariant.0 in
+    let x = a.of c.in-Some-Ok.item.1 in
+    let met = is_item i.view a.of law.alike i.decoder i.grammar (g.met.T.FromReader c.lifetimes (assumption c)).exact a.adds b.settings a.reads n b s
+    w v c.pass_front.new.state c.in-Some-Ok.item refl standing step in
+    either_from (λ full. (x, met, law.full_before s c.pass_front.new.state x c.in-Err.error grown full))
     (λ told. refused_item i.view a.of law.alike i.decoder i.grammar (g.met.T.FromReader c.lifetimes (assumption c)).exact a.adds b.settings a.reads n b s
-    w v c.pass_front.new.state c.in-Some-Ok.item c.in-Err.error.kind
-    (c.pass_front.ensures.stands b.settings n b s (sym (c.limits-limits.ensures.value ∙ ap (λ (r : State). r.settings.limits) c.get_binary_reader.ensures)) c.items.invariant.0) step told) c.in-Err.ensures.answer
+    w v c.pass_front.new.state c.in-Some-Ok.item c.in-Err.error.kind standing step told) c.in-Err.ensures.answer
 
 pub returns-in-Err-clause-refused : goal.returns-in-Err-clause-refused
 returns-in-Err-clause-refused g c =
@@ -135,7 +138,10 @@ returns-in-Err-clause-refused g c =
     let step = subst (λ (r : Result (ℕ × g.row.T.Denot) ErrorValue). NextIn (with_offset i.view i.decoder w.reader.settings) (λ d e. Fails e (i.decoder w.reader.settings d)) w (Some r) v)
     c.in-Some-Ok.field-0-is c.in-Some-Ok.ensures.steps.0 in
     let grown = law.grows_further s c.items.state c.pass_front.new.state c.items.invariant.1 c.pass_front.ensures.grown in
-    either_from (law.full_before s c.pass_front.new.state c.in-Err.error grown)
+    let standing = c.pass_front.ensures.stands b.settings n b s (sym (c.limits-limits.ensures.value ∙ ap (λ (r : State). r.settings.limits) c.get_binary_reader.ensures)) c.items.invariant.0 in
+    let x = a.of c.in-Some-Ok.item.1 in
+    let met = is_item i.view a.of law.alike i.decoder i.grammar (g.met.T.FromReader c.lifetimes (assumption c)).exact a.adds b.settings a.reads n b s
+    w v c.pass_front.new.state c.in-Some-Ok.item refl standing step in
+    either_from (λ full. (x, met, law.full_before s c.pass_front.new.state x c.in-Err.error grown full))
     (λ told. stops_at_an_item i.view a.of law.alike i.decoder i.grammar (g.met.T.FromReader c.lifetimes (assumption c)).exact a.adds b.settings a.reads n b s
-    a.refuses w v c.pass_front.new.state c.in-Some-Ok.item c.in-Err.error
-    (c.pass_front.ensures.stands b.settings n b s (sym (c.limits-limits.ensures.value ∙ ap (λ (r : State). r.settings.limits) c.get_binary_reader.ensures)) c.items.invariant.0) step told) c.in-Err.ensures.refused
+    a.refuses w v c.pass_front.new.state c.in-Some-Ok.item c.in-Err.error standing step told) c.in-Err.ensures.refused

@@ -1,4 +1,4 @@
-use Rattle.wasm_module_validator_declaring.specs.TotalLaws.{full_is_past, none_past, not_otherwise, not_unsaid}
+use Rattle.wasm_module_validator_declaring.specs.TotalLaws.{full_is_past, none_past, not_otherwise, not_unsaid, not_without}
 use Rattle.wasm_module_validator_declaring.proofs.laws.totals_are_worked.Goals as goal
 
 pub returns-clause-full : goal.returns-clause-full
@@ -12,3 +12,6 @@ returns-clause-otherwise c = not_otherwise
 
 pub returns-clause-unsaid : goal.returns-clause-unsaid
 returns-clause-unsaid c = not_unsaid
+
+pub returns-clause-without : goal.returns-clause-without
+returns-clause-without c = not_without

@@ -6,10 +6,12 @@ use Rattle.wasm_sections_payloads.specs.declared.payload.Payload.{Payload}
 use Rattle.wasm_sections_payloads.specs.Walking.{NextPayload}
 use Rattle.wasm_module_validator_judging.specs.progress.adding.FullLaws.{either_from}
 use Rattle.wasm_module_validator_judging.specs.progress.adding.declared.bodies.Body.{Body}
-use Rattle.wasm_module_validator_judging.specs.progress.Progress.{Progress, IsAt}
+use Rattle.wasm_module_validator_judging.specs.progress.declaring.TotalLaws.{past_by}
+use Rattle.wasm_module_validator_judging.specs.progress.Progress.{HasGroup, Progress, IsAt}
 use Rattle.wasm_module_validator_judging.specs.progress.standing.steps.Steps.{nothing}
 use Rattle.wasm_module_validator_judging.specs.progress.laws.Growing.{grows_by_nothing, grows_further, total_before}
-use Rattle.wasm_module_validator_reading.specs.laws.Walking.{Goes, goes_first, goes_on, refused_payload, refused_bytes, is_read, stands_for, nothing_is_at}
+use Rattle.wasm_module_validator_reading.specs.Reading.{HasGroupIn}
+use Rattle.wasm_module_validator_reading.specs.laws.Walking.{Goes, goes_first, goes_on, refused_payload, refused_bytes, is_read, stands_for, nothing_is_at, group_in}
 use Rattle.wasm_module_validator_reading.proofs.reading.read_module.Goals as goal
 
 pub loop-payload-init : goal.loop-payload-init
@@ -54,7 +56,14 @@ returns-in-Err-take_payload-clause-answer c =
     let p : Parser = record { offset = 0; settings = c.args.settings.now; progress = fresh } in
     let room : 0 + length c.args.bytes.now < 2 ^ 64 = omega (arith, c) in
     let next = subst (λ (r : Result Payload ErrorValue). NextPayload c.loop-payload.payload-iterator (Some r) c.next.new.self) c.in-Ok.is c.in-Some.ensures.steps in
-    either_from (λ full. total_before c.args.progress.now.kept c.loop-payload.progress.kept c.in-Err-take_payload.error c.loop-payload.invariant.1 full.1)
+    let here = c.loop-payload.progress.kept in
+    let error = c.in-Err-take_payload.error in
+    let x = c.in-Ok.payload in
+    let Has = HasGroupIn c.args.settings.now c.args.bytes.now in
+    either_from (λ full. total_before c.args.progress.now.kept here Has error c.loop-payload.invariant.1
+    (past_by here.groups here.items (HasGroup x) Has error
+    (λ n. group_in p c.args.bytes.now refl room c.loop-payload.payload-iterator c.next.new.self c.loop-payload.progress c.loop-payload.bodies.items x
+    c.loop-payload.invariant.0 next n refl) full))
     (λ told. refused_payload p c.args.bytes.now refl room c.loop-payload.payload-iterator c.next.new.self c.loop-payload.progress c.loop-payload.bodies.items c.in-Ok.payload c.loop-payload.invariant.0 next
     c.in-Err-take_payload.error.kind told) c.in-Err-take_payload.ensures.answer
 

@@ -53,12 +53,12 @@ returns-in-Ok-finish-clause-sound c = accepted_sound c.args.self.now.settings c.
 pub returns-in-Err-clause-alone : goal.returns-in-Err-clause-alone
 returns-in-Err-clause-alone c = λ none.
     alone_told {X = Unit {0}} c.args.self.now.settings c.args.self.now.reached.progress.kept none (subst IsWithinCeilings c.limits-limits.ensures.value c.limits-limits.ensures.within)
-    (Err c.in-Err.error) (AcceptsUnder c.args.self.now.settings c.args.bytes.now) (returns-in-Err-clause-verdict c)
+    _ (Err c.in-Err.error) (AcceptsUnder c.args.self.now.settings c.args.bytes.now) (returns-in-Err-clause-verdict c)
 
 pub returns-in-Err-judge-clause-alone : goal.returns-in-Err-judge-clause-alone
 returns-in-Err-judge-clause-alone c = λ none.
     alone_told {X = Unit {0}} c.args.self.now.settings c.args.self.now.reached.progress.kept none (subst IsWithinCeilings c.limits-limits.ensures.value c.limits-limits.ensures.within)
-    (Err c.in-Err-judge.error) (AcceptsUnder c.args.self.now.settings c.args.bytes.now) (returns-in-Err-judge-clause-verdict c)
+    _ (Err c.in-Err-judge.error) (AcceptsUnder c.args.self.now.settings c.args.bytes.now) (returns-in-Err-judge-clause-verdict c)
 
 pub returns-in-Ok-finish-clause-alone : goal.returns-in-Ok-finish-clause-alone
 returns-in-Ok-finish-clause-alone c = λ none. returns-in-Ok-finish-clause-verdict c

@@ -3,13 +3,12 @@ use Rattle.wasm_module_validator_standing.specs.steps.contexts.rules.Syntax.{Mod
 use Rattle.wasm_module_validator_standing.specs.steps.Sections as section
 use Rattle.wasm_module_validator_texts.specs.Kinds.{table_read}
 use Rattle.wasm_module_validator_adding.specs.FullLaws.{unless_full}
-use Rattle.wasm_module_validator_progress.specs.Progress.{FullIn}
 use Rattle.wasm_module_validator_progress.proofs.Counting.{item_added}
 use Rattle.wasm_module_validator_progress.specs.laws.Growing.{list_stays}
 use Rattle.wasm_module_validator_progress.proofs.kinds.TableOfConstExprSectionItem.add_to.Goals as goal
 
 pub returns-clause-answer : goal.returns-clause-answer
-returns-clause-answer c = unless_full (FullIn section.tables c.args.types.now.groups c.args.state.now) c.add_table.result _ (λ z m h. c.add_table.ensures.answer z m h.reading)
+returns-clause-answer c = unless_full _ c.add_table.result _ (λ z m h. c.add_table.ensures.answer z m h.reading)
 
 pub returns-clause-added : goal.returns-clause-added
 returns-clause-added c =

@@ -2,13 +2,12 @@ use Rattle.std.proofs.Common.{ap}
 use Rattle.wasm_module_validator_standing.specs.steps.contexts.rules.Syntax.{ModuleTree}
 use Rattle.wasm_module_validator_standing.specs.steps.Sections as section
 use Rattle.wasm_module_validator_adding.specs.FullLaws.{unless_full}
-use Rattle.wasm_module_validator_progress.specs.Progress.{FullIn}
 use Rattle.wasm_module_validator_progress.proofs.Counting.{item_added}
 use Rattle.wasm_module_validator_progress.specs.laws.Growing.{list_stays}
 use Rattle.wasm_module_validator_progress.proofs.kinds.TagTypeSectionItem.add_to.Goals as goal
 
 pub returns-clause-answer : goal.returns-clause-answer
-returns-clause-answer c = unless_full (FullIn section.tags c.args.types.now.groups c.args.state.now) c.add_tag_item.result _ (λ z m h. c.add_tag_item.ensures.answer z m h.reading)
+returns-clause-answer c = unless_full _ c.add_tag_item.result _ (λ z m h. c.add_tag_item.ensures.answer z m h.reading)
 
 pub returns-clause-added : goal.returns-clause-added
 returns-clause-added c =

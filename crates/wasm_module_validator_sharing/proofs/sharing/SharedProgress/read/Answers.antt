@@ -3,7 +3,7 @@ use Rattle.std.specs.Prelude.{option_map}
 use Rattle.wasm_module_validator_reading.specs.progress.declaring.Total.{TellsWithinTotal}
 use Rattle.wasm_module_validator_reading.specs.progress.standing.steps.Steps.{SoFar}
 use Rattle.wasm_module_validator_reading.specs.progress.Progress.{Progress, IsAt}
-use Rattle.wasm_module_validator_reading.specs.Reading.{IsReadAs}
+use Rattle.wasm_module_validator_reading.specs.Reading.{HasGroupIn, IsReadAs}
 use Rattle.wasm_module_validator_sharing.specs.Sharing.{Reached}
 use Rattle.wasm_module_validator_sharing.proofs.Keeping.{not_shared, own_progress, own_reached}
 use Rattle.wasm_module_validator_sharing.proofs.sharing.SharedProgress.read.Goals as goal
@@ -13,7 +13,8 @@ returns-clause-answer c =
     let i = c.self.inside in
     let o = option_map (λ p. p.value) i.shared in
     let own = own_progress c.renew.new.self i.own i.last i.bodies o c.self.view_is (ap (λ (r : Reached). r.code) c.renew.ensures) in
-    subst (λ (p : Progress). TellsWithinTotal p.kept.groups p.kept.items c.read_module.result ((q : SoFar) × IsReadAs c.args.settings.now c.args.bytes.now q))
+    subst (λ (p : Progress). TellsWithinTotal p.kept.groups p.kept.items (HasGroupIn c.args.settings.now c.args.bytes.now) c.read_module.result
+    ((q : SoFar) × IsReadAs c.args.settings.now c.args.bytes.now q))
     (sym own ∙ ap (λ (r : Reached). r.progress) c.renew.ensures) c.read_module.ensures.answer
 
 pub returns-clause-stands : goal.returns-clause-stands
