@@ -184,7 +184,8 @@ fn invalid_line(alloc: Global, name: &str, offset: u64, message: &str) -> Result
 
 /// The line of a module that was refused by this error: at its offset, for its reason.
 pub(crate) fn refusal_line(alloc: Global, name: &str, error: &Error) -> Result<String, AllocError>
-    ensures { IfOk result (λ line. (message : List ℕ) × (string_bytes line ≡ invalid_line name.now error.now.offset message)) }
+    ensures { IfOk result (λ line. (message : List ℕ) × (string_bytes line
+        ≡ invalid_line name.now error.now.offset message)) }
 {
     invalid_line(alloc, name, error.offset(), error.message())
 }
@@ -207,7 +208,8 @@ fn verdict_line<J: Judge>(
     bytes: &[u8],
 ) -> Result<(bool, String), AllocError>
     requires within { IsWithinCeilings chosen.limits }
-    ensures { IfOk result (λ r. IsVerdict (ruled whole (J.accepts (settings_of chosen))) name.now bytes.now r.0 (string_bytes r.1)) }
+    ensures { IfOk result (λ r. IsVerdict (ruled whole (J.accepts (settings_of chosen))) name.now bytes.now r.0
+        (string_bytes r.1)) }
 {
     match judge.judge(alloc, chosen.features, chosen.limits, index, bytes) {
         Ok(()) => {
@@ -260,9 +262,11 @@ fn judge_bytes<J: Judge, W: Write>(
 ) -> Result<bool, CheckError>
     requires within { IsWithinCeilings chosen.limits }
     ensures ok { IfOk result (λ valid.
-        WritesLine (ruled whole (J.accepts (settings_of chosen))) name.now bytes.now valid (W.contents out.old) (W.contents out.new)) }
+        WritesLine (ruled whole (J.accepts (settings_of chosen))) name.now bytes.now valid (W.contents out.old)
+        (W.contents out.new)) }
     ensures err { IfErr result
-        (FailsWriting (ruled whole (J.accepts (settings_of chosen))) index name.now bytes.now (W.contents out.old) (W.contents out.new)) }
+        (FailsWriting (ruled whole (J.accepts (settings_of chosen))) index name.now bytes.now (W.contents out.old)
+        (W.contents out.new)) }
 {
     let Ok((is_valid, line)) = verdict_line(judge, alloc, chosen, index, name, bytes) else {
         return Err(CheckError::OutOfMemory(index));
@@ -393,9 +397,11 @@ pub fn check_by<J: Judge, R: Read + Drop, W: Write>(
 ) -> Result<Status, CheckError>
     requires within { IsWithinCeilings limits }
     requires pieces { HasPieces mode }
-    ensures ok { IfOk result (IsReported (ruling_by J.accepts features.0 limits mode) (sources_of R.remaining inputs.entry.items)
+    ensures ok { IfOk result (IsReported (ruling_by J.accepts features.0 limits mode)
+        (sources_of R.remaining inputs.entry.items)
         (W.contents out.old) (W.contents out.new)) }
-    ensures err { IfErr result (Stops (ruling_by J.accepts features.0 limits mode) (sources_of R.remaining inputs.entry.items)
+    ensures err { IfErr result (Stops (ruling_by J.accepts features.0 limits mode)
+        (sources_of R.remaining inputs.entry.items)
         (W.contents out.old) (W.contents out.new)) }
 {
     let chosen = Chosen {

@@ -78,9 +78,11 @@ pub fn check<R: Read + Drop, W: Write>(
 ) -> Result<Status, CheckError>
     requires within { IsWithinCeilings limits }
     requires pieces { HasPieces mode }
-    ensures ok { IfOk result (IsReported (ruling_by AcceptsUnder features.0 limits mode) (sources_of R.remaining inputs.entry.items)
+    ensures ok { IfOk result (IsReported (ruling_by AcceptsUnder features.0 limits mode)
+        (sources_of R.remaining inputs.entry.items)
         (W.contents out.old) (W.contents out.new)) }
-    ensures err { IfErr result (Stops (ruling_by AcceptsUnder features.0 limits mode) (sources_of R.remaining inputs.entry.items)
+    ensures err { IfErr result (Stops (ruling_by AcceptsUnder features.0 limits mode)
+        (sources_of R.remaining inputs.entry.items)
         (W.contents out.old) (W.contents out.new)) }
 {
     check_by(&Validating, alloc, inputs, features, limits, mode, out)

@@ -52,7 +52,8 @@ impl Validator {
     /// There is no memory, and the validator has failed.
     pub fn validate_each(&mut self, inputs: &[&[u8]]) -> Result<Vec<Verdict>>
         requires { self.old.state ≡ states.Unparsed }
-        ensures verdicts { IfOk result (λ vs. AreVerdicts self.old.settings self.old.id (held_by self.old) (texts inputs.now) vs.items) }
+        ensures verdicts { IfOk result (λ vs. AreVerdicts self.old.settings self.old.id (held_by self.old)
+            (texts inputs.now) vs.items) }
         ensures ids { IfOk result (λ vs. ShareIds self.old.settings vs.items) }
         ensures state { IfOk result (λ vs. self.new.state ≡ state_after vs.items) }
         ensures memory { IfErr result (λ e. (e.kind ≡ kinds.OutOfMemory) × (self.new.state ≡ states.Failed)) }

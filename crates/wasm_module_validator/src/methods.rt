@@ -85,7 +85,10 @@ impl Validator {
     /// by the ids that they have. It takes no memory.
     pub fn reset(&mut self)
         requires { can_reset self.old.state ≡ true }
-        ensures { self.new ≡ record self.old { state = states.Unparsed; reached = renewed_behind self.old.settings self.old.reached } }
+        ensures { self.new ≡ record self.old {
+          state = states.Unparsed;
+          reached = renewed_behind self.old.settings self.old.reached;
+        } }
     {
         self.state = State::Unparsed;
         self.reached.renew(&self.settings);

@@ -128,7 +128,8 @@ impl Validator {
     pub fn validate_all(&mut self, bytes: &[u8]) -> Result<Types>
         requires { self.old.state ≡ states.Unparsed }
         ensures verdict { TellsBehind self.old result bytes.now }
-        ensures alone { self.old.reached.progress.kept.groups ≡ [] → Tells result (AcceptsUnder self.old.settings bytes.now) }
+        ensures alone { self.old.reached.progress.kept.groups ≡ []
+            → Tells result (AcceptsUnder self.old.settings bytes.now) }
         ensures sound { IfOk result (λ _. RunsSoundly self.old.settings bytes.now) }
         ensures shown { IfOk result (IsShown self.old.settings bytes.now) }
         ensures id { IfOk result (λ t. t.id ≡ self.old.id) }

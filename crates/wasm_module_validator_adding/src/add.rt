@@ -53,7 +53,8 @@ pub trait AddItem<'a, T: FromReader<'a>> {
     /// Else nothing has changed.
     fn add_short(&mut self, bytes: &[u8], at: usize, limits: &Limits) -> Option<usize>
         requires inside { at ≤ length bytes.now }
-        ensures added { IfSome result (AddsShort T.view of T.grammar adds reads self.old self.new limits.now bytes.now at) }
+        ensures added { IfSome result (AddsShort T.view of T.grammar adds reads self.old self.new limits.now
+            bytes.now at) }
         ensures stays { IfNone result (self.new ≡ self.old) }
         ensures grown { IfSome result (λ _. grows self.old self.new) };
 
@@ -80,7 +81,8 @@ fn add_front<'a, T: FromReader<'a>, S: AddItem<'a, T>>(
     ensures left { result.0 ≤ most }
     ensures inside { result.1 ≤ length bytes.now }
     ensures stands { (w : Walk) → w.reader.rest ≡ bytes.now → w.left ≡ most
-        → StandsOn T.view S.of T.decoder T.grammar S.adds S.reads limits.now w (behind w result.1 result.0) state.old state.new }
+        → StandsOn T.view S.of T.decoder T.grammar S.adds S.reads limits.now w
+        (behind w result.1 result.0) state.old state.new }
     ensures grown { S.grows state.old state.new }
 {
     let mut at = 0;
@@ -122,14 +124,17 @@ pub fn add_items<'a, T: FromReader<'a>, S: AddItem<'a, T>>(
     ensures answer { UnlessFull
         (IsFullFor (IsItemOf T.view S.of T.decoder section.entry.count section.entry.reader) (S.full state.old)) result
         ((m : S.Tree) → S.reads state.old m → Tells result ((t : S.Tree)
-        × AreAdded (Spelled T.view S.of (T.grammar section.entry.reader.settings)) S.adds section.entry.count section.entry.reader.rest m t)) }
+        × AreAdded (Spelled T.view S.of (T.grammar section.entry.reader.settings)) S.adds section.entry.count
+        section.entry.reader.rest m t)) }
     ensures added { OnOk result ((m t : S.Tree) → S.reads state.old m
-        → AreAdded (Spelled T.view S.of (T.grammar section.entry.reader.settings)) S.adds section.entry.count section.entry.reader.rest m t
+        → AreAdded (Spelled T.view S.of (T.grammar section.entry.reader.settings)) S.adds section.entry.count
+        section.entry.reader.rest m t
         → S.reads state.new t) }
     ensures refused { UnlessFull
         (IsFullFor (IsItemOf T.view S.of T.decoder section.entry.count section.entry.reader) (S.full state.old)) result
         ((m : S.Tree) → S.reads state.old m
-        → IfErr result (StopsAdding T.view S.of (T.decoder section.entry.reader.settings) S.adds S.refuses section.entry.count
+        → IfErr result (StopsAdding T.view S.of (T.decoder section.entry.reader.settings) S.adds S.refuses
+        section.entry.count
         section.entry.reader m)) }
     ensures grown { OnOk result (S.grows state.old state.new) }
 {

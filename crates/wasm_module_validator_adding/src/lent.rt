@@ -61,11 +61,14 @@ pub fn add_lent_items<'a, T: FromReader<'a>, S: AddLent<'a, T>>(
     section: SectionLimited<'a, T>,
 ) -> Result<()>
     ensures answer { (m : S.Tree) → S.reads state.old m
-        → Tells result ((t : S.Tree) × AreAdded (Spelled T.view S.of (T.grammar section.entry.reader.settings)) S.adds section.entry.count section.entry.reader.rest m t) }
+        → Tells result ((t : S.Tree) × AreAdded (Spelled T.view S.of
+        (T.grammar section.entry.reader.settings)) S.adds section.entry.count section.entry.reader.rest m t) }
     ensures added { OnOk result ((m t : S.Tree) → S.reads state.old m
-        → AreAdded (Spelled T.view S.of (T.grammar section.entry.reader.settings)) S.adds section.entry.count section.entry.reader.rest m t → S.reads state.new t) }
+        → AreAdded (Spelled T.view S.of (T.grammar section.entry.reader.settings)) S.adds section.entry.count
+        section.entry.reader.rest m t → S.reads state.new t) }
     ensures refused { (m : S.Tree) → S.reads state.old m
-        → IfErr result (λ e. StopsAdding T.view S.of (T.decoder section.entry.reader.settings) S.adds S.refuses section.entry.count section.entry.reader m e) }
+        → IfErr result (λ e. StopsAdding T.view S.of (T.decoder section.entry.reader.settings) S.adds S.refuses
+        section.entry.count section.entry.reader m e) }
     ensures grown { OnOk result (S.grows state.old state.new) }
 {
     for item in section.into_iter_with_offsets() {

@@ -41,8 +41,10 @@ pub(crate) fn canonicalize(
     requires start { bounds.start ≡ length ids.now }
     requires len { bounds.len ≡ length (declared_types rec_group.old) }
     requires ids { All IdFits ids.now }
-    ensures answer { Tells result (AreTypesAllowed bounds.allow_gc bounds.start (bounds.start + bounds.len) bounds.start (declared_types rec_group.old)) }
-    ensures canonical { OnOk result (declared_types rec_group.new ≡ canonical_types ids.now (declared_types rec_group.old)) }
+    ensures answer { Tells result (AreTypesAllowed bounds.allow_gc bounds.start (bounds.start + bounds.len) bounds.start
+        (declared_types rec_group.old)) }
+    ensures canonical { OnOk result (declared_types rec_group.new ≡ canonical_types ids.now
+        (declared_types rec_group.old)) }
     ensures refused { OnErr result (declared_types rec_group.new ≡ declared_types rec_group.old) }
     ensures explicit { rec_group.new.is_explicit ≡ rec_group.old.is_explicit }
     ensures at { FailsAt bounds.offset result }
@@ -78,9 +80,12 @@ impl<'a, M: InternRecGroup> TypeCanonicalizer<'a, M> {
     /// where garbage collection is not allowed. The group then stays as it was.
     pub fn canonicalize_rec_group(&self, rec_group: &mut RecGroup) -> Result<()>
         requires ids { All IdFits (M.ids self.now.module.now) }
-        ensures answer { Tells result (AreTypesAllowed (has Gc (M.settings self.now.module.now).features) (length (M.ids self.now.module.now))
-            (length (M.ids self.now.module.now) + length (declared_types rec_group.old)) (length (M.ids self.now.module.now)) (declared_types rec_group.old)) }
-        ensures canonical { OnOk result (declared_types rec_group.new ≡ canonical_types (M.ids self.now.module.now) (declared_types rec_group.old)) }
+        ensures answer { Tells result (AreTypesAllowed (has Gc (M.settings self.now.module.now).features)
+            (length (M.ids self.now.module.now))
+            (length (M.ids self.now.module.now) + length (declared_types rec_group.old))
+            (length (M.ids self.now.module.now)) (declared_types rec_group.old)) }
+        ensures canonical { OnOk result (declared_types rec_group.new ≡ canonical_types (M.ids self.now.module.now)
+            (declared_types rec_group.old)) }
         ensures refused { OnErr result (declared_types rec_group.new ≡ declared_types rec_group.old) }
         ensures explicit { rec_group.new.is_explicit ≡ rec_group.old.is_explicit }
         ensures at { FailsAt self.now.offset result }

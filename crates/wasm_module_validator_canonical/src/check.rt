@@ -52,7 +52,8 @@ fn check_describes(
 impl Bounds {
     // Refuses a type, at this place of the group, for an index that it may not have.
     fn check_type(&self, place: usize, ty: &SubType) -> Result<()>
-        ensures answer { Tells result (IsTypeAllowed self.now.allow_gc self.now.start (self.now.start + self.now.len) (self.now.start + place) (declared_of ty.now)) }
+        ensures answer { Tells result (IsTypeAllowed self.now.allow_gc self.now.start (self.now.start + self.now.len)
+            (self.now.start + place) (declared_of ty.now)) }
         ensures at { FailsAt self.now.offset result }
     {
         check_supertypes(self.start, place, ty.supertype_idxs.as_slice(), self.offset)?;
@@ -71,7 +72,8 @@ impl Bounds {
     /// Refuses the first of these types that has an index that it may not have: a supertype, or a type that it describes,
     /// not before itself; an index past the group's end; or one of the group itself where garbage collection is not allowed.
     pub(crate) fn check_types(&self, types: &[SubType]) -> Result<()>
-        ensures answer { Tells result (AreTypesAllowed self.now.allow_gc self.now.start (self.now.start + self.now.len) self.now.start (map declared_of types.now)) }
+        ensures answer { Tells result (AreTypesAllowed self.now.allow_gc self.now.start
+            (self.now.start + self.now.len) self.now.start (map declared_of types.now)) }
         ensures at { FailsAt self.now.offset result }
     {
         for i in 0..types.len() {

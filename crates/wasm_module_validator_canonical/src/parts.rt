@@ -62,7 +62,8 @@ fn needs_gc(index: u32, offset: u64) -> Error
 impl Bounds {
     /// Refuses an index that the group may not have.
     pub(crate) fn check_index(&self, index: UnpackedIndex) -> Result<()>
-        ensures answer { Tells result (IsIndexAllowed self.now.allow_gc self.now.start (self.now.start + self.now.len) index) }
+        ensures answer { Tells result (IsIndexAllowed self.now.allow_gc self.now.start
+            (self.now.start + self.now.len) index) }
         ensures at { FailsAt self.now.offset result }
     {
         let UnpackedIndex::Module(index) = index else {
@@ -79,7 +80,8 @@ impl Bounds {
 
     // The same of an index that may be absent.
     pub(crate) fn check_option(&self, index: Option<PackedIndex>) -> Result<()>
-        ensures answer { Tells result (EachOption (IsIndexAllowed self.now.allow_gc self.now.start (self.now.start + self.now.len)) index) }
+        ensures answer { Tells result (EachOption (IsIndexAllowed self.now.allow_gc self.now.start
+            (self.now.start + self.now.len)) index) }
         ensures at { FailsAt self.now.offset result }
     {
         match index {
@@ -90,7 +92,8 @@ impl Bounds {
 
     /// Refuses the first of these indices that the group may not have.
     pub(crate) fn check_list(&self, indices: &[PackedIndex]) -> Result<()>
-        ensures answer { Tells result (EachIn (IsIndexAllowed self.now.allow_gc self.now.start (self.now.start + self.now.len)) indices.now) }
+        ensures answer { Tells result (EachIn (IsIndexAllowed self.now.allow_gc self.now.start
+            (self.now.start + self.now.len)) indices.now) }
         ensures at { FailsAt self.now.offset result }
     {
         for i in 0..indices.len() {
@@ -100,7 +103,8 @@ impl Bounds {
     }
 
     fn check_heap(&self, ty: HeapType) -> Result<()>
-        ensures answer { Tells result (EachHeap (IsIndexAllowed self.now.allow_gc self.now.start (self.now.start + self.now.len)) (heap_of ty)) }
+        ensures answer { Tells result (EachHeap (IsIndexAllowed self.now.allow_gc self.now.start
+            (self.now.start + self.now.len)) (heap_of ty)) }
         ensures at { FailsAt self.now.offset result }
     {
         match ty {
@@ -111,7 +115,8 @@ impl Bounds {
     }
 
     fn check_value(&self, ty: &ValType) -> Result<()>
-        ensures answer { Tells result (EachValue (IsIndexAllowed self.now.allow_gc self.now.start (self.now.start + self.now.len)) (value_of ty.now)) }
+        ensures answer { Tells result (EachValue (IsIndexAllowed self.now.allow_gc self.now.start
+            (self.now.start + self.now.len)) (value_of ty.now)) }
         ensures at { FailsAt self.now.offset result }
     {
         match ty {
@@ -125,7 +130,8 @@ impl Bounds {
     }
 
     fn check_storage(&self, ty: &StorageType) -> Result<()>
-        ensures answer { Tells result (EachStorage (IsIndexAllowed self.now.allow_gc self.now.start (self.now.start + self.now.len)) (storage_of ty.now)) }
+        ensures answer { Tells result (EachStorage (IsIndexAllowed self.now.allow_gc self.now.start
+            (self.now.start + self.now.len)) (storage_of ty.now)) }
         ensures at { FailsAt self.now.offset result }
     {
         match ty {
@@ -136,7 +142,8 @@ impl Bounds {
     }
 
     fn check_values(&self, types: &[ValType]) -> Result<()>
-        ensures answer { Tells result (EachValues (IsIndexAllowed self.now.allow_gc self.now.start (self.now.start + self.now.len)) (map value_of types.now)) }
+        ensures answer { Tells result (EachValues (IsIndexAllowed self.now.allow_gc self.now.start
+            (self.now.start + self.now.len)) (map value_of types.now)) }
         ensures at { FailsAt self.now.offset result }
     {
         for i in 0..types.len() {
@@ -146,7 +153,8 @@ impl Bounds {
     }
 
     fn check_fields(&self, fields: &[FieldType]) -> Result<()>
-        ensures answer { Tells result (EachFields (IsIndexAllowed self.now.allow_gc self.now.start (self.now.start + self.now.len)) (map field_of fields.now)) }
+        ensures answer { Tells result (EachFields (IsIndexAllowed self.now.allow_gc self.now.start
+            (self.now.start + self.now.len)) (map field_of fields.now)) }
         ensures at { FailsAt self.now.offset result }
     {
         for i in 0..fields.len() {
@@ -157,7 +165,8 @@ impl Bounds {
 
     /// Refuses the first index of a composite type that the group may not have.
     pub(crate) fn check_inner(&self, inner: &CompositeInnerType) -> Result<()>
-        ensures answer { Tells result (EachInner (IsIndexAllowed self.now.allow_gc self.now.start (self.now.start + self.now.len)) (inner_of inner.now)) }
+        ensures answer { Tells result (EachInner (IsIndexAllowed self.now.allow_gc self.now.start
+            (self.now.start + self.now.len)) (inner_of inner.now)) }
         ensures at { FailsAt self.now.offset result }
     {
         match inner {

@@ -24,8 +24,10 @@ pub fn add_export_item(
     offset: u64,
 ) -> Result<()>
     requires { IsReadOver types.now.groups state.old.spaces }
-    ensures answer { TellsItem section.exports types.now.groups state.old (record { name = export.entry.name.now; kind = export.entry.kind; index = export.entry.index }) result }
-    ensures added { OnOk result (AddsItem section.exports types.now.groups state.old (record { name = export.entry.name.now; kind = export.entry.kind; index = export.entry.index })
+    ensures answer { TellsItem section.exports types.now.groups state.old
+        (record { name = export.entry.name.now; kind = export.entry.kind; index = export.entry.index }) result }
+    ensures added { OnOk result (AddsItem section.exports types.now.groups state.old
+        (record { name = export.entry.name.now; kind = export.entry.kind; index = export.entry.index })
         types.now.groups state.new) }
     ensures read { IsReadOver types.now.groups state.new.spaces }
     ensures settings { state.new.spaces.settings ≡ state.old.spaces.settings }

@@ -33,7 +33,8 @@ fn too_many(most: u32, offset: u64) -> Error
 
 // Refuses a group of so many types behind as many groups as the limit of types, and one with which there are more types.
 fn check_fit(state: &ModuleState, groups: u32, further: usize, offset: u64) -> Result<()>
-    ensures answer { Tells result ((groups < state.now.spaces.settings.limits.types) × (length state.now.spaces.types + further ≤ state.now.spaces.settings.limits.types)) }
+    ensures answer { Tells result ((groups < state.now.spaces.settings.limits.types)
+        × (length state.now.spaces.types + further ≤ state.now.spaces.settings.limits.types)) }
     ensures refused { IfErr result (λ e. (e.kind ≡ Other) × (e.offset ≡ offset)) }
 {
     let most = state.settings().limits().types;
@@ -47,7 +48,11 @@ fn check_fit(state: &ModuleState, groups: u32, further: usize, offset: u64) -> R
 // The refusal of a group with which the list would have more types than it may.
 #[cold]
 fn past_total(offset: u64) -> Error
-    ensures { result ≡ record { kind = Other; offset = offset; message = codes "implementation limit: too many core types" } }
+    ensures { result ≡ record {
+      kind = Other;
+      offset = offset;
+      message = codes "implementation limit: too many core types";
+    } }
 {
     Error::new("implementation limit: too many core types", offset)
 }
@@ -86,9 +91,11 @@ pub fn add_group(
     requires within { IsWithinCeilings state.old.spaces.settings.limits }
     requires indices { AreModuleIndices (declared_types rec_group) }
     ensures answer { UnlessFull (IsPastTotal types.old.groups state.old (IsSizeOf (written_group rec_group))) result
-        ((z : Settings) (m : ModuleTree) → IsReading section.types types.old.groups state.old z m → groups ≡ length m.types
+        ((z : Settings) (m : ModuleTree) → IsReading section.types types.old.groups state.old z m
+        → groups ≡ length m.types
         → Tells result ((n : ModuleTree) × AddsRead z section.types m (written_group rec_group) n)) }
-    ensures added { OnOk result (AddsItem section.types types.old.groups state.old (written_group rec_group) types.new.groups state.new) }
+    ensures added { OnOk result (AddsItem section.types types.old.groups state.old
+        (written_group rec_group) types.new.groups state.new) }
     ensures fewer { OnOk result (groups < state.old.spaces.settings.limits.types) }
     ensures small { OnOk result (groups < max_types) }
     ensures read { OnOk result (IsReadOver types.new.groups state.new.spaces) }

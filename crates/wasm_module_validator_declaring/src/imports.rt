@@ -27,15 +27,25 @@ pub fn add_import_item(
     offset: u64,
 ) -> Result<()>
     requires { IsReadOver types.now.groups state.old.spaces }
-    ensures answer { TellsItem section.imports types.now.groups state.old (record { module_name = import.now.«module».now; field_name = import.now.name.now; ty = import.now.ty }) result }
-    ensures added { OnOk result (AddsItem section.imports types.now.groups state.old (record { module_name = import.now.«module».now; field_name = import.now.name.now; ty = import.now.ty })
+    ensures answer { TellsItem section.imports types.now.groups state.old
+        (record {
+          module_name = import.now.«module».now;
+          field_name = import.now.name.now;
+          ty = import.now.ty;
+        }) result }
+    ensures added { OnOk result (AddsItem section.imports types.now.groups state.old
+        (record { module_name = import.now.«module».now; field_name = import.now.name.now; ty = import.now.ty })
         types.now.groups state.new) }
     ensures read { IsReadOver types.now.groups state.new.spaces }
     ensures settings { state.new.spaces.settings ≡ state.old.spaces.settings }
     ensures types { state.new.spaces.types ≡ state.old.spaces.types }
     ensures code { state.new.next_code ≡ state.old.next_code }
     ensures stays { IfErr result (λ e. UnlessMemory e.kind (state.new ≡ state.old)) }
-    ensures left { OnErr result (IsLeft (record { module_name = import.now.«module».now; field_name = import.now.name.now; ty = import.now.ty }) state.old state.new) }
+    ensures left { OnErr result (IsLeft (record {
+      module_name = import.now.«module».now;
+      field_name = import.now.name.now;
+      ty = import.now.ty;
+    }) state.old state.new) }
     ensures refused { IfErr result (λ e. UnlessMemory e.kind (e.offset ≡ offset)) }
 {
     state.add_import(import.module, import.name, import.ty, types, offset)

@@ -21,13 +21,15 @@ ghost use Rattle.wasm_module_validator_declaring.specs.Total.{IsPastTotal};
 /// asks for.
 pub fn groups_are_read_alike()
     ensures alike { (x y : Group) → group_value x ≡ group_value y → written_group x ≡ written_group y }
-    ensures indices { (z : Settings) (s t : State) (g : Group) → rec_group z s ≡ Done (group_value g) t → AreModuleIndices (declared_types g) }
+    ensures indices { (z : Settings) (s t : State) (g : Group) → rec_group z s ≡ Done (group_value g) t
+        → AreModuleIndices (declared_types g) }
 {}
 
 /// The total of types: over a list that is full a module may pass it with a group of one type, if it has one, and over a list with none no
 /// module may; and no refusal of another kind or text is of it, nor of a module that has no group.
 pub fn totals_are_worked()
-    ensures full { (groups : List Interned) (z : Settings) (Has : ℕ → Type 0) → Has 1 → count groups ≡ max_types → 1 ≤ z.limits.types
+    ensures full { (groups : List Interned) (z : Settings) (Has : ℕ → Type 0) → Has 1 → count groups ≡ max_types
+        → 1 ≤ z.limits.types
         → IsPastTotal groups (no_items z) Has
         (record { kind = Other; offset = 7; message = codes "implementation limit: too many core types" }) }
     ensures without { (groups : List Interned) (s : Items) (e : ErrorValue) → IsPastTotal groups s (λ n. ⊥) e → ⊥ }

@@ -22,8 +22,10 @@ use wasm_types::Result;
 /// The module has no such function, or its type is not `[] -> []`: an error of kind `Other`, at `offset`.
 pub fn take_start(state: &ModuleState, types: &TypeList, func: u32, offset: u64) -> Result<()>
     requires { IsReadOver types.now.groups state.now.spaces }
-    ensures answer { (z : Settings) (m : ModuleTree) → IsBefore section.start types.now.groups state.now z m → Tells result ((n : ModuleTree) × Adds z section.start m func n) }
-    ensures added { OnOk result ((z : Settings) (m n : ModuleTree) → IsBefore section.start types.now.groups state.now z m → Adds z section.start m func n
+    ensures answer { (z : Settings) (m : ModuleTree) → IsBefore section.start types.now.groups state.now z m
+        → Tells result ((n : ModuleTree) × Adds z section.start m func n) }
+    ensures added { OnOk result ((z : Settings) (m n : ModuleTree)
+        → IsBefore section.start types.now.groups state.now z m → Adds z section.start m func n
         → IsReading section.start types.now.groups state.now z n) }
     ensures refused { IfErr result (λ e. (e.kind ≡ Other) × (e.offset ≡ offset)) }
 {
@@ -37,8 +39,11 @@ pub fn take_start(state: &ModuleState, types: &TypeList, func: u32, offset: u64)
 /// The features of memories in bulk are not allowed, or `count` is above the limit of data segments: an error of kind `Other`, at `offset`.
 /// The state stays then.
 pub fn take_data_count(state: &mut ModuleState, count: u32, offset: u64) -> Result<()>
-    ensures answer { (groups : List Group) (z : Settings) (m : ModuleTree) → IsBefore section.data_count groups state.old z m → Tells result ((n : ModuleTree) × Adds z section.data_count m count n) }
-    ensures added { OnOk result ((groups : List Group) (z : Settings) (m n : ModuleTree) → IsBefore section.data_count groups state.old z m → Adds z section.data_count m count n
+    ensures answer { (groups : List Group) (z : Settings) (m : ModuleTree)
+        → IsBefore section.data_count groups state.old z m → Tells result ((n : ModuleTree)
+        × Adds z section.data_count m count n) }
+    ensures added { OnOk result ((groups : List Group) (z : Settings) (m n : ModuleTree)
+        → IsBefore section.data_count groups state.old z m → Adds z section.data_count m count n
         → IsReading section.data_count groups state.new z n) }
     ensures read { (groups : List Group) → IsReadOver groups state.old.spaces → IsReadOver groups state.new.spaces }
     ensures settings { state.new.spaces.settings ≡ state.old.spaces.settings }

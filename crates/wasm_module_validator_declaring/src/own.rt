@@ -24,7 +24,8 @@ pub fn add_function_item(
 ) -> Result<()>
     requires { IsReadOver types.now.groups state.old.spaces }
     ensures answer { TellsItem section.functions types.now.groups state.old type_index result }
-    ensures added { OnOk result (AddsItem section.functions types.now.groups state.old type_index types.now.groups state.new) }
+    ensures added { OnOk result (AddsItem section.functions types.now.groups state.old type_index
+        types.now.groups state.new) }
     ensures read { IsReadOver types.now.groups state.new.spaces }
     ensures settings { state.new.spaces.settings ≡ state.old.spaces.settings }
     ensures types { state.new.spaces.types ≡ state.old.spaces.types }
@@ -43,7 +44,8 @@ pub fn add_function_item(
 /// state stays then.
 pub fn add_memory_item(state: &mut ModuleState, ty: MemoryType, offset: u64) -> Result<()>
     ensures answer { (groups : List Group) → TellsItem section.memories groups state.old ty result }
-    ensures added { OnOk result ((groups : List Group) → AddsItem section.memories groups state.old ty groups state.new) }
+    ensures added { OnOk result ((groups : List Group) → AddsItem section.memories groups state.old ty
+        groups state.new) }
     ensures read { (groups : List Group) → IsReadOver groups state.old.spaces → IsReadOver groups state.new.spaces }
     ensures settings { state.new.spaces.settings ≡ state.old.spaces.settings }
     ensures types { state.new.spaces.types ≡ state.old.spaces.types }

@@ -36,7 +36,8 @@ fn kind_of(byte: u8) -> Option<ExternalKind>
 // The export at an offset, and where it ends.
 fn short_export_at<'a>(bytes: &'a [u8], at: usize, limits: &Limits) -> Option<(Export<'a>, usize)>
     requires { at ≤ length bytes.now }
-    ensures { IfSome result (λ r. IsBetween (SpellsExport limits.now (record { name = r.0.name.now; kind = r.0.kind; index = r.0.index }))
+    ensures { IfSome result (λ r. IsBetween (SpellsExport limits.now
+        (record { name = r.0.name.now; kind = r.0.kind; index = r.0.index }))
         bytes.now at r.1) }
 {
     let Some((count, first)) = short_u32_at(bytes, at) else {

@@ -31,8 +31,10 @@ fn check_reference<R: WasmModuleResources>(
     offset: u64,
 ) -> Result<RefType>
     ensures answer { Tells result (IsValidValueType settings.now (R.meaning resources.now).«module» (value.Ref ty)) }
-    ensures named { IfOk result (λ t. reference_in (R.meaning resources.now) t ≡ value_in (R.meaning resources.now).«module».types (value.Ref ty)) }
-    ensures refused { IfErr result (IsTypeRefusal settings.now (λ y. IsValidValueType y (R.meaning resources.now).«module» (value.Ref ty)) offset) }
+    ensures named { IfOk result (λ t. reference_in (R.meaning resources.now) t ≡ value_in
+        (R.meaning resources.now).«module».types (value.Ref ty)) }
+    ensures refused { IfErr result (IsTypeRefusal settings.now
+        (λ y. IsValidValueType y (R.meaning resources.now).«module» (value.Ref ty)) offset) }
 {
     let mut named = ValType::Ref(ty);
     match check_value_type(resources, &mut named, settings, offset) {
@@ -53,8 +55,10 @@ fn check_item_type<'a, R: WasmModuleResources>(
     offset: u64,
 ) -> Result<RefType>
     ensures answer { Tells result (IsItemType settings.now (R.meaning resources.now).«module» items.now) }
-    ensures named { IfOk result (λ t. reference_in (R.meaning resources.now) t ≡ item_type (R.meaning resources.now).«module».types items.now) }
-    ensures refused { IfErr result (IsTypeRefusal settings.now (λ y. IsItemType y (R.meaning resources.now).«module» items.now) offset) }
+    ensures named { IfOk result (λ t. reference_in (R.meaning resources.now) t ≡ item_type
+        (R.meaning resources.now).«module».types items.now) }
+    ensures refused { IfErr result (IsTypeRefusal settings.now
+        (λ y. IsItemType y (R.meaning resources.now).«module» items.now) offset) }
 {
     match items {
         ElementItemsOf::Functions(_) => Ok(RefType::FUNC),
@@ -84,10 +88,14 @@ pub fn check_element<'a, R: WasmModuleResources>(
     offset: u64,
 ) -> Result<RefType>
     requires within { IsWithinCeilings settings.now.limits }
-    ensures answer { Tells result (IsElementThere settings.now (R.meaning resources.now).«module» imported_globals (element_read element.entry)) }
-    ensures named { IfOk result (λ t. reference_in (R.meaning resources.now) t ≡ item_type (R.meaning resources.now).«module».types element.entry.items) }
-    ensures names { IfOk result (λ _. NamesElement settings.now (element_read element.entry) names.old.items names.new.items) }
-    ensures refused { IfErr result (λ e. UnlessMemory e.kind (RefusesElement settings.now (R.meaning resources.now) imported_globals offset element.entry e)) }
+    ensures answer { Tells result (IsElementThere settings.now (R.meaning resources.now).«module» imported_globals
+        (element_read element.entry)) }
+    ensures named { IfOk result (λ t. reference_in (R.meaning resources.now) t ≡ item_type
+        (R.meaning resources.now).«module».types element.entry.items) }
+    ensures names { IfOk result (λ _. NamesElement settings.now
+        (element_read element.entry) names.old.items names.new.items) }
+    ensures refused { IfErr result (λ e. UnlessMemory e.kind (RefusesElement settings.now
+        (R.meaning resources.now) imported_globals offset element.entry e)) }
 {
     let ElementOf {
         kind,

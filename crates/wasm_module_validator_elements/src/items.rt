@@ -39,9 +39,12 @@ fn check_functions<R: WasmModuleResources>(
     resources: &R,
     names: &mut Vec<u32>,
 ) -> Result<()>
-    ensures answer { Tells result (AllLeft (IsFunction (R.meaning resources.now).«module») function_index (fresh functions.entry.count functions.entry.reader)) }
-    ensures named { IfOk result (λ _. NamesLeft NamesFunction function_index (fresh functions.entry.count functions.entry.reader) names.old.items names.new.items) }
-    ensures refused { IfErr result (λ e. UnlessMemory e.kind (StopsAmong (IsFunction (R.meaning resources.now).«module») function_index
+    ensures answer { Tells result (AllLeft (IsFunction (R.meaning resources.now).«module») function_index
+        (fresh functions.entry.count functions.entry.reader)) }
+    ensures named { IfOk result (λ _. NamesLeft NamesFunction function_index
+        (fresh functions.entry.count functions.entry.reader) names.old.items names.new.items) }
+    ensures refused { IfErr result (λ e. UnlessMemory e.kind (StopsAmong
+        (IsFunction (R.meaning resources.now).«module») function_index
         (RefusesFunction (R.meaning resources.now).«module») (fresh functions.entry.count functions.entry.reader) e)) }
 {
     for found in functions.into_iter_with_offsets() {
@@ -87,11 +90,16 @@ fn check_constants<'a, R: WasmModuleResources>(
     names: &mut Vec<u32>,
 ) -> Result<()>
     requires within { IsWithinCeilings settings.now.limits }
-    ensures answer { Tells result (AllLeft (IsConstantText settings.now (R.meaning resources.now).«module» imported_globals (type_in (R.meaning resources.now) ty.now)) constant
+    ensures answer { Tells result (AllLeft (IsConstantText settings.now
+        (R.meaning resources.now).«module» imported_globals (type_in (R.meaning resources.now) ty.now)) constant
         (fresh constants.entry.count constants.entry.reader)) }
-    ensures named { IfOk result (λ _. NamesLeft (NamesMore settings.now) constant (fresh constants.entry.count constants.entry.reader) names.old.items names.new.items) }
-    ensures refused { IfErr result (λ e. UnlessMemory e.kind (StopsAmong (IsConstantText settings.now (R.meaning resources.now).«module» imported_globals (type_in (R.meaning resources.now) ty.now)) constant
-        (RefusesConstant settings.now (R.meaning resources.now) imported_globals (type_in (R.meaning resources.now) ty.now)) (fresh constants.entry.count constants.entry.reader) e)) }
+    ensures named { IfOk result (λ _. NamesLeft (NamesMore settings.now) constant
+        (fresh constants.entry.count constants.entry.reader) names.old.items names.new.items) }
+    ensures refused { IfErr result (λ e. UnlessMemory e.kind (StopsAmong
+        (IsConstantText settings.now (R.meaning resources.now).«module» imported_globals
+        (type_in (R.meaning resources.now) ty.now)) constant
+        (RefusesConstant settings.now (R.meaning resources.now) imported_globals
+        (type_in (R.meaning resources.now) ty.now)) (fresh constants.entry.count constants.entry.reader) e)) }
 {
     let end = constants.range().end;
     for found in constants.into_iter_with_offsets() {
@@ -131,9 +139,11 @@ pub(crate) fn check_items<'a, R: WasmModuleResources>(
     offset: u64,
 ) -> Result<()>
     requires within { IsWithinCeilings settings.now.limits }
-    ensures answer { Tells result (AreItems settings.now (R.meaning resources.now).«module» imported_globals (type_in (R.meaning resources.now) ty) items.entry) }
+    ensures answer { Tells result (AreItems settings.now (R.meaning resources.now).«module» imported_globals
+        (type_in (R.meaning resources.now) ty) items.entry) }
     ensures named { IfOk result (λ _. NamesItems settings.now items.entry names.old.items names.new.items) }
-    ensures refused { IfErr result (λ e. UnlessMemory e.kind (RefusesItems settings.now (R.meaning resources.now) imported_globals offset (type_in (R.meaning resources.now) ty) items.entry e)) }
+    ensures refused { IfErr result (λ e. UnlessMemory e.kind (RefusesItems settings.now
+        (R.meaning resources.now) imported_globals offset (type_in (R.meaning resources.now) ty) items.entry e)) }
 {
     match items {
         ElementItemsOf::Functions(section) => {

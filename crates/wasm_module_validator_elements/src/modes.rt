@@ -76,9 +76,12 @@ fn check_place<R: WasmModuleResources>(
     offset: u64,
 ) -> Result<()>
     requires within { IsWithinCeilings settings.now.limits }
-    ensures answer { Tells result (IsMode settings.now (R.meaning resources.now).«module» imported_globals (reference_in (R.meaning resources.now) ty) (kinds.Active table_index offset_expr.now)) }
+    ensures answer { Tells result (IsMode settings.now (R.meaning resources.now).«module» imported_globals
+        (reference_in (R.meaning resources.now) ty) (kinds.Active table_index offset_expr.now)) }
     ensures named { IfOk result (λ _. NamesMore settings.now offset_expr.now.rest names.old.items names.new.items) }
-    ensures refused { IfErr result (λ e. UnlessMemory e.kind (RefusesMode settings.now (R.meaning resources.now) imported_globals offset (reference_in (R.meaning resources.now) ty) (kinds.Active table_index offset_expr.now) e)) }
+    ensures refused { IfErr result (λ e. UnlessMemory e.kind (RefusesMode settings.now
+        (R.meaning resources.now) imported_globals offset (reference_in (R.meaning resources.now) ty)
+        (kinds.Active table_index offset_expr.now) e)) }
 {
     let index = table_index_of(table_index);
     let Some(table) = resources.table_at(index) else {
@@ -126,9 +129,11 @@ pub(crate) fn check_mode<R: WasmModuleResources>(
     offset: u64,
 ) -> Result<()>
     requires within { IsWithinCeilings settings.now.limits }
-    ensures answer { Tells result (IsMode settings.now (R.meaning resources.now).«module» imported_globals (reference_in (R.meaning resources.now) ty) kind.now) }
+    ensures answer { Tells result (IsMode settings.now (R.meaning resources.now).«module» imported_globals
+        (reference_in (R.meaning resources.now) ty) kind.now) }
     ensures named { IfOk result (λ _. NamesMode settings.now kind.now names.old.items names.new.items) }
-    ensures refused { IfErr result (λ e. UnlessMemory e.kind (RefusesMode settings.now (R.meaning resources.now) imported_globals offset (reference_in (R.meaning resources.now) ty) kind.now e)) }
+    ensures refused { IfErr result (λ e. UnlessMemory e.kind (RefusesMode settings.now
+        (R.meaning resources.now) imported_globals offset (reference_in (R.meaning resources.now) ty) kind.now e)) }
 {
     match kind {
         ElementKindOf::Active {

@@ -63,7 +63,8 @@ pub(crate) fn take_function<R: WasmModuleResources>(
 ) -> Result<()>
     ensures answer { Tells result (IsFunction (R.meaning resources.now).«module» index) }
     ensures named { IfOk result (λ _. NamesFunction index names.old.items names.new.items) }
-    ensures refused { IfErr result (λ e. UnlessMemory e.kind ((IsFunction (R.meaning resources.now).«module» index → ⊥) × IsFault offset e)) }
+    ensures refused { IfErr result (λ e. UnlessMemory e.kind ((IsFunction (R.meaning resources.now).«module» index → ⊥)
+        × IsFault offset e)) }
 {
     match check_function(resources, index, offset) {
         Ok(()) => (),
@@ -81,7 +82,8 @@ fn name_constant(
 ) -> Result<()>
     requires within { IsWithinCeilings settings.now.limits }
     ensures named { IfOk result (λ _. NamesMore settings.now expr.now.rest names.old.items names.new.items) }
-    ensures refused { IfErr result (λ e. IsNotMemory e.kind → (c : Code) → SpelledExpression settings.now c expr.now.rest → ⊥) }
+    ensures refused { IfErr result (λ e. IsNotMemory e.kind → (c : Code)
+        → SpelledExpression settings.now c expr.now.rest → ⊥) }
 {
     name_references(alloc, reader_by(expr, settings), names)
 }
@@ -98,9 +100,11 @@ pub(crate) fn take_constant<R: WasmModuleResources>(
     names: &mut Vec<u32>,
 ) -> Result<()>
     requires within { IsWithinCeilings settings.now.limits }
-    ensures answer { Tells result (IsConstantText settings.now (R.meaning resources.now).«module» imported_globals (type_in (R.meaning resources.now) ty) expr.now.rest) }
+    ensures answer { Tells result (IsConstantText settings.now (R.meaning resources.now).«module» imported_globals
+        (type_in (R.meaning resources.now) ty) expr.now.rest) }
     ensures named { IfOk result (λ _. NamesMore settings.now expr.now.rest names.old.items names.new.items) }
-    ensures refused { IfErr result (λ e. UnlessMemory e.kind (StopsText settings.now (R.meaning resources.now) imported_globals (type_in (R.meaning resources.now) ty) expr.now e)) }
+    ensures refused { IfErr result (λ e. UnlessMemory e.kind (StopsText settings.now
+        (R.meaning resources.now) imported_globals (type_in (R.meaning resources.now) ty) expr.now e)) }
 {
     match check_constant(
         alloc,

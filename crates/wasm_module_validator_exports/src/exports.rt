@@ -43,7 +43,8 @@ fn check_global<R: WasmModuleResources>(
     offset: u64,
 ) -> Result<()>
     ensures answer { Tells result (IsValidExport settings.now (R.meaning resources.now).«module» Global index) }
-    ensures refused { IfErr result (λ e. IsNeeded settings.now.features (λ b. IsValidExport (allowing b settings.now) (R.meaning resources.now).«module» Global index) e.kind) }
+    ensures refused { IfErr result (λ e. IsNeeded settings.now.features
+        (λ b. IsValidExport (allowing b settings.now) (R.meaning resources.now).«module» Global index) e.kind) }
     ensures at { IfErr result (λ e. e.offset ≡ offset) }
 {
     let Some(global) = resources.global_at(index) else {
@@ -70,7 +71,8 @@ pub fn check_export<R: WasmModuleResources>(
     offset: u64,
 ) -> Result<()>
     ensures answer { Tells result (IsValidExport settings.now (R.meaning resources.now).«module» kind index) }
-    ensures refused { IfErr result (λ e. IsNeeded settings.now.features (λ b. IsValidExport (allowing b settings.now) (R.meaning resources.now).«module» kind index) e.kind) }
+    ensures refused { IfErr result (λ e. IsNeeded settings.now.features
+        (λ b. IsValidExport (allowing b settings.now) (R.meaning resources.now).«module» kind index) e.kind) }
     ensures at { IfErr result (λ e. e.offset ≡ offset) }
 {
     match kind {

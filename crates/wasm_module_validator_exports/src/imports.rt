@@ -65,8 +65,10 @@ fn check_exact_function<R: WasmModuleResources>(
     settings: &Settings,
     offset: u64,
 ) -> Result<()>
-    ensures answer { Tells result (Has settings.now.features CustomDescriptors × IsFunctionIndex (R.meaning resources.now).«module» type_index) }
-    ensures refused { IfErr result (λ e. IsRefusal settings.now.features (λ b. Has b CustomDescriptors × IsFunctionIndex (R.meaning resources.now).«module» type_index) e.kind) }
+    ensures answer { Tells result (Has settings.now.features CustomDescriptors
+        × IsFunctionIndex (R.meaning resources.now).«module» type_index) }
+    ensures refused { IfErr result (λ e. IsRefusal settings.now.features (λ b. Has b CustomDescriptors
+        × IsFunctionIndex (R.meaning resources.now).«module» type_index) e.kind) }
     ensures at { IfErr result (λ e. e.offset ≡ offset) }
 {
     require(
@@ -88,9 +90,13 @@ fn check_global<R: WasmModuleResources>(
     settings: &Settings,
     offset: u64,
 ) -> Result<()>
-    ensures answer { Tells result (IsValidGlobalType settings.now (R.meaning resources.now).«module» ty.old × MayCross settings.now ty.old.mutable) }
-    ensures named { OnOk result (global_in (R.meaning resources.now) ty.new ≡ global_written (R.meaning resources.now).«module».types ty.old) }
-    ensures refused { IfErr result (λ e. IsRefusal settings.now.features (λ b. IsValidGlobalType (allowing b settings.now) (R.meaning resources.now).«module» ty.old × MayCross (allowing b settings.now) ty.old.mutable) e.kind) }
+    ensures answer { Tells result (IsValidGlobalType settings.now (R.meaning resources.now).«module» ty.old
+        × MayCross settings.now ty.old.mutable) }
+    ensures named { OnOk result (global_in (R.meaning resources.now) ty.new ≡ global_written
+        (R.meaning resources.now).«module».types ty.old) }
+    ensures refused { IfErr result (λ e. IsRefusal settings.now.features
+        (λ b. IsValidGlobalType (allowing b settings.now) (R.meaning resources.now).«module» ty.old
+        × MayCross (allowing b settings.now) ty.old.mutable) e.kind) }
     ensures at { IfErr result (λ e. e.offset ≡ offset) }
 {
     match check_global_type(resources, ty, settings, offset) {
@@ -114,7 +120,8 @@ fn check_tag<R: WasmModuleResources>(
     offset: u64,
 ) -> Result<()>
     ensures answer { Tells result (IsValidTagType settings.now (R.meaning resources.now).«module» ty.now) }
-    ensures refused { IfErr result (λ e. IsNeeded settings.now.features (λ b. IsValidTagType (allowing b settings.now) (R.meaning resources.now).«module» ty.now) e.kind) }
+    ensures refused { IfErr result (λ e. IsNeeded settings.now.features
+        (λ b. IsValidTagType (allowing b settings.now) (R.meaning resources.now).«module» ty.now) e.kind) }
     ensures at { IfErr result (λ e. e.offset ≡ offset) }
 {
     match check_tag_type(resources, ty, settings, offset) {
@@ -138,7 +145,8 @@ pub fn check_import<R: WasmModuleResources>(
 ) -> Result<()>
     ensures answer { Tells result (IsValidImport settings.now (R.meaning resources.now).«module» ty.old) }
     ensures named { OnOk result (IsNamedImport (R.meaning resources.now) ty.old ty.new) }
-    ensures refused { IfErr result (λ e. IsRefusal settings.now.features (λ b. IsValidImport (allowing b settings.now) (R.meaning resources.now).«module» ty.old) e.kind) }
+    ensures refused { IfErr result (λ e. IsRefusal settings.now.features
+        (λ b. IsValidImport (allowing b settings.now) (R.meaning resources.now).«module» ty.old) e.kind) }
     ensures at { IfErr result (λ e. e.offset ≡ offset) }
 {
     match ty {

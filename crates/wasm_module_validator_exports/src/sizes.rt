@@ -102,7 +102,8 @@ pub fn combine_import_size<R: WasmModuleResources>(
     settings: &Settings,
     offset: u64,
 ) -> Result<u32>
-    ensures answer { Tells result (sum + import_size (R.meaning resources.now).«module» ty.now < settings.now.limits.type_size) }
+    ensures answer { Tells result (sum + import_size (R.meaning resources.now).«module» ty.now
+        < settings.now.limits.type_size) }
     ensures sum { IfOk result (λ all. all ≡ sum + import_size (R.meaning resources.now).«module» ty.now) }
     ensures refused { IfErr result (λ e. (e.kind ≡ Other) × (e.offset ≡ offset)) }
 {
@@ -179,7 +180,8 @@ pub fn combine_export_size<R: WasmModuleResources>(
     settings: &Settings,
     offset: u64,
 ) -> Result<u32>
-    ensures answer { Tells result (sum + export_size (R.meaning resources.now).«module» kind index < settings.now.limits.type_size) }
+    ensures answer { Tells result (sum + export_size (R.meaning resources.now).«module» kind index
+        < settings.now.limits.type_size) }
     ensures sum { IfOk result (λ all. all ≡ sum + export_size (R.meaning resources.now).«module» kind index) }
     ensures refused { IfErr result (λ e. (e.kind ≡ Other) × (e.offset ≡ offset)) }
 {

@@ -91,7 +91,8 @@ impl<R: WasmModuleResources> FuncValidator<R> {
 
     /// The frame that a label names, which counts outwards from the innermost, if there is one.
     pub fn get_control_frame(&self, depth: usize) -> Option<&Frame>
-        ensures { MatchOption result (frame_at self.now.validator.opens depth ≡ None) (λ f. frame_at self.now.validator.opens depth ≡ Some f.now) }
+        ensures { MatchOption result (frame_at self.now.validator.opens depth ≡ None)
+            (λ f. frame_at self.now.validator.opens depth ≡ Some f.now) }
     {
         self.validator.get_frame(depth)
     }

@@ -56,7 +56,8 @@ impl BodyJudge {
         body: &FunctionBody<'_>,
     ) -> bool
         requires within { IsWithinCeilings limits }
-        ensures { result ≡ true → SpellsValidFunction (judged_by features.0 limits) (R.meaning resources.now).«module» ty body.now.rest }
+        ensures { result ≡ true → SpellsValidFunction (judged_by features.0 limits)
+            (R.meaning resources.now).«module» ty body.now.rest }
     {
         if !begin_func(&mut self.validator, ty, features, limits, resources) {
             return false;
@@ -78,7 +79,8 @@ impl BodyJudge {
 /// Puts the locals at the front of a body behind those that there are, where all are numbers and no more than the reader's limits say,
 /// and says whether it did.
 fn take_numbers(validator: &mut OperatorValidator, reader: &mut BinaryReader<'_>) -> bool
-    ensures { result ≡ true → (m : Meaning) → TakesLocals m reader.old.settings reader.old validator.old reader.new validator.new }
+    ensures { result ≡ true → (m : Meaning) → TakesLocals m reader.old.settings reader.old validator.old reader.new
+        validator.new }
 {
     let most = reader.limits().locals;
     let Some(count) = reader.short_u32() else {

@@ -13,7 +13,9 @@ pub const fn functions_are_those_of_the_rules()
 
 /// Worked locals: no groups, behind as many parameters as there may be locals; one parameter more; and no bytes.
 pub const fn locals_are_worked()
-    ensures none { (z : Settings) (g : Module) (before : ℕ) → before ≤ z.limits.locals → SpellsLocals z g before (0 ∷ 0x0b ∷ []) }
-    ensures too_many { (z : Settings) (g : Module) (before : ℕ) (text : List ℕ) → z.limits.locals < before → SpellsLocals z g before text → ⊥ }
+    ensures none { (z : Settings) (g : Module) (before : ℕ) → before ≤ z.limits.locals
+        → SpellsLocals z g before (0 ∷ 0x0b ∷ []) }
+    ensures too_many { (z : Settings) (g : Module) (before : ℕ) (text : List ℕ) → z.limits.locals < before
+        → SpellsLocals z g before text → ⊥ }
     ensures nothing { (z : Settings) (g : Module) (before : ℕ) → SpellsLocals z g before [] → ⊥ }
 {}

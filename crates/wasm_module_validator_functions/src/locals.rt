@@ -27,7 +27,8 @@ impl<R: WasmModuleResources> FuncValidator<R> {
     /// locals there are with it; or there is no memory. The reader stays then, the validator has failed, and each later call
     /// is refused.
     pub fn read_locals(&mut self, reader: &mut BinaryReader<'_>) -> Result<()>
-        ensures reads { ReadsLocals (R.meaning self.old.resources) self.old.limits reader.old self.old.validator result reader.new self.new.validator }
+        ensures reads { ReadsLocals (R.meaning self.old.resources) self.old.limits reader.old self.old.validator result
+            reader.new self.new.validator }
         ensures resources { self.new.resources ≡ self.old.resources }
         ensures index { self.new.index ≡ self.old.index }
         ensures limits { self.new.limits ≡ self.old.limits }
@@ -55,7 +56,8 @@ impl<R: WasmModuleResources> FuncValidator<R> {
     /// Something was refused before; the module may not write the type, also for no locals; there would be more in all than the
     /// validator's limits say; or there is no memory. The locals stay as they were.
     pub fn define_locals(&mut self, offset: u64, count: u32, ty: ValType) -> Result<()>
-        ensures defines { DefinesMore (R.meaning self.old.resources) self.old.limits.locals self.old.validator count ty result self.new.validator }
+        ensures defines { DefinesMore (R.meaning self.old.resources) self.old.limits.locals self.old.validator count ty
+            result self.new.validator }
         ensures stays { IfErr result (λ _. self.new ≡ self.old) }
         ensures resources { self.new.resources ≡ self.old.resources }
         ensures index { self.new.index ≡ self.old.index }
@@ -72,8 +74,11 @@ impl<R: WasmModuleResources> FuncValidator<R> {
 
     /// Puts all groups of locals behind those that there are. Where one is refused, those before it were put there.
     fn take_locals(&mut self, reader: &mut BinaryReader<'_>) -> Result<()>
-        ensures taken { OnOk result (TakesLocals (R.meaning self.old.resources) (judged_by self.old.validator.given.bits self.old.limits) reader.old self.old.validator reader.new self.new.validator) }
-        ensures refused { IfErr result (λ e. StopsLocals (R.meaning self.old.resources) (judged_by self.old.validator.given.bits self.old.limits) reader.old self.old.validator e) }
+        ensures taken { OnOk result (TakesLocals (R.meaning self.old.resources)
+            (judged_by self.old.validator.given.bits self.old.limits) reader.old self.old.validator reader.new
+            self.new.validator) }
+        ensures refused { IfErr result (λ e. StopsLocals (R.meaning self.old.resources)
+            (judged_by self.old.validator.given.bits self.old.limits) reader.old self.old.validator e) }
         ensures others { self.new.validator ≡ relocated self.old.validator self.new.validator.given.locals }
         ensures resources { self.new.resources ≡ self.old.resources }
         ensures index { self.new.index ≡ self.old.index }
@@ -99,8 +104,10 @@ impl<R: WasmModuleResources> FuncValidator<R> {
     #[tactic(auto, unfolding(crate::specs::Locals::group))]
     fn take_group(&mut self, reader: &mut BinaryReader<'_>) -> Result<()>
         ensures taken { IfOk result (λ _. (l : LocalGroup) × (group reader.old ≡ Done l reader.new)
-            × DefinesLocals (R.meaning self.old.resources) self.old.limits.locals self.old.validator l.count l.type self.new.validator) }
-        ensures refused { IfErr result (λ e. RefusesGroup (R.meaning self.old.resources) self.old.limits.locals reader.old self.old.validator e) }
+            × DefinesLocals (R.meaning self.old.resources) self.old.limits.locals self.old.validator l.count l.type
+            self.new.validator) }
+        ensures refused { IfErr result (λ e. RefusesGroup (R.meaning self.old.resources) self.old.limits.locals
+            reader.old self.old.validator e) }
         ensures stays { IfErr result (λ _. self.new ≡ self.old) }
         ensures settings { reader.new.settings ≡ reader.old.settings }
         ensures resources { self.new.resources ≡ self.old.resources }

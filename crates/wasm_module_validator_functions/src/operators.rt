@@ -27,7 +27,8 @@ impl<R: WasmModuleResources> FuncValidator<R> {
     /// Something was refused before; or the operator may not come, or there is no memory. The validator has failed then, and each
     /// later call is refused.
     pub fn op(&mut self, offset: u64, operator: Operator<'_>) -> Result<()>
-        ensures visits { Visits (R.meaning self.old.resources) self.old.validator (op_of operator.entry) (refused_by result) self.new.validator }
+        ensures visits { Visits (R.meaning self.old.resources) self.old.validator (op_of operator.entry)
+            (refused_by result) self.new.validator }
         ensures at { RefusedAt offset result }
         ensures resources { self.new.resources ≡ self.old.resources }
         ensures index { self.new.index ≡ self.old.index }
@@ -47,7 +48,8 @@ impl<R: WasmModuleResources> FuncValidator<R> {
     ///
     /// Something was refused before; or the operator may not come, or there is no memory. The validator is as it was.
     pub fn try_op(&mut self, offset: u64, operator: Operator<'_>) -> Result<()>
-        ensures tries { Tries (R.meaning self.old.resources) self.old.validator (op_of operator.entry) (refused_by result) self.new.validator }
+        ensures tries { Tries (R.meaning self.old.resources) self.old.validator (op_of operator.entry)
+            (refused_by result) self.new.validator }
         ensures at { RefusedAt offset result }
         ensures resources { self.new.resources ≡ self.old.resources }
         ensures index { self.new.index ≡ self.old.index }
@@ -74,7 +76,8 @@ fn judge<R: WasmModuleResources>(
     resources: &R,
     operator: Operator<'_>,
 ) -> std::result::Result<(), Refusal>
-    ensures visits { Visits (R.meaning resources.now) validator.old (op_of operator.entry) (refused result) validator.new }
+    ensures visits { Visits (R.meaning resources.now) validator.old (op_of operator.entry)
+        (refused result) validator.new }
 {
     if is_simd(&operator) {
         return Err(refuse_vectors(validator));
@@ -97,7 +100,8 @@ fn tell<R: WasmModuleResources>(
     operator: Operator<'_>,
 ) -> std::result::Result<(), Refusal>
     requires { is_simd (op_of operator) ≡ false }
-    ensures visits { Visits (R.meaning walk.old.visitor.resources.now) walk.old.visitor.inner.now (op_of operator.entry) (refused result) walk.new.visitor.inner.now }
+    ensures visits { Visits (R.meaning walk.old.visitor.resources.now) walk.old.visitor.inner.now (op_of operator.entry)
+        (refused result) walk.new.visitor.inner.now }
     ensures lent { walk.new.visitor.inner.ghost_name ≡ walk.old.visitor.inner.ghost_name }
     ensures resources { walk.new.visitor.resources.now ≡ walk.old.visitor.resources.now }
 {
@@ -123,7 +127,8 @@ fn lent_validator<'v, 'r, R: WasmModuleResources>(
 /// Refuses an operator on vectors: none has a rule.
 #[cold]
 fn refuse_vectors(validator: &mut OperatorValidator) -> Refusal
-    ensures visits { (m : Meaning) (o : Op) → is_simd o ≡ true → Visits m validator.old o (Some (kind_of result)) validator.new }
+    ensures visits { (m : Meaning) (o : Op) → is_simd o ≡ true
+        → Visits m validator.old o (Some (kind_of result)) validator.new }
 {
     if validator.has_failed() {
         return Refusal::AfterRefusal;

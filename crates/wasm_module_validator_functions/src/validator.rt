@@ -33,7 +33,8 @@ impl<R: WasmModuleResources> FuncValidator<R> {
     /// expression without vectors; an operator is refused, at its offset; a frame is still open at the end; or there is no memory.
     /// The validator has failed then, and each later call is refused.
     pub fn validate(&mut self, body: &FunctionBody<'_>) -> Result<()>
-        ensures validates { ValidatesFunction (R.meaning self.old.resources) self.old.limits body.now self.old.validator result self.new.validator }
+        ensures validates { ValidatesFunction (R.meaning self.old.resources) self.old.limits body.now self.old.validator
+            result self.new.validator }
         ensures resources { self.new.resources ≡ self.old.resources }
         ensures index { self.new.index ≡ self.old.index }
         ensures limits { self.new.limits ≡ self.old.limits }

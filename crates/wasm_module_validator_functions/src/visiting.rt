@@ -18,7 +18,13 @@ impl<R: WasmModuleResources> FuncValidator<R> {
         ensures resources { result.resources.now ≡ self.old.resources }
         ensures offset { result.answer.offset ≡ offset }
         ensures* writes_back { sem 𝓛 (Lends (the_row R.row) validator_row self.entry result.inner
-            (λ v. record { validator = v; resources = self.entry.now.resources; index = self.entry.now.index; limits = self.entry.now.limits; alloc = self.entry.now.alloc })) }
+            (λ v. record {
+              validator = v;
+              resources = self.entry.now.resources;
+              index = self.entry.now.index;
+              limits = self.entry.now.limits;
+              alloc = self.entry.now.alloc;
+            })) }
     {
         ValidatingVisitor {
             inner: &mut self.validator,

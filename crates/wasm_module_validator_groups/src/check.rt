@@ -37,8 +37,10 @@ fn check_below(
     requires id { id.0 < count types.now.groups }
     requires above { above.0 < count types.now.groups }
     requires ids { HaveKnownIds types.now.groups }
-    ensures above { Tells result (IsAboveValid types.now.groups (entry_by_id types.now.groups id) (Some above) × IsDepthWithin types.now.groups most (Some above)
-        × AreDescriptorsAllowed features.0 (entry_by_id types.now.groups id) × DescriptorsGoAlong types.now.groups (entry_by_id types.now.groups id) (Some above)) }
+    ensures above { Tells result (IsAboveValid types.now.groups (entry_by_id types.now.groups id) (Some above)
+        × IsDepthWithin types.now.groups most (Some above)
+        × AreDescriptorsAllowed features.0 (entry_by_id types.now.groups id)
+        × DescriptorsGoAlong types.now.groups (entry_by_id types.now.groups id) (Some above)) }
     ensures at { RefusedAt offset result }
 {
     check_supertype(types, id, above, most, offset)?;
@@ -104,7 +106,8 @@ pub fn check_types(
     requires order { ids.now.start.0 ≤ ids.now.end.0 }
     requires end { ids.now.end.0 ≤ count types.now.groups }
     requires ids { WhereCanonical features.0 (HaveKnownIds types.now.groups) }
-    ensures answer { Tells result (AreTypesValid types.now.groups features.0 most ids.now.start.0 (ids.now.end.0 - ids.now.start.0)) }
+    ensures answer { Tells result (AreTypesValid types.now.groups features.0 most ids.now.start.0
+        (ids.now.end.0 - ids.now.start.0)) }
     ensures at { RefusedAt offset result }
 {
     let end = ids.end.number();

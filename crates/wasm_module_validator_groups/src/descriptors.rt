@@ -149,7 +149,8 @@ pub(crate) fn check_joins(
     requires id { id.0 < count types.now.groups }
     requires descriptor { EachOption (IsIdBelow (count types.now.groups)) descriptor }
     requires describes { EachOption (IsIdBelow (count types.now.groups)) describes }
-    ensures answer { Tells result (IsDescribedBy types.now.groups id descriptor × Describes types.now.groups id describes) }
+    ensures answer { Tells result (IsDescribedBy types.now.groups id descriptor
+        × Describes types.now.groups id describes) }
     ensures at { RefusedAt offset result }
 {
     let Some(descriptor) = descriptor else {

@@ -73,7 +73,8 @@ pub(crate) fn check_supertype(
     requires above { above.0 < count types.now.groups }
     requires id_ids { HasKnownIds types.now.groups (entry_by_id types.now.groups id) }
     requires above_ids { HasKnownIds types.now.groups (entry_by_id types.now.groups above) }
-    ensures answer { Tells result (IsAboveValid types.now.groups (entry_by_id types.now.groups id) (Some above) × IsDepthWithin types.now.groups most (Some above)) }
+    ensures answer { Tells result (IsAboveValid types.now.groups (entry_by_id types.now.groups id) (Some above)
+        × IsDepthWithin types.now.groups most (Some above)) }
     ensures at { RefusedAt offset result }
 {
     if stored_type(types, above).is_final {

@@ -31,8 +31,11 @@ fn judge_data(
 ) -> Result<()>
     requires over { IsReadOver types.now.groups state.now.spaces }
     requires within { IsWithinCeilings state.now.spaces.settings.limits }
-    ensures answer { Tells result (IsData state.now.spaces.settings (constants_of types.now.groups state.now.spaces).«module» state.now.spaces.imported_globals (data_read segment.now)) }
-    ensures refused { IfErr result (λ e. UnlessMemory e.kind (RefusesData state.now.spaces.settings (constants_of types.now.groups state.now.spaces) state.now.spaces.imported_globals offset segment.now.kind e)) }
+    ensures answer { Tells result (IsData state.now.spaces.settings
+        (constants_of types.now.groups state.now.spaces).«module» state.now.spaces.imported_globals
+        (data_read segment.now)) }
+    ensures refused { IfErr result (λ e. UnlessMemory e.kind (RefusesData state.now.spaces.settings
+        (constants_of types.now.groups state.now.spaces) state.now.spaces.imported_globals offset segment.now.kind e)) }
 {
     let module = state.resources(types);
     check_data(
@@ -63,8 +66,10 @@ pub fn check_data_with(
     requires over { IsReadOver types.now.groups state.now.spaces }
     requires within { IsWithinCeilings state.now.spaces.settings.limits }
     ensures answer { TellsItem section.data_segments types.now.groups state.now (data_tree segment.now) result }
-    ensures added { OnOk result (AddsItem section.data_segments types.now.groups state.now (data_tree segment.now) types.now.groups state.now) }
-    ensures refused { IfErr result (λ e. UnlessMemory e.kind (RefusesData state.now.spaces.settings (constants_of types.now.groups state.now.spaces) state.now.spaces.imported_globals offset segment.now.kind e)) }
+    ensures added { OnOk result (AddsItem section.data_segments types.now.groups state.now
+        (data_tree segment.now) types.now.groups state.now) }
+    ensures refused { IfErr result (λ e. UnlessMemory e.kind (RefusesData state.now.spaces.settings
+        (constants_of types.now.groups state.now.spaces) state.now.spaces.imported_globals offset segment.now.kind e)) }
 {
     judge_data(alloc, segment, state, types, allocs, offset)
 }
@@ -88,9 +93,12 @@ pub fn check_data_item(
     requires over { IsReadOver types.now.groups state.old.spaces }
     requires within { IsWithinCeilings state.old.spaces.settings.limits }
     ensures answer { TellsItem section.data_segments types.now.groups state.old (data_tree segment.entry) result }
-    ensures added { OnOk result (AddsItem section.data_segments types.now.groups state.old (data_tree segment.entry) types.now.groups state.new) }
+    ensures added { OnOk result (AddsItem section.data_segments types.now.groups state.old
+        (data_tree segment.entry) types.now.groups state.new) }
     ensures stays { state.new ≡ state.old }
-    ensures refused { IfErr result (λ e. UnlessMemory e.kind (RefusesData state.old.spaces.settings (constants_of types.now.groups state.old.spaces) state.old.spaces.imported_globals offset segment.entry.kind e)) }
+    ensures refused { IfErr result (λ e. UnlessMemory e.kind (RefusesData state.old.spaces.settings
+        (constants_of types.now.groups state.old.spaces) state.old.spaces.imported_globals offset
+        segment.entry.kind e)) }
 {
     let mut allocs = state.take_const_expr_allocs(alloc);
     let answer = judge_data(alloc, &segment, state, types, &mut allocs, offset);

@@ -36,10 +36,15 @@ fn judge_element<'a>(
 ) -> Result<RefType>
     requires over { IsReadOver types.now.groups state.now.spaces }
     requires within { IsWithinCeilings state.now.spaces.settings.limits }
-    ensures answer { Tells result (IsElementThere state.now.spaces.settings (constants_of types.now.groups state.now.spaces).«module» state.now.spaces.imported_globals (element_read element.entry)) }
-    ensures named { IfOk result (λ t. reference_in (constants_of types.now.groups state.now.spaces) t ≡ item_type (constants_of types.now.groups state.now.spaces).«module».types element.entry.items) }
-    ensures names { IfOk result (λ _. NamesElement state.now.spaces.settings (element_read element.entry) names.old.items names.new.items) }
-    ensures refused { IfErr result (λ e. UnlessMemory e.kind (RefusesElement state.now.spaces.settings (constants_of types.now.groups state.now.spaces) state.now.spaces.imported_globals offset element.entry e)) }
+    ensures answer { Tells result (IsElementThere state.now.spaces.settings
+        (constants_of types.now.groups state.now.spaces).«module» state.now.spaces.imported_globals
+        (element_read element.entry)) }
+    ensures named { IfOk result (λ t. reference_in (constants_of types.now.groups state.now.spaces) t ≡ item_type
+        (constants_of types.now.groups state.now.spaces).«module».types element.entry.items) }
+    ensures names { IfOk result (λ _. NamesElement state.now.spaces.settings
+        (element_read element.entry) names.old.items names.new.items) }
+    ensures refused { IfErr result (λ e. UnlessMemory e.kind (RefusesElement state.now.spaces.settings
+        (constants_of types.now.groups state.now.spaces) state.now.spaces.imported_globals offset element.entry e)) }
 {
     let module = state.resources(types);
     check_element(
@@ -65,10 +70,15 @@ fn check_new_element<'a>(
 ) -> Result<RefType>
     requires over { IsReadOver types.now.groups state.old.spaces }
     requires within { IsWithinCeilings state.old.spaces.settings.limits }
-    ensures answer { Tells result (IsElementThere state.old.spaces.settings (constants_of types.now.groups state.old.spaces).«module» state.old.spaces.imported_globals (element_read element.entry)) }
-    ensures named { IfOk result (λ t. reference_in (constants_of types.now.groups state.old.spaces) t ≡ item_type (constants_of types.now.groups state.old.spaces).«module».types element.entry.items) }
-    ensures names { IfOk result (λ _. NamesElement state.old.spaces.settings (element_read element.entry) names.old.items names.new.items) }
-    ensures refused { IfErr result (λ e. UnlessMemory e.kind (RefusesElement state.old.spaces.settings (constants_of types.now.groups state.old.spaces) state.old.spaces.imported_globals offset element.entry e)) }
+    ensures answer { Tells result (IsElementThere state.old.spaces.settings
+        (constants_of types.now.groups state.old.spaces).«module» state.old.spaces.imported_globals
+        (element_read element.entry)) }
+    ensures named { IfOk result (λ t. reference_in (constants_of types.now.groups state.old.spaces) t ≡ item_type
+        (constants_of types.now.groups state.old.spaces).«module».types element.entry.items) }
+    ensures names { IfOk result (λ _. NamesElement state.old.spaces.settings
+        (element_read element.entry) names.old.items names.new.items) }
+    ensures refused { IfErr result (λ e. UnlessMemory e.kind (RefusesElement state.old.spaces.settings
+        (constants_of types.now.groups state.old.spaces) state.old.spaces.imported_globals offset element.entry e)) }
     ensures stays { state.new ≡ state.old }
 {
     let mut allocs = state.take_const_expr_allocs(alloc);
@@ -96,13 +106,15 @@ pub fn add_element<'a>(
     requires over { IsReadOver types.now.groups state.old.spaces }
     requires within { IsWithinCeilings state.old.spaces.settings.limits }
     ensures answer { TellsItem section.element_segments types.now.groups state.old (element_read element.entry) result }
-    ensures added { OnOk result (AddsItem section.element_segments types.now.groups state.old (element_read element.entry) types.now.groups state.new) }
+    ensures added { OnOk result (AddsItem section.element_segments types.now.groups state.old
+        (element_read element.entry) types.now.groups state.new) }
     ensures read { IsReadOver types.now.groups state.new.spaces }
     ensures settings { state.new.spaces.settings ≡ state.old.spaces.settings }
     ensures types { state.new.spaces.types ≡ state.old.spaces.types }
     ensures code { state.new.next_code ≡ state.old.next_code }
     ensures stays { OnErr result (state.new ≡ state.old) }
-    ensures refused { IfErr result (λ e. UnlessMemory e.kind (RefusesNewElement types.now.groups state.old offset element.entry e)) }
+    ensures refused { IfErr result (λ e. UnlessMemory e.kind (RefusesNewElement types.now.groups state.old offset
+        element.entry e)) }
 {
     let mut names = Vec::new(alloc);
     let ty = match check_new_element(alloc, element, state, types, &mut names, offset) {

@@ -37,10 +37,14 @@ fn judge_global<R: WasmModuleResources>(
     offset: u64,
 ) -> Result<GlobalType>
     requires within { IsWithinCeilings settings.now.limits }
-    ensures answer { Tells result (IsGlobal settings.now (R.meaning resources.now).«module» imported_globals (global_read global.now)) }
-    ensures named { IfOk result (λ t. global_in (R.meaning resources.now) t ≡ global_written (R.meaning resources.now).«module».types global.now.ty) }
-    ensures names { IfOk result (λ _. NamesMore settings.now global.now.init_expr.rest names.old.items names.new.items) }
-    ensures refused { IfErr result (λ e. UnlessMemory e.kind (RefusesGlobal settings.now (R.meaning resources.now) imported_globals offset global.now e)) }
+    ensures answer { Tells result (IsGlobal settings.now (R.meaning resources.now).«module» imported_globals
+        (global_read global.now)) }
+    ensures named { IfOk result (λ t. global_in (R.meaning resources.now) t ≡ global_written
+        (R.meaning resources.now).«module».types global.now.ty) }
+    ensures names { IfOk result (λ _. NamesMore settings.now global.now.init_expr.rest names.old.items
+        names.new.items) }
+    ensures refused { IfErr result (λ e. UnlessMemory e.kind (RefusesGlobal settings.now
+        (R.meaning resources.now) imported_globals offset global.now e)) }
 {
     let ty = match check_global(
         alloc,
@@ -73,10 +77,15 @@ fn judge_global_here(
 ) -> Result<GlobalType>
     requires over { IsReadOver types.now.groups state.now.spaces }
     requires within { IsWithinCeilings state.now.spaces.settings.limits }
-    ensures answer { Tells result (IsGlobal state.now.spaces.settings (constants_of types.now.groups state.now.spaces).«module» state.now.spaces.imported_globals (global_read global.now)) }
-    ensures named { IfOk result (λ t. global_in (constants_of types.now.groups state.now.spaces) t ≡ global_written (constants_of types.now.groups state.now.spaces).«module».types global.now.ty) }
-    ensures names { IfOk result (λ _. NamesMore state.now.spaces.settings global.now.init_expr.rest names.old.items names.new.items) }
-    ensures refused { IfErr result (λ e. UnlessMemory e.kind (RefusesGlobal state.now.spaces.settings (constants_of types.now.groups state.now.spaces) state.now.spaces.imported_globals offset global.now e)) }
+    ensures answer { Tells result (IsGlobal state.now.spaces.settings
+        (constants_of types.now.groups state.now.spaces).«module» state.now.spaces.imported_globals
+        (global_read global.now)) }
+    ensures named { IfOk result (λ t. global_in (constants_of types.now.groups state.now.spaces) t ≡ global_written
+        (constants_of types.now.groups state.now.spaces).«module».types global.now.ty) }
+    ensures names { IfOk result (λ _. NamesMore state.now.spaces.settings global.now.init_expr.rest names.old.items
+        names.new.items) }
+    ensures refused { IfErr result (λ e. UnlessMemory e.kind (RefusesGlobal state.now.spaces.settings
+        (constants_of types.now.groups state.now.spaces) state.now.spaces.imported_globals offset global.now e)) }
 {
     let module = state.resources(types);
     judge_global(
@@ -102,10 +111,15 @@ fn check_new_global(
 ) -> Result<GlobalType>
     requires over { IsReadOver types.now.groups state.old.spaces }
     requires within { IsWithinCeilings state.old.spaces.settings.limits }
-    ensures answer { Tells result (IsGlobal state.old.spaces.settings (constants_of types.now.groups state.old.spaces).«module» state.old.spaces.imported_globals (global_read global.now)) }
-    ensures named { IfOk result (λ t. global_in (constants_of types.now.groups state.old.spaces) t ≡ global_written (constants_of types.now.groups state.old.spaces).«module».types global.now.ty) }
-    ensures names { IfOk result (λ _. NamesMore state.old.spaces.settings global.now.init_expr.rest names.old.items names.new.items) }
-    ensures refused { IfErr result (λ e. UnlessMemory e.kind (RefusesGlobal state.old.spaces.settings (constants_of types.now.groups state.old.spaces) state.old.spaces.imported_globals offset global.now e)) }
+    ensures answer { Tells result (IsGlobal state.old.spaces.settings
+        (constants_of types.now.groups state.old.spaces).«module» state.old.spaces.imported_globals
+        (global_read global.now)) }
+    ensures named { IfOk result (λ t. global_in (constants_of types.now.groups state.old.spaces) t ≡ global_written
+        (constants_of types.now.groups state.old.spaces).«module».types global.now.ty) }
+    ensures names { IfOk result (λ _. NamesMore state.old.spaces.settings global.now.init_expr.rest names.old.items
+        names.new.items) }
+    ensures refused { IfErr result (λ e. UnlessMemory e.kind (RefusesGlobal state.old.spaces.settings
+        (constants_of types.now.groups state.old.spaces) state.old.spaces.imported_globals offset global.now e)) }
     ensures stays { state.new ≡ state.old }
 {
     let mut allocs = state.take_const_expr_allocs(alloc);
@@ -132,13 +146,15 @@ pub fn add_global(
     requires over { IsReadOver types.now.groups state.old.spaces }
     requires within { IsWithinCeilings state.old.spaces.settings.limits }
     ensures answer { TellsItem section.globals types.now.groups state.old (global_read global.entry) result }
-    ensures added { OnOk result (AddsItem section.globals types.now.groups state.old (global_read global.entry) types.now.groups state.new) }
+    ensures added { OnOk result (AddsItem section.globals types.now.groups state.old
+        (global_read global.entry) types.now.groups state.new) }
     ensures read { IsReadOver types.now.groups state.new.spaces }
     ensures settings { state.new.spaces.settings ≡ state.old.spaces.settings }
     ensures types { state.new.spaces.types ≡ state.old.spaces.types }
     ensures code { state.new.next_code ≡ state.old.next_code }
     ensures stays { OnErr result (state.new ≡ state.old) }
-    ensures refused { IfErr result (λ e. UnlessMemory e.kind (RefusesNewGlobal types.now.groups state.old offset global.entry e)) }
+    ensures refused { IfErr result (λ e. UnlessMemory e.kind (RefusesNewGlobal types.now.groups state.old offset
+        global.entry e)) }
 {
     let mut names = Vec::new(alloc);
     let ty = match check_new_global(alloc, &global, state, types, &mut names, offset) {

@@ -26,7 +26,8 @@ pub(crate) fn name_constant(
 ) -> Result<()>
     requires within { IsWithinCeilings settings.now.limits }
     ensures named { IfOk result (λ _. NamesMore settings.now expr.now.rest names.old.items names.new.items) }
-    ensures refused { IfErr result (λ e. IsNotMemory e.kind → (c : Code) → SpelledExpression settings.now c expr.now.rest → ⊥) }
+    ensures refused { IfErr result (λ e. IsNotMemory e.kind → (c : Code)
+        → SpelledExpression settings.now c expr.now.rest → ⊥) }
 {
     name_references(alloc, reader_by(expr, settings), names)
 }
@@ -39,8 +40,10 @@ pub(crate) fn name_init(
     names: &mut Vec<u32>,
 ) -> Result<()>
     requires within { IsWithinCeilings settings.now.limits }
-    ensures named { IfOk result (λ _. NamesInit settings.now (init_of bytes_of init.now) names.old.items names.new.items) }
-    ensures refused { IfErr result (λ e. IsNotMemory e.kind → (o : Option Code) → SpelledInit settings.now (init_of bytes_of init.now) o → ⊥) }
+    ensures named { IfOk result (λ _. NamesInit settings.now (init_of bytes_of init.now) names.old.items
+        names.new.items) }
+    ensures refused { IfErr result (λ e. IsNotMemory e.kind → (o : Option Code)
+        → SpelledInit settings.now (init_of bytes_of init.now) o → ⊥) }
 {
     match init {
         TableInitOf::RefNull => Ok(()),

@@ -40,11 +40,15 @@ fn judge_table<R: WasmModuleResources>(
 ) -> Result<TableType>
     requires within { IsWithinCeilings settings.now.limits }
     ensures in_turn { length (R.meaning resources.now).«module».globals ≤ imported_globals
-        → Tells result (IsTable settings.now (R.meaning resources.now).«module» imported_globals (table_read table.now)) }
-    ensures named { IfOk result (λ t. table_in (R.meaning resources.now) t ≡ table_written (R.meaning resources.now).«module».types table.now.ty) }
+        → Tells result (IsTable settings.now (R.meaning resources.now).«module» imported_globals
+        (table_read table.now)) }
+    ensures named { IfOk result (λ t. table_in (R.meaning resources.now) t ≡ table_written
+        (R.meaning resources.now).«module».types table.now.ty) }
     ensures sizes { IfOk result (λ t. (t.initial ≡ table.now.ty.initial) × (t.maximum ≡ table.now.ty.maximum)) }
-    ensures names { IfOk result (λ _. NamesInit settings.now (init_of bytes_of table.now.init) names.old.items names.new.items) }
-    ensures refused { IfErr result (λ e. UnlessMemory e.kind (RefusesTable settings.now (R.meaning resources.now) imported_globals offset table.now e)) }
+    ensures names { IfOk result (λ _. NamesInit settings.now (init_of bytes_of table.now.init) names.old.items
+        names.new.items) }
+    ensures refused { IfErr result (λ e. UnlessMemory e.kind (RefusesTable settings.now
+        (R.meaning resources.now) imported_globals offset table.now e)) }
 {
     let ty = match check_table(
         alloc,
@@ -77,12 +81,17 @@ fn judge_table_here(
 ) -> Result<TableType>
     requires over { IsReadOver types.now.groups state.now.spaces }
     requires within { IsWithinCeilings state.now.spaces.settings.limits }
-    ensures in_turn { length (constants_of types.now.groups state.now.spaces).«module».globals ≤ state.now.spaces.imported_globals
-        → Tells result (IsTable state.now.spaces.settings (constants_of types.now.groups state.now.spaces).«module» state.now.spaces.imported_globals (table_read table.now)) }
-    ensures named { IfOk result (λ t. table_in (constants_of types.now.groups state.now.spaces) t ≡ table_written (constants_of types.now.groups state.now.spaces).«module».types table.now.ty) }
+    ensures in_turn { length (constants_of types.now.groups state.now.spaces).«module».globals
+        ≤ state.now.spaces.imported_globals
+        → Tells result (IsTable state.now.spaces.settings (constants_of types.now.groups state.now.spaces).«module»
+        state.now.spaces.imported_globals (table_read table.now)) }
+    ensures named { IfOk result (λ t. table_in (constants_of types.now.groups state.now.spaces) t ≡ table_written
+        (constants_of types.now.groups state.now.spaces).«module».types table.now.ty) }
     ensures sizes { IfOk result (λ t. (t.initial ≡ table.now.ty.initial) × (t.maximum ≡ table.now.ty.maximum)) }
-    ensures names { IfOk result (λ _. NamesInit state.now.spaces.settings (init_of bytes_of table.now.init) names.old.items names.new.items) }
-    ensures refused { IfErr result (λ e. UnlessMemory e.kind (RefusesTable state.now.spaces.settings (constants_of types.now.groups state.now.spaces) state.now.spaces.imported_globals offset table.now e)) }
+    ensures names { IfOk result (λ _. NamesInit state.now.spaces.settings
+        (init_of bytes_of table.now.init) names.old.items names.new.items) }
+    ensures refused { IfErr result (λ e. UnlessMemory e.kind (RefusesTable state.now.spaces.settings
+        (constants_of types.now.groups state.now.spaces) state.now.spaces.imported_globals offset table.now e)) }
 {
     let module = state.resources(types);
     judge_table(
@@ -108,12 +117,17 @@ fn check_new_table(
 ) -> Result<TableType>
     requires over { IsReadOver types.now.groups state.old.spaces }
     requires within { IsWithinCeilings state.old.spaces.settings.limits }
-    ensures in_turn { length (constants_of types.now.groups state.old.spaces).«module».globals ≤ state.old.spaces.imported_globals
-        → Tells result (IsTable state.old.spaces.settings (constants_of types.now.groups state.old.spaces).«module» state.old.spaces.imported_globals (table_read table.now)) }
-    ensures named { IfOk result (λ t. table_in (constants_of types.now.groups state.old.spaces) t ≡ table_written (constants_of types.now.groups state.old.spaces).«module».types table.now.ty) }
+    ensures in_turn { length (constants_of types.now.groups state.old.spaces).«module».globals
+        ≤ state.old.spaces.imported_globals
+        → Tells result (IsTable state.old.spaces.settings (constants_of types.now.groups state.old.spaces).«module»
+        state.old.spaces.imported_globals (table_read table.now)) }
+    ensures named { IfOk result (λ t. table_in (constants_of types.now.groups state.old.spaces) t ≡ table_written
+        (constants_of types.now.groups state.old.spaces).«module».types table.now.ty) }
     ensures sizes { IfOk result (λ t. (t.initial ≡ table.now.ty.initial) × (t.maximum ≡ table.now.ty.maximum)) }
-    ensures names { IfOk result (λ _. NamesInit state.old.spaces.settings (init_of bytes_of table.now.init) names.old.items names.new.items) }
-    ensures refused { IfErr result (λ e. UnlessMemory e.kind (RefusesTable state.old.spaces.settings (constants_of types.now.groups state.old.spaces) state.old.spaces.imported_globals offset table.now e)) }
+    ensures names { IfOk result (λ _. NamesInit state.old.spaces.settings
+        (init_of bytes_of table.now.init) names.old.items names.new.items) }
+    ensures refused { IfErr result (λ e. UnlessMemory e.kind (RefusesTable state.old.spaces.settings
+        (constants_of types.now.groups state.old.spaces) state.old.spaces.imported_globals offset table.now e)) }
     ensures stays { state.new ≡ state.old }
 {
     let mut allocs = state.take_const_expr_allocs(alloc);
@@ -141,13 +155,15 @@ pub fn add_table(
     requires over { IsReadOver types.now.groups state.old.spaces }
     requires within { IsWithinCeilings state.old.spaces.settings.limits }
     ensures answer { TellsItem section.tables types.now.groups state.old (table_read table.entry) result }
-    ensures added { OnOk result (AddsItem section.tables types.now.groups state.old (table_read table.entry) types.now.groups state.new) }
+    ensures added { OnOk result (AddsItem section.tables types.now.groups state.old
+        (table_read table.entry) types.now.groups state.new) }
     ensures read { IsReadOver types.now.groups state.new.spaces }
     ensures settings { state.new.spaces.settings ≡ state.old.spaces.settings }
     ensures types { state.new.spaces.types ≡ state.old.spaces.types }
     ensures code { state.new.next_code ≡ state.old.next_code }
     ensures stays { OnErr result (state.new ≡ state.old) }
-    ensures refused { IfErr result (λ e. UnlessMemory e.kind (RefusesNewTable types.now.groups state.old offset table.entry e)) }
+    ensures refused { IfErr result (λ e. UnlessMemory e.kind (RefusesNewTable types.now.groups state.old offset
+        table.entry e)) }
 {
     let mut names = Vec::new(alloc);
     let ty = match check_new_table(alloc, &table, state, types, &mut names, offset) {

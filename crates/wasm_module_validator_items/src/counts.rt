@@ -55,7 +55,8 @@ impl ModuleState {
     ///
     /// More than the limit: an error of kind `Other`, at `offset`.
     pub fn check_function_count(&self, count: u32, offset: u64) -> Result<()>
-        ensures answer { Tells result (length self.now.spaces.functions + count ≤ self.now.spaces.settings.limits.functions) }
+        ensures answer { Tells result (length self.now.spaces.functions + count
+            ≤ self.now.spaces.settings.limits.functions) }
         ensures refused { IfErr result (λ e. (e.kind ≡ Other) × (e.offset ≡ offset)) }
     {
         let most = self.settings().limits().functions;
@@ -86,7 +87,8 @@ impl ModuleState {
     ///
     /// More than the limit: an error of kind `Other`, at `offset`.
     pub fn check_memory_count(&self, count: u32, offset: u64) -> Result<()>
-        ensures answer { Tells result (length self.now.spaces.memories + count ≤ most_memories self.now.spaces.settings) }
+        ensures answer { Tells result (length self.now.spaces.memories + count
+            ≤ most_memories self.now.spaces.settings) }
         ensures refused { IfErr result (λ e. (e.kind ≡ Other) × (e.offset ≡ offset)) }
     {
         let most = self.settings().max_memories();
@@ -118,7 +120,8 @@ impl ModuleState {
     ///
     /// More than the limit: an error of kind `Other`, at `offset`.
     pub fn check_global_count(&self, count: u32, offset: u64) -> Result<()>
-        ensures answer { Tells result (length self.now.spaces.globals + count ≤ self.now.spaces.settings.limits.globals) }
+        ensures answer { Tells result (length self.now.spaces.globals + count
+            ≤ self.now.spaces.settings.limits.globals) }
         ensures refused { IfErr result (λ e. (e.kind ≡ Other) × (e.offset ≡ offset)) }
     {
         let most = self.settings().limits().globals;
@@ -148,7 +151,8 @@ impl ModuleState {
     ///
     /// More than the limit: an error of kind `Other`, at `offset`.
     pub fn check_element_segment_count(&self, count: u32, offset: u64) -> Result<()>
-        ensures answer { Tells result (length self.now.spaces.elements + count ≤ self.now.spaces.settings.limits.element_segments) }
+        ensures answer { Tells result (length self.now.spaces.elements + count
+            ≤ self.now.spaces.settings.limits.element_segments) }
         ensures refused { IfErr result (λ e. (e.kind ≡ Other) × (e.offset ≡ offset)) }
     {
         let most = self.settings().limits().element_segments;

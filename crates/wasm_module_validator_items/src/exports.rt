@@ -26,9 +26,11 @@ impl ModuleState {
         offset: u64,
     ) -> Result<()>
         requires { IsReadOver types.now.groups self.now.spaces }
-        ensures answer { Tells result (IsValidExport self.now.spaces.settings (context_of types.now.groups self.now.spaces) kind index) }
+        ensures answer { Tells result (IsValidExport self.now.spaces.settings
+            (context_of types.now.groups self.now.spaces) kind index) }
         ensures refused { IfErr result (λ e. IsNeeded self.now.spaces.settings.features
-            (λ b. IsValidExport (allowing b self.now.spaces.settings) (context_of types.now.groups self.now.spaces) kind index) e.kind) }
+            (λ b. IsValidExport (allowing b self.now.spaces.settings)
+            (context_of types.now.groups self.now.spaces) kind index) e.kind) }
         ensures at { IfErr result (λ e. e.offset ≡ offset) }
     {
         check_export(
@@ -42,7 +44,8 @@ impl ModuleState {
 
     // One export more, where that is tested.
     fn check_export_room(&self, check_limit: bool, offset: u64) -> Result<()>
-        ensures answer { Tells result (IsTrue check_limit → length self.now.exports < self.now.spaces.settings.limits.exports) }
+        ensures answer { Tells result (IsTrue check_limit → length self.now.exports
+            < self.now.spaces.settings.limits.exports) }
         ensures refused { IfErr result (λ e. (e.kind ≡ Other) × (e.offset ≡ offset)) }
     {
         if !check_limit {
@@ -60,8 +63,10 @@ impl ModuleState {
         offset: u64,
     ) -> Result<u32>
         requires { IsReadOver types.now.groups self.now.spaces }
-        ensures answer { Tells result (self.now.type_size + export_size (context_of types.now.groups self.now.spaces) kind index < self.now.spaces.settings.limits.type_size) }
-        ensures sum { IfOk result (λ all. all ≡ self.now.type_size + export_size (context_of types.now.groups self.now.spaces) kind index) }
+        ensures answer { Tells result (self.now.type_size + export_size
+            (context_of types.now.groups self.now.spaces) kind index < self.now.spaces.settings.limits.type_size) }
+        ensures sum { IfOk result (λ all. all ≡ self.now.type_size + export_size
+            (context_of types.now.groups self.now.spaces) kind index) }
         ensures refused { IfErr result (λ e. (e.kind ≡ Other) × (e.offset ≡ offset)) }
     {
         combine_export_size(
@@ -111,7 +116,8 @@ impl ModuleState {
         ensures stays { OnErr result (self.new ≡ self.old) }
         ensures refused { IfErr result (λ e. UnlessMemory e.kind (e.offset ≡ offset)) }
         ensures kind { IfErr result (λ e. UnlessMemory e.kind (IsRefusedBy self.old.spaces.settings.features
-            (λ b. IsValidExport (allowing b self.old.spaces.settings) (context_of types.now.groups self.old.spaces) kind index)
+            (λ b. IsValidExport (allowing b self.old.spaces.settings)
+            (context_of types.now.groups self.old.spaces) kind index)
             (IsValidExport self.old.spaces.settings (context_of types.now.groups self.old.spaces) kind index) e.kind)) }
     {
         match self.check_exported(kind, index, types, offset) {

@@ -72,10 +72,12 @@ impl ModuleState {
     // The type of an import, which becomes one over ids.
     fn check_import_type(&self, ty: &mut TypeRef, types: &TypeList, offset: u64) -> Result<()>
         requires { IsReadOver types.now.groups self.now.spaces }
-        ensures answer { Tells result (IsValidImport self.now.spaces.settings (context_of types.now.groups self.now.spaces) ty.old) }
+        ensures answer { Tells result (IsValidImport self.now.spaces.settings
+            (context_of types.now.groups self.now.spaces) ty.old) }
         ensures named { OnOk result (IsNamedImport (meaning_of types.now.groups self.now.spaces) ty.old ty.new) }
         ensures refused { IfErr result (λ e. IsRefusal self.now.spaces.settings.features
-            (λ b. IsValidImport (allowing b self.now.spaces.settings) (context_of types.now.groups self.now.spaces) ty.old) e.kind) }
+            (λ b. IsValidImport (allowing b self.now.spaces.settings)
+            (context_of types.now.groups self.now.spaces) ty.old) e.kind) }
         ensures at { IfErr result (λ e. e.offset ≡ offset) }
     {
         check_import(&self.resources(types), ty, &self.settings(), offset)
@@ -99,8 +101,10 @@ impl ModuleState {
     // The sum of sizes with that of an import's type.
     fn combine_import(&self, ty: &TypeRef, types: &TypeList, offset: u64) -> Result<u32>
         requires { IsReadOver types.now.groups self.now.spaces }
-        ensures answer { Tells result (self.now.type_size + import_size (context_of types.now.groups self.now.spaces) ty.now < self.now.spaces.settings.limits.type_size) }
-        ensures sum { IfOk result (λ all. all ≡ self.now.type_size + import_size (context_of types.now.groups self.now.spaces) ty.now) }
+        ensures answer { Tells result (self.now.type_size + import_size
+            (context_of types.now.groups self.now.spaces) ty.now < self.now.spaces.settings.limits.type_size) }
+        ensures sum { IfOk result (λ all. all ≡ self.now.type_size + import_size
+            (context_of types.now.groups self.now.spaces) ty.now) }
         ensures refused { IfErr result (λ e. (e.kind ≡ Other) × (e.offset ≡ offset)) }
     {
         combine_import_size(
@@ -155,10 +159,12 @@ impl ModuleState {
     ) -> Result<()>
         requires { IsReadOver types.now.groups self.old.spaces }
         ensures answer { Tells result (IsImportable types.now.groups self.old ty) }
-        ensures imported { OnOk result (IsImported types.now.groups (record { module_name = «module».now; field_name = name.now; ty = ty }) self.old self.new) }
+        ensures imported { OnOk result (IsImported types.now.groups
+            (record { module_name = «module».now; field_name = name.now; ty = ty }) self.old self.new) }
         ensures read { IsReadOver types.now.groups self.new.spaces }
         ensures stays { IfErr result (λ e. UnlessMemory e.kind (self.new ≡ self.old)) }
-        ensures left { OnErr result (IsLeft (record { module_name = «module».now; field_name = name.now; ty = ty }) self.old self.new) }
+        ensures left { OnErr result (IsLeft (record { module_name = «module».now; field_name = name.now; ty = ty })
+            self.old self.new) }
         ensures refused { IfErr result (λ e. UnlessMemory e.kind (e.offset ≡ offset)) }
         ensures kind { IfErr result (λ e. UnlessMemory e.kind (IsRefusedBy self.old.spaces.settings.features
             (λ b. IsValidImport (allowing b self.old.spaces.settings) (context_of types.now.groups self.old.spaces) ty)

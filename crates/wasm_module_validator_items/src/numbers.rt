@@ -37,7 +37,8 @@ impl ModuleState {
     /// The features of memories in bulk are not allowed, or `count` is above the limit of data segments: an error of kind `Other`, at
     /// `offset`. The state stays then.
     pub fn add_data_count(&mut self, count: u32, offset: u64) -> Result<()>
-        ensures answer { Tells result (Has self.old.spaces.settings.features BulkMemory × (count ≤ self.old.spaces.settings.limits.data_segments)) }
+        ensures answer { Tells result (Has self.old.spaces.settings.features BulkMemory
+            × (count ≤ self.old.spaces.settings.limits.data_segments)) }
         ensures added { OnOk result (self.new ≡ record self.old { spaces = counting_data count self.old.spaces }) }
         ensures stays { OnErr result (self.new ≡ self.old) }
         ensures refused { IfErr result (λ e. (e.kind ≡ Other) × (e.offset ≡ offset)) }

@@ -33,8 +33,11 @@ impl ModuleState {
     // The type of a tag.
     fn check_tag(&self, ty: &TagType, types: &TypeList, offset: u64) -> Result<()>
         requires { IsReadOver types.now.groups self.now.spaces }
-        ensures answer { Tells result (IsValidTagType self.now.spaces.settings (context_of types.now.groups self.now.spaces) ty.now) }
-        ensures refused { IfErr result (λ e. IsNeeded self.now.spaces.settings.features (λ b. IsValidTagType (allowing b self.now.spaces.settings) (context_of types.now.groups self.now.spaces) ty.now) e.kind) }
+        ensures answer { Tells result (IsValidTagType self.now.spaces.settings
+            (context_of types.now.groups self.now.spaces) ty.now) }
+        ensures refused { IfErr result (λ e. IsNeeded self.now.spaces.settings.features
+            (λ b. IsValidTagType (allowing b self.now.spaces.settings)
+            (context_of types.now.groups self.now.spaces) ty.now) e.kind) }
         ensures at { IfErr result (λ e. e.offset ≡ offset) }
     {
         match check_tag_type(&self.resources(types), ty, &self.settings(), offset) {
@@ -51,9 +54,12 @@ impl ModuleState {
     /// then.
     pub fn add_function(&mut self, type_index: u32, types: &TypeList, offset: u64) -> Result<()>
         requires { IsReadOver types.now.groups self.old.spaces }
-        ensures answer { Tells result (IsFunctionIndex (context_of types.now.groups self.old.spaces) type_index × (length self.old.spaces.functions < self.old.spaces.settings.limits.functions)) }
-        ensures added { OnOk result (self.new ≡ record self.old { spaces = adding_function type_index self.old.spaces }) }
-        ensures context { OnOk result (context_of types.now.groups self.new.spaces ≡ with_function true type_index (context_of types.now.groups self.old.spaces)) }
+        ensures answer { Tells result (IsFunctionIndex (context_of types.now.groups self.old.spaces) type_index
+            × (length self.old.spaces.functions < self.old.spaces.settings.limits.functions)) }
+        ensures added { OnOk result (self.new ≡ record self.old
+            { spaces = adding_function type_index self.old.spaces }) }
+        ensures context { OnOk result (context_of types.now.groups self.new.spaces ≡ with_function true type_index
+            (context_of types.now.groups self.old.spaces)) }
         ensures read { IsReadOver types.now.groups self.new.spaces }
         ensures stays { OnErr result (self.new ≡ self.old) }
         ensures refused { IfErr result (λ e. UnlessMemory e.kind ((e.kind ≡ Other) × (e.offset ≡ offset))) }
@@ -76,13 +82,17 @@ impl ModuleState {
     /// The type is not valid, or there are as many memories as there may be, of kind `Other`: the first of these, at `offset`. The state
     /// stays then.
     pub fn add_memory(&mut self, ty: MemoryType, offset: u64) -> Result<()>
-        ensures answer { Tells result (IsValidMemoryType self.old.spaces.settings ty × (length self.old.spaces.memories < most_memories self.old.spaces.settings)) }
+        ensures answer { Tells result (IsValidMemoryType self.old.spaces.settings ty
+            × (length self.old.spaces.memories < most_memories self.old.spaces.settings)) }
         ensures added { OnOk result (self.new ≡ record self.old { spaces = adding_memory ty self.old.spaces }) }
-        ensures context { OnOk result ((groups : List Group) → context_of groups self.new.spaces ≡ with_memory ty (context_of groups self.old.spaces)) }
+        ensures context { OnOk result ((groups : List Group) → context_of groups self.new.spaces ≡ with_memory ty
+            (context_of groups self.old.spaces)) }
         ensures read { (groups : List Group) → IsReadOver groups self.old.spaces → IsReadOver groups self.new.spaces }
         ensures stays { OnErr result (self.new ≡ self.old) }
         ensures refused { IfErr result (λ e. UnlessMemory e.kind (e.offset ≡ offset)) }
-        ensures kind { IfErr result (λ e. UnlessMemory e.kind (IsRefusedBy self.old.spaces.settings.features (λ b. IsValidMemoryType (allowing b self.old.spaces.settings) ty)
+        ensures kind { IfErr result (λ e. UnlessMemory e.kind
+            (IsRefusedBy self.old.spaces.settings.features (λ b. IsValidMemoryType
+            (allowing b self.old.spaces.settings) ty)
             (IsValidMemoryType self.old.spaces.settings ty) e.kind)) }
     {
         let settings = self.settings();
@@ -105,9 +115,13 @@ impl ModuleState {
     /// then.
     pub fn add_tag(&mut self, ty: TagType, types: &TypeList, offset: u64) -> Result<()>
         requires { IsReadOver types.now.groups self.old.spaces }
-        ensures answer { Tells result (IsValidTagType self.old.spaces.settings (context_of types.now.groups self.old.spaces) ty × (length self.old.spaces.tags < self.old.spaces.settings.limits.tags)) }
-        ensures added { OnOk result (self.new ≡ record self.old { spaces = adding_tag ty.func_type_idx self.old.spaces }) }
-        ensures context { OnOk result (context_of types.now.groups self.new.spaces ≡ with_tag ty.func_type_idx (context_of types.now.groups self.old.spaces)) }
+        ensures answer { Tells result (IsValidTagType self.old.spaces.settings
+            (context_of types.now.groups self.old.spaces) ty ×
+            (length self.old.spaces.tags < self.old.spaces.settings.limits.tags)) }
+        ensures added { OnOk result (self.new ≡ record self.old
+            { spaces = adding_tag ty.func_type_idx self.old.spaces }) }
+        ensures context { OnOk result (context_of types.now.groups self.new.spaces ≡ with_tag ty.func_type_idx
+            (context_of types.now.groups self.old.spaces)) }
         ensures read { IsReadOver types.now.groups self.new.spaces }
         ensures stays { OnErr result (self.new ≡ self.old) }
         ensures refused { IfErr result (λ e. UnlessMemory e.kind (e.offset ≡ offset)) }

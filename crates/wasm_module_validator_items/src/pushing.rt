@@ -62,7 +62,8 @@ impl ModuleState {
     ///
     /// There are as many element segments as the limit: an error of kind `Other`, at `offset`. The state stays then.
     pub fn push_element_segment(&mut self, ty: RefType, offset: u64) -> Result<()>
-        ensures answer { Tells result (length self.old.spaces.elements < self.old.spaces.settings.limits.element_segments) }
+        ensures answer { Tells result (length self.old.spaces.elements
+            < self.old.spaces.settings.limits.element_segments) }
         ensures added { OnOk result (self.new ≡ record self.old { spaces = adding_element ty self.old.spaces }) }
         ensures read { (groups : List Group) → IsReadOver groups self.old.spaces → IsReadOver groups self.new.spaces }
         ensures stays { OnErr result (self.new ≡ self.old) }

@@ -31,22 +31,30 @@ impl ModuleState {
     ) -> Result<()>
         requires can_intern { IsTrue types.old.can_intern }
         requires read { IsReadOver types.old.groups self.old.spaces }
-        requires short { check_limit ≡ false → length self.old.spaces.types + length (declared_types rec_group) < 2 ^ 32 }
+        requires short { check_limit ≡ false → length self.old.spaces.types + length
+            (declared_types rec_group) < 2 ^ 32 }
         requires indices { AreModuleIndices (declared_types rec_group) }
-        ensures answer { Tells result ((IsTrue check_limit → length self.old.spaces.types + length (declared_types rec_group) ≤ self.old.spaces.settings.limits.types)
-            × IsValidGroup self.old.spaces.settings (space_of types.old.groups self.old.spaces.types) (written_group rec_group)
+        ensures answer { Tells result ((IsTrue check_limit → length self.old.spaces.types + length
+            (declared_types rec_group) ≤ self.old.spaces.settings.limits.types)
+            × IsValidGroup self.old.spaces.settings (space_of types.old.groups self.old.spaces.types)
+            (written_group rec_group)
             × HasRoom types.old.groups (length (declared_types rec_group))) }
-        ensures interned { OnOk result (AddsGroup types.old.groups types.new.groups self.old.spaces.types self.new.spaces.types
+        ensures interned { OnOk result (AddsGroup types.old.groups types.new.groups self.old.spaces.types
+            self.new.spaces.types
             (kept_group self.old.spaces.settings.features self.old.spaces.types (declared_types rec_group))) }
-        ensures added { self.new ≡ record self.old { spaces = record self.old.spaces { types = self.new.spaces.types } } }
+        ensures added { self.new ≡ record self.old {
+          spaces = record self.old.spaces { types = self.new.spaces.types };
+        } }
         ensures space { OnOk result (space_of types.new.groups self.new.spaces.types
             ≡ space_of types.old.groups self.old.spaces.types ++ types_of (space_of types.old.groups self.old.spaces.types) (written_group rec_group)) }
-        ensures context { OnOk result (AreNamesKnown types.old.groups self.old.spaces → context_of types.new.groups self.new.spaces
+        ensures context { OnOk result (AreNamesKnown types.old.groups self.old.spaces
+            → context_of types.new.groups self.new.spaces
             ≡ with_types (types_of (space_of types.old.groups self.old.spaces.types) (written_group rec_group)) (context_of types.old.groups self.old.spaces)) }
         ensures read { OnOk result (IsReadOver types.new.groups self.new.spaces) }
         ensures stays { OnErr result (self.new ≡ self.old) }
         ensures list { OnErr result ((types.new.groups ≡ types.old.groups)
-            ⊎ (types.new.groups ≡ kept_group self.old.spaces.settings.features self.old.spaces.types (declared_types rec_group) ∷ types.old.groups)) }
+            ⊎ (types.new.groups ≡ kept_group self.old.spaces.settings.features self.old.spaces.types
+            (declared_types rec_group) ∷ types.old.groups)) }
         ensures refused { RefusedAt offset result }
         ensures can_intern { IsTrue types.new.can_intern }
         ensures limits { types.new.limits ≡ types.old.limits }

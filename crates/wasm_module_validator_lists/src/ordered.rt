@@ -57,7 +57,8 @@ impl Ordered {
     /// The number that is equal to what is sought, if there is one.
     pub fn find<C: Compare>(&self, sought: &C) -> Option<u32>
         requires { Ascends (C.order sought.now) self.now }
-        ensures { MatchOption result (Misses (C.order sought.now) self.now) (λ n. Finds (C.order sought.now) self.now n) }
+        ensures { MatchOption result (Misses (C.order sought.now) self.now)
+            (λ n. Finds (C.order sought.now) self.now n) }
     {
         find_among(self.chunks.as_slice(), sought)
     }

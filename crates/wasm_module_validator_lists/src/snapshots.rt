@@ -36,9 +36,13 @@ impl<T> Model for SnapshotList<T> {
 
     ghost Value = { Listed T };
 
-    ghost view = { λ l. record { items = joined (map (λ s. s.value.items.items) l.snapshots.items) ++ l.current.items; room = vec_capacity l.current - vec_len l.current } };
+    ghost view = { λ l. record {
+      items = joined (map (λ s. s.value.items.items) l.snapshots.items) ++ l.current.items;
+      room = vec_capacity l.current - vec_len l.current;
+    } };
 
-    ghost invariant = { λ l. IsLaidOut (map (λ s. s.value.items.items) l.snapshots.items) (map (λ s. s.value.prior) l.snapshots.items) l.total l.current.items };
+    ghost invariant = { λ l. IsLaidOut (map (λ s. s.value.items.items) l.snapshots.items)
+        (map (λ s. s.value.prior) l.snapshots.items) l.total l.current.items };
 }
 
 impl<T> SnapshotList<T> {
@@ -86,7 +90,8 @@ fn snapshot_of<T>(snapshots: &[Rc<Snapshot<T>>], index: usize) -> usize
     requires first { slice_index (map (λ s. s.value.prior) snapshots.now) 0 ≤ index }
     ensures within { result < length snapshots.now }
     ensures starts { slice_index (map (λ s. s.value.prior) snapshots.now) result ≤ index }
-    ensures ends { result + 1 < length snapshots.now → index < slice_index (map (λ s. s.value.prior) snapshots.now) (result + 1) }
+    ensures ends { result + 1 < length snapshots.now → index < slice_index
+        (map (λ s. s.value.prior) snapshots.now) (result + 1) }
 {
     let mut low = 0;
     let mut high = snapshots.len();
@@ -117,9 +122,12 @@ fn seal<T: Drop>(
     total: usize,
     current: &mut Vec<T>,
 ) -> Result<usize, AllocError>
-    requires { IsLaidOut (map (λ s. s.value.items.items) snapshots.old.items) (map (λ s. s.value.prior) snapshots.old.items) total current.old.items }
-    ensures laid { IfOk result (λ sum. IsLaidOut (map (λ s. s.value.items.items) snapshots.new.items) (map (λ s. s.value.prior) snapshots.new.items) sum []) }
-    ensures items { OnOk result (joined (map (λ s. s.value.items.items) snapshots.new.items) ≡ joined (map (λ s. s.value.items.items) snapshots.old.items) ++ current.old.items) }
+    requires { IsLaidOut (map (λ s. s.value.items.items) snapshots.old.items)
+        (map (λ s. s.value.prior) snapshots.old.items) total current.old.items }
+    ensures laid { IfOk result (λ sum. IsLaidOut (map (λ s. s.value.items.items) snapshots.new.items)
+        (map (λ s. s.value.prior) snapshots.new.items) sum []) }
+    ensures items { OnOk result (joined (map (λ s. s.value.items.items) snapshots.new.items) ≡ joined
+        (map (λ s. s.value.items.items) snapshots.old.items) ++ current.old.items) }
     ensures none { OnOk result (current.new.items ≡ []) }
     ensures snapshots_stay { OnErr result (snapshots.new.items ≡ snapshots.old.items) }
     ensures current_stays { OnErr result (current.new.items ≡ current.old.items) }
@@ -178,7 +186,8 @@ impl<T: Drop> SnapshotList<T> {
     pub fn append(&mut self, items: &mut Vec<T>) -> Result<(), AllocError>
         ensures items { self.new.items ≡ (if is_ok result then self.old.items ++ items.old.items else self.old.items) }
         ensures taken { items.new.items ≡ (if is_ok result then [] else items.old.items) }
-        ensures succeeds { length items.old.items ≤ self.old.room → length self.old.items + length items.old.items < 2 ^ 64 → IsOk result }
+        ensures succeeds { length items.old.items ≤ self.old.room
+            → length self.old.items + length items.old.items < 2 ^ 64 → IsOk result }
     {
         if self.len().checked_add(items.len()).is_none() {
             return Err(AllocError);

@@ -150,7 +150,8 @@ impl<'a> Matches for WithRecGroup<&'a ContType> {
 
     ghost has_known_ids = { λ groups x. EachInner (IsIdBelow (count groups)) (continuation_tree x.inner.now) };
 
-    ghost is_match = { λ groups x y. InnerMatchesById groups (continuation_tree x.inner.now) (continuation_tree y.inner.now) };
+    ghost is_match = { λ groups x y. InnerMatchesById groups (continuation_tree x.inner.now)
+        (continuation_tree y.inner.now) };
 
     fn matches(types: &TypeList, a: Self, b: Self) -> bool {
         continuation_matches(types, a.inner, b.inner)
@@ -213,7 +214,8 @@ impl Matches for WithRecGroup<RefType> {
 
     ghost has_known_ids = { λ groups x. EachHeap (IsIdBelow (count groups)) (heap_of x.inner.heap) };
 
-    ghost is_match = { λ groups x y. ValueBelowById groups (ref x.inner.nullable (heap_of x.inner.heap)) (ref y.inner.nullable (heap_of y.inner.heap)) };
+    ghost is_match = { λ groups x y. ValueBelowById groups (ref x.inner.nullable (heap_of x.inner.heap))
+        (ref y.inner.nullable (heap_of y.inner.heap)) };
 
     fn matches(types: &TypeList, a: Self, b: Self) -> bool {
         types.reftype_is_subtype(a.inner, b.inner)

@@ -67,7 +67,8 @@ impl Module {
         requires known { AreIdsKnown types.old.groups self.old.types }
         requires short { check_limit ≡ false → length self.old.types + length (declared_types rec_group) < 2 ^ 32 }
         requires indices { AreModuleIndices (declared_types rec_group) }
-        ensures answer { Tells result ((IsTrue check_limit → length self.old.types + length (declared_types rec_group) ≤ self.old.settings.limits.types)
+        ensures answer { Tells result ((IsTrue check_limit → length self.old.types + length
+            (declared_types rec_group) ≤ self.old.settings.limits.types)
             × IsValidGroup self.old.settings (space_of types.old.groups self.old.types) (written_group rec_group)
             × HasRoom types.old.groups (length (declared_types rec_group))) }
         ensures interned { OnOk result (AddsGroup types.old.groups types.new.groups self.old.types self.new.types
@@ -79,7 +80,8 @@ impl Module {
         ensures added { self.new ≡ record self.old { types = self.new.types } }
         ensures stays { OnErr result (self.new ≡ self.old) }
         ensures list { OnErr result ((types.new.groups ≡ types.old.groups)
-            ⊎ (types.new.groups ≡ kept_group self.old.settings.features self.old.types (declared_types rec_group) ∷ types.old.groups)) }
+            ⊎ (types.new.groups ≡ kept_group self.old.settings.features self.old.types
+            (declared_types rec_group) ∷ types.old.groups)) }
         ensures at { RefusedAt offset result }
         ensures can_intern { IsTrue types.new.can_intern }
         ensures limits { types.new.limits ≡ types.old.limits }
@@ -95,7 +97,8 @@ impl Module {
     pub fn add_function(&mut self, type_index: u32, offset: u64) -> Result<()>
         requires { type_index < length self.old.types }
         ensures answer { Tells result (length self.old.functions < self.old.settings.limits.functions) }
-        ensures added { OnOk result (self.new ≡ record self.old { functions = self.old.functions ++ own_function type_index ∷ [] }) }
+        ensures added { OnOk result (self.new ≡ record self.old
+            { functions = self.old.functions ++ own_function type_index ∷ [] }) }
         ensures stays { OnErr result (self.new ≡ self.old) }
         ensures at { RefusedAt offset result }
     {
@@ -186,7 +189,8 @@ impl Module {
     /// As many globals as the limit are there: an error of kind `Other`, at `offset`.
     pub fn import_global(&mut self, ty: GlobalType, offset: u64) -> Result<()>
         ensures answer { Tells result (length self.old.globals < self.old.settings.limits.globals) }
-        ensures added { OnOk result (self.new ≡ record self.old { globals = self.old.globals ++ ty ∷ []; imported_globals = self.old.imported_globals + 1 }) }
+        ensures added { OnOk result (self.new ≡ record self.old
+            { globals = self.old.globals ++ ty ∷ []; imported_globals = self.old.imported_globals + 1 }) }
         ensures stays { OnErr result (self.new ≡ self.old) }
         ensures at { RefusedAt offset result }
     {
@@ -204,7 +208,8 @@ impl Module {
     pub fn add_tag(&mut self, type_index: u32, offset: u64) -> Result<()>
         requires { type_index < length self.old.types }
         ensures answer { Tells result (length self.old.tags < self.old.settings.limits.tags) }
-        ensures added { OnOk result (self.new ≡ record self.old { tags = self.old.tags ++ id_at self.old.types type_index ∷ [] }) }
+        ensures added { OnOk result (self.new ≡ record self.old
+            { tags = self.old.tags ++ id_at self.old.types type_index ∷ [] }) }
         ensures stays { OnErr result (self.new ≡ self.old) }
         ensures at { RefusedAt offset result }
     {

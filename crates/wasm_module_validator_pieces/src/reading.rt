@@ -91,7 +91,8 @@ fn take_piece<T: TakesBytes>(
 ) -> Result<(), Error>
     requires midst { IsMidst T.stands false (pending.old.bytes.items ++ piece.now) taker.old }
     requires pending { IsPending T.waits pending.old.needed pending.old.bytes.items taker.old }
-    ensures ok { OnOk result (Carries T.stands false (pending.old.bytes.items ++ piece.now) taker.old pending.new.bytes.items taker.new) }
+    ensures ok { OnOk result (Carries T.stands false (pending.old.bytes.items ++ piece.now) taker.old
+        pending.new.bytes.items taker.new) }
     ensures pending { OnOk result (IsPending T.waits pending.new.needed pending.new.bytes.items taker.new) }
     ensures err { IfErr result (DeniesFrom T.stands T.denied false (pending.old.bytes.items ++ piece.now) taker.old) }
 {

@@ -32,7 +32,8 @@ pub fn validate_reader<R: Read>(
     requires reads { reader.old.has_failed ≡ false }
     requires piece { 1 ≤ piece }
     requires most { max_bytes < 2 ^ 64 - 1 }
-    ensures answer { AnswersReader (record { features = features.0; limits = default_limits }) id max_bytes (R.remaining reader.old.reader)
+    ensures answer { AnswersReader (record { features = features.0; limits = default_limits }) id max_bytes
+        (R.remaining reader.old.reader)
         (R.remaining reader.new.reader) result }
     ensures stops { StopsReader (record { features = features.0; limits = default_limits }) max_bytes piece
         (R.remaining reader.old.reader) (R.remaining reader.new.reader) result }
@@ -78,7 +79,8 @@ pub fn validate_reader_limited<R: Read>(
     requires reads { reader.old.has_failed ≡ false }
     requires piece { 1 ≤ piece }
     requires most { max_bytes < 2 ^ 64 - 1 }
-    ensures answer { AnswersReader (record { features = features.0; limits = limits }) id max_bytes (R.remaining reader.old.reader)
+    ensures answer { AnswersReader (record { features = features.0; limits = limits }) id max_bytes
+        (R.remaining reader.old.reader)
         (R.remaining reader.new.reader) result }
     ensures stops { StopsReader (record { features = features.0; limits = limits }) max_bytes piece
         (R.remaining reader.old.reader) (R.remaining reader.new.reader) result }

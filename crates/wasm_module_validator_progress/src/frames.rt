@@ -40,7 +40,8 @@ fn too_many_bodies(offset: u64) -> Error
 
 /// The index of the function that the body behind so many others is of, and that of its type.
 pub(crate) fn function_behind_in(state: &ModuleState, bodies: usize) -> Option<(u32, u32)>
-    ensures typed { option_map (λ x. x.1) result ≡ option_map (λ f. f.type_index) (slice_get state.now.spaces.functions (state.now.spaces.imported_functions + bodies)) }
+    ensures typed { option_map (λ x. x.1) result ≡ option_map (λ f. f.type_index)
+        (slice_get state.now.spaces.functions (state.now.spaces.imported_functions + bodies)) }
     ensures index { IfSome result (λ x. x.0 ≡ state.now.spaces.imported_functions + bodies) }
 {
     let module = state.module();
@@ -66,7 +67,8 @@ pub(crate) fn check_body_behind(
     last: u32,
     body: &FunctionBody<'_>,
 ) -> Result<()>
-    ensures answer { Tells result ((last ≡ code_place) × (length body.now.rest ≤ state.now.spaces.settings.limits.body_bytes)) }
+    ensures answer { Tells result ((last ≡ code_place) × (length body.now.rest
+        ≤ state.now.spaces.settings.limits.body_bytes)) }
     ensures refused { IfErr result (λ e. (e.kind ≡ Other) × (e.offset ≡ body.now.place)) }
 {
     let reader = body.get_binary_reader();
@@ -109,9 +111,12 @@ impl InProgress {
         ensures answer { UnlessFull (FullIn T.section self.old.kept.groups self.old.kept.items (HasItem T.section
             (IsItemOf T.FromReader.view T.of T.FromReader.decoder section.entry.count section.entry.reader))) result
             ((z : Settings) (p : SoFar) (bodies : List TheBody) (b : State) → IsAt z self.old bodies p → b.settings ≡ z
-            → Counts b section.entry.count section.entry.reader → Tells result ((q : SoFar) × JudgesSection z p T.section b.rest q)) }
-        ensures added { OnOk result ((z : Settings) (p q : SoFar) (bodies : List TheBody) (b : State) → IsAt z self.old bodies p → b.settings ≡ z
-            → Counts b section.entry.count section.entry.reader → JudgesSection z p T.section b.rest q → IsAt z self.new bodies q) }
+            → Counts b section.entry.count section.entry.reader
+            → Tells result ((q : SoFar) × JudgesSection z p T.section b.rest q)) }
+        ensures added { OnOk result ((z : Settings) (p q : SoFar) (bodies : List TheBody) (b : State)
+            → IsAt z self.old bodies p → b.settings ≡ z
+            → Counts b section.entry.count section.entry.reader → JudgesSection z p T.section b.rest q
+            → IsAt z self.new bodies q) }
         ensures grown { OnOk result (Grows self.old.kept self.new.kept) }
     {
         let offset = section.range().start;
@@ -132,9 +137,11 @@ impl InProgress {
     ///
     /// The section is out of order, of kind `Other`, at `offset`.
     pub fn take_code_start(&mut self, offset: u64) -> Result<()>
-        ensures answer { (z : Settings) (p : SoFar) (bodies : List TheBody) → IsAt z self.old bodies p → Tells result (p.last < code_place) }
+        ensures answer { (z : Settings) (p : SoFar) (bodies : List TheBody) → IsAt z self.old bodies p
+            → Tells result (p.last < code_place) }
         ensures refused { IfErr result (λ e. (e.kind ≡ Other) × (e.offset ≡ offset)) }
-        ensures added { OnOk result ((z : Settings) (p : SoFar) (bodies : List TheBody) → IsAt z self.old bodies p → IsAt z self.new bodies (record p { last = code_place })) }
+        ensures added { OnOk result ((z : Settings) (p : SoFar) (bodies : List TheBody) → IsAt z self.old bodies p
+            → IsAt z self.new bodies (record p { last = code_place })) }
         ensures kept { self.new.kept ≡ self.old.kept }
     {
         self.begin_section(12, offset)
@@ -142,7 +149,8 @@ impl InProgress {
 
     // The index of the function that the body behind so many others is of, and that of its type.
     fn function_behind(&self, bodies: usize) -> Option<(u32, u32)>
-        ensures typed { option_map (λ x. x.1) result ≡ option_map (λ f. f.type_index) (slice_get self.now.kept.items.spaces.functions (self.now.kept.items.spaces.imported_functions + bodies)) }
+        ensures typed { option_map (λ x. x.1) result ≡ option_map (λ f. f.type_index)
+            (slice_get self.now.kept.items.spaces.functions (self.now.kept.items.spaces.imported_functions + bodies)) }
         ensures index { IfSome result (λ x. x.0 ≡ self.now.kept.items.spaces.imported_functions + bodies) }
     {
         function_behind_in(&self.collected.state, bodies)
@@ -150,7 +158,8 @@ impl InProgress {
 
     // Checks where a body comes, behind a section of this place, and how long it is.
     fn check_body(&self, last: u32, body: &FunctionBody<'_>) -> Result<()>
-        ensures answer { Tells result ((last ≡ code_place) × (length body.now.rest ≤ self.now.kept.items.spaces.settings.limits.body_bytes)) }
+        ensures answer { Tells result ((last ≡ code_place) × (length body.now.rest
+            ≤ self.now.kept.items.spaces.settings.limits.body_bytes)) }
         ensures refused { IfErr result (λ e. (e.kind ≡ Other) × (e.offset ≡ body.now.place)) }
     {
         check_body_behind(&self.collected.state, last, body)
@@ -167,8 +176,10 @@ impl InProgress {
         body: FunctionBody<'a>,
         bodies: &mut Vec<Body<'a>>,
     ) -> Result<()>
-        ensures answer { (z : Settings) (p : SoFar) → IsAt z self.old bodies.old.items p → body.entry.settings ≡ z → Tells result ((q : SoFar) × JudgesBody z p body.entry.rest q) }
-        ensures added { OnOk result ((z : Settings) (p q : SoFar) → IsAt z self.old bodies.old.items p → body.entry.settings ≡ z → JudgesBody z p body.entry.rest q
+        ensures answer { (z : Settings) (p : SoFar) → IsAt z self.old bodies.old.items p → body.entry.settings ≡ z
+            → Tells result ((q : SoFar) × JudgesBody z p body.entry.rest q) }
+        ensures added { OnOk result ((z : Settings) (p q : SoFar) → IsAt z self.old bodies.old.items p
+            → body.entry.settings ≡ z → JudgesBody z p body.entry.rest q
             → IsAt z self.new bodies.new.items q) }
         ensures refused { IfErr result (λ e. UnlessMemory e.kind ((e.kind ≡ Other) × (e.offset ≡ body.entry.place))) }
         ensures kept { self.new.kept ≡ self.old.kept }

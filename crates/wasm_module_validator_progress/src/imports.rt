@@ -53,10 +53,14 @@ impl<'a> AddLent<'a, Import<'a>> for Collected {
 impl InProgress {
     // Takes the import section.
     pub(crate) fn take_imports<'a>(&mut self, imports: ImportSectionReader<'a>) -> Result<()>
-        ensures answer { (z : Settings) (p : SoFar) (bodies : List TheBody) (b : State) → IsAt z self.old bodies p → b.settings ≡ z
-            → Counts b imports.entry.count imports.entry.reader → Tells result ((q : SoFar) × JudgesSection z p section.imports b.rest q) }
-        ensures added { OnOk result ((z : Settings) (p q : SoFar) (bodies : List TheBody) (b : State) → IsAt z self.old bodies p → b.settings ≡ z
-            → Counts b imports.entry.count imports.entry.reader → JudgesSection z p section.imports b.rest q → IsAt z self.new bodies q) }
+        ensures answer { (z : Settings) (p : SoFar) (bodies : List TheBody) (b : State) → IsAt z self.old bodies p
+            → b.settings ≡ z
+            → Counts b imports.entry.count imports.entry.reader
+            → Tells result ((q : SoFar) × JudgesSection z p section.imports b.rest q) }
+        ensures added { OnOk result ((z : Settings) (p q : SoFar) (bodies : List TheBody) (b : State)
+            → IsAt z self.old bodies p → b.settings ≡ z
+            → Counts b imports.entry.count imports.entry.reader → JudgesSection z p section.imports b.rest q
+            → IsAt z self.new bodies q) }
         ensures grown { OnOk result (Grows self.old.kept self.new.kept) }
     {
         let offset = imports.range().start;

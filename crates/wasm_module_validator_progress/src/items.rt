@@ -39,7 +39,8 @@ pub trait SectionItem<'a>: FromReader<'a> {
 
     /// Refuses a section of more items than there may be, or that no feature allows, at this offset.
     fn check_count(state: &ModuleState, count: u32, offset: u64) -> Result<()>
-        ensures answer { (groups : List Group) (z : Settings) (m : ModuleTree) → Stands groups state.now z m → IsUnread section m
+        ensures answer { (groups : List Group) (z : Settings) (m : ModuleTree) → Stands groups state.now z m
+            → IsUnread section m
             → Tells result (MayBegin z section × Fits z section m count) }
         ensures refused { IfErr result (λ e. IsNotMemory e.kind × (e.offset ≡ offset)) };
 
@@ -55,9 +56,11 @@ pub trait SectionItem<'a>: FromReader<'a> {
         requires over { IsReadOver types.old.groups state.old.spaces }
         requires interning { types.old.can_intern ≡ true }
         requires ceilings { IsWithinCeilings state.old.spaces.settings.limits }
-        requires read { (z : Settings) × (s : State) × (t : State) × (Self.FromReader.decoder z s ≡ Done (Self.FromReader.view self) t) }
+        requires read { (z : Settings) × (s : State) × (t : State)
+            × (Self.FromReader.decoder z s ≡ Done (Self.FromReader.view self) t) }
         ensures answer { TellsRead section types.old.groups state.old groups.old (of self) result }
-        ensures added { OnOk result ((z : Settings) (m n : ModuleTree) → Reads section types.old.groups state.old groups.old z m → AddsRead z section m (of self) n
+        ensures added { OnOk result ((z : Settings) (m n : ModuleTree)
+            → Reads section types.old.groups state.old groups.old z m → AddsRead z section m (of self) n
             → Reads section types.new.groups state.new groups.new z n) }
         ensures over { OnOk result (IsReadOver types.new.groups state.new.spaces) }
         ensures interning { OnOk result (types.new.can_intern ≡ true) }
@@ -76,12 +79,14 @@ pub trait SectionItem<'a>: FromReader<'a> {
     ) -> Option<usize>
         requires over { IsReadOver types.now.groups state.old.spaces }
         requires inside { at ≤ length bytes.now }
-        ensures added { IfSome result (AddsShortIn section Self.FromReader.view of Self.FromReader.grammar types.now.groups state.old
+        ensures added { IfSome result (AddsShortIn section Self.FromReader.view of Self.FromReader.grammar
+            types.now.groups state.old
             state.new limits.now bytes.now at) }
         ensures stays { IfNone result (state.new ≡ state.old) }
         ensures over { IfSome result (λ _. IsReadOver types.now.groups state.new.spaces) }
         ensures settings { IfSome result (λ _. state.new.spaces.settings ≡ state.old.spaces.settings) }
-        ensures grown { IfSome result (λ _. GrowsWith types.now.groups state.old.spaces types.now.groups state.new.spaces) };
+        ensures grown { IfSome result (λ _. GrowsWith types.now.groups state.old.spaces types.now.groups
+            state.new.spaces) };
 
     /// Items whose bytes are read alike are the same.
     ghost alike: { (x y : Self) → Self.FromReader.view x ≡ Self.FromReader.view y → of x ≡ of y };
@@ -101,9 +106,11 @@ fn add_or_forget<'a, T: SectionItem<'a>>(
 ) -> Result<()>
     requires over { IsOver types.old state.old.spaces }
     requires interning { types.old.can_intern ≡ true }
-    requires read { (z : Settings) × (s : State) × (t : State) × (T.FromReader.decoder z s ≡ Done (T.FromReader.view item) t) }
+    requires read { (z : Settings) × (s : State) × (t : State)
+        × (T.FromReader.decoder z s ≡ Done (T.FromReader.view item) t) }
     ensures answer { TellsRead T.section types.old.groups state.old groups.old (T.of item) result }
-    ensures added { OnOk result ((z : Settings) (m n : ModuleTree) → Reads T.section types.old.groups state.old groups.old z m → AddsRead z T.section m (T.of item) n
+    ensures added { OnOk result ((z : Settings) (m n : ModuleTree)
+        → Reads T.section types.old.groups state.old groups.old z m → AddsRead z T.section m (T.of item) n
         → Reads T.section types.new.groups state.new groups.new z n) }
     ensures kept { (types.new.can_intern ≡ true) × IsOver types.new state.new.spaces }
     ensures settings { OnOk result (state.new.spaces.settings ≡ state.old.spaces.settings) }

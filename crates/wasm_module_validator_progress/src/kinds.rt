@@ -151,7 +151,8 @@ impl<'a> SectionItem<'a> for TableOf<ConstExpr<'a>> {
     }
 
     fn check_count(state: &ModuleState, count: u32, offset: u64) -> Result<()>
-        ensures answer { (groups : List Group) (z : Settings) (m : ModuleTree) → Stands groups state.now z m → IsUnread section.tables m
+        ensures answer { (groups : List Group) (z : Settings) (m : ModuleTree) → Stands groups state.now z m
+            → IsUnread section.tables m
             → Tells result (MayBegin z section.tables × Fits z section.tables m count) }
         ensures refused { IfErr result (λ e. IsNotMemory e.kind × (e.offset ≡ offset)) }
     {
@@ -170,7 +171,9 @@ impl<'a> SectionItem<'a> for TableOf<ConstExpr<'a>> {
         requires interning { types.old.can_intern ≡ true }
         requires ceilings { IsWithinCeilings state.old.spaces.settings.limits }
         ensures answer { TellsRead section.tables types.old.groups state.old groups.old (table_read self.entry) result }
-        ensures added { OnOk result ((z : Settings) (m n : ModuleTree) → Reads section.tables types.old.groups state.old groups.old z m → AddsRead z section.tables m (table_read self.entry) n
+        ensures added { OnOk result ((z : Settings) (m n : ModuleTree)
+            → Reads section.tables types.old.groups state.old groups.old z m
+            → AddsRead z section.tables m (table_read self.entry) n
             → Reads section.tables types.new.groups state.new groups.new z n) }
         ensures over { OnOk result (IsReadOver types.new.groups state.new.spaces) }
         ensures interning { OnOk result (types.new.can_intern ≡ true) }
@@ -190,12 +193,14 @@ impl<'a> SectionItem<'a> for TableOf<ConstExpr<'a>> {
     ) -> Option<usize>
         requires over { IsReadOver _types.now.groups _state.old.spaces }
         requires inside { _at ≤ length _bytes.now }
-        ensures added { IfSome result (AddsShortIn section.tables table_read table_read (λ z. SpelledTableItem (ConstantText z))
+        ensures added { IfSome result (AddsShortIn section.tables table_read table_read
+            (λ z. SpelledTableItem (ConstantText z))
             _types.now.groups _state.old _state.new _limits.now _bytes.now _at) }
         ensures stays { IfNone result (_state.new ≡ _state.old) }
         ensures over { IfSome result (λ _. IsReadOver _types.now.groups _state.new.spaces) }
         ensures settings { IfSome result (λ _. _state.new.spaces.settings ≡ _state.old.spaces.settings) }
-        ensures grown { IfSome result (λ _. GrowsWith _types.now.groups _state.old.spaces _types.now.groups _state.new.spaces) }
+        ensures grown { IfSome result (λ _. GrowsWith _types.now.groups _state.old.spaces _types.now.groups
+            _state.new.spaces) }
     {
         None
     }
@@ -314,7 +319,8 @@ impl<'a> SectionItem<'a> for GlobalOf<ConstExpr<'a>> {
     }
 
     fn check_count(state: &ModuleState, count: u32, offset: u64) -> Result<()>
-        ensures answer { (groups : List Group) (z : Settings) (m : ModuleTree) → Stands groups state.now z m → IsUnread section.globals m
+        ensures answer { (groups : List Group) (z : Settings) (m : ModuleTree) → Stands groups state.now z m
+            → IsUnread section.globals m
             → Tells result (MayBegin z section.globals × Fits z section.globals m count) }
         ensures refused { IfErr result (λ e. IsNotMemory e.kind × (e.offset ≡ offset)) }
     {
@@ -332,8 +338,11 @@ impl<'a> SectionItem<'a> for GlobalOf<ConstExpr<'a>> {
         requires over { IsReadOver types.old.groups state.old.spaces }
         requires interning { types.old.can_intern ≡ true }
         requires ceilings { IsWithinCeilings state.old.spaces.settings.limits }
-        ensures answer { TellsRead section.globals types.old.groups state.old groups.old (global_read self.entry) result }
-        ensures added { OnOk result ((z : Settings) (m n : ModuleTree) → Reads section.globals types.old.groups state.old groups.old z m → AddsRead z section.globals m (global_read self.entry) n
+        ensures answer { TellsRead section.globals types.old.groups state.old groups.old
+            (global_read self.entry) result }
+        ensures added { OnOk result ((z : Settings) (m n : ModuleTree)
+            → Reads section.globals types.old.groups state.old groups.old z m
+            → AddsRead z section.globals m (global_read self.entry) n
             → Reads section.globals types.new.groups state.new groups.new z n) }
         ensures over { OnOk result (IsReadOver types.new.groups state.new.spaces) }
         ensures interning { OnOk result (types.new.can_intern ≡ true) }
@@ -353,12 +362,14 @@ impl<'a> SectionItem<'a> for GlobalOf<ConstExpr<'a>> {
     ) -> Option<usize>
         requires over { IsReadOver _types.now.groups _state.old.spaces }
         requires inside { _at ≤ length _bytes.now }
-        ensures added { IfSome result (AddsShortIn section.globals global_read global_read (λ z. SpelledGlobalItem (ConstantText z))
+        ensures added { IfSome result (AddsShortIn section.globals global_read global_read
+            (λ z. SpelledGlobalItem (ConstantText z))
             _types.now.groups _state.old _state.new _limits.now _bytes.now _at) }
         ensures stays { IfNone result (_state.new ≡ _state.old) }
         ensures over { IfSome result (λ _. IsReadOver _types.now.groups _state.new.spaces) }
         ensures settings { IfSome result (λ _. _state.new.spaces.settings ≡ _state.old.spaces.settings) }
-        ensures grown { IfSome result (λ _. GrowsWith _types.now.groups _state.old.spaces _types.now.groups _state.new.spaces) }
+        ensures grown { IfSome result (λ _. GrowsWith _types.now.groups _state.old.spaces _types.now.groups
+            _state.new.spaces) }
     {
         None
     }
@@ -384,7 +395,8 @@ impl<'a> SectionItem<'a> for Export<'a> {
     }
 
     fn check_count(state: &ModuleState, count: u32, offset: u64) -> Result<()>
-        ensures answer { (groups : List Group) (z : Settings) (m : ModuleTree) → Stands groups state.now z m → IsUnread section.exports m
+        ensures answer { (groups : List Group) (z : Settings) (m : ModuleTree) → Stands groups state.now z m
+            → IsUnread section.exports m
             → Tells result (MayBegin z section.exports × Fits z section.exports m count) }
         ensures refused { IfErr result (λ e. IsNotMemory e.kind × (e.offset ≡ offset)) }
     {
@@ -402,8 +414,11 @@ impl<'a> SectionItem<'a> for Export<'a> {
         requires over { IsReadOver types.old.groups state.old.spaces }
         requires interning { types.old.can_intern ≡ true }
         requires ceilings { IsWithinCeilings state.old.spaces.settings.limits }
-        ensures answer { TellsRead section.exports types.old.groups state.old groups.old (export_read self.entry) result }
-        ensures added { OnOk result ((z : Settings) (m n : ModuleTree) → Reads section.exports types.old.groups state.old groups.old z m → AddsRead z section.exports m (export_read self.entry) n
+        ensures answer { TellsRead section.exports types.old.groups state.old groups.old
+            (export_read self.entry) result }
+        ensures added { OnOk result ((z : Settings) (m n : ModuleTree)
+            → Reads section.exports types.old.groups state.old groups.old z m
+            → AddsRead z section.exports m (export_read self.entry) n
             → Reads section.exports types.new.groups state.new groups.new z n) }
         ensures over { OnOk result (IsReadOver types.new.groups state.new.spaces) }
         ensures interning { OnOk result (types.new.can_intern ≡ true) }
@@ -428,7 +443,8 @@ impl<'a> SectionItem<'a> for Export<'a> {
         ensures stays { IfNone result (state.new ≡ state.old) }
         ensures over { IfSome result (λ _. IsReadOver types.now.groups state.new.spaces) }
         ensures settings { IfSome result (λ _. state.new.spaces.settings ≡ state.old.spaces.settings) }
-        ensures grown { IfSome result (λ _. GrowsWith types.now.groups state.old.spaces types.now.groups state.new.spaces) }
+        ensures grown { IfSome result (λ _. GrowsWith types.now.groups state.old.spaces types.now.groups
+            state.new.spaces) }
     {
         match add_short_export(state, types, bytes, at, limits) {
             Some(end) => Some(end),
@@ -457,7 +473,8 @@ impl<'a> SectionItem<'a> for ElementOf<'a, ConstExpr<'a>> {
     }
 
     fn check_count(state: &ModuleState, count: u32, offset: u64) -> Result<()>
-        ensures answer { (groups : List Group) (z : Settings) (m : ModuleTree) → Stands groups state.now z m → IsUnread section.element_segments m
+        ensures answer { (groups : List Group) (z : Settings) (m : ModuleTree) → Stands groups state.now z m
+            → IsUnread section.element_segments m
             → Tells result (MayBegin z section.element_segments × Fits z section.element_segments m count) }
         ensures refused { IfErr result (λ e. IsNotMemory e.kind × (e.offset ≡ offset)) }
     {
@@ -475,8 +492,11 @@ impl<'a> SectionItem<'a> for ElementOf<'a, ConstExpr<'a>> {
         requires over { IsReadOver types.old.groups state.old.spaces }
         requires interning { types.old.can_intern ≡ true }
         requires ceilings { IsWithinCeilings state.old.spaces.settings.limits }
-        ensures answer { TellsRead section.element_segments types.old.groups state.old groups.old (element_read self.entry) result }
-        ensures added { OnOk result ((z : Settings) (m n : ModuleTree) → Reads section.element_segments types.old.groups state.old groups.old z m → AddsRead z section.element_segments m (element_read self.entry) n
+        ensures answer { TellsRead section.element_segments types.old.groups state.old groups.old
+            (element_read self.entry) result }
+        ensures added { OnOk result ((z : Settings) (m n : ModuleTree)
+            → Reads section.element_segments types.old.groups state.old groups.old z m
+            → AddsRead z section.element_segments m (element_read self.entry) n
             → Reads section.element_segments types.new.groups state.new groups.new z n) }
         ensures over { OnOk result (IsReadOver types.new.groups state.new.spaces) }
         ensures interning { OnOk result (types.new.can_intern ≡ true) }
@@ -496,12 +516,14 @@ impl<'a> SectionItem<'a> for ElementOf<'a, ConstExpr<'a>> {
     ) -> Option<usize>
         requires over { IsReadOver _types.now.groups _state.old.spaces }
         requires inside { _at ≤ length _bytes.now }
-        ensures added { IfSome result (AddsShortIn section.element_segments element_read element_read (λ z. SpelledSegment (ConstantText z))
+        ensures added { IfSome result (AddsShortIn section.element_segments element_read element_read
+            (λ z. SpelledSegment (ConstantText z))
             _types.now.groups _state.old _state.new _limits.now _bytes.now _at) }
         ensures stays { IfNone result (_state.new ≡ _state.old) }
         ensures over { IfSome result (λ _. IsReadOver _types.now.groups _state.new.spaces) }
         ensures settings { IfSome result (λ _. _state.new.spaces.settings ≡ _state.old.spaces.settings) }
-        ensures grown { IfSome result (λ _. GrowsWith _types.now.groups _state.old.spaces _types.now.groups _state.new.spaces) }
+        ensures grown { IfSome result (λ _. GrowsWith _types.now.groups _state.old.spaces _types.now.groups
+            _state.new.spaces) }
     {
         None
     }
@@ -527,7 +549,8 @@ impl<'a> SectionItem<'a> for DataOf<'a, ConstExpr<'a>> {
     }
 
     fn check_count(state: &ModuleState, count: u32, offset: u64) -> Result<()>
-        ensures answer { (groups : List Group) (z : Settings) (m : ModuleTree) → Stands groups state.now z m → IsUnread section.data_segments m
+        ensures answer { (groups : List Group) (z : Settings) (m : ModuleTree) → Stands groups state.now z m
+            → IsUnread section.data_segments m
             → Tells result (MayBegin z section.data_segments × Fits z section.data_segments m count) }
         ensures refused { IfErr result (λ e. IsNotMemory e.kind × (e.offset ≡ offset)) }
     {
@@ -545,8 +568,11 @@ impl<'a> SectionItem<'a> for DataOf<'a, ConstExpr<'a>> {
         requires over { IsReadOver types.old.groups state.old.spaces }
         requires interning { types.old.can_intern ≡ true }
         requires ceilings { IsWithinCeilings state.old.spaces.settings.limits }
-        ensures answer { TellsRead section.data_segments types.old.groups state.old groups.old (data_read self.entry) result }
-        ensures added { OnOk result ((z : Settings) (m n : ModuleTree) → Reads section.data_segments types.old.groups state.old groups.old z m → AddsRead z section.data_segments m (data_read self.entry) n
+        ensures answer { TellsRead section.data_segments types.old.groups state.old groups.old
+            (data_read self.entry) result }
+        ensures added { OnOk result ((z : Settings) (m n : ModuleTree)
+            → Reads section.data_segments types.old.groups state.old groups.old z m
+            → AddsRead z section.data_segments m (data_read self.entry) n
             → Reads section.data_segments types.new.groups state.new groups.new z n) }
         ensures over { OnOk result (IsReadOver types.new.groups state.new.spaces) }
         ensures interning { OnOk result (types.new.can_intern ≡ true) }
@@ -566,12 +592,14 @@ impl<'a> SectionItem<'a> for DataOf<'a, ConstExpr<'a>> {
     ) -> Option<usize>
         requires over { IsReadOver types.now.groups state.old.spaces }
         requires inside { at ≤ length bytes.now }
-        ensures added { IfSome result (AddsShortIn section.data_segments data_read data_read (λ z. SpelledData (ConstantText z))
+        ensures added { IfSome result (AddsShortIn section.data_segments data_read data_read
+            (λ z. SpelledData (ConstantText z))
             types.now.groups state.old state.new _limits.now bytes.now at) }
         ensures stays { IfNone result (state.new ≡ state.old) }
         ensures over { IfSome result (λ _. IsReadOver types.now.groups state.new.spaces) }
         ensures settings { IfSome result (λ _. state.new.spaces.settings ≡ state.old.spaces.settings) }
-        ensures grown { IfSome result (λ _. GrowsWith types.now.groups state.old.spaces types.now.groups state.new.spaces) }
+        ensures grown { IfSome result (λ _. GrowsWith types.now.groups state.old.spaces types.now.groups
+            state.new.spaces) }
     {
         match check_short_data_item(state, types, bytes, at) {
             Some(end) => Some(end),

@@ -71,9 +71,11 @@ fn unknown_section(id: u8, offset: u64) -> Error
 impl InProgress {
     // Takes the start section.
     fn take_start_section(&mut self, func: u32, offset: u64) -> Result<()>
-        ensures answer { (z : Settings) (p : SoFar) (bodies : List TheBody) (b : State) → IsAt z self.old bodies p → b.settings ≡ z → only_number b ≡ Done func b
+        ensures answer { (z : Settings) (p : SoFar) (bodies : List TheBody) (b : State) → IsAt z self.old bodies p
+            → b.settings ≡ z → only_number b ≡ Done func b
             → Tells result ((q : SoFar) × JudgesSection z p section.start b.rest q) }
-        ensures added { OnOk result ((z : Settings) (p q : SoFar) (bodies : List TheBody) (b : State) → IsAt z self.old bodies p → b.settings ≡ z → only_number b ≡ Done func b
+        ensures added { OnOk result ((z : Settings) (p q : SoFar) (bodies : List TheBody) (b : State)
+            → IsAt z self.old bodies p → b.settings ≡ z → only_number b ≡ Done func b
             → JudgesSection z p section.start b.rest q → IsAt z self.new bodies q) }
         ensures grown { OnOk result (Grows self.old.kept self.new.kept) }
     {
@@ -86,9 +88,11 @@ impl InProgress {
 
     // Takes the data count section.
     fn take_data_count_section(&mut self, count: u32, offset: u64) -> Result<()>
-        ensures answer { (z : Settings) (p : SoFar) (bodies : List TheBody) (b : State) → IsAt z self.old bodies p → b.settings ≡ z → only_number b ≡ Done count b
+        ensures answer { (z : Settings) (p : SoFar) (bodies : List TheBody) (b : State) → IsAt z self.old bodies p
+            → b.settings ≡ z → only_number b ≡ Done count b
             → Tells result ((q : SoFar) × JudgesSection z p section.data_count b.rest q) }
-        ensures added { OnOk result ((z : Settings) (p q : SoFar) (bodies : List TheBody) (b : State) → IsAt z self.old bodies p → b.settings ≡ z → only_number b ≡ Done count b
+        ensures added { OnOk result ((z : Settings) (p q : SoFar) (bodies : List TheBody) (b : State)
+            → IsAt z self.old bodies p → b.settings ≡ z → only_number b ≡ Done count b
             → JudgesSection z p section.data_count b.rest q → IsAt z self.new bodies q) }
         ensures grown { OnOk result (Grows self.old.kept self.new.kept) }
     {
@@ -113,9 +117,11 @@ impl InProgress {
         bodies: &mut Vec<Body<'a>>,
     ) -> Result<()>
         ensures answer { UnlessFull (FullBy payload.entry self.old.kept) result
-            ((z : Settings) (p : SoFar) (f : Frame) → IsAt z self.old bodies.old.items p → HasSettings z f → IsPayloadOf f payload.entry
+            ((z : Settings) (p : SoFar) (f : Frame) → IsAt z self.old bodies.old.items p → HasSettings z f
+            → IsPayloadOf f payload.entry
             → Tells result ((q : SoFar) × JudgesShape z p (shape_of f) q)) }
-        ensures added { OnOk result ((z : Settings) (p q : SoFar) (f : Frame) → IsAt z self.old bodies.old.items p → HasSettings z f → IsPayloadOf f payload.entry
+        ensures added { OnOk result ((z : Settings) (p q : SoFar) (f : Frame) → IsAt z self.old bodies.old.items p
+            → HasSettings z f → IsPayloadOf f payload.entry
             → JudgesShape z p (shape_of f) q → IsAt z self.new bodies.new.items q) }
         ensures grown { OnOk result (Grows self.old.kept self.new.kept) }
     {

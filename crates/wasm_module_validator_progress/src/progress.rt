@@ -99,7 +99,8 @@ impl InProgress {
 
     /// What operators ask of the module.
     pub fn resources(&self) -> OperatorValidatorResources<'_>
-        ensures { meaning_of result.types.now.groups result.«module».now ≡ meaning_of self.now.kept.groups self.now.kept.items.spaces }
+        ensures { meaning_of result.types.now.groups result.«module».now
+            ≡ meaning_of self.now.kept.groups self.now.kept.items.spaces }
     {
         self.collected.state.resources(&self.collected.types)
     }

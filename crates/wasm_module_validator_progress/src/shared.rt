@@ -56,14 +56,16 @@ impl SharedModule {
 
     /// What operators ask of it.
     pub fn resources(&self) -> OperatorValidatorResources<'_>
-        ensures { meaning_of result.types.now.groups result.«module».now ≡ meaning_of self.now.groups self.now.items.spaces }
+        ensures { meaning_of result.types.now.groups result.«module».now
+            ≡ meaning_of self.now.groups self.now.items.spaces }
     {
         self.state.resources(&self.types)
     }
 
     /// The index of the function that the body behind so many others is of, and that of its type.
     pub fn function_behind(&self, bodies: usize) -> Option<(u32, u32)>
-        ensures typed { option_map (λ x. x.1) result ≡ option_map (λ f. f.type_index) (slice_get self.now.items.spaces.functions (self.now.items.spaces.imported_functions + bodies)) }
+        ensures typed { option_map (λ x. x.1) result ≡ option_map (λ f. f.type_index)
+            (slice_get self.now.items.spaces.functions (self.now.items.spaces.imported_functions + bodies)) }
         ensures index { IfSome result (λ x. x.0 ≡ self.now.items.spaces.imported_functions + bodies) }
     {
         function_behind_in(&self.state, bodies)
@@ -75,7 +77,8 @@ impl SharedModule {
     ///
     /// That section is not the code section; or the body is longer than a body may be: the first of these.
     pub fn check_body(&self, last: u32, body: &FunctionBody<'_>) -> Result<()>
-        ensures { Tells result ((last ≡ code_place) × (length body.now.rest ≤ self.now.items.spaces.settings.limits.body_bytes)) }
+        ensures { Tells result ((last ≡ code_place) × (length body.now.rest
+            ≤ self.now.items.spaces.settings.limits.body_bytes)) }
     {
         check_body_behind(&self.state, last, body)
     }

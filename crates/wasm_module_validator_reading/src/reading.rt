@@ -25,9 +25,11 @@ pub fn read_module<'a>(
     bytes: &'a [u8],
 ) -> Result<Vec<Body<'a>>>
     requires { progress.old ≡ nothing_over progress.old.kept.groups settings.now }
-    ensures answer { TellsWithinTotal progress.old.kept.groups progress.old.kept.items (HasGroupIn settings.now bytes.now) result
+    ensures answer { TellsWithinTotal progress.old.kept.groups progress.old.kept.items
+        (HasGroupIn settings.now bytes.now) result
         ((q : SoFar) × IsReadAs settings.now bytes.now q) }
-    ensures stands { IfOk result (λ bodies. (q : SoFar) → IsReadAs settings.now bytes.now q → IsAt settings.now progress.new bodies.items q) }
+    ensures stands { IfOk result (λ bodies. (q : SoFar) → IsReadAs settings.now bytes.now q
+        → IsAt settings.now progress.new bodies.items q) }
     ensures grown { OnOk result (Grows progress.old.kept progress.new.kept) }
 {
     let mut parser = Parser::new(alloc, 0);

@@ -12,6 +12,7 @@ ghost use Rattle.wasm_module_validator_referring.specs.Referring.{with_all_refer
 /// the context so far.
 pub fn constants_may_refer_to_each_function()
     ensures places { (x : ℕ) (xs : List ℕ) → IsOneOf x (places_from 0 xs) ↔ x < length xs }
-    ensures whichever { (g : Module) (refs : List ℕ) → with_all_referenced (record g { referenced = refs }) ≡ with_all_referenced g }
+    ensures whichever { (g : Module) (refs : List ℕ) → with_all_referenced
+        (record g { referenced = refs }) ≡ with_all_referenced g }
     ensures so_far { (m : ModuleTree) → with_all_referenced (module_of m) ≡ context_so_far m }
 {}

@@ -21,8 +21,10 @@ use wasm_types::{BinaryReader, Result};
 ///
 /// The bytes spell no expression, or there is no memory. Some names may be there then.
 pub fn name_references(alloc: Global, reader: BinaryReader<'_>, names: &mut Vec<u32>) -> Result<()>
-    ensures named { IfOk result (λ _. NamesMore reader.entry.settings reader.entry.rest names.old.items names.new.items) }
-    ensures refused { IfErr result (λ e. IsNotMemory e.kind → (c : Code) → SpelledExpression reader.entry.settings c reader.entry.rest → ⊥) }
+    ensures named { IfOk result (λ _. NamesMore reader.entry.settings reader.entry.rest names.old.items
+        names.new.items) }
+    ensures refused { IfErr result (λ e. IsNotMemory e.kind → (c : Code)
+        → SpelledExpression reader.entry.settings c reader.entry.rest → ⊥) }
 {
     let mut operators = OperatorsReader::new(alloc, reader);
     match name_all(&mut operators, names) {
@@ -38,8 +40,10 @@ pub fn name_references(alloc: Global, reader: BinaryReader<'_>, names: &mut Vec<
 
 // Names what the operators to the end of the bytes refer to.
 fn name_all(operators: &mut OperatorsReader<'_>, names: &mut Vec<u32>) -> Result<()>
-    ensures read { IfOk result (λ _. HasNamed operators.old names.old.items operators.new names.new.items × (operators.new.bytes.rest ≡ [])) }
-    ensures refused { IfErr result (λ e. IsNotMemory e.kind → HasNamed operators.old names.old.items operators.new names.new.items × Refuses operators.new e × (operators.new.bytes.rest ≡ [] → ⊥)) }
+    ensures read { IfOk result (λ _. HasNamed operators.old names.old.items operators.new names.new.items
+        × (operators.new.bytes.rest ≡ [])) }
+    ensures refused { IfErr result (λ e. IsNotMemory e.kind → HasNamed operators.old names.old.items operators.new
+        names.new.items × Refuses operators.new e × (operators.new.bytes.rest ≡ [] → ⊥)) }
 {
     while !operators.eof() {
         let found = match read_reference(operators) {

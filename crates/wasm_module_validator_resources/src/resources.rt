@@ -150,7 +150,8 @@ impl<'a> WasmModuleResources for OperatorValidatorResources<'a> {
         }
     }
 
-    ghost types_sound = { λ r. sound_space r.«module».now.settings.features r.types.now.groups r.settled.settled r.«module».now.types r.settled.known };
+    ghost types_sound = { λ r. sound_space r.«module».now.settings.features r.types.now.groups r.settled.settled
+        r.«module».now.types r.settled.known };
 
     ghost ids_sound = { λ r. sound_list r.«module».now.settings.features r.types.now.groups r.settled.settled };
 }

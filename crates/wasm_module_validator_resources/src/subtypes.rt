@@ -55,7 +55,8 @@ fn null_is_below(a: bool, b: bool) -> bool
 fn is_stored_alike(types: &TypeList, a: u32, b: u32) -> bool
     requires a_known { a < count types.now.groups }
     requires b_known { b < count types.now.groups }
-    ensures { IsTrue result ↔ (get_or (declared_by_id types.now.groups) a undeclared ≡ get_or (declared_by_id types.now.groups) b undeclared) }
+    ensures { IsTrue result ↔ (get_or (declared_by_id types.now.groups) a undeclared ≡ get_or
+        (declared_by_id types.now.groups) b undeclared) }
 {
     equality_is_of_declarations();
     let first = stored_type(types, CoreTypeId::new(a));
@@ -138,7 +139,8 @@ impl<'a> OperatorValidatorResources<'a> {
     fn is_declared_below(&self, a: CoreTypeId, b: CoreTypeId) -> bool
         requires a_known { a.0 < count self.now.types.now.groups }
         requires b_known { b.0 < count self.now.types.now.groups }
-        ensures { IsTrue result ↔ DeclaredBelow (tree_of self.now.types.now.groups a.0) (tree_of self.now.types.now.groups b.0) }
+        ensures { IsTrue result ↔ DeclaredBelow (tree_of self.now.types.now.groups a.0)
+            (tree_of self.now.types.now.groups b.0) }
     {
         let _count = self.types.type_count();
         if self.has_one_id_each() {
@@ -169,7 +171,8 @@ impl<'a> OperatorValidatorResources<'a> {
     fn is_below(&self, a: Named, b: Named) -> bool
         requires a_known { IsInList self.now.types.now.groups a }
         requires b_known { IsInList self.now.types.now.groups b }
-        ensures { IsTrue result ↔ DeclaredBelow (tree_meant self.now.types.now.groups a) (tree_meant self.now.types.now.groups b) }
+        ensures { IsTrue result ↔ DeclaredBelow (tree_meant self.now.types.now.groups a)
+            (tree_meant self.now.types.now.groups b) }
     {
         let _count = self.types.type_count();
         match a {
@@ -204,7 +207,8 @@ impl<'a> OperatorValidatorResources<'a> {
 
     // Whether an abstract type is below a heap type.
     fn abstract_is_below(&self, shared: bool, ty: AbstractHeapType, b: HeapType) -> bool
-        ensures { IsTrue result ↔ HeapBelow (abstract shared (abstract_in ty)) (heap_in (names_in self.now.types.now.groups self.now.«module».now.types) b) }
+        ensures { IsTrue result ↔ HeapBelow (abstract shared (abstract_in ty))
+            (heap_in (names_in self.now.types.now.groups self.now.«module».now.types) b) }
     {
         match b {
             HeapType::Abstract {
@@ -267,7 +271,8 @@ impl<'a> OperatorValidatorResources<'a> {
 
     /// Whether what a heap type stands for is shared.
     pub(crate) fn heap_type_is_shared(&self, ty: HeapType) -> bool
-        ensures { result ≡ heap_is_shared (heap_in (names_in self.now.types.now.groups self.now.«module».now.types) ty) }
+        ensures { result ≡ heap_is_shared (heap_in (names_in self.now.types.now.groups
+            self.now.«module».now.types) ty) }
     {
         match ty {
             HeapType::Abstract { shared, ty: _ } => shared,
@@ -278,7 +283,8 @@ impl<'a> OperatorValidatorResources<'a> {
 
     // The type above an abstract type and all of its hierarchy, and as shared.
     fn top_above(&self, shared: bool, ty: AbstractHeapType) -> HeapType
-        ensures { heap_in (names_in self.now.types.now.groups self.now.«module».now.types) result ≡ abstract shared (top_of (abstract_in ty)) }
+        ensures { heap_in (names_in self.now.types.now.groups self.now.«module».now.types) result ≡ abstract shared
+            (top_of (abstract_in ty)) }
     {
         self.types.top_type(&HeapType::Abstract { shared, ty })
     }

@@ -57,7 +57,8 @@ pub(crate) fn stored_type(types: &TypeList, id: CoreTypeId) -> &SubType
 impl<'a> OperatorValidatorResources<'a> {
     // What an index of the module's types names.
     fn type_at(&self, index: u32) -> Named
-        ensures meant { named_type (names_in self.now.types.now.groups self.now.«module».now.types) (UnpackedIndex.Module index)
+        ensures meant { named_type (names_in self.now.types.now.groups self.now.«module».now.types)
+            (UnpackedIndex.Module index)
             ≡ tree_meant self.now.types.now.groups result }
         ensures known { IsInList self.now.types.now.groups result }
     {
@@ -69,7 +70,8 @@ impl<'a> OperatorValidatorResources<'a> {
 
     /// What an index names.
     pub(crate) fn named(&self, index: UnpackedIndex) -> Named
-        ensures { IsNamedSo self.now.types.now.groups (names_in self.now.types.now.groups self.now.«module».now.types) index result }
+        ensures { IsNamedSo self.now.types.now.groups (names_in self.now.types.now.groups
+            self.now.«module».now.types) index result }
     {
         match index {
             UnpackedIndex::Module(number) => self.type_at(number),
@@ -86,8 +88,10 @@ impl<'a> OperatorValidatorResources<'a> {
 
     // The id of the module's type with an index.
     fn id_at(&self, number: u32, offset: u64) -> Result<CoreTypeId>
-        ensures answer { Tells result (IsTypeIndex (context_of self.now.types.now.groups self.now.«module».now) (UnpackedIndex.Module number)) }
-        ensures id { IfOk result (IsIdOf self.now.types.now.groups self.now.«module».now (UnpackedIndex.Module number)) }
+        ensures answer { Tells result (IsTypeIndex (context_of self.now.types.now.groups self.now.«module».now)
+            (UnpackedIndex.Module number)) }
+        ensures id { IfOk result (IsIdOf self.now.types.now.groups self.now.«module».now
+            (UnpackedIndex.Module number)) }
         ensures refused { IfErr result (λ e. (e.kind ≡ Other) × (e.offset ≡ offset)) }
     {
         let _count = self.types.type_count();
@@ -116,7 +120,8 @@ impl<'a> OperatorValidatorResources<'a> {
     /// The type of an id.
     pub(crate) fn stored(&self, id: CoreTypeId) -> &SubType
         requires { id.0 < count self.now.types.now.groups }
-        ensures { entry_in (names_in self.now.types.now.groups self.now.«module».now.types) result.now ≡ opened (tree_of self.now.types.now.groups id.0) }
+        ensures { entry_in (names_in self.now.types.now.groups self.now.«module».now.types) result.now ≡ opened
+            (tree_of self.now.types.now.groups id.0) }
     {
         let _count = self.types.type_count();
         stored_type(self.types, id)

@@ -7,5 +7,6 @@ ghost use Rattle.wasm_module_validator_rules.specs.Binary.{SpelledModule};
 
 /// Bytes fully spell at most one module, custom sections aside.
 pub fn modules_are_spelled_once()
-    ensures { (z : Settings) (m n : ModuleTree) (text : List ℕ) → SpelledModule z m text → SpelledModule z n text → m ≡ n }
+    ensures { (z : Settings) (m n : ModuleTree) (text : List ℕ) → SpelledModule z m text
+        → SpelledModule z n text → m ≡ n }
 {}

@@ -29,7 +29,8 @@ pub fn reader_by<'a>(expr: &ConstExpr<'a>, settings: &Settings) -> BinaryReader<
 /// Whether an expression is a number of this type, as its bytes alone tell.
 #[inline(always)]
 fn is_number(expr: &ConstExpr<'_>, ty: &ValType) -> bool
-    ensures { IsTrue result → (z : Given) (m : Meaning) (count : ℕ) → IsConstantText z m.«module» count (type_in m ty.now) expr.now.rest }
+    ensures { IsTrue result → (z : Given) (m : Meaning) (count : ℕ)
+        → IsConstantText z m.«module» count (type_in m ty.now) expr.now.rest }
 {
     match expr.as_short() {
         Some(ShortConstant::I32) => matches!(ty, ValType::I32),
@@ -55,8 +56,10 @@ pub fn check_constant<R: WasmModuleResources>(
     allocs: &mut OperatorValidatorAllocations,
 ) -> Result<()>
     requires within { IsWithinCeilings settings.now.limits }
-    ensures answer { Tells result (IsConstantText settings.now (R.meaning resources.now).«module» imported_globals (type_in (R.meaning resources.now) ty) expr.now.rest) }
-    ensures refused { IfErr result (λ e. UnlessMemory e.kind (StopsText settings.now (R.meaning resources.now) imported_globals (type_in (R.meaning resources.now) ty) expr.now e)) }
+    ensures answer { Tells result (IsConstantText settings.now (R.meaning resources.now).«module» imported_globals
+        (type_in (R.meaning resources.now) ty) expr.now.rest) }
+    ensures refused { IfErr result (λ e. UnlessMemory e.kind (StopsText settings.now
+        (R.meaning resources.now) imported_globals (type_in (R.meaning resources.now) ty) expr.now e)) }
 {
     if is_number(expr, &ty) {
         return Ok(());

@@ -63,8 +63,10 @@ pub fn check_data<R: WasmModuleResources>(
     offset: u64,
 ) -> Result<()>
     requires within { IsWithinCeilings settings.now.limits }
-    ensures answer { Tells result (IsData settings.now (R.meaning resources.now).«module» imported_globals (data_read segment.now)) }
-    ensures refused { IfErr result (λ e. UnlessMemory e.kind (RefusesData settings.now (R.meaning resources.now) imported_globals offset segment.now.kind e)) }
+    ensures answer { Tells result (IsData settings.now (R.meaning resources.now).«module» imported_globals
+        (data_read segment.now)) }
+    ensures refused { IfErr result (λ e. UnlessMemory e.kind (RefusesData settings.now
+        (R.meaning resources.now) imported_globals offset segment.now.kind e)) }
 {
     match &segment.kind {
         DataKindOf::Passive => check_bulk(settings, offset),

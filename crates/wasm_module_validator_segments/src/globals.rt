@@ -36,9 +36,12 @@ pub fn check_global<R: WasmModuleResources>(
     offset: u64,
 ) -> Result<GlobalType>
     requires within { IsWithinCeilings settings.now.limits }
-    ensures answer { Tells result (IsGlobal settings.now (R.meaning resources.now).«module» imported_globals (global_read global.now)) }
-    ensures named { IfOk result (λ t. global_in (R.meaning resources.now) t ≡ global_written (R.meaning resources.now).«module».types global.now.ty) }
-    ensures refused { IfErr result (λ e. UnlessMemory e.kind (RefusesGlobal settings.now (R.meaning resources.now) imported_globals offset global.now e)) }
+    ensures answer { Tells result (IsGlobal settings.now (R.meaning resources.now).«module» imported_globals
+        (global_read global.now)) }
+    ensures named { IfOk result (λ t. global_in (R.meaning resources.now) t ≡ global_written
+        (R.meaning resources.now).«module».types global.now.ty) }
+    ensures refused { IfErr result (λ e. UnlessMemory e.kind (RefusesGlobal settings.now
+        (R.meaning resources.now) imported_globals offset global.now e)) }
 {
     let mut ty = global.ty;
     match check_global_type(resources, &mut ty, settings, offset) {

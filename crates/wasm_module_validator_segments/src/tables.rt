@@ -49,9 +49,11 @@ fn check_init<R: WasmModuleResources>(
     offset: u64,
 ) -> Result<()>
     requires within { IsWithinCeilings settings.now.limits }
-    ensures answer { Tells result (IsInitText settings.now (R.meaning resources.now).«module» imported_globals element_type.nullable
+    ensures answer { Tells result (IsInitText settings.now (R.meaning resources.now).«module» imported_globals
+        element_type.nullable
         (reference_in (R.meaning resources.now) element_type) (init_of bytes_of init.now)) }
-    ensures refused { IfErr result (λ e. UnlessMemory e.kind (RefusesInit settings.now (R.meaning resources.now) imported_globals offset element_type.nullable
+    ensures refused { IfErr result (λ e. UnlessMemory e.kind (RefusesInit settings.now
+        (R.meaning resources.now) imported_globals offset element_type.nullable
         (reference_in (R.meaning resources.now) element_type) init.now e)) }
 {
     match init {
@@ -98,12 +100,16 @@ pub fn check_table<R: WasmModuleResources>(
     offset: u64,
 ) -> Result<TableType>
     requires within { IsWithinCeilings settings.now.limits }
-    ensures answer { Tells result (IsTableHere settings.now (R.meaning resources.now).«module» imported_globals (table_read table.now)) }
+    ensures answer { Tells result (IsTableHere settings.now (R.meaning resources.now).«module» imported_globals
+        (table_read table.now)) }
     ensures in_turn { length (R.meaning resources.now).«module».globals ≤ imported_globals
-        → Tells result (IsTable settings.now (R.meaning resources.now).«module» imported_globals (table_read table.now)) }
-    ensures named { IfOk result (λ t. table_in (R.meaning resources.now) t ≡ table_written (R.meaning resources.now).«module».types table.now.ty) }
+        → Tells result (IsTable settings.now (R.meaning resources.now).«module» imported_globals
+        (table_read table.now)) }
+    ensures named { IfOk result (λ t. table_in (R.meaning resources.now) t ≡ table_written
+        (R.meaning resources.now).«module».types table.now.ty) }
     ensures sizes { IfOk result (λ t. (t.initial ≡ table.now.ty.initial) × (t.maximum ≡ table.now.ty.maximum)) }
-    ensures refused { IfErr result (λ e. UnlessMemory e.kind (RefusesTable settings.now (R.meaning resources.now) imported_globals offset table.now e)) }
+    ensures refused { IfErr result (λ e. UnlessMemory e.kind (RefusesTable settings.now
+        (R.meaning resources.now) imported_globals offset table.now e)) }
 {
     let mut ty = table.ty;
     match check_table_type(resources, &mut ty, settings, offset) {

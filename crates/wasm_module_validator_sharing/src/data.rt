@@ -70,7 +70,8 @@ impl<'a, 'b> AddItem<'a, Data<'a>> for DataCheck<'b> {
 
     fn add_short(&mut self, bytes: &[u8], at: usize, _limits: &Limits) -> Option<usize>
         requires inside { at ≤ length bytes.now }
-        ensures added { IfSome result (AddsShort data_read data_read (λ z. SpelledData (ConstantText z)) (AddsIn section.data_segments)
+        ensures added { IfSome result (AddsShort data_read data_read (λ z. SpelledData (ConstantText z))
+            (AddsIn section.data_segments)
             (λ d u. IsRead section.data_segments d.«module».now u) self.old self.new _limits.now bytes.now at) }
         ensures stays { IfNone result (self.new ≡ self.old) }
         ensures grown { IfSome result (λ _. self.old.«module».now ≡ self.new.«module».now) }
@@ -103,10 +104,14 @@ pub(crate) fn check_data_section(
     last: u32,
     segments: DataSectionReader<'_>,
 ) -> Result<()>
-    ensures answer { (z : Settings) (p : SoFar) (bodies : List Body) (b : State) → IsAt z (record { kept = «module».now; last = last }) bodies p → b.settings ≡ z
-        → Counts b segments.entry.count segments.entry.reader → Tells result ((q : SoFar) × JudgesSection z p section.data_segments b.rest q) }
-    ensures added { OnOk result ((z : Settings) (p q : SoFar) (bodies : List Body) (b : State) → IsAt z (record { kept = «module».now; last = last }) bodies p → b.settings ≡ z
-        → Counts b segments.entry.count segments.entry.reader → JudgesSection z p section.data_segments b.rest q → IsAt z (record { kept = «module».now; last = 13 }) bodies q) }
+    ensures answer { (z : Settings) (p : SoFar) (bodies : List Body) (b : State)
+        → IsAt z (record { kept = «module».now; last = last }) bodies p → b.settings ≡ z
+        → Counts b segments.entry.count segments.entry.reader
+        → Tells result ((q : SoFar) × JudgesSection z p section.data_segments b.rest q) }
+    ensures added { OnOk result ((z : Settings) (p q : SoFar) (bodies : List Body) (b : State)
+        → IsAt z (record { kept = «module».now; last = last }) bodies p → b.settings ≡ z
+        → Counts b segments.entry.count segments.entry.reader → JudgesSection z p section.data_segments b.rest q
+        → IsAt z (record { kept = «module».now; last = 13 }) bodies q) }
 {
     let offset = segments.range().start;
     if last >= 13 {

@@ -34,7 +34,8 @@ impl ValidatorResources {
     // The type of an id.
     fn stored(&self, id: CoreTypeId) -> &SubType
         requires { id.0 < count self.now.shared.value.groups }
-        ensures { entry_in (names_in self.now.shared.value.groups self.now.shared.value.items.spaces.types) result.now ≡ opened (tree_of self.now.shared.value.groups id.0) }
+        ensures { entry_in (names_in self.now.shared.value.groups self.now.shared.value.items.spaces.types) result.now
+            ≡ opened (tree_of self.now.shared.value.groups id.0) }
     {
         let types = self.shared.types();
         let _count = types.type_count();
@@ -52,7 +53,8 @@ impl WasmModuleResources for ValidatorResources {
     ghost meaning = { λ r. meaning_of r.shared.value.groups r.shared.value.items.spaces };
 
     fn table_at(&self, at: u32) -> Option<TableType>
-        ensures meaning { option_map (table_in (meaning_of self.now.shared.value.groups self.now.shared.value.items.spaces)) result
+        ensures meaning { option_map (table_in (meaning_of self.now.shared.value.groups
+            self.now.shared.value.items.spaces)) result
             ≡ slice_get (meaning_of self.now.shared.value.groups self.now.shared.value.items.spaces).«module».tables at }
         ensures exact { result ≡ slice_get self.now.shared.value.items.spaces.tables at }
     {
@@ -144,7 +146,9 @@ impl WasmModuleResources for ValidatorResources {
         self.shared.resources().check_heap_type(ty, offset)
     }
 
-    ghost types_sound = { λ r. sound_space r.shared.value.items.spaces.settings.features r.shared.value.groups r.settled.settled r.shared.value.items.spaces.types r.settled.known };
+    ghost types_sound = { λ r. sound_space r.shared.value.items.spaces.settings.features r.shared.value.groups
+        r.settled.settled r.shared.value.items.spaces.types r.settled.known };
 
-    ghost ids_sound = { λ r. sound_list r.shared.value.items.spaces.settings.features r.shared.value.groups r.settled.settled };
+    ghost ids_sound = { λ r. sound_list r.shared.value.items.spaces.settings.features r.shared.value.groups
+        r.settled.settled };
 }

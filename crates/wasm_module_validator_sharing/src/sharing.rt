@@ -117,7 +117,8 @@ impl SharedProgress {
     pub fn read<'a>(&mut self, settings: &HeldSettings, bytes: &'a [u8]) -> Result<Vec<Body<'a>>>
         ensures answer { TellsWithinTotal (kept_groups settings.now self.old.progress.kept) (no_items settings.now)
             (HasGroupIn settings.now bytes.now) result ((q : SoFar) × IsReadAs settings.now bytes.now q) }
-        ensures stands { IfOk result (λ bodies. (q : SoFar) → IsReadAs settings.now bytes.now q → IsAt settings.now self.new.progress bodies.items q) }
+        ensures stands { IfOk result (λ bodies. (q : SoFar) → IsReadAs settings.now bytes.now q
+            → IsAt settings.now self.new.progress bodies.items q) }
         ensures grown { OnOk result (Grows (renewed settings.now self.old.progress.kept).kept self.new.progress.kept) }
         ensures own { self.new.code ≡ None }
     {
@@ -132,7 +133,8 @@ impl SharedProgress {
     /// As `judge`.
     pub fn judge(&self, bodies: &[Body<'_>]) -> Result<()>
         requires own { self.now.code ≡ None }
-        ensures { (z : Settings) (q : SoFar) → IsAt z self.now.progress bodies.now q → length q.bodies ≡ length q.tree.functions
+        ensures { (z : Settings) (q : SoFar) → IsAt z self.now.progress bodies.now q
+            → length q.bodies ≡ length q.tree.functions
             → Tells result (AreBodies z q) }
     {
         judge(self.alloc, &self.own, bodies)
@@ -182,7 +184,8 @@ impl SharedProgress {
     pub fn begin_code(&mut self, offset: u64) -> Result<()>
         requires own { self.old.code ≡ None }
         ensures answer { (z : Settings) (p : SoFar) → IsReached z self.old p → Tells result (p.last < code_place) }
-        ensures added { OnOk result ((z : Settings) (p : SoFar) → IsReached z self.old p → IsReached z self.new (record p { last = code_place })) }
+        ensures added { OnOk result ((z : Settings) (p : SoFar) → IsReached z self.old p
+            → IsReached z self.new (record p { last = code_place })) }
         ensures begun { OnOk result (self.new.code ≡ Some 0) }
         ensures kept { OnOk result (self.new.progress.kept ≡ self.old.progress.kept) }
     {

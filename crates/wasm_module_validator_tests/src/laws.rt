@@ -92,7 +92,8 @@ pub const fn functions_are_worked()
 pub const fn progress_is_worked()
     ensures kept { (z : Settings) (g h : Group) → KeptRows z g h }
     ensures stands { (groups : List Group) (bits : ℕ) → StandsFor groups bits }
-    ensures bodies { (groups : List Group) (z : Settings) (r : Progress) (b : Body) (p : SoFar) → BodiesStand groups z r b p }
+    ensures bodies { (groups : List Group) (z : Settings) (r : Progress) (b : Body) (p : SoFar)
+        → BodiesStand groups z r b p }
     ensures judged { (z : Settings) → BodiesJudged z }
     ensures reached { (groups : List Group) (z : Settings) (k : Kept) (r : Progress) → ReachedRows groups z k r }
     ensures shared { (groups : List Group) (bits : ℕ) → ReachedStands groups bits }

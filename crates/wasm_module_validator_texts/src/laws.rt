@@ -35,7 +35,8 @@ pub fn items_stand_for_trees()
         → SpelledRead z s t text → StandsFor z s t x → SpelledItem z s x text }
     ensures down { (z : Settings) (s : Section) (x : Item s) (text : List ℕ)
         → SpelledItem z s x text → (t : ItemRead s) × StandsFor z s t x × SpelledRead z s t text }
-    ensures once { (z : Settings) (s : Section) (t : ItemRead s) (x y : Item s) → StandsFor z s t x → StandsFor z s t y → x ≡ y }
+    ensures once { (z : Settings) (s : Section) (t : ItemRead s) (x y : Item s) → StandsFor z s t x
+        → StandsFor z s t y → x ≡ y }
     ensures listed { (z : Settings) (s : Section) → IsOfItems s → (m : ModuleTree) (text : List ℕ)
         → SpelledSection z s m (Some text) ↔ (MayBegin z s × IsListed (SpelledItem z s) (items s m) text) }
 {}
@@ -44,14 +45,16 @@ pub fn items_stand_for_trees()
 pub fn items_add_to_trees()
     ensures under { (s : Section) (u : Reading) (t : ItemRead s)
         → ((n : ModuleTree) × AddsRead u.settings s u.tree t n) ↔ ((v : Reading) × AddsIn s u t v) }
-    ensures once { (s : Section) (u : Reading) (t : ItemRead s) (v w : Reading) → AddsIn s u t v → AddsIn s u t w → v ≡ w }
+    ensures once { (s : Section) (u : Reading) (t : ItemRead s) (v w : Reading) → AddsIn s u t v
+        → AddsIn s u t w → v ≡ w }
 {}
 
 /// Behind what was judged, a section whose count was read is judged exactly where its items lead, one by one, from what was read before
 /// to what is read then; and a section that is one number exactly where this is added. Contents that are spelled begin with a count, or
 /// are one number. A frame of the id of a section is judged as that section, and one of another id is not.
 pub fn sections_are_judged_by_items()
-    ensures items { (z : Settings) (s : Section) → IsOfItems s → (p : SoFar) (b r : State) (n : ℕ) → IsJudged z p → u32_decoder b ≡ Done n r
+    ensures items { (z : Settings) (s : Section) → IsOfItems s → (p : SoFar) (b r : State) (n : ℕ) → IsJudged z p
+        → u32_decoder b ≡ Done n r
         → (q : SoFar) → JudgesSection z p s b.rest q ↔ AddsSection z s p n r.rest q }
     ensures start { (z : Settings) (p : SoFar) (b r : State) (n : ℕ) → IsJudged z p → only_number b ≡ Done n r
         → (q : SoFar) → JudgesSection z p section.start b.rest q ↔ AddsNumber z section.start p n q }
@@ -70,7 +73,8 @@ pub fn walks_tell_of_sections()
     ensures types { WalksTell section.types group_value group_read rec_group SpelledGroup }
     ensures imports { WalksTell section.imports import_read import_read import SpelledImport }
     ensures functions { WalksTell section.functions index_read index_read (λ z. u32_decoder) (λ z. IsUnsigned 32) }
-    ensures tables { WalksTell section.tables table_read table_read (λ z. table (constant z)) (λ z. SpelledTableItem (ConstantText z)) }
+    ensures tables { WalksTell section.tables table_read table_read (λ z. table (constant z))
+        (λ z. SpelledTableItem (ConstantText z)) }
     ensures memories { WalksTell section.memories memory_read memory_read (λ z. memory_type) (λ z. SpelledMemory) }
     ensures tags { WalksTell section.tags tag_read tag_read (λ z. tag_type) (λ z. SpelledTag) }
     ensures globals { WalksTell section.globals global_read global_read

@@ -58,7 +58,8 @@ impl<T: TypeIdentifier> Index<T> for TypeAlloc {
 
     ghost can_index = { λ types id. T.number id < T.named types.list.groups };
 
-    ghost index_gives = { λ types id item. (items : List T.Data) × T.are_listed types.list.groups items × (slice_get items (T.number id) ≡ Some item) };
+    ghost index_gives = { λ types id item. (items : List T.Data) × T.are_listed types.list.groups items
+        × (slice_get items (T.number id) ≡ Some item) };
 
     fn index(&self, id: T) -> &T::Data {
         let list = T::list(&self.list);

@@ -38,7 +38,8 @@ pub trait TypeIdentifier: Copy {
         ensures { result ≡ number self.now };
 
     // Each number below the count names something.
-    ghost counted: { (groups : List Group) (items : List Self.Data) → are_listed groups items → length items ≡ named groups };
+    ghost counted: { (groups : List Group) (items : List Self.Data) → are_listed groups items
+        → length items ≡ named groups };
 }
 
 impl TypeIdentifier for CoreTypeId {

@@ -55,7 +55,8 @@ impl<T> MaybeOwned<T> {
     /// The value, to change.
     pub fn assert_mut(&mut self) -> &mut T
         requires { IsTrue self.old.is_owned }
-        ensures* writes_back { sem 𝓛 (Lends (the_row T.row) T.row self.entry result (λ value. record { value = Some value; is_owned = true })) }
+        ensures* writes_back { sem 𝓛 (Lends (the_row T.row) T.row self.entry result
+            (λ value. record { value = Some value; is_owned = true })) }
         ensures value { self.old.value ≡ Some result.now }
     {
         match &mut self.own {
@@ -72,7 +73,8 @@ fn share<T: Drop>(
     shared: &mut Option<Rc<T>>,
 ) -> Result<(), AllocError>
     ensures taken { OnOk result (own.new ≡ None) }
-    ensures same { OnOk result (option_map (λ s. s.value) shared.new ≡ (held own.old (option_map (λ s. s.value) shared.old)).value) }
+    ensures same { OnOk result (option_map (λ s. s.value) shared.new ≡
+        (held own.old (option_map (λ s. s.value) shared.old)).value) }
     ensures own_stays { OnErr result (own.new ≡ own.old) }
     ensures shared_stays { OnErr result (shared.new ≡ shared.old) }
 {

@@ -123,7 +123,8 @@ pub(crate) fn learn(
     id: RecGroupId,
 ) -> Result<(), AllocError>
     requires { CanLearn is_canonical types.now.items group.now known.old }
-    ensures ok { OnOk result (KnowsMore is_canonical types.now.items stored.now start group.now id known.old known.new) }
+    ensures ok { OnOk result (KnowsMore is_canonical types.now.items stored.now start group.now id
+        known.old known.new) }
     ensures err { OnErr result (StaysKnown known.old known.new) }
     ensures sure { (is_canonical ≡ false) → IsOk result }
 {

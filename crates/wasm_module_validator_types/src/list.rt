@@ -41,7 +41,12 @@ impl Model for TypeList {
 
     ghost Value = { Types };
 
-    ghost view = { λ l. record { groups = groups_in l.lists; can_intern = is_some l.known; depths = l.lists.depths.items; limits = l.limits } };
+    ghost view = { λ l. record {
+      groups = groups_in l.lists;
+      can_intern = is_some l.known;
+      depths = l.lists.depths.items;
+      limits = l.limits;
+    } };
 
     ghost invariant = { λ l. IsTypeList (groups_in l.lists) l.lists l.known };
 }
@@ -124,7 +129,8 @@ impl TypeList {
     // The number of a group in canonical form, if the list has it.
     fn find(&self, group: &RecGroup) -> Option<RecGroupId>
         requires { IsTrue self.now.can_intern }
-        ensures { MatchOption result (IsMissing self.now.groups (group_in true group.now)) (λ k. group_at self.now.groups k.0 ≡ Some (group_in true group.now)) }
+        ensures { MatchOption result (IsMissing self.now.groups (group_in true group.now))
+            (λ k. group_at self.now.groups k.0 ≡ Some (group_in true group.now)) }
     {
         match &self.known {
             Some(known) => match known.id_of(&self.lists.types, group) {
@@ -186,10 +192,12 @@ impl TypeList {
         requires can_intern { IsTrue self.old.can_intern }
         requires formed { IsGroupFormed (count self.old.groups) (group_in needs_type_canonicalization rec_group) }
         ensures answer { Tells result (HasRoom self.old.groups (length (declared_types rec_group))) }
-        ensures interned { IfOk result (λ r. Interns self.old.groups self.new.groups (group_in needs_type_canonicalization rec_group) r.0 r.1.0) }
+        ensures interned { IfOk result (λ r. Interns self.old.groups self.new.groups
+            (group_in needs_type_canonicalization rec_group) r.0 r.1.0) }
         ensures refused { OnErr result (self.new.groups ≡ self.old.groups) }
         ensures at { RefusedAt offset result }
-        ensures memory { IfErr result (λ e. e.kind ≡ OutOfMemory → IsAdded self.old.groups (group_in needs_type_canonicalization rec_group)) }
+        ensures memory { IfErr result (λ e. e.kind ≡ OutOfMemory
+            → IsAdded self.old.groups (group_in needs_type_canonicalization rec_group)) }
         ensures can_intern { self.new.can_intern ≡ true }
         ensures depths { KeepsDepths self.old.groups self.old.depths self.new.depths }
         ensures limits { self.new.limits ≡ self.old.limits }

@@ -39,7 +39,8 @@ pub(crate) fn stored_types(
     start: u32,
     types: &[SubType],
 ) -> Result<Vec<SubType>, AllocError>
-    ensures { IfOk result (λ v. map declared_of v.items ≡ map (declared_map (packed_by_id start)) (map declared_of types.now)) }
+    ensures { IfOk result (λ v. map declared_of v.items ≡ map (declared_map (packed_by_id start))
+        (map declared_of types.now)) }
 {
     clones_declare_the_same();
     let mut stored = Vec::new(alloc);

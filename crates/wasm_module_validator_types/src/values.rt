@@ -217,7 +217,8 @@ impl TypeList {
     pub fn reftype_is_subtype(&self, a: RefType, b: RefType) -> bool
         requires first { EachHeap (IsIdBelow (count self.now.groups)) (heap_of a.heap) }
         requires second { EachHeap (IsIdBelow (count self.now.groups)) (heap_of b.heap) }
-        ensures { IsTrue result ↔ ValueBelowById self.now.groups (ref a.nullable (heap_of a.heap)) (ref b.nullable (heap_of b.heap)) }
+        ensures { IsTrue result ↔ ValueBelowById self.now.groups (ref a.nullable (heap_of a.heap))
+            (ref b.nullable (heap_of b.heap)) }
     {
         null_is_below(a.is_nullable(), b.is_nullable())
             && self.heaptype_is_subtype(a.heap_type(), b.heap_type())
@@ -275,7 +276,8 @@ impl TypeList {
     // The top of the hierarchy that the type of an id stands in.
     fn top_of_id(&self, id: CoreTypeId) -> HeapType
         requires { id.0 < count self.now.groups }
-        ensures { heap_of result ≡ abstract (entry_by_id self.now.groups id).shared (top_of (abstract_above (entry_by_id self.now.groups id).inner)) }
+        ensures { heap_of result ≡ abstract (entry_by_id self.now.groups id).shared
+            (top_of (abstract_above (entry_by_id self.now.groups id).inner)) }
     {
         let stored = self.stored(id);
         HeapType::Abstract {

@@ -27,7 +27,8 @@ pub fn tag_type_arity<R: WasmModuleResources>(resources: &R, tag_index: u32) -> 
 /// The type that an index names, where it is the id of one.
 #[tactic(auto, using(crate::proofs::ById::named_found, crate::proofs::ById::named_unknown, crate::proofs::ById::named_otherwise))]
 fn named_type<R: WasmModuleResources>(resources: &R, index: UnpackedIndex) -> Option<&SubType>
-    ensures { option_map (λ t. entry_in (R.meaning resources.now) t.now) result ≡ option_map opened (type_by_id (R.meaning resources.now) index) }
+    ensures { option_map (λ t. entry_in (R.meaning resources.now) t.now) result ≡ option_map opened
+        (type_by_id (R.meaning resources.now) index) }
 {
     let Some(id) = index.as_core_type_id() else {
         return None;
@@ -56,7 +57,8 @@ pub fn func_type_of_cont_type<'a, R: WasmModuleResources>(
     resources: &'a R,
     ty: &ContType,
 ) -> Option<&'a FuncType>
-    ensures { option_map (λ f. function_in (R.meaning resources.now) f.now) result ≡ function_by_id (R.meaning resources.now) ty.now.0 }
+    ensures { option_map (λ f. function_in (R.meaning resources.now) f.now) result ≡ function_by_id
+        (R.meaning resources.now) ty.now.0 }
 {
     let Some(ty) = named_type(resources, ty.0.unpack()) else {
         return None;
@@ -69,7 +71,8 @@ pub fn sub_type_of_ref_type<'a, R: WasmModuleResources>(
     resources: &'a R,
     ty: &RefType,
 ) -> Option<&'a SubType>
-    ensures { option_map (λ t. entry_in (R.meaning resources.now) t.now) result ≡ option_map opened (type_of_heap (R.meaning resources.now) ty.now.heap) }
+    ensures { option_map (λ t. entry_in (R.meaning resources.now) t.now) result ≡ option_map opened
+        (type_of_heap (R.meaning resources.now) ty.now.heap) }
 {
     match ty.heap_type() {
         HeapType::Abstract { .. } => None,

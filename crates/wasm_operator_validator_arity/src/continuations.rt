@@ -18,7 +18,8 @@ use wasm_types::{CompositeInnerType, FuncType, SubType, ValType};
 
 /// The function that a continuation of this type goes on with, where it is known by its id.
 fn continued_by<'a, M: ModuleArity>(known: &'a M, ty: &SubType) -> Option<&'a FuncType>
-    ensures { IfSome result (λ f. Some (function_in (M.meaning known.now) f.now) ≡ continued_by (M.meaning known.now) ty.now.composite_type.inner) }
+    ensures { IfSome result (λ f. Some (function_in (M.meaning known.now) f.now) ≡ continued_by
+        (M.meaning known.now) ty.now.composite_type.inner) }
 {
     match &ty.composite_type.inner {
         CompositeInnerType::Cont(continuation) => known.func_type_of_cont_type(continuation),
@@ -31,7 +32,8 @@ fn continued_by<'a, M: ModuleArity>(known: &'a M, ty: &SubType) -> Option<&'a Fu
 /// The same of the type at an index of the module.
 #[tactic(auto, using(crate::proofs::Continuing::continued_found))]
 fn continued_at<M: ModuleArity>(known: &M, type_index: u32) -> Option<&FuncType>
-    ensures { IfSome result (λ f. Some (function_in (M.meaning known.now) f.now) ≡ continued_at (slice_get (M.meaning known.now).«module».types type_index)) }
+    ensures { IfSome result (λ f. Some (function_in (M.meaning known.now) f.now) ≡ continued_at
+        (slice_get (M.meaning known.now).«module».types type_index)) }
 {
     let Some(ty) = known.sub_type_at(type_index) else {
         return None;
@@ -53,7 +55,8 @@ fn continuation_counts<M: ModuleArity>(known: &M, type_index: u32) -> Option<(us
 /// How many parameters the continuation takes to which the last of these types refers.
 #[tactic(auto, using(crate::proofs::Continuing::last_counted))]
 fn taken_by_last<M: ModuleArity>(known: &M, types: &[ValType]) -> Option<usize>
-    ensures { Partly result (option_map (λ d. d.0) (continuation_counts (last_referred (map (value_map (named_type (M.meaning known.now))) (map value_of types.now))))) }
+    ensures { Partly result (option_map (λ d. d.0) (continuation_counts
+        (last_referred (map (value_map (named_type (M.meaning known.now))) (map value_of types.now))))) }
 {
     let Some(ValType::Ref(reference)) = types.last() else {
         return None;
@@ -70,7 +73,8 @@ fn taken_by_last<M: ModuleArity>(known: &M, types: &[ValType]) -> Option<usize>
 /// What a switch to a continuation of the type at an index takes and gives.
 #[tactic(auto, using(crate::proofs::Continuing::switch_counted))]
 fn switched<M: ModuleArity>(known: &M, type_index: u32) -> Option<(u32, u32)>
-    ensures { Partly result (ended (option_and_then (λ g. switch_counts (expanded g)) (option_and_then (λ u. resumed (expanded u)) (slice_get (M.meaning known.now).«module».types type_index)))) }
+    ensures { Partly result (ended (option_and_then (λ g. switch_counts (expanded g))
+        (option_and_then (λ u. resumed (expanded u)) (slice_get (M.meaning known.now).«module».types type_index)))) }
 {
     let Some(function) = continued_at(known, type_index) else {
         return None;
@@ -123,7 +127,8 @@ pub(crate) fn continuation<M: ModuleArity>(
     known: &M,
     op: &ContinuationOperator,
 ) -> Option<(u32, u32)>
-    ensures { Partly result (ended (continuation_operator_counts (known_by (M.meaning known.now) (M.frames known.now)) (continuation_of op.now))) }
+    ensures { Partly result (ended (continuation_operator_counts (known_by (M.meaning known.now) (M.frames known.now))
+        (continuation_of op.now))) }
 {
     match op {
         ContinuationOperator::ContNew { .. } => Some((1, 1)),

@@ -95,7 +95,8 @@ fn selected(count: usize) -> (u32, u32)
 /// Exceptions.
 #[tactic(auto, using(crate::proofs::Parts::thrown_ended, crate::proofs::Parts::caught_ended))]
 pub(crate) fn exception<M: ModuleArity>(known: &M, op: &ExceptionOperator) -> Option<(u32, u32)>
-    ensures { result ≡ ended (exception_counts (known_by (M.meaning known.now) (M.frames known.now)) (exception_of op.now)) }
+    ensures { result ≡ ended (exception_counts (known_by (M.meaning known.now) (M.frames known.now))
+        (exception_of op.now)) }
 {
     match op {
         ExceptionOperator::Try { blockty } => opening(0, block_counts(known, blockty)),

@@ -118,7 +118,8 @@ fn label_of_kind(kind: FrameKind, params: usize, results: usize) -> usize
 
 /// How many results the outermost frame has.
 pub(crate) fn outermost_results<M: ModuleArity>(known: &M) -> Option<usize>
-    ensures { let k = known_by (M.meaning known.now) (M.frames known.now) in result ≡ results_alone (frame_counts k (outermost k)) }
+    ensures { let k = known_by (M.meaning known.now) (M.frames known.now) in result ≡ results_alone
+        (frame_counts k (outermost k)) }
 {
     let height = known.control_stack_height();
     results_of(frame_counts(known, height.saturating_sub(1)))

@@ -23,7 +23,8 @@ pub trait ModuleArity {
 
     /// The type at an index of the module.
     fn sub_type_at(&self, type_index: u32) -> Option<&SubType>
-        ensures { option_map (λ t. entry_in (meaning self.now) t.now) result ≡ option_map opened (slice_get (meaning self.now).«module».types type_index) };
+        ensures { option_map (λ t. entry_in (meaning self.now) t.now) result ≡ option_map opened
+            (slice_get (meaning self.now).«module».types type_index) };
 
     /// The index of a function's type.
     fn type_index_of_function(&self, function_index: u32) -> Option<u32>
@@ -35,11 +36,13 @@ pub trait ModuleArity {
 
     /// The function type of a continuation, where it is named by the id of one.
     fn func_type_of_cont_type(&self, ty: &ContType) -> Option<&FuncType>
-        ensures { option_map (λ f. function_in (meaning self.now) f.now) result ≡ function_by_id (meaning self.now) ty.now.0 };
+        ensures { option_map (λ f. function_in (meaning self.now) f.now) result ≡ function_by_id
+            (meaning self.now) ty.now.0 };
 
     /// The type that a reference refers to, where it is named by its id.
     fn sub_type_of_ref_type(&self, ty: &RefType) -> Option<&SubType>
-        ensures { option_map (λ t. entry_in (meaning self.now) t.now) result ≡ option_map opened (type_of_heap (meaning self.now) ty.now.heap) };
+        ensures { option_map (λ t. entry_in (meaning self.now) t.now) result ≡ option_map opened
+            (type_of_heap (meaning self.now) ty.now.heap) };
 
     /// How many frames are open.
     fn control_stack_height(&self) -> u32

@@ -20,7 +20,8 @@ pub trait OperatorArity {
 
 impl<'a> OperatorArity for Operator<'a> {
     fn operator_arity<M: ModuleArity>(&self, known: &M) -> Option<(u32, u32)>
-        ensures { AnswersFor (op_of self.now) result (ended (counts_of (known_by (M.meaning known.now) (M.frames known.now)) (op_of self.now))) }
+        ensures { AnswersFor (op_of self.now) result (ended (counts_of
+            (known_by (M.meaning known.now) (M.frames known.now)) (op_of self.now))) }
     {
         match self {
             Operator::Control(op) => control(known, op),

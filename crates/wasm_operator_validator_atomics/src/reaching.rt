@@ -15,7 +15,10 @@ pub(crate) fn reach_atomic<R: WasmModuleResources>(
     resources: &R,
     memarg: &MemArg,
 ) -> Result<ValType, Refusal>
-    ensures { MatchResult result (λ t. reached true memarg.now (slice_get (R.meaning resources.now).«module».memories memarg.now.memory) ≡ Some (type_in (R.meaning resources.now) t)) (λ r. reached true memarg.now (slice_get (R.meaning resources.now).«module».memories memarg.now.memory) ≡ None) }
+    ensures { MatchResult result (λ t. reached true memarg.now
+        (slice_get (R.meaning resources.now).«module».memories memarg.now.memory) ≡ Some
+        (type_in (R.meaning resources.now) t)) (λ r. reached true memarg.now
+        (slice_get (R.meaning resources.now).«module».memories memarg.now.memory) ≡ None) }
 {
     if !has_alignment(true, memarg) {
         return Err(Refusal::Because(Reason::AtomicAlignment));

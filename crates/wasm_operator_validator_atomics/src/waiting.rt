@@ -45,7 +45,8 @@ pub fn check_atomic_notify<R: WasmModuleResources>(
     resources: &R,
     memarg: MemArg,
 ) -> Result<(), Refusal>
-    ensures { Checks (R.meaning resources.now) validator.old (Op.Atomic (AtomicOperator.MemoryAtomicNotify memarg)) (refused result) validator.new }
+    ensures { Checks (R.meaning resources.now) validator.old (Op.Atomic (AtomicOperator.MemoryAtomicNotify memarg))
+        (refused result) validator.new }
 {
     match validator.begin(Proposal::Threads, false) {
         Ok(()) => (),
@@ -63,7 +64,8 @@ pub fn check_atomic_fence<R: WasmModuleResources>(
     validator: &mut OperatorValidator,
     resources: &R,
 ) -> Result<(), Refusal>
-    ensures checks { Checks (R.meaning resources.now) validator.old (Op.Atomic AtomicOperator.AtomicFence) (refused result) validator.new }
+    ensures checks { Checks (R.meaning resources.now) validator.old (Op.Atomic AtomicOperator.AtomicFence)
+        (refused result) validator.new }
     ensures memory { IfErr result IsOfContent }
 {
     let _resources = resources;

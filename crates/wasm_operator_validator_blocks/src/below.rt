@@ -14,7 +14,8 @@ pub fn are_below<R: WasmModuleResources>(
     found: &[ValType],
     expected: &[ValType],
 ) -> bool
-    ensures { IsTrue result ↔ AllBelow (all_known (types_in (R.meaning resources.now) found.now)) (all_known (types_in (R.meaning resources.now) expected.now)) }
+    ensures { IsTrue result ↔ AllBelow (all_known (types_in (R.meaning resources.now) found.now))
+        (all_known (types_in (R.meaning resources.now) expected.now)) }
 {
     if found.len() != expected.len() {
         return false;

@@ -55,7 +55,8 @@ fn check_result_type<R: WasmModuleResources>(
     features: WasmFeatures,
     written: ValType,
 ) -> Result<ValType, Refusal>
-    ensures { MatchResult result (λ named. IsType features.0 (R.meaning resources.now).«module» written (type_in (R.meaning resources.now) named))
+    ensures { MatchResult result (λ named. IsType features.0 (R.meaning resources.now).«module» written
+        (type_in (R.meaning resources.now) named))
         (λ r. Denies (kind_of r) ((t : ValueType) × IsType features.0 (R.meaning resources.now).«module» written t)) }
 {
     if let ValType::I32 = written {

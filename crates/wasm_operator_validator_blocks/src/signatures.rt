@@ -25,7 +25,8 @@ pub fn function_of(sub_type: &SubType) -> Option<&FuncType>
 
 /// The function type at an index of the module's types, if there is one.
 pub fn function_at<R: WasmModuleResources>(resources: &R, type_index: u32) -> Option<&FuncType>
-    ensures { IsFunctionAt (R.meaning resources.now) type_index (option_map (λ f. signature_in (R.meaning resources.now) f.now) result) }
+    ensures { IsFunctionAt (R.meaning resources.now) type_index
+        (option_map (λ f. signature_in (R.meaning resources.now) f.now) result) }
 {
     let Some(sub_type) = resources.sub_type_at(type_index) else {
         return None;
@@ -38,7 +39,8 @@ pub fn block_params<'a, R: WasmModuleResources>(
     resources: &'a R,
     block_type: &'a BlockType,
 ) -> &'a [ValType]
-    ensures { types_in (R.meaning resources.now) result.now ≡ (signature_of (R.meaning resources.now) block_type.now).params }
+    ensures { types_in (R.meaning resources.now) result.now ≡
+        (signature_of (R.meaning resources.now) block_type.now).params }
 {
     match block_type {
         BlockType::Empty => &[],
@@ -56,7 +58,8 @@ pub fn block_results<'a, R: WasmModuleResources>(
     resources: &'a R,
     block_type: &'a BlockType,
 ) -> &'a [ValType]
-    ensures { types_in (R.meaning resources.now) result.now ≡ (signature_of (R.meaning resources.now) block_type.now).results }
+    ensures { types_in (R.meaning resources.now) result.now ≡
+        (signature_of (R.meaning resources.now) block_type.now).results }
 {
     match block_type {
         BlockType::Empty => &[],
@@ -74,7 +77,8 @@ pub fn label_types<'a, R: WasmModuleResources>(
     block_type: &'a BlockType,
     kind: FrameKind,
 ) -> &'a [ValType]
-    ensures { types_in (R.meaning resources.now) result.now ≡ label_of kind (signature_of (R.meaning resources.now) block_type.now) }
+    ensures { types_in (R.meaning resources.now) result.now ≡ label_of kind
+        (signature_of (R.meaning resources.now) block_type.now) }
 {
     match kind {
         FrameKind::Loop => block_params(resources, block_type),

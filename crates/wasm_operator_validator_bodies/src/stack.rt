@@ -90,7 +90,8 @@ impl Stack {
     /// Puts an operand in the place of another.
     #[inline(always)]
     pub fn change(&mut self, takes: u8, gives: u8) -> bool
-        ensures { result ≡ true → (rest : List ℕ) × (self.old ≡ (takes ∷ rest, self.old.1)) × (self.new ≡ (gives ∷ rest, self.old.1)) }
+        ensures { result ≡ true → (rest : List ℕ) × (self.old ≡ (takes ∷ rest, self.old.1))
+            × (self.new ≡ (gives ∷ rest, self.old.1)) }
     {
         if self.items.len() <= self.base || self.items.under(0) != takes {
             return false;
@@ -102,7 +103,8 @@ impl Stack {
     /// Puts an operand in the place of two of one type.
     #[inline(always)]
     pub fn combine(&mut self, takes: u8, gives: u8) -> bool
-        ensures { result ≡ true → (rest : List ℕ) × (self.old ≡ (takes ∷ takes ∷ rest, self.old.1)) × (self.new ≡ (gives ∷ rest, self.old.1)) }
+        ensures { result ≡ true → (rest : List ℕ) × (self.old ≡ (takes ∷ takes ∷ rest, self.old.1))
+            × (self.new ≡ (gives ∷ rest, self.old.1)) }
     {
         self.take(takes) && self.change(takes, gives)
     }
@@ -110,7 +112,8 @@ impl Stack {
     /// Takes a condition off, and one of two operands of one type under it.
     #[inline(always)]
     pub fn choose(&mut self) -> bool
-        ensures { result ≡ true → (t : ℕ) × (self.old ≡ (0 ∷ t ∷ self.new.0, self.new.1)) × ((rest : List ℕ) × (self.new ≡ (t ∷ rest, self.new.1))) }
+        ensures { result ≡ true → (t : ℕ) × (self.old ≡ (0 ∷ t ∷ self.new.0, self.new.1))
+            × ((rest : List ℕ) × (self.new ≡ (t ∷ rest, self.new.1))) }
     {
         if !self.take(0) || self.items.len() <= self.base {
             return false;

@@ -32,7 +32,11 @@ pub fn check_const_expr<R: WasmModuleResources>(
     imported_globals: u32,
     allocs: &mut OperatorValidatorAllocations,
 ) -> Result<()>
-    ensures checks { ChecksConstant (record { bits = features.0; meaning = R.meaning resources.now; imported = imported_globals }) ty expr.now result }
+    ensures checks { ChecksConstant (record {
+      bits = features.0;
+      meaning = R.meaning resources.now;
+      imported = imported_globals;
+    }) ty expr.now result }
     ensures operands { allocs.new.operands ≡ ([], None) }
     ensures control { allocs.new.control ≡ ([], None) }
     ensures locals { allocs.new.locals ≡ [] }
@@ -66,7 +70,11 @@ fn validate_constant<R: WasmModuleResources>(
     imported_globals: u32,
 ) -> Result<()>
     requires going { validator.old.failed ≡ false }
-    ensures { ValidatesConstant (record { bits = features.0; meaning = R.meaning resources.now; imported = imported_globals }) validator.old reader.entry result }
+    ensures { ValidatesConstant (record {
+      bits = features.0;
+      meaning = R.meaning resources.now;
+      imported = imported_globals;
+    }) validator.old reader.entry result }
 {
     let visitor = ValidatingVisitor {
         inner: validator,

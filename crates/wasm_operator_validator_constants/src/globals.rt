@@ -16,8 +16,10 @@ pub(crate) fn check_global<R: WasmModuleResources>(
     resources: &R,
     imported_globals: u32,
 ) -> Result<(), ConstantRefusal>
-    ensures constant { IfOk result (λ _. IsConstantGlobal features.0 (R.meaning resources.now).«module» imported_globals global_index) }
-    ensures refused { IfErr result (λ r. RefusesGlobal features.0 (R.meaning resources.now).«module» imported_globals global_index r) }
+    ensures constant { IfOk result (λ _. IsConstantGlobal features.0
+        (R.meaning resources.now).«module» imported_globals global_index) }
+    ensures refused { IfErr result (λ r. RefusesGlobal features.0
+        (R.meaning resources.now).«module» imported_globals global_index r) }
 {
     let Some(global) = resources.global_at(global_index) else {
         return Err(ConstantRefusal::Invalid(Refusal::Unknown {

@@ -28,9 +28,12 @@ pub fn is_constant_operator<R: WasmModuleResources>(
     resources: &R,
     imported_globals: u32,
 ) -> Result<(), ConstantRefusal>
-    ensures constant { IfOk result (λ _. IsConstantOperator features.0 (R.meaning resources.now).«module» imported_globals (op_of op.now)) }
-    ensures refused { IfErr result (λ r. IsConstantOperator features.0 (R.meaning resources.now).«module» imported_globals (op_of op.now) → ⊥) }
-    ensures why { IfErr result (λ r. RefusesOperator features.0 (R.meaning resources.now).«module» imported_globals (op_of op.now) r) }
+    ensures constant { IfOk result (λ _. IsConstantOperator features.0
+        (R.meaning resources.now).«module» imported_globals (op_of op.now)) }
+    ensures refused { IfErr result (λ r. IsConstantOperator features.0
+        (R.meaning resources.now).«module» imported_globals (op_of op.now) → ⊥) }
+    ensures why { IfErr result (λ r. RefusesOperator features.0 (R.meaning resources.now).«module» imported_globals
+        (op_of op.now) r) }
 {
     if let Some(global_index) = global_read(op) {
         return check_global(global_index, features, resources, imported_globals);

@@ -27,10 +27,15 @@ impl<'a, 'v, 'r, R: WasmModuleResources> Visitor<'a> for ConstantWalk<'v, 'r, R>
     type Output = Result<(), ConstantRefusal>;
 
     ghost visits = { λ before op answer after. VisitsConstant
-        (record { bits = before.features.0; meaning = R.meaning before.walk.visitor.resources.now; imported = before.imported_globals })
+        (record {
+          bits = before.features.0;
+          meaning = R.meaning before.walk.visitor.resources.now;
+          imported = before.imported_globals;
+        })
         before.walk.visitor.inner.now op (refused_constant answer) after.walk.visitor.inner.now ×
         (after.walk.visitor.inner.ghost_name ≡ before.walk.visitor.inner.ghost_name) ×
-        (after.walk.visitor.resources.now ≡ before.walk.visitor.resources.now) × (after.features.0 ≡ before.features.0) ×
+        (after.walk.visitor.resources.now ≡ before.walk.visitor.resources.now)
+        × (after.features.0 ≡ before.features.0) ×
         (after.imported_globals ≡ before.imported_globals) };
 }
 
@@ -80,7 +85,11 @@ impl<'a, 'v, 'r, R: WasmModuleResources> TellPlain<'a, ConstantRefusal>
 }
 
 impl<'a, 'v, 'r, R: WasmModuleResources> ValidatingConstants<'a> for ConstantWalk<'v, 'r, R> {
-    ghost around = { λ w. record { bits = w.features.0; meaning = R.meaning w.walk.visitor.resources.now; imported = w.imported_globals } };
+    ghost around = { λ w. record {
+      bits = w.features.0;
+      meaning = R.meaning w.walk.visitor.resources.now;
+      imported = w.imported_globals;
+    } };
 
     ghost state = { λ w. w.walk.visitor.inner.now };
 

@@ -15,7 +15,8 @@ pub fn check_br_table<R: WasmModuleResources>(
     resources: &R,
     table: &BrTable,
 ) -> Result<(), Refusal>
-    ensures { Checks (R.meaning resources.now) validator.old (Op.Control (ControlOperator.BrTable table.now)) (refused result) validator.new }
+    ensures { Checks (R.meaning resources.now) validator.old (Op.Control (ControlOperator.BrTable table.now))
+        (refused result) validator.new }
 {
     match validator.begin(Proposal::Mvp, false) {
         Ok(()) => {}

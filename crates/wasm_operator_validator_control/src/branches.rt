@@ -17,7 +17,8 @@ pub fn check_nop<R: WasmModuleResources>(
     validator: &mut OperatorValidator,
     resources: &R,
 ) -> Result<(), Refusal>
-    ensures { Checks (R.meaning resources.now) validator.old (Op.Control ControlOperator.Nop) (refused result) validator.new }
+    ensures { Checks (R.meaning resources.now) validator.old (Op.Control ControlOperator.Nop)
+        (refused result) validator.new }
 {
     match validator.begin(Proposal::Mvp, false) {
         Ok(()) => {}
@@ -31,7 +32,8 @@ pub fn check_unreachable<R: WasmModuleResources>(
     validator: &mut OperatorValidator,
     resources: &R,
 ) -> Result<(), Refusal>
-    ensures { Checks (R.meaning resources.now) validator.old (Op.Control ControlOperator.Unreachable) (refused result) validator.new }
+    ensures { Checks (R.meaning resources.now) validator.old (Op.Control ControlOperator.Unreachable)
+        (refused result) validator.new }
 {
     match validator.begin(Proposal::Mvp, false) {
         Ok(()) => {}
@@ -46,7 +48,8 @@ pub fn check_br<R: WasmModuleResources>(
     resources: &R,
     relative_depth: u32,
 ) -> Result<(), Refusal>
-    ensures { Checks (R.meaning resources.now) validator.old (Op.Control (ControlOperator.Br relative_depth)) (refused result) validator.new }
+    ensures { Checks (R.meaning resources.now) validator.old (Op.Control (ControlOperator.Br relative_depth))
+        (refused result) validator.new }
 {
     match validator.begin(Proposal::Mvp, false) {
         Ok(()) => {}
@@ -65,7 +68,8 @@ pub fn check_br_if<R: WasmModuleResources>(
     resources: &R,
     relative_depth: u32,
 ) -> Result<(), Refusal>
-    ensures { Checks (R.meaning resources.now) validator.old (Op.Control (ControlOperator.BrIf relative_depth)) (refused result) validator.new }
+    ensures { Checks (R.meaning resources.now) validator.old (Op.Control (ControlOperator.BrIf relative_depth))
+        (refused result) validator.new }
 {
     match validator.begin(Proposal::Mvp, false) {
         Ok(()) => {}
@@ -87,7 +91,8 @@ pub fn check_return<R: WasmModuleResources>(
     validator: &mut OperatorValidator,
     resources: &R,
 ) -> Result<(), Refusal>
-    ensures { Checks (R.meaning resources.now) validator.old (Op.Control ControlOperator.Return) (refused result) validator.new }
+    ensures { Checks (R.meaning resources.now) validator.old (Op.Control ControlOperator.Return)
+        (refused result) validator.new }
 {
     match validator.begin(Proposal::Mvp, false) {
         Ok(()) => {}

@@ -15,7 +15,8 @@ pub fn check_call<R: WasmModuleResources>(
     resources: &R,
     function_index: u32,
 ) -> Result<(), Refusal>
-    ensures { Checks (R.meaning resources.now) validator.old (Op.Control (ControlOperator.Call function_index)) (refused result) validator.new }
+    ensures { Checks (R.meaning resources.now) validator.old (Op.Control (ControlOperator.Call function_index))
+        (refused result) validator.new }
 {
     match validator.begin(Proposal::Mvp, false) {
         Ok(()) => {}
@@ -35,7 +36,8 @@ pub fn check_call_indirect<R: WasmModuleResources>(
     type_index: u32,
     table_index: u32,
 ) -> Result<(), Refusal>
-    ensures { Checks (R.meaning resources.now) validator.old (Op.Control (ControlOperator.CallIndirect type_index table_index)) (refused result) validator.new }
+    ensures { Checks (R.meaning resources.now) validator.old (Op.Control
+        (ControlOperator.CallIndirect type_index table_index)) (refused result) validator.new }
 {
     match validator.begin(Proposal::Mvp, false) {
         Ok(()) => {}
@@ -63,7 +65,8 @@ pub fn check_call_ref<R: WasmModuleResources>(
     resources: &R,
     type_index: u32,
 ) -> Result<(), Refusal>
-    ensures { Checks (R.meaning resources.now) validator.old (Op.Control (ControlOperator.CallRef type_index)) (refused result) validator.new }
+    ensures { Checks (R.meaning resources.now) validator.old (Op.Control (ControlOperator.CallRef type_index))
+        (refused result) validator.new }
 {
     match validator.begin(Proposal::FunctionReferences, false) {
         Ok(()) => {}

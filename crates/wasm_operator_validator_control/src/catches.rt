@@ -23,7 +23,8 @@ pub fn check_try_table<R: WasmModuleResources>(
     resources: &R,
     try_table: &TryTable,
 ) -> Result<(), Refusal>
-    ensures { Checks (R.meaning resources.now) validator.old (Op.Exception (ExceptionTree.TryTable (catch_table_of try_table.now))) (refused result) validator.new }
+    ensures { Checks (R.meaning resources.now) validator.old (Op.Exception
+        (ExceptionTree.TryTable (catch_table_of try_table.now))) (refused result) validator.new }
 {
     match validator.begin(Proposal::Exceptions, false) {
         Ok(()) => {}
@@ -46,7 +47,8 @@ fn check_clauses<R: WasmModuleResources>(
     resources: &R,
     clauses: &[Catch],
 ) -> Result<(), Refusal>
-    ensures { Answers result (EachCatches (context (R.meaning resources.now) validator.now.given validator.now.opens) clauses.now) }
+    ensures { Answers result (EachCatches (context (R.meaning resources.now) validator.now.given
+        validator.now.opens) clauses.now) }
 {
     for place in 0..clauses.len() {
         match check_clause(validator, resources, clauses[place]) {
@@ -63,7 +65,8 @@ fn check_clause<R: WasmModuleResources>(
     resources: &R,
     clause: Catch,
 ) -> Result<(), Refusal>
-    ensures { Answers result (Catches (context (R.meaning resources.now) validator.now.given validator.now.opens) clause) }
+    ensures { Answers result (Catches (context (R.meaning resources.now) validator.now.given
+        validator.now.opens) clause) }
 {
     match clause {
         Catch::One { tag, label } => match exception_tag(resources, tag) {
@@ -86,7 +89,8 @@ fn carries<R: WasmModuleResources>(
     types: &[ValType],
     label: u32,
 ) -> Result<(), Refusal>
-    ensures { Answers result (Carries (context (R.meaning resources.now) validator.now.given validator.now.opens) (types_in (R.meaning resources.now) types.now) label) }
+    ensures { Answers result (Carries (context (R.meaning resources.now) validator.now.given validator.now.opens)
+        (types_in (R.meaning resources.now) types.now) label) }
 {
     let Some((block_type, kind)) = validator.jump(label) else {
         return Err(Refusal::UnknownLabel);
@@ -105,7 +109,8 @@ fn carries_reference<R: WasmModuleResources>(
     types: &[ValType],
     label: u32,
 ) -> Result<(), Refusal>
-    ensures { Answers result (Carries (context (R.meaning resources.now) validator.now.given validator.now.opens) (types_in (R.meaning resources.now) types.now ++ exception false ∷ []) label) }
+    ensures { Answers result (Carries (context (R.meaning resources.now) validator.now.given validator.now.opens)
+        (types_in (R.meaning resources.now) types.now ++ exception false ∷ []) label) }
 {
     let Some((block_type, kind)) = validator.jump(label) else {
         return Err(Refusal::UnknownLabel);

@@ -20,7 +20,8 @@ pub fn check_try<R: WasmModuleResources>(
     resources: &R,
     blockty: BlockType,
 ) -> Result<(), Refusal>
-    ensures { Checks (R.meaning resources.now) validator.old (Op.Exception (ExceptionTree.Try blockty)) (refused result) validator.new }
+    ensures { Checks (R.meaning resources.now) validator.old (Op.Exception (ExceptionTree.Try blockty))
+        (refused result) validator.new }
 {
     match validator.begin(Proposal::LegacyExceptions, false) {
         Ok(()) => {}
@@ -39,7 +40,8 @@ pub fn check_catch<R: WasmModuleResources>(
     resources: &R,
     tag_index: u32,
 ) -> Result<(), Refusal>
-    ensures { Checks (R.meaning resources.now) validator.old (Op.Exception (ExceptionTree.Catch tag_index)) (refused result) validator.new }
+    ensures { Checks (R.meaning resources.now) validator.old (Op.Exception (ExceptionTree.Catch tag_index))
+        (refused result) validator.new }
 {
     match validator.begin(Proposal::LegacyExceptions, false) {
         Ok(()) => {}
@@ -71,7 +73,8 @@ pub fn check_catch_all<R: WasmModuleResources>(
     validator: &mut OperatorValidator,
     resources: &R,
 ) -> Result<(), Refusal>
-    ensures { Checks (R.meaning resources.now) validator.old (Op.Exception ExceptionTree.CatchAll) (refused result) validator.new }
+    ensures { Checks (R.meaning resources.now) validator.old (Op.Exception ExceptionTree.CatchAll)
+        (refused result) validator.new }
 {
     match validator.begin(Proposal::LegacyExceptions, false) {
         Ok(()) => {}
@@ -100,7 +103,8 @@ pub fn check_delegate<R: WasmModuleResources>(
     resources: &R,
     relative_depth: u32,
 ) -> Result<(), Refusal>
-    ensures { Checks (R.meaning resources.now) validator.old (Op.Exception (ExceptionTree.Delegate relative_depth)) (refused result) validator.new }
+    ensures { Checks (R.meaning resources.now) validator.old (Op.Exception (ExceptionTree.Delegate relative_depth))
+        (refused result) validator.new }
 {
     match validator.begin(Proposal::LegacyExceptions, false) {
         Ok(()) => {}

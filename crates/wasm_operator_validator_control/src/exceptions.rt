@@ -22,7 +22,8 @@ pub fn check_throw<R: WasmModuleResources>(
     resources: &R,
     tag_index: u32,
 ) -> Result<(), Refusal>
-    ensures { Checks (R.meaning resources.now) validator.old (Op.Exception (ExceptionTree.Throw tag_index)) (refused result) validator.new }
+    ensures { Checks (R.meaning resources.now) validator.old (Op.Exception (ExceptionTree.Throw tag_index))
+        (refused result) validator.new }
 {
     match validator.begin(Proposal::Exceptions, false) {
         Ok(()) => {}
@@ -40,7 +41,8 @@ pub fn check_throw_ref<R: WasmModuleResources>(
     validator: &mut OperatorValidator,
     resources: &R,
 ) -> Result<(), Refusal>
-    ensures { Checks (R.meaning resources.now) validator.old (Op.Exception ExceptionTree.ThrowRef) (refused result) validator.new }
+    ensures { Checks (R.meaning resources.now) validator.old (Op.Exception ExceptionTree.ThrowRef)
+        (refused result) validator.new }
 {
     match validator.begin(Proposal::Exceptions, false) {
         Ok(()) => {}
@@ -56,7 +58,8 @@ pub fn check_rethrow<R: WasmModuleResources>(
     resources: &R,
     relative_depth: u32,
 ) -> Result<(), Refusal>
-    ensures { Checks (R.meaning resources.now) validator.old (Op.Exception (ExceptionTree.Rethrow relative_depth)) (refused result) validator.new }
+    ensures { Checks (R.meaning resources.now) validator.old (Op.Exception (ExceptionTree.Rethrow relative_depth))
+        (refused result) validator.new }
 {
     match validator.begin(Proposal::LegacyExceptions, false) {
         Ok(()) => {}
@@ -76,7 +79,9 @@ pub(crate) fn exception_tag<R: WasmModuleResources>(
     resources: &R,
     tag_index: u32,
 ) -> Result<&FuncType, Refusal>
-    ensures { MatchResult result (λ f. IsTagIn (R.meaning resources.now) tag_index (types_in (R.meaning resources.now) f.now.params)) (λ r. (ts : List ValueType) → IsTagIn (R.meaning resources.now) tag_index ts → ⊥) }
+    ensures { MatchResult result (λ f. IsTagIn (R.meaning resources.now) tag_index
+        (types_in (R.meaning resources.now) f.now.params)) (λ r. (ts : List ValueType)
+        → IsTagIn (R.meaning resources.now) tag_index ts → ⊥) }
 {
     let Some(tag) = resources.tag_at(tag_index) else {
         return Err(Refusal::Unknown {

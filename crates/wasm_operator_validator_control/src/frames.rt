@@ -24,7 +24,8 @@ pub fn check_block<R: WasmModuleResources>(
     resources: &R,
     blockty: BlockType,
 ) -> Result<(), Refusal>
-    ensures { Checks (R.meaning resources.now) validator.old (Op.Control (ControlOperator.Block blockty)) (refused result) validator.new }
+    ensures { Checks (R.meaning resources.now) validator.old (Op.Control (ControlOperator.Block blockty))
+        (refused result) validator.new }
 {
     match validator.begin(Proposal::Mvp, false) {
         Ok(()) => {}
@@ -43,7 +44,8 @@ pub fn check_loop<R: WasmModuleResources>(
     resources: &R,
     blockty: BlockType,
 ) -> Result<(), Refusal>
-    ensures { Checks (R.meaning resources.now) validator.old (Op.Control (ControlOperator.Loop blockty)) (refused result) validator.new }
+    ensures { Checks (R.meaning resources.now) validator.old (Op.Control (ControlOperator.Loop blockty))
+        (refused result) validator.new }
 {
     match validator.begin(Proposal::Mvp, false) {
         Ok(()) => {}
@@ -62,7 +64,8 @@ pub fn check_if<R: WasmModuleResources>(
     resources: &R,
     blockty: BlockType,
 ) -> Result<(), Refusal>
-    ensures { Checks (R.meaning resources.now) validator.old (Op.Control (ControlOperator.If blockty)) (refused result) validator.new }
+    ensures { Checks (R.meaning resources.now) validator.old (Op.Control (ControlOperator.If blockty))
+        (refused result) validator.new }
 {
     match validator.begin(Proposal::Mvp, false) {
         Ok(()) => {}
@@ -88,8 +91,10 @@ pub(crate) fn open_frame<R: WasmModuleResources>(
     block_type: &BlockType,
 ) -> Result<(), Refusal>
     requires { IsOpen validator.old.opens }
-    ensures does { Does (refused result) (Opened (R.meaning resources.now) validator.old kind block_type.now validator.new)
-        (MayPop (R.meaning resources.now) validator.old (stack (signature_of (R.meaning resources.now) block_type.now).params)) }
+    ensures does { Does (refused result) (Opened (R.meaning resources.now) validator.old kind
+        block_type.now validator.new)
+        (MayPop (R.meaning resources.now) validator.old (stack
+        (signature_of (R.meaning resources.now) block_type.now).params)) }
     ensures given { validator.new.given ≡ validator.old.given }
     ensures failed { validator.new.failed ≡ validator.old.failed }
     ensures saved { validator.new.saved ≡ validator.old.saved }
@@ -111,7 +116,8 @@ pub fn check_else<R: WasmModuleResources>(
     validator: &mut OperatorValidator,
     resources: &R,
 ) -> Result<(), Refusal>
-    ensures { Checks (R.meaning resources.now) validator.old (Op.Control ControlOperator.Else) (refused result) validator.new }
+    ensures { Checks (R.meaning resources.now) validator.old (Op.Control ControlOperator.Else)
+        (refused result) validator.new }
 {
     match validator.begin(Proposal::Mvp, false) {
         Ok(()) => {}
@@ -139,7 +145,8 @@ pub fn check_end<R: WasmModuleResources>(
     validator: &mut OperatorValidator,
     resources: &R,
 ) -> Result<(), Refusal>
-    ensures { Checks (R.meaning resources.now) validator.old (Op.Control ControlOperator.End) (refused result) validator.new }
+    ensures { Checks (R.meaning resources.now) validator.old (Op.Control ControlOperator.End)
+        (refused result) validator.new }
 {
     match validator.begin(Proposal::Mvp, false) {
         Ok(()) => {}
@@ -169,7 +176,8 @@ pub(crate) fn finish_frame<R: WasmModuleResources>(
     block_type: &BlockType,
 ) -> Result<(), Refusal>
     requires { IsOpen validator.old.opens }
-    ensures does { Does (refused result) (Finishes (R.meaning resources.now) validator.old block_type.now validator.new) (MayFinish (R.meaning resources.now) validator.old block_type.now) }
+    ensures does { Does (refused result) (Finishes (R.meaning resources.now) validator.old block_type.now validator.new)
+        (MayFinish (R.meaning resources.now) validator.old block_type.now) }
     ensures given { validator.new.given ≡ validator.old.given }
     ensures failed { validator.new.failed ≡ validator.old.failed }
     ensures saved { validator.new.saved ≡ validator.old.saved }

@@ -41,7 +41,8 @@ pub(crate) fn match_table<R: WasmModuleResources>(
     table: &BrTable,
 ) -> Result<(), Refusal>
     requires { IsOpen validator.now.opens }
-    ensures { Answers result (MayBranch (R.meaning resources.now) validator.now (table.now.default ∷ table.now.targets)) }
+    ensures { Answers result (MayBranch (R.meaning resources.now) validator.now
+        (table.now.default ∷ table.now.targets)) }
 {
     let Some((block_type, kind)) = validator.jump(table.default()) else {
         return Err(Refusal::UnknownLabel);

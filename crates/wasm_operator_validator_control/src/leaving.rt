@@ -17,7 +17,9 @@ pub fn jump_with<R: WasmModuleResources>(
     types: &[ValType],
 ) -> Result<(), Refusal>
     requires { IsOpen validator.old.opens }
-    ensures does { Does (refused result) (Jumps (R.meaning resources.now) validator.old (types_in (R.meaning resources.now) types.now) validator.new) (MayPop (R.meaning resources.now) validator.old (stack (types_in (R.meaning resources.now) types.now))) }
+    ensures does { Does (refused result) (Jumps (R.meaning resources.now) validator.old
+        (types_in (R.meaning resources.now) types.now) validator.new)
+        (MayPop (R.meaning resources.now) validator.old (stack (types_in (R.meaning resources.now) types.now))) }
     ensures given { validator.new.given ≡ validator.old.given }
     ensures failed { validator.new.failed ≡ validator.old.failed }
     ensures saved { validator.new.saved ≡ validator.old.saved }

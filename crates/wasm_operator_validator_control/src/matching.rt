@@ -15,7 +15,8 @@ pub(crate) fn match_operands<R: WasmModuleResources>(
     types: &[ValType],
 ) -> Result<(), Refusal>
     requires { IsOpen validator.now.opens }
-    ensures { Answers result (MayPop (R.meaning resources.now) validator.now (stack (types_in (R.meaning resources.now) types.now))) }
+    ensures { Answers result (MayPop (R.meaning resources.now) validator.now
+        (stack (types_in (R.meaning resources.now) types.now))) }
 {
     for place in 0..types.len() {
         let expected = types[types.len() - 1 - place];

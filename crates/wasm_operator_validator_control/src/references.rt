@@ -18,7 +18,8 @@ pub fn check_ref_as_non_null<R: WasmModuleResources>(
     validator: &mut OperatorValidator,
     resources: &R,
 ) -> Result<(), Refusal>
-    ensures { Checks (R.meaning resources.now) validator.old (Op.Control ControlOperator.RefAsNonNull) (refused result) validator.new }
+    ensures { Checks (R.meaning resources.now) validator.old (Op.Control ControlOperator.RefAsNonNull)
+        (refused result) validator.new }
 {
     match validator.begin(Proposal::FunctionReferences, false) {
         Ok(()) => {}
@@ -40,7 +41,8 @@ pub fn check_br_on_null<R: WasmModuleResources>(
     resources: &R,
     relative_depth: u32,
 ) -> Result<(), Refusal>
-    ensures { Checks (R.meaning resources.now) validator.old (Op.Control (ControlOperator.BrOnNull relative_depth)) (refused result) validator.new }
+    ensures { Checks (R.meaning resources.now) validator.old (Op.Control (ControlOperator.BrOnNull relative_depth))
+        (refused result) validator.new }
 {
     match validator.begin(Proposal::FunctionReferences, false) {
         Ok(()) => {}
@@ -70,7 +72,8 @@ pub fn check_br_on_non_null<R: WasmModuleResources>(
     resources: &R,
     relative_depth: u32,
 ) -> Result<(), Refusal>
-    ensures { Checks (R.meaning resources.now) validator.old (Op.Control (ControlOperator.BrOnNonNull relative_depth)) (refused result) validator.new }
+    ensures { Checks (R.meaning resources.now) validator.old (Op.Control (ControlOperator.BrOnNonNull relative_depth))
+        (refused result) validator.new }
 {
     match validator.begin(Proposal::FunctionReferences, false) {
         Ok(()) => {}

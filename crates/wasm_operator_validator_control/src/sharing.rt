@@ -21,7 +21,8 @@ pub(crate) fn agree<R: WasmModuleResources>(
     table: &BrTable,
     types: &[ValType],
 ) -> Result<(), Refusal>
-    ensures { Answers result (AllAgree (R.meaning resources.now) validator.now (length types.now) (table.now.default ∷ table.now.targets)) }
+    ensures { Answers result (AllAgree (R.meaning resources.now) validator.now (length types.now)
+        (table.now.default ∷ table.now.targets)) }
 {
     let named = distinct(table.targets(), types.len());
     for place in 0..types.len() {
@@ -69,7 +70,8 @@ fn agrees_at<R: WasmModuleResources>(
     place: usize,
 ) -> bool
     requires { IfSome named.now (λ met. SameLabels met.items table.now.targets) }
-    ensures { IsTrue result ↔ AgreesAt (R.meaning resources.now) validator.now place (table.now.default ∷ table.now.targets) }
+    ensures { IsTrue result ↔ AgreesAt (R.meaning resources.now) validator.now place
+        (table.now.default ∷ table.now.targets) }
 {
     match unknown_sharing(validator.peek(place)) {
         Some(ty) => {
@@ -103,7 +105,8 @@ fn fits_table<R: WasmModuleResources>(
     ty: AbstractHeapType,
 ) -> bool
     requires { IfSome named.now (λ met. SameLabels met.items table.now.targets) }
-    ensures { IsTrue result ↔ EachFitsAt (labels_of (R.meaning resources.now) validator.now) place (a_reference shared ty) (table.now.default ∷ table.now.targets) }
+    ensures { IsTrue result ↔ EachFitsAt (labels_of (R.meaning resources.now) validator.now) place
+        (a_reference shared ty) (table.now.default ∷ table.now.targets) }
 {
     if !fits_label(validator, resources, table.default(), place, shared, ty) {
         return false;
@@ -130,7 +133,8 @@ fn fits_targets<R: WasmModuleResources>(
     shared: bool,
     ty: AbstractHeapType,
 ) -> bool
-    ensures { IsTrue result ↔ EachFitsAt (labels_of (R.meaning resources.now) validator.now) place (a_reference shared ty) targets.entry }
+    ensures { IsTrue result ↔ EachFitsAt (labels_of (R.meaning resources.now) validator.now) place
+        (a_reference shared ty) targets.entry }
 {
     while let Some(target) = targets.next() {
         if !fits_label(validator, resources, target, place, shared, ty) {
@@ -149,7 +153,8 @@ fn fits_labels<R: WasmModuleResources>(
     shared: bool,
     ty: AbstractHeapType,
 ) -> bool
-    ensures { IsTrue result ↔ EachFitsAt (labels_of (R.meaning resources.now) validator.now) place (a_reference shared ty) (iter_rest labels.entry) }
+    ensures { IsTrue result ↔ EachFitsAt (labels_of (R.meaning resources.now) validator.now) place
+        (a_reference shared ty) (iter_rest labels.entry) }
 {
     while let Some(label) = labels.next() {
         if !fits_label(validator, resources, *label, place, shared, ty) {
@@ -168,7 +173,8 @@ fn fits_label<R: WasmModuleResources>(
     shared: bool,
     ty: AbstractHeapType,
 ) -> bool
-    ensures { IsTrue result ↔ FitsAt (labels_of (R.meaning resources.now) validator.now) place (a_reference shared ty) label }
+    ensures { IsTrue result ↔ FitsAt (labels_of (R.meaning resources.now) validator.now) place
+        (a_reference shared ty) label }
 {
     let Some((block_type, kind)) = validator.jump(label) else {
         return false;

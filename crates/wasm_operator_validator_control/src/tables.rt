@@ -16,7 +16,9 @@ pub(crate) fn function_table<R: WasmModuleResources>(
     resources: &R,
     table_index: u32,
 ) -> Result<TableType, Refusal>
-    ensures { MatchResult result (λ t. IsFunctionTable (R.meaning resources.now) validator.now table_index (table_in (R.meaning resources.now) t)) (λ r. (t : Table) → IsFunctionTable (R.meaning resources.now) validator.now table_index t → ⊥) }
+    ensures { MatchResult result (λ t. IsFunctionTable (R.meaning resources.now) validator.now table_index
+        (table_in (R.meaning resources.now) t)) (λ r. (t : Table)
+        → IsFunctionTable (R.meaning resources.now) validator.now table_index t → ⊥) }
 {
     let table = match resources.table_at(table_index) {
         Some(table) => table,

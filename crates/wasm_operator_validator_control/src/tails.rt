@@ -15,7 +15,8 @@ pub fn check_return_call<R: WasmModuleResources>(
     resources: &R,
     function_index: u32,
 ) -> Result<(), Refusal>
-    ensures { Checks (R.meaning resources.now) validator.old (Op.Control (ControlOperator.ReturnCall function_index)) (refused result) validator.new }
+    ensures { Checks (R.meaning resources.now) validator.old (Op.Control (ControlOperator.ReturnCall function_index))
+        (refused result) validator.new }
 {
     match validator.begin(Proposal::TailCall, false) {
         Ok(()) => {}
@@ -41,7 +42,8 @@ pub fn check_return_call_indirect<R: WasmModuleResources>(
     type_index: u32,
     table_index: u32,
 ) -> Result<(), Refusal>
-    ensures { Checks (R.meaning resources.now) validator.old (Op.Control (ControlOperator.ReturnCallIndirect type_index table_index)) (refused result) validator.new }
+    ensures { Checks (R.meaning resources.now) validator.old (Op.Control
+        (ControlOperator.ReturnCallIndirect type_index table_index)) (refused result) validator.new }
 {
     match validator.begin(Proposal::TailCall, false) {
         Ok(()) => {}
@@ -75,7 +77,8 @@ pub fn check_return_call_ref<R: WasmModuleResources>(
     resources: &R,
     type_index: u32,
 ) -> Result<(), Refusal>
-    ensures { Checks (R.meaning resources.now) validator.old (Op.Control (ControlOperator.ReturnCallRef type_index)) (refused result) validator.new }
+    ensures { Checks (R.meaning resources.now) validator.old (Op.Control (ControlOperator.ReturnCallRef type_index))
+        (refused result) validator.new }
 {
     match validator.begin(Proposal::TailCall, false) {
         Ok(()) => {}

@@ -56,7 +56,8 @@ pub trait Validating<'a>: TellOperator<'a, Output = std::result::Result<(), Refu
         ensures keeps { keeps self.old self.new };
 
     // Each visit decides its operator.
-    ghost visited: { (v : Self) (o : Op) (a : Result (Unit {0}) Sign) (w : Self) → Self.visits v o a w → Visits (meaning v) (state v) o (refused_for (why w) a) (state w) × keeps v w };
+    ghost visited: { (v : Self) (o : Op) (a : Result (Unit {0}) Sign) (w : Self) → Self.visits v o a w
+        → Visits (meaning v) (state v) o (refused_for (why w) a) (state w) × keeps v w };
 
     // The look-ups mean the same.
     ghost kept: { (v w : Self) → keeps v w → meaning w ≡ meaning v };
@@ -78,7 +79,8 @@ pub fn validate_operators<'a, V: Validating<'a>>(
     reader: BinaryReader<'a>,
     visitor: &mut V,
 ) -> Result<()>
-    ensures validates { Validates (V.meaning visitor.old) (V.state visitor.old) reader.entry result (V.state visitor.new) }
+    ensures validates { Validates (V.meaning visitor.old) (V.state visitor.old) reader.entry result
+        (V.state visitor.new) }
     ensures keeps { V.keeps visitor.old visitor.new }
 {
     let whole = reader.remaining_range();
@@ -113,7 +115,8 @@ pub fn accepts_operators<'a, V: Validating<'a>>(
     reader: BinaryReader<'a>,
     visitor: &mut V,
 ) -> bool
-    ensures validates { result ≡ true → Validates (V.meaning visitor.old) (V.state visitor.old) reader.entry (Ok tt) (V.state visitor.new) }
+    ensures validates { result ≡ true → Validates (V.meaning visitor.old) (V.state visitor.old) reader.entry (Ok tt)
+        (V.state visitor.new) }
     ensures keeps { result ≡ true → V.keeps visitor.old visitor.new }
 {
     if visitor.has_failed() {

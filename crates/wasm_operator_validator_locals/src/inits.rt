@@ -39,7 +39,8 @@ impl Model for LocalInits {
 
     ghost view = { λ l. record { first = map is_first l.marks.items; set = l.inits.0; saved = l.inits.1 } };
 
-    ghost invariant = { λ l. AreMarked l.marks.items l.inits.0 × AreUnset (map is_first l.marks.items) l.inits.0 × AreSavedUnset (map is_first l.marks.items) l.inits.1 };
+    ghost invariant = { λ l. AreMarked l.marks.items l.inits.0 × AreUnset (map is_first l.marks.items) l.inits.0
+        × AreSavedUnset (map is_first l.marks.items) l.inits.1 };
 }
 
 impl LocalInits {
@@ -73,8 +74,11 @@ impl LocalInits {
     /// refused nothing changes.
     pub fn define_locals(&mut self, count: u32, ty: &ValType) -> Result<(), AllocError>
         requires { length self.old.first + count < 2 ^ 32 }
-        ensures defined { OnOk result (self.new ≡ record self.old { first = self.old.first ++ replicate count (is_defaultable_type ty.now) }) }
-        ensures before { AreBelow (length self.old.first) self.new.set × AreSavedBelow (length self.old.first) self.new.saved }
+        ensures defined { OnOk result (self.new ≡ record self.old {
+          first = self.old.first ++ replicate count (is_defaultable_type ty.now);
+        }) }
+        ensures before { AreBelow (length self.old.first) self.new.set
+            × AreSavedBelow (length self.old.first) self.new.saved }
         ensures refused { IfErr result (λ _. self.new ≡ self.old) }
     {
         if ty.is_defaultable() {
@@ -86,8 +90,11 @@ impl LocalInits {
     fn define(&mut self, count: usize, mark: Mark) -> Result<(), AllocError>
         requires within { length self.old.first + count < 2 ^ 32 }
         requires fresh { is_set mark ≡ false }
-        ensures defined { OnOk result (self.new ≡ record self.old { first = self.old.first ++ replicate count (is_first mark) }) }
-        ensures before { AreBelow (length self.old.first) self.new.set × AreSavedBelow (length self.old.first) self.new.saved }
+        ensures defined { OnOk result (self.new ≡ record self.old {
+          first = self.old.first ++ replicate count (is_first mark);
+        }) }
+        ensures before { AreBelow (length self.old.first) self.new.set
+            × AreSavedBelow (length self.old.first) self.new.saved }
         ensures refused { IfErr result (λ _. self.new ≡ self.old) }
     {
         let held = self.marks.as_slice().len();
@@ -211,7 +218,8 @@ impl LocalInits {
 
     /// Ends an attempt, if one has begun: the locals that were set where it began are set again, and no others. It takes no memory.
     pub fn rollback(&mut self)
-        ensures { MatchOption self.old.saved (self.new ≡ self.old) (λ was. self.new ≡ record self.old { set = was; saved = None }) }
+        ensures { MatchOption self.old.saved (self.new ≡ self.old)
+            (λ was. self.new ≡ record self.old { set = was; saved = None }) }
     {
         if !self.inits.is_in_attempt() {
             return;
@@ -236,7 +244,8 @@ fn mark_each(marks: &mut Vec<Mark>, locals: &[u32], mark: Mark)
     requires unset { AreUnset (map is_first marks.old.items) locals.now }
     requires no_first { is_first mark ≡ false }
     ensures first { map is_first marks.new.items ≡ map is_first marks.old.items }
-    ensures marked { (k : ℕ) → is_set (get_or marks.new.items k Unset) ≡ (if is_among locals.now k then is_set mark else is_set (get_or marks.old.items k Unset)) }
+    ensures marked { (k : ℕ) → is_set (get_or marks.new.items k Unset) ≡
+        (if is_among locals.now k then is_set mark else is_set (get_or marks.old.items k Unset)) }
 {
     for local_index in locals {
         mark_one(marks, *local_index, mark);

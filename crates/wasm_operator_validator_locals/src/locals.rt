@@ -37,7 +37,8 @@ impl Model for Locals {
 
     ghost view = { λ l. locals_from 0 l.runs.items };
 
-    ghost invariant = { λ l. AreRunsFrom 0 l.runs.items × IsFront l.first.items (locals_from 0 l.runs.items) × (length l.first.items ≤ 64) };
+    ghost invariant = { λ l. AreRunsFrom 0 l.runs.items × IsFront l.first.items (locals_from 0 l.runs.items)
+        × (length l.first.items ≤ 64) };
 }
 
 impl Locals {
@@ -78,7 +79,8 @@ impl Locals {
     /// There would be more than that in all: that is refused at this offset. Or there is no memory for a count above 0 within
     /// that limit. Nothing changes then.
     pub fn define(&mut self, most: u32, offset: u64, count: u32, ty: &ValType) -> Result<()>
-        ensures does { Does result ((self.new ≡ self.old ++ replicate count ty.now) × (length self.new ≤ most)) (length self.old + count ≤ most) }
+        ensures does { Does result ((self.new ≡ self.old ++ replicate count ty.now) × (length self.new ≤ most))
+            (length self.old + count ≤ most) }
         ensures at { RefusedAt offset result }
         ensures stays { IfErr result (λ _. self.new ≡ self.old) }
         ensures memory { IfErr result (λ e. e.kind ≡ OutOfMemory → (0 < count) × (length self.old + count ≤ most)) }
@@ -95,7 +97,8 @@ impl Locals {
     /// Puts `count` locals of a type at the end, as `define` does, and says whether it did. Else nothing changes: there would be too many,
     /// or there is no memory.
     pub fn put(&mut self, most: u32, count: u32, ty: &ValType) -> bool
-        ensures put { result ≡ true → (self.new ≡ self.old ++ replicate count ty.now) × (length self.old + count ≤ most) }
+        ensures put { result ≡ true → (self.new ≡ self.old ++ replicate count ty.now)
+            × (length self.old + count ≤ most) }
         ensures stays { result ≡ false → self.new ≡ self.old }
         ensures some { result ≡ false → length self.old + count ≤ most → 0 < count }
     {
@@ -154,7 +157,8 @@ impl Locals {
 /// the `defined` ones.
 fn grow_first(first: &mut Vec<ValType>, defined: u32, count: u32, ty: &ValType) -> bool
     requires { length first.old.items ≤ 64 }
-    ensures front { (all : List TheValType) → length all ≡ defined → IsFront first.old.items all → IsFront first.new.items (all ++ replicate count ty.now) }
+    ensures front { (all : List TheValType) → length all ≡ defined → IsFront first.old.items all
+        → IsFront first.new.items (all ++ replicate count ty.now) }
     ensures within { length first.new.items ≤ 64 }
     ensures refused { result ≡ false → first.new.items ≡ first.old.items }
 {

@@ -28,7 +28,8 @@ impl<T: Copy + Drop> Model for Tape<T> {
 
     ghost view = { λ t. (take t.count t.places.items, saved t.attempt t.kept t.places.items t.lost.items) };
 
-    ghost invariant = { λ t. (t.count ≤ length t.places.items) × IsKept t.attempt t.kept t.count (length t.lost.items) (length t.places.items) };
+    ghost invariant = { λ t. (t.count ≤ length t.places.items)
+        × IsKept t.attempt t.kept t.count (length t.lost.items) (length t.places.items) };
 }
 
 impl<T: Copy + Drop> Tape<T> {
@@ -82,7 +83,8 @@ impl<T: Copy + Drop> Tape<T> {
     #[inline(always)]
     pub fn pop(&mut self) -> Result<Option<T>, AllocError>
         ensures saved { self.new.1 ≡ self.old.1 }
-        ensures popped { IfOk result (λ r. MatchOption r ((self.old.0 ≡ []) × (self.new.0 ≡ [])) (λ x. self.old.0 ≡ self.new.0 ++ x ∷ [])) }
+        ensures popped { IfOk result (λ r. MatchOption r ((self.old.0 ≡ []) × (self.new.0 ≡ []))
+            (λ x. self.old.0 ≡ self.new.0 ++ x ∷ [])) }
         ensures refused { IfErr result (λ _. self.new.0 ≡ self.old.0) }
     {
         if self.attempt {
@@ -113,7 +115,8 @@ impl<T: Copy + Drop> Tape<T> {
     #[inline(never)]
     fn pop_in_attempt(&mut self) -> Result<Option<T>, AllocError>
         ensures saved { self.new.1 ≡ self.old.1 }
-        ensures popped { IfOk result (λ r. MatchOption r ((self.old.0 ≡ []) × (self.new.0 ≡ [])) (λ x. self.old.0 ≡ self.new.0 ++ x ∷ [])) }
+        ensures popped { IfOk result (λ r. MatchOption r ((self.old.0 ≡ []) × (self.new.0 ≡ []))
+            (λ x. self.old.0 ≡ self.new.0 ++ x ∷ [])) }
         ensures refused { IfErr result (λ _. self.new.0 ≡ self.old.0) }
     {
         if self.count == 0 {

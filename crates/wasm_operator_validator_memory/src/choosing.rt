@@ -9,7 +9,8 @@ use wasm_types::equality_is_identity;
 
 /// What a choice without a type gives between these: it is for numbers and vectors of one type.
 pub(crate) fn chosen(first: &MaybeType, second: &MaybeType) -> Result<MaybeType, Refusal>
-    ensures { MatchResult result (λ t. Chooses first.now second.now t) (λ r. (t : MaybeType) → Chooses first.now second.now t → ⊥) }
+    ensures { MatchResult result (λ t. Chooses first.now second.now t) (λ r. (t : MaybeType)
+        → Chooses first.now second.now t → ⊥) }
 {
     if !is_choosable(first) {
         return Err(Refusal::Because(Reason::SelectOfReferences));
@@ -35,7 +36,8 @@ fn is_choosable(operand: &MaybeType) -> bool
 fn agreed(first: &MaybeType, second: &MaybeType) -> Result<MaybeType, Refusal>
     requires first_may { may_choose first.now ≡ true }
     requires second_may { may_choose second.now ≡ true }
-    ensures { MatchResult result (λ t. Chooses first.now second.now t) (λ r. (t : MaybeType) → Chooses first.now second.now t → ⊥) }
+    ensures { MatchResult result (λ t. Chooses first.now second.now t) (λ r. (t : MaybeType)
+        → Chooses first.now second.now t → ⊥) }
 {
     equality_is_identity();
     match first {

@@ -19,7 +19,8 @@ pub fn check_table_copy<R: WasmModuleResources>(
     dst_table: u32,
     src_table: u32,
 ) -> Result<(), Refusal>
-    ensures { Checks (R.meaning resources.now) validator.old (Op.Bulk (BulkOperator.TableCopy dst_table src_table)) (refused result) validator.new }
+    ensures { Checks (R.meaning resources.now) validator.old (Op.Bulk (BulkOperator.TableCopy dst_table src_table))
+        (refused result) validator.new }
 {
     match validator.begin(Proposal::BulkMemory, false) {
         Ok(()) => (),
@@ -57,7 +58,8 @@ pub fn check_table_init<R: WasmModuleResources>(
     elem_index: u32,
     table: u32,
 ) -> Result<(), Refusal>
-    ensures { Checks (R.meaning resources.now) validator.old (Op.Bulk (BulkOperator.TableInit elem_index table)) (refused result) validator.new }
+    ensures { Checks (R.meaning resources.now) validator.old (Op.Bulk (BulkOperator.TableInit elem_index table))
+        (refused result) validator.new }
 {
     match validator.begin(Proposal::BulkMemory, false) {
         Ok(()) => (),
@@ -84,7 +86,8 @@ pub fn check_elem_drop<R: WasmModuleResources>(
     resources: &R,
     elem_index: u32,
 ) -> Result<(), Refusal>
-    ensures checks { Checks (R.meaning resources.now) validator.old (Op.Bulk (BulkOperator.ElemDrop elem_index)) (refused result) validator.new }
+    ensures checks { Checks (R.meaning resources.now) validator.old (Op.Bulk (BulkOperator.ElemDrop elem_index))
+        (refused result) validator.new }
     ensures memory { IfErr result IsOfContent }
 {
     match validator.begin(Proposal::BulkMemory, false) {

@@ -18,7 +18,10 @@ pub(crate) fn usable_table<R: WasmModuleResources>(
     resources: &R,
     at: u32,
 ) -> Result<TableType, Refusal>
-    ensures { MatchResult result (λ t. IsUsable validator.now table_is_shared (slice_get (R.meaning resources.now).«module».tables at) (table_in (R.meaning resources.now) t)) (λ r. (t : Table) → IsUsable validator.now table_is_shared (slice_get (R.meaning resources.now).«module».tables at) t → ⊥) }
+    ensures { MatchResult result (λ t. IsUsable validator.now table_is_shared
+        (slice_get (R.meaning resources.now).«module».tables at) (table_in (R.meaning resources.now) t))
+        (λ r. (t : Table) → IsUsable validator.now table_is_shared
+        (slice_get (R.meaning resources.now).«module».tables at) t → ⊥) }
 {
     let table = match resources.table_at(at) {
         Some(table) => table,
@@ -40,7 +43,9 @@ pub(crate) fn find_elements<R: WasmModuleResources>(
     resources: &R,
     at: u32,
 ) -> Result<RefType, Refusal>
-    ensures found { MatchResult result (λ t. slice_get (R.meaning resources.now).«module».elements at ≡ Some (reference_in (R.meaning resources.now) t)) (λ r. slice_get (R.meaning resources.now).«module».elements at ≡ None) }
+    ensures found { MatchResult result (λ t. slice_get (R.meaning resources.now).«module».elements at ≡ Some
+        (reference_in (R.meaning resources.now) t)) (λ r. slice_get
+        (R.meaning resources.now).«module».elements at ≡ None) }
     ensures content { IfErr result IsOfContent }
 {
     match resources.element_type_at(at) {

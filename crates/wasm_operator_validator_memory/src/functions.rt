@@ -22,7 +22,8 @@ pub fn check_ref_func<R: WasmModuleResources>(
     resources: &R,
     function_index: u32,
 ) -> Result<(), Refusal>
-    ensures { Checks (R.meaning resources.now) validator.old (Op.Bulk (BulkOperator.RefFunc function_index)) (refused result) validator.new }
+    ensures { Checks (R.meaning resources.now) validator.old (Op.Bulk (BulkOperator.RefFunc function_index))
+        (refused result) validator.new }
 {
     match validator.begin(Proposal::ReferenceTypes, false) {
         Ok(()) => (),
@@ -41,7 +42,9 @@ fn name_function<R: WasmModuleResources>(
     resources: &R,
     function_index: u32,
 ) -> Result<ValType, Refusal>
-    ensures { MatchResult result (λ t. IsFunctionReference (R.meaning resources.now) validator.now function_index (type_in (R.meaning resources.now) t)) (λ r. (t : TypeTree) → IsReferable (R.meaning resources.now) validator.now function_index t → ⊥) }
+    ensures { MatchResult result (λ t. IsFunctionReference (R.meaning resources.now) validator.now function_index
+        (type_in (R.meaning resources.now) t)) (λ r. (t : TypeTree)
+        → IsReferable (R.meaning resources.now) validator.now function_index t → ⊥) }
 {
     let type_index = match resources.type_index_of_function(function_index) {
         Some(type_index) => type_index,
@@ -82,7 +85,8 @@ fn is_exactly<R: WasmModuleResources>(
 // The reference to what has the type at an index, or exactly that type. Its index is named by its id, which fits into a reference.
 fn reference_to<R: WasmModuleResources>(resources: &R, type_index: u32, exactly: bool) -> ValType
     requires { type_index < length (R.meaning resources.now).«module».types }
-    ensures { type_in (R.meaning resources.now) result ≡ ref false (heap_to exactly (type_at (R.meaning resources.now).«module».types type_index)) }
+    ensures { type_in (R.meaning resources.now) result ≡ ref false
+        (heap_to exactly (type_at (R.meaning resources.now).«module».types type_index)) }
 {
     let mut heap_type = written(type_index, exactly);
     match resources.check_heap_type(&mut heap_type, 0) {

@@ -22,8 +22,10 @@ pub fn check_global_get<R: WasmModuleResources>(
     resources: &R,
     global_index: u32,
 ) -> Result<(), Refusal>
-    ensures checks { Checks (R.meaning resources.now) validator.old (Op.Memory (MemoryOperator.GlobalGet global_index)) (refused result) validator.new }
-    ensures room { WantsRoom (R.meaning resources.now) validator.old (Op.Memory (MemoryOperator.GlobalGet global_index)) (refused result) }
+    ensures checks { Checks (R.meaning resources.now) validator.old (Op.Memory (MemoryOperator.GlobalGet global_index))
+        (refused result) validator.new }
+    ensures room { WantsRoom (R.meaning resources.now) validator.old (Op.Memory (MemoryOperator.GlobalGet global_index))
+        (refused result) }
 {
     match validator.begin(Proposal::Mvp, false) {
         Ok(()) => (),
@@ -42,8 +44,10 @@ pub fn check_global_set<R: WasmModuleResources>(
     resources: &R,
     global_index: u32,
 ) -> Result<(), Refusal>
-    ensures checks { Checks (R.meaning resources.now) validator.old (Op.Memory (MemoryOperator.GlobalSet global_index)) (refused result) validator.new }
-    ensures room { WantsRoom (R.meaning resources.now) validator.old (Op.Memory (MemoryOperator.GlobalSet global_index)) (refused result) }
+    ensures checks { Checks (R.meaning resources.now) validator.old (Op.Memory (MemoryOperator.GlobalSet global_index))
+        (refused result) validator.new }
+    ensures room { WantsRoom (R.meaning resources.now) validator.old (Op.Memory (MemoryOperator.GlobalSet global_index))
+        (refused result) }
 {
     match validator.begin(Proposal::Mvp, false) {
         Ok(()) => (),
@@ -65,7 +69,10 @@ fn usable_global<R: WasmModuleResources>(
     resources: &R,
     at: u32,
 ) -> Result<GlobalType, Refusal>
-    ensures usable { MatchResult result (λ v. IsUsable validator.now global_is_shared (slice_get (R.meaning resources.now).«module».globals at) (global_in (R.meaning resources.now) v)) (λ r. (v : Global) → IsUsable validator.now global_is_shared (slice_get (R.meaning resources.now).«module».globals at) v → ⊥) }
+    ensures usable { MatchResult result (λ v. IsUsable validator.now global_is_shared
+        (slice_get (R.meaning resources.now).«module».globals at) (global_in (R.meaning resources.now) v))
+        (λ r. (v : Global) → IsUsable validator.now global_is_shared
+        (slice_get (R.meaning resources.now).«module».globals at) v → ⊥) }
     ensures refused { IfErr result (λ r. kind_of r ≡ Other) }
 {
     let global = match resources.global_at(at) {

@@ -24,8 +24,10 @@ pub fn check_local_get<R: WasmModuleResources>(
     resources: &R,
     local_index: u32,
 ) -> Result<(), Refusal>
-    ensures checks { Checks (R.meaning resources.now) validator.old (Op.Memory (MemoryOperator.LocalGet local_index)) (refused result) validator.new }
-    ensures room { WantsRoom (R.meaning resources.now) validator.old (Op.Memory (MemoryOperator.LocalGet local_index)) (refused result) }
+    ensures checks { Checks (R.meaning resources.now) validator.old (Op.Memory (MemoryOperator.LocalGet local_index))
+        (refused result) validator.new }
+    ensures room { WantsRoom (R.meaning resources.now) validator.old (Op.Memory (MemoryOperator.LocalGet local_index))
+        (refused result) }
 {
     match validator.begin(Proposal::Mvp, false) {
         Ok(()) => (),
@@ -48,8 +50,10 @@ pub fn check_local_set<R: WasmModuleResources>(
     resources: &R,
     local_index: u32,
 ) -> Result<(), Refusal>
-    ensures checks { Checks (R.meaning resources.now) validator.old (Op.Memory (MemoryOperator.LocalSet local_index)) (refused result) validator.new }
-    ensures room { WantsRoom (R.meaning resources.now) validator.old (Op.Memory (MemoryOperator.LocalSet local_index)) (refused result) }
+    ensures checks { Checks (R.meaning resources.now) validator.old (Op.Memory (MemoryOperator.LocalSet local_index))
+        (refused result) validator.new }
+    ensures room { WantsRoom (R.meaning resources.now) validator.old (Op.Memory (MemoryOperator.LocalSet local_index))
+        (refused result) }
 {
     match validator.begin(Proposal::Mvp, false) {
         Ok(()) => (),
@@ -73,8 +77,10 @@ pub fn check_local_tee<R: WasmModuleResources>(
     resources: &R,
     local_index: u32,
 ) -> Result<(), Refusal>
-    ensures checks { Checks (R.meaning resources.now) validator.old (Op.Memory (MemoryOperator.LocalTee local_index)) (refused result) validator.new }
-    ensures room { WantsRoom (R.meaning resources.now) validator.old (Op.Memory (MemoryOperator.LocalTee local_index)) (refused result) }
+    ensures checks { Checks (R.meaning resources.now) validator.old (Op.Memory (MemoryOperator.LocalTee local_index))
+        (refused result) validator.new }
+    ensures room { WantsRoom (R.meaning resources.now) validator.old (Op.Memory (MemoryOperator.LocalTee local_index))
+        (refused result) }
 {
     match validator.begin(Proposal::Mvp, false) {
         Ok(()) => (),
@@ -98,7 +104,11 @@ fn usable_local<R: WasmModuleResources>(
     resources: &R,
     local_index: u32,
 ) -> Result<ValType, Refusal>
-    ensures usable { MatchResult result (λ t. IsUsable validator.now value_is_shared (slice_get (types_in (R.meaning resources.now) validator.now.given.locals) local_index) (type_in (R.meaning resources.now) t)) (λ r. (t : ValueType) → IsUsable validator.now value_is_shared (slice_get (types_in (R.meaning resources.now) validator.now.given.locals) local_index) t → ⊥) }
+    ensures usable { MatchResult result (λ t. IsUsable validator.now value_is_shared
+        (slice_get (types_in (R.meaning resources.now) validator.now.given.locals) local_index)
+        (type_in (R.meaning resources.now) t)) (λ r. (t : ValueType)
+        → IsUsable validator.now value_is_shared (slice_get (types_in
+        (R.meaning resources.now) validator.now.given.locals) local_index) t → ⊥) }
     ensures refused { IfErr result (λ r. kind_of r ≡ Other) }
 {
     let ty = match validator.local(local_index) {

@@ -20,7 +20,8 @@ pub fn check_memory_size<R: WasmModuleResources>(
     resources: &R,
     mem: u32,
 ) -> Result<(), Refusal>
-    ensures { Checks (R.meaning resources.now) validator.old (Op.Memory (MemoryOperator.MemorySize mem)) (refused result) validator.new }
+    ensures { Checks (R.meaning resources.now) validator.old (Op.Memory (MemoryOperator.MemorySize mem))
+        (refused result) validator.new }
 {
     match validator.begin(Proposal::Mvp, false) {
         Ok(()) => (),
@@ -39,7 +40,8 @@ pub fn check_memory_grow<R: WasmModuleResources>(
     resources: &R,
     mem: u32,
 ) -> Result<(), Refusal>
-    ensures { Checks (R.meaning resources.now) validator.old (Op.Memory (MemoryOperator.MemoryGrow mem)) (refused result) validator.new }
+    ensures { Checks (R.meaning resources.now) validator.old (Op.Memory (MemoryOperator.MemoryGrow mem))
+        (refused result) validator.new }
 {
     match validator.begin(Proposal::Mvp, false) {
         Ok(()) => (),
@@ -58,7 +60,8 @@ pub fn check_memory_fill<R: WasmModuleResources>(
     resources: &R,
     mem: u32,
 ) -> Result<(), Refusal>
-    ensures { Checks (R.meaning resources.now) validator.old (Op.Bulk (BulkOperator.MemoryFill mem)) (refused result) validator.new }
+    ensures { Checks (R.meaning resources.now) validator.old (Op.Bulk (BulkOperator.MemoryFill mem))
+        (refused result) validator.new }
 {
     match validator.begin(Proposal::BulkMemoryOpt, false) {
         Ok(()) => (),
@@ -81,7 +84,8 @@ pub fn check_memory_copy<R: WasmModuleResources>(
     dst_mem: u32,
     src_mem: u32,
 ) -> Result<(), Refusal>
-    ensures { Checks (R.meaning resources.now) validator.old (Op.Bulk (BulkOperator.MemoryCopy dst_mem src_mem)) (refused result) validator.new }
+    ensures { Checks (R.meaning resources.now) validator.old (Op.Bulk (BulkOperator.MemoryCopy dst_mem src_mem))
+        (refused result) validator.new }
 {
     match validator.begin(Proposal::BulkMemoryOpt, false) {
         Ok(()) => (),
@@ -112,7 +116,8 @@ pub fn check_memory_init<R: WasmModuleResources>(
     data_index: u32,
     mem: u32,
 ) -> Result<(), Refusal>
-    ensures { Checks (R.meaning resources.now) validator.old (Op.Bulk (BulkOperator.MemoryInit data_index mem)) (refused result) validator.new }
+    ensures { Checks (R.meaning resources.now) validator.old (Op.Bulk (BulkOperator.MemoryInit data_index mem))
+        (refused result) validator.new }
 {
     match validator.begin(Proposal::BulkMemory, false) {
         Ok(()) => (),
@@ -138,7 +143,8 @@ pub fn check_data_drop<R: WasmModuleResources>(
     resources: &R,
     data_index: u32,
 ) -> Result<(), Refusal>
-    ensures checks { Checks (R.meaning resources.now) validator.old (Op.Bulk (BulkOperator.DataDrop data_index)) (refused result) validator.new }
+    ensures checks { Checks (R.meaning resources.now) validator.old (Op.Bulk (BulkOperator.DataDrop data_index))
+        (refused result) validator.new }
     ensures memory { IfErr result IsOfContent }
 {
     match validator.begin(Proposal::BulkMemory, false) {
@@ -154,7 +160,8 @@ pub fn check_memory_discard<R: WasmModuleResources>(
     resources: &R,
     mem: u32,
 ) -> Result<(), Refusal>
-    ensures { Checks (R.meaning resources.now) validator.old (Op.Bulk (BulkOperator.MemoryDiscard mem)) (refused result) validator.new }
+    ensures { Checks (R.meaning resources.now) validator.old (Op.Bulk (BulkOperator.MemoryDiscard mem))
+        (refused result) validator.new }
 {
     match validator.begin(Proposal::MemoryControl, false) {
         Ok(()) => (),
@@ -169,7 +176,8 @@ pub fn check_memory_discard<R: WasmModuleResources>(
 
 // The memory at an index.
 fn find_memory<R: WasmModuleResources>(resources: &R, at: u32) -> Result<MemoryType, Refusal>
-    ensures { MatchResult result (λ t. slice_get (R.meaning resources.now).«module».memories at ≡ Some t) (λ r. slice_get (R.meaning resources.now).«module».memories at ≡ None) }
+    ensures { MatchResult result (λ t. slice_get (R.meaning resources.now).«module».memories at ≡ Some t)
+        (λ r. slice_get (R.meaning resources.now).«module».memories at ≡ None) }
 {
     match resources.memory_at(at) {
         Some(memory) => Ok(memory),
@@ -182,7 +190,8 @@ fn find_memory<R: WasmModuleResources>(resources: &R, at: u32) -> Result<MemoryT
 
 // Whether the data count section, where it stands, names a data segment.
 fn find_data<R: WasmModuleResources>(resources: &R, at: u32) -> Result<(), Refusal>
-    ensures found { MatchResult result (λ _. names_data (R.meaning resources.now).«module».data_count at ≡ true) (λ r. names_data (R.meaning resources.now).«module».data_count at ≡ false) }
+    ensures found { MatchResult result (λ _. names_data (R.meaning resources.now).«module».data_count at ≡ true)
+        (λ r. names_data (R.meaning resources.now).«module».data_count at ≡ false) }
     ensures content { IfErr result IsOfContent }
 {
     let count = match resources.data_count() {

@@ -19,7 +19,9 @@ pub(crate) fn name_null<R: WasmModuleResources>(
     features: &WasmFeatures,
     hty: &HeapType,
 ) -> Result<ValType, Refusal>
-    ensures { MatchResult result (λ t. IsType features.now.0 (R.meaning resources.now).«module» (null_of hty.now) (type_in (R.meaning resources.now) t)) (λ r. Denies (kind_of r) ((u : ValueType) × IsType features.now.0 (R.meaning resources.now).«module» (null_of hty.now) u)) }
+    ensures { MatchResult result (λ t. IsType features.now.0 (R.meaning resources.now).«module» (null_of hty.now)
+        (type_in (R.meaning resources.now) t)) (λ r. Denies (kind_of r) ((u : ValueType)
+        × IsType features.now.0 (R.meaning resources.now).«module» (null_of hty.now) u)) }
 {
     let written = match RefType::new(true, *hty) {
         Some(written) => written,
@@ -34,7 +36,9 @@ fn name_written<R: WasmModuleResources>(
     features: &WasmFeatures,
     written: RefType,
 ) -> Result<ValType, Refusal>
-    ensures { MatchResult result (λ t. IsType features.now.0 (R.meaning resources.now).«module» (reference_to written) (type_in (R.meaning resources.now) t)) (λ r. Denies (kind_of r) ((u : ValueType) × IsType features.now.0 (R.meaning resources.now).«module» (reference_to written) u)) }
+    ensures { MatchResult result (λ t. IsType features.now.0 (R.meaning resources.now).«module» (reference_to written)
+        (type_in (R.meaning resources.now) t)) (λ r. Denies (kind_of r) ((u : ValueType)
+        × IsType features.now.0 (R.meaning resources.now).«module» (reference_to written) u)) }
 {
     let mut ty = ValType::Ref(written);
     match resources.check_value_type(&mut ty, features, 0) {
@@ -50,7 +54,9 @@ fn name_far<R: WasmModuleResources>(
     features: &WasmFeatures,
     hty: &HeapType,
 ) -> Result<ValType, Refusal>
-    ensures { MatchResult result (λ t. IsType features.now.0 (R.meaning resources.now).«module» (null_of hty.now) (type_in (R.meaning resources.now) t)) (λ r. Denies (kind_of r) ((u : ValueType) × IsType features.now.0 (R.meaning resources.now).«module» (null_of hty.now) u)) }
+    ensures { MatchResult result (λ t. IsType features.now.0 (R.meaning resources.now).«module» (null_of hty.now)
+        (type_in (R.meaning resources.now) t)) (λ r. Denies (kind_of r) ((u : ValueType)
+        × IsType features.now.0 (R.meaning resources.now).«module» (null_of hty.now) u)) }
 {
     let mut named = *hty;
     match resources.check_heap_type(&mut named, 0) {

@@ -16,7 +16,8 @@ pub fn check_ref_null<R: WasmModuleResources>(
     resources: &R,
     hty: HeapType,
 ) -> Result<(), Refusal>
-    ensures { Checks (R.meaning resources.now) validator.old (Op.Bulk (BulkOperator.RefNull hty)) (refused result) validator.new }
+    ensures { Checks (R.meaning resources.now) validator.old (Op.Bulk (BulkOperator.RefNull hty))
+        (refused result) validator.new }
 {
     match validator.begin(Proposal::ReferenceTypes, false) {
         Ok(()) => (),

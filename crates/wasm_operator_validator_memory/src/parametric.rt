@@ -16,8 +16,10 @@ pub fn check_drop<R: WasmModuleResources>(
     validator: &mut OperatorValidator,
     resources: &R,
 ) -> Result<(), Refusal>
-    ensures checks { Checks (R.meaning resources.now) validator.old (Op.Parametric ParametricTree.Drop) (refused result) validator.new }
-    ensures room { WantsRoom (R.meaning resources.now) validator.old (Op.Parametric ParametricTree.Drop) (refused result) }
+    ensures checks { Checks (R.meaning resources.now) validator.old (Op.Parametric ParametricTree.Drop)
+        (refused result) validator.new }
+    ensures room { WantsRoom (R.meaning resources.now) validator.old (Op.Parametric ParametricTree.Drop)
+        (refused result) }
 {
     let _resources = resources;
     match validator.begin(Proposal::Mvp, false) {
@@ -36,7 +38,8 @@ pub fn check_select<R: WasmModuleResources>(
     validator: &mut OperatorValidator,
     resources: &R,
 ) -> Result<(), Refusal>
-    ensures { Checks (R.meaning resources.now) validator.old (Op.Parametric ParametricTree.Select) (refused result) validator.new }
+    ensures { Checks (R.meaning resources.now) validator.old (Op.Parametric ParametricTree.Select)
+        (refused result) validator.new }
 {
     match validator.begin(Proposal::Mvp, false) {
         Ok(()) => (),

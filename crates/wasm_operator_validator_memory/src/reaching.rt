@@ -17,7 +17,10 @@ pub fn reach<R: WasmModuleResources>(
     is_atomic: bool,
     memarg: &MemArg,
 ) -> Result<ValType, Refusal>
-    ensures { MatchResult result (λ t. reached is_atomic memarg.now (slice_get (R.meaning resources.now).«module».memories memarg.now.memory) ≡ Some (type_in (R.meaning resources.now) t)) (λ r. reached is_atomic memarg.now (slice_get (R.meaning resources.now).«module».memories memarg.now.memory) ≡ None) }
+    ensures { MatchResult result (λ t. reached is_atomic memarg.now
+        (slice_get (R.meaning resources.now).«module».memories memarg.now.memory) ≡ Some
+        (type_in (R.meaning resources.now) t)) (λ r. reached is_atomic memarg.now
+        (slice_get (R.meaning resources.now).«module».memories memarg.now.memory) ≡ None) }
 {
     let memory = match resources.memory_at(memarg.memory) {
         Some(memory) => memory,

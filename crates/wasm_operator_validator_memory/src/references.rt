@@ -16,7 +16,8 @@ pub fn check_ref_is_null<R: WasmModuleResources>(
     validator: &mut OperatorValidator,
     resources: &R,
 ) -> Result<(), Refusal>
-    ensures { Checks (R.meaning resources.now) validator.old (Op.Bulk BulkOperator.RefIsNull) (refused result) validator.new }
+    ensures { Checks (R.meaning resources.now) validator.old (Op.Bulk BulkOperator.RefIsNull)
+        (refused result) validator.new }
 {
     match validator.begin(Proposal::ReferenceTypes, false) {
         Ok(()) => (),

@@ -16,7 +16,8 @@ pub fn check_table_get<R: WasmModuleResources>(
     resources: &R,
     table: u32,
 ) -> Result<(), Refusal>
-    ensures { Checks (R.meaning resources.now) validator.old (Op.Bulk (BulkOperator.TableGet table)) (refused result) validator.new }
+    ensures { Checks (R.meaning resources.now) validator.old (Op.Bulk (BulkOperator.TableGet table))
+        (refused result) validator.new }
 {
     match validator.begin(Proposal::ReferenceTypes, false) {
         Ok(()) => (),
@@ -39,7 +40,8 @@ pub fn check_table_set<R: WasmModuleResources>(
     resources: &R,
     table: u32,
 ) -> Result<(), Refusal>
-    ensures { Checks (R.meaning resources.now) validator.old (Op.Bulk (BulkOperator.TableSet table)) (refused result) validator.new }
+    ensures { Checks (R.meaning resources.now) validator.old (Op.Bulk (BulkOperator.TableSet table))
+        (refused result) validator.new }
 {
     match validator.begin(Proposal::ReferenceTypes, false) {
         Ok(()) => (),
@@ -61,7 +63,8 @@ pub fn check_table_grow<R: WasmModuleResources>(
     resources: &R,
     table: u32,
 ) -> Result<(), Refusal>
-    ensures { Checks (R.meaning resources.now) validator.old (Op.Bulk (BulkOperator.TableGrow table)) (refused result) validator.new }
+    ensures { Checks (R.meaning resources.now) validator.old (Op.Bulk (BulkOperator.TableGrow table))
+        (refused result) validator.new }
 {
     match validator.begin(Proposal::ReferenceTypes, false) {
         Ok(()) => (),
@@ -84,7 +87,8 @@ pub fn check_table_size<R: WasmModuleResources>(
     resources: &R,
     table: u32,
 ) -> Result<(), Refusal>
-    ensures { Checks (R.meaning resources.now) validator.old (Op.Bulk (BulkOperator.TableSize table)) (refused result) validator.new }
+    ensures { Checks (R.meaning resources.now) validator.old (Op.Bulk (BulkOperator.TableSize table))
+        (refused result) validator.new }
 {
     match validator.begin(Proposal::ReferenceTypes, false) {
         Ok(()) => (),
@@ -103,7 +107,8 @@ pub fn check_table_fill<R: WasmModuleResources>(
     resources: &R,
     table: u32,
 ) -> Result<(), Refusal>
-    ensures { Checks (R.meaning resources.now) validator.old (Op.Bulk (BulkOperator.TableFill table)) (refused result) validator.new }
+    ensures { Checks (R.meaning resources.now) validator.old (Op.Bulk (BulkOperator.TableFill table))
+        (refused result) validator.new }
 {
     match validator.begin(Proposal::ReferenceTypes, false) {
         Ok(()) => (),

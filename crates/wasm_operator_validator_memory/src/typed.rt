@@ -18,7 +18,8 @@ pub fn check_typed_select<R: WasmModuleResources>(
     resources: &R,
     ty: ValType,
 ) -> Result<(), Refusal>
-    ensures { Checks (R.meaning resources.now) validator.old (Op.Parametric (ParametricTree.TypedSelect ty)) (refused result) validator.new }
+    ensures { Checks (R.meaning resources.now) validator.old (Op.Parametric (ParametricTree.TypedSelect ty))
+        (refused result) validator.new }
 {
     match validator.begin(Proposal::ReferenceTypes, false) {
         Ok(()) => (),
@@ -46,7 +47,8 @@ pub fn check_typed_select_multi<R: WasmModuleResources>(
     resources: &R,
     tys: &[ValType],
 ) -> Result<(), Refusal>
-    ensures checks { Checks (R.meaning resources.now) validator.old (Op.Parametric (ParametricTree.TypedSelectMulti tys.now)) (refused result) validator.new }
+    ensures checks { Checks (R.meaning resources.now) validator.old
+        (Op.Parametric (ParametricTree.TypedSelectMulti tys.now)) (refused result) validator.new }
     ensures memory { IfErr result IsOfContent }
 {
     let _resources = resources;

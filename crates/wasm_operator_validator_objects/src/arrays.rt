@@ -23,7 +23,8 @@ pub fn check_array_new<R: WasmModuleResources>(
     resources: &R,
     type_index: u32,
 ) -> Result<(), Refusal>
-    ensures { Checks (R.meaning resources.now) validator.old (Op.Gc (GcOperator.ArrayNew type_index)) (refused result) validator.new }
+    ensures { Checks (R.meaning resources.now) validator.old (Op.Gc (GcOperator.ArrayNew type_index))
+        (refused result) validator.new }
 {
     let op = GcOperator::ArrayNew {
         array_type_index: type_index,
@@ -47,7 +48,8 @@ pub fn check_array_new_default<R: WasmModuleResources>(
     resources: &R,
     type_index: u32,
 ) -> Result<(), Refusal>
-    ensures { Checks (R.meaning resources.now) validator.old (Op.Gc (GcOperator.ArrayNewDefault type_index)) (refused result) validator.new }
+    ensures { Checks (R.meaning resources.now) validator.old (Op.Gc (GcOperator.ArrayNewDefault type_index))
+        (refused result) validator.new }
 {
     let op = GcOperator::ArrayNewDefault {
         array_type_index: type_index,
@@ -74,7 +76,8 @@ pub fn check_array_new_fixed<R: WasmModuleResources>(
     type_index: u32,
     count: u32,
 ) -> Result<(), Refusal>
-    ensures { Checks (R.meaning resources.now) validator.old (Op.Gc (GcOperator.ArrayNewFixed type_index count)) (refused result) validator.new }
+    ensures { Checks (R.meaning resources.now) validator.old (Op.Gc (GcOperator.ArrayNewFixed type_index count))
+        (refused result) validator.new }
 {
     let op = GcOperator::ArrayNewFixed {
         array_type_index: type_index,
@@ -103,7 +106,9 @@ fn make<R: WasmModuleResources>(
     made: &ValType,
 ) -> Result<(), Refusal>
     requires begun { MayBegin validator.old Gc false }
-    requires row { IsRow (R.meaning resources.now) validator.old op.now (replicate count (type_in (R.meaning resources.now) element.now)) (types_in (R.meaning resources.now) (made.now ∷ [])) }
+    requires row { IsRow (R.meaning resources.now) validator.old op.now
+        (replicate count (type_in (R.meaning resources.now) element.now))
+        (types_in (R.meaning resources.now) (made.now ∷ [])) }
     ensures { Checks (R.meaning resources.now) validator.old (Op.Gc op.now) (refused result) validator.new }
 {
     let _op = op;
@@ -152,7 +157,8 @@ pub fn check_array_set<R: WasmModuleResources>(
     resources: &R,
     type_index: u32,
 ) -> Result<(), Refusal>
-    ensures { Checks (R.meaning resources.now) validator.old (Op.Gc (GcOperator.ArraySet type_index)) (refused result) validator.new }
+    ensures { Checks (R.meaning resources.now) validator.old (Op.Gc (GcOperator.ArraySet type_index))
+        (refused result) validator.new }
 {
     let op = GcOperator::ArraySet {
         array_type_index: type_index,
@@ -184,7 +190,8 @@ pub fn check_array_fill<R: WasmModuleResources>(
     resources: &R,
     type_index: u32,
 ) -> Result<(), Refusal>
-    ensures { Checks (R.meaning resources.now) validator.old (Op.Gc (GcOperator.ArrayFill type_index)) (refused result) validator.new }
+    ensures { Checks (R.meaning resources.now) validator.old (Op.Gc (GcOperator.ArrayFill type_index))
+        (refused result) validator.new }
 {
     let op = GcOperator::ArrayFill {
         array_type_index: type_index,

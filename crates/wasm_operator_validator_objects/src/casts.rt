@@ -94,7 +94,9 @@ fn branch<R: WasmModuleResources>(
     left: &ValType,
 ) -> Result<(), Refusal>
     requires begun { MayBegin validator.old Gc false }
-    requires row { IsRow (R.meaning resources.now) validator.old op.now (types_in (R.meaning resources.now) others.now ++ type_in (R.meaning resources.now) cast.now ∷ []) (types_in (R.meaning resources.now) others.now ++ type_in (R.meaning resources.now) left.now ∷ []) }
+    requires row { IsRow (R.meaning resources.now) validator.old op.now
+        (types_in (R.meaning resources.now) others.now ++ type_in (R.meaning resources.now) cast.now ∷ [])
+        (types_in (R.meaning resources.now) others.now ++ type_in (R.meaning resources.now) left.now ∷ []) }
     ensures { Checks (R.meaning resources.now) validator.old (Op.Gc op.now) (refused result) validator.new }
 {
     let _op = op;
@@ -116,7 +118,8 @@ fn cast_of<R: WasmModuleResources>(
     from: &RefType,
     to: &RefType,
 ) -> Result<(RefType, RefType), Refusal>
-    ensures { MatchResult result (λ p. IsCastOf (R.meaning resources.now) validator.now from.now to.now p.0 p.1) (λ r. IsNoCast (R.meaning resources.now) validator.now from.now to.now) }
+    ensures { MatchResult result (λ p. IsCastOf (R.meaning resources.now) validator.now from.now to.now p.0 p.1)
+        (λ r. IsNoCast (R.meaning resources.now) validator.now from.now to.now) }
 {
     let first = match castable_at(validator, resources, from) {
         Ok(first) => first,
@@ -138,7 +141,8 @@ fn castable_at<R: WasmModuleResources>(
     resources: &R,
     written: &RefType,
 ) -> Result<RefType, Refusal>
-    ensures { MatchResult result (λ r. IsCastable (R.meaning resources.now) validator.now written.now r) (λ r. IsNotCastable (R.meaning resources.now) validator.now written.now) }
+    ensures { MatchResult result (λ r. IsCastable (R.meaning resources.now) validator.now written.now r)
+        (λ r. IsNotCastable (R.meaning resources.now) validator.now written.now) }
 {
     let heap_type = written.heap_type();
     let named = match heap_at(validator, resources, written.is_nullable(), &heap_type) {

@@ -22,7 +22,8 @@ pub fn check_any_convert_extern<R: WasmModuleResources>(
     validator: &mut OperatorValidator,
     resources: &R,
 ) -> Result<(), Refusal>
-    ensures { Checks (R.meaning resources.now) validator.old (Op.Gc GcOperator.AnyConvertExtern) (refused result) validator.new }
+    ensures { Checks (R.meaning resources.now) validator.old (Op.Gc GcOperator.AnyConvertExtern)
+        (refused result) validator.new }
 {
     check_conversion(
         validator,
@@ -38,7 +39,8 @@ pub fn check_extern_convert_any<R: WasmModuleResources>(
     validator: &mut OperatorValidator,
     resources: &R,
 ) -> Result<(), Refusal>
-    ensures { Checks (R.meaning resources.now) validator.old (Op.Gc GcOperator.ExternConvertAny) (refused result) validator.new }
+    ensures { Checks (R.meaning resources.now) validator.old (Op.Gc GcOperator.ExternConvertAny)
+        (refused result) validator.new }
 {
     check_conversion(
         validator,
@@ -86,7 +88,8 @@ fn converted<R: WasmModuleResources>(
     from: AbstractHeapType,
     to: AbstractHeapType,
 ) -> Option<MaybeType>
-    ensures { MatchOption result (IsUnconvertible (R.meaning resources.now) found.now from) (λ b. IsConverted (R.meaning resources.now) found.now b from to) }
+    ensures { MatchOption result (IsUnconvertible (R.meaning resources.now) found.now from)
+        (λ b. IsConverted (R.meaning resources.now) found.now b from to) }
 {
     match found {
         MaybeType::Bottom => Some(MaybeType::UnknownRef(Some(to))),
@@ -107,7 +110,8 @@ fn converted_type<R: WasmModuleResources>(
     from: AbstractHeapType,
     to: AbstractHeapType,
 ) -> Option<MaybeType>
-    ensures { MatchOption result (IsUnconvertible (R.meaning resources.now) (MaybeType.Known ty.now) from) (λ b. IsConverted (R.meaning resources.now) (MaybeType.Known ty.now) b from to) }
+    ensures { MatchOption result (IsUnconvertible (R.meaning resources.now) (MaybeType.Known ty.now) from)
+        (λ b. IsConverted (R.meaning resources.now) (MaybeType.Known ty.now) b from to) }
 {
     types_are_sound(resources);
     let reference = match ty.as_reference_type() {

@@ -23,7 +23,8 @@ pub fn check_array_len<R: WasmModuleResources>(
     validator: &mut OperatorValidator,
     resources: &R,
 ) -> Result<(), Refusal>
-    ensures { Checks (R.meaning resources.now) validator.old (Op.Gc GcOperator.ArrayLen) (refused result) validator.new }
+    ensures { Checks (R.meaning resources.now) validator.old (Op.Gc GcOperator.ArrayLen)
+        (refused result) validator.new }
 {
     check_measure(
         validator,

@@ -25,7 +25,9 @@ pub(crate) fn used_type<'a, R: WasmModuleResources>(
     resources: &'a R,
     type_index: u32,
 ) -> Result<&'a SubType, Refusal>
-    ensures { MatchResult result (λ t. IsUsed (R.meaning resources.now) validator.now type_index (entry_in (R.meaning resources.now) t.now)) (λ r. used_type (here (R.meaning resources.now) validator.now) type_index ≡ None) }
+    ensures { MatchResult result (λ t. IsUsed (R.meaning resources.now) validator.now type_index
+        (entry_in (R.meaning resources.now) t.now)) (λ r. used_type
+        (here (R.meaning resources.now) validator.now) type_index ≡ None) }
 {
     let sub_type = match resources.sub_type_at(type_index) {
         Some(sub_type) => sub_type,
@@ -82,7 +84,8 @@ pub(crate) fn struct_at<'a, R: WasmModuleResources>(
     resources: &'a R,
     type_index: u32,
 ) -> Result<(&'a [FieldType], bool), Refusal>
-    ensures { MatchResult result (λ p. IsStruct (R.meaning resources.now) validator.now type_index p.0.now p.1) (λ r. struct_named (here (R.meaning resources.now) validator.now) type_index ≡ None) }
+    ensures { MatchResult result (λ p. IsStruct (R.meaning resources.now) validator.now type_index p.0.now p.1)
+        (λ r. struct_named (here (R.meaning resources.now) validator.now) type_index ≡ None) }
 {
     let sub_type = match used_type(validator, resources, type_index) {
         Ok(sub_type) => sub_type,
@@ -106,7 +109,8 @@ pub(crate) fn array_at<R: WasmModuleResources>(
     resources: &R,
     type_index: u32,
 ) -> Result<FieldType, Refusal>
-    ensures { MatchResult result (λ f. IsArray (R.meaning resources.now) validator.now type_index f) (λ r. array_named (here (R.meaning resources.now) validator.now) type_index ≡ None) }
+    ensures { MatchResult result (λ f. IsArray (R.meaning resources.now) validator.now type_index f)
+        (λ r. array_named (here (R.meaning resources.now) validator.now) type_index ≡ None) }
 {
     let sub_type = match used_type(validator, resources, type_index) {
         Ok(sub_type) => sub_type,
@@ -128,7 +132,9 @@ pub(crate) fn field_at<R: WasmModuleResources>(
     type_index: u32,
     field_index: u32,
 ) -> Result<(ValType, FieldType), Refusal>
-    ensures { MatchResult result (λ p. field_place (here (R.meaning resources.now) validator.now) type_index field_index ≡ Some (place_in (R.meaning resources.now) (p.0 ∷ []) p.1)) (λ r. field_place (here (R.meaning resources.now) validator.now) type_index field_index ≡ None) }
+    ensures { MatchResult result (λ p. field_place (here (R.meaning resources.now) validator.now) type_index field_index
+        ≡ Some (place_in (R.meaning resources.now) (p.0 ∷ []) p.1))
+        (λ r. field_place (here (R.meaning resources.now) validator.now) type_index field_index ≡ None) }
 {
     let (fields, _described) = match struct_at(validator, resources, type_index) {
         Ok(found) => found,
@@ -163,7 +169,9 @@ pub(crate) fn element_at<R: WasmModuleResources>(
     resources: &R,
     type_index: u32,
 ) -> Result<(ValType, FieldType), Refusal>
-    ensures { MatchResult result (λ p. element_place (here (R.meaning resources.now) validator.now) type_index ≡ Some (place_in (R.meaning resources.now) (p.0 ∷ I32 ∷ []) p.1)) (λ r. element_place (here (R.meaning resources.now) validator.now) type_index ≡ None) }
+    ensures { MatchResult result (λ p. element_place (here (R.meaning resources.now) validator.now) type_index ≡ Some
+        (place_in (R.meaning resources.now) (p.0 ∷ I32 ∷ []) p.1))
+        (λ r. element_place (here (R.meaning resources.now) validator.now) type_index ≡ None) }
 {
     let element = match array_at(validator, resources, type_index) {
         Ok(element) => element,
@@ -180,7 +188,8 @@ pub(crate) fn reference_at<R: WasmModuleResources>(
     exactly: bool,
 ) -> ValType
     requires { type_index < length (R.meaning resources.now).«module».types }
-    ensures { type_in (R.meaning resources.now) result ≡ ref nullable (heap_to exactly (TypeAt (R.meaning resources.now) type_index)) }
+    ensures { type_in (R.meaning resources.now) result ≡ ref nullable
+        (heap_to exactly (TypeAt (R.meaning resources.now) type_index)) }
 {
     let mut heap_type = written(type_index, exactly);
     match resources.check_heap_type(&mut heap_type, 0) {
@@ -210,7 +219,8 @@ pub(crate) fn allocated<R: WasmModuleResources>(
     type_index: u32,
 ) -> ValType
     requires { type_index < length (R.meaning resources.now).«module».types }
-    ensures { type_in (R.meaning resources.now) result ≡ allocated (here (R.meaning resources.now) validator.now) (TypeAt (R.meaning resources.now) type_index) }
+    ensures { type_in (R.meaning resources.now) result ≡ allocated (here (R.meaning resources.now) validator.now)
+        (TypeAt (R.meaning resources.now) type_index) }
 {
     let features = validator.features();
     reference_at(resources, type_index, false, features.custom_descriptors())
@@ -223,7 +233,10 @@ pub(crate) fn heap_at<R: WasmModuleResources>(
     nullable: bool,
     written: &HeapType,
 ) -> Result<RefType, Refusal>
-    ensures { MatchResult result (λ r. (r.nullable ≡ nullable) × (heap_named (here (R.meaning resources.now) validator.now) written.now ≡ Some (heap_in (R.meaning resources.now) r.heap))) (λ r. heap_named (here (R.meaning resources.now) validator.now) written.now ≡ None) }
+    ensures { MatchResult result (λ r. (r.nullable ≡ nullable)
+        × (heap_named (here (R.meaning resources.now) validator.now) written.now ≡ Some
+        (heap_in (R.meaning resources.now) r.heap))) (λ r. heap_named
+        (here (R.meaning resources.now) validator.now) written.now ≡ None) }
 {
     let mut named = *written;
     match resources.check_heap_type(&mut named, 0) {

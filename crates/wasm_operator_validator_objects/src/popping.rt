@@ -18,8 +18,10 @@ pub(crate) fn pop_fields<R: WasmModuleResources>(
     fields: &[FieldType],
 ) -> Result<(), Refusal>
     requires { IsOpen validator.old.opens }
-    ensures does { Does (refused result) (Popped (R.meaning resources.now) validator.old (stack (types_in (R.meaning resources.now) (unpacked_fields fields.now))) validator.new)
-        (MayPop (R.meaning resources.now) validator.old (stack (types_in (R.meaning resources.now) (unpacked_fields fields.now)))) }
+    ensures does { Does (refused result) (Popped (R.meaning resources.now) validator.old
+        (stack (types_in (R.meaning resources.now) (unpacked_fields fields.now))) validator.new)
+        (MayPop (R.meaning resources.now) validator.old (stack
+        (types_in (R.meaning resources.now) (unpacked_fields fields.now)))) }
     ensures given { validator.new.given ≡ validator.old.given }
     ensures failed { validator.new.failed ≡ validator.old.failed }
     ensures saved { validator.new.saved ≡ validator.old.saved }
@@ -44,8 +46,10 @@ pub(crate) fn pop_same<R: WasmModuleResources>(
     count: u32,
 ) -> Result<(), Refusal>
     requires { IsOpen validator.old.opens }
-    ensures does { Does (refused result) (Popped (R.meaning resources.now) validator.old (stack (replicate count (type_in (R.meaning resources.now) ty.now))) validator.new)
-        (MayPop (R.meaning resources.now) validator.old (stack (replicate count (type_in (R.meaning resources.now) ty.now)))) }
+    ensures does { Does (refused result) (Popped (R.meaning resources.now) validator.old
+        (stack (replicate count (type_in (R.meaning resources.now) ty.now))) validator.new)
+        (MayPop (R.meaning resources.now) validator.old (stack
+        (replicate count (type_in (R.meaning resources.now) ty.now)))) }
     ensures given { validator.new.given ≡ validator.old.given }
     ensures failed { validator.new.failed ≡ validator.old.failed }
     ensures saved { validator.new.saved ≡ validator.old.saved }

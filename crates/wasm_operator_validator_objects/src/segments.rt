@@ -24,7 +24,8 @@ pub fn check_array_new_data<R: WasmModuleResources>(
     type_index: u32,
     data_index: u32,
 ) -> Result<(), Refusal>
-    ensures { Checks (R.meaning resources.now) validator.old (Op.Gc (GcOperator.ArrayNewData type_index data_index)) (refused result) validator.new }
+    ensures { Checks (R.meaning resources.now) validator.old (Op.Gc (GcOperator.ArrayNewData type_index data_index))
+        (refused result) validator.new }
 {
     let op = GcOperator::ArrayNewData {
         array_type_index: type_index,
@@ -62,7 +63,8 @@ pub fn check_array_new_elem<R: WasmModuleResources>(
     type_index: u32,
     elem_index: u32,
 ) -> Result<(), Refusal>
-    ensures { Checks (R.meaning resources.now) validator.old (Op.Gc (GcOperator.ArrayNewElem type_index elem_index)) (refused result) validator.new }
+    ensures { Checks (R.meaning resources.now) validator.old (Op.Gc (GcOperator.ArrayNewElem type_index elem_index))
+        (refused result) validator.new }
 {
     let op = GcOperator::ArrayNewElem {
         array_type_index: type_index,
@@ -100,7 +102,8 @@ pub fn check_array_init_data<R: WasmModuleResources>(
     type_index: u32,
     data_index: u32,
 ) -> Result<(), Refusal>
-    ensures { Checks (R.meaning resources.now) validator.old (Op.Gc (GcOperator.ArrayInitData type_index data_index)) (refused result) validator.new }
+    ensures { Checks (R.meaning resources.now) validator.old (Op.Gc (GcOperator.ArrayInitData type_index data_index))
+        (refused result) validator.new }
 {
     let op = GcOperator::ArrayInitData {
         array_type_index: type_index,
@@ -141,7 +144,8 @@ pub fn check_array_init_elem<R: WasmModuleResources>(
     type_index: u32,
     elem_index: u32,
 ) -> Result<(), Refusal>
-    ensures { Checks (R.meaning resources.now) validator.old (Op.Gc (GcOperator.ArrayInitElem type_index elem_index)) (refused result) validator.new }
+    ensures { Checks (R.meaning resources.now) validator.old (Op.Gc (GcOperator.ArrayInitElem type_index elem_index))
+        (refused result) validator.new }
 {
     let op = GcOperator::ArrayInitElem {
         array_type_index: type_index,
@@ -182,7 +186,8 @@ pub fn check_array_copy<R: WasmModuleResources>(
     dst_type_index: u32,
     src_type_index: u32,
 ) -> Result<(), Refusal>
-    ensures { Checks (R.meaning resources.now) validator.old (Op.Gc (GcOperator.ArrayCopy dst_type_index src_type_index)) (refused result) validator.new }
+    ensures { Checks (R.meaning resources.now) validator.old (Op.Gc
+        (GcOperator.ArrayCopy dst_type_index src_type_index)) (refused result) validator.new }
 {
     let op = GcOperator::ArrayCopy {
         array_type_index_dst: dst_type_index,
@@ -219,7 +224,9 @@ pub fn check_array_copy<R: WasmModuleResources>(
 
 // The type of the element segment at an index.
 fn find_elements<R: WasmModuleResources>(resources: &R, at: u32) -> Result<RefType, Refusal>
-    ensures { MatchResult result (λ t. slice_get (R.meaning resources.now).«module».elements at ≡ Some (reference_in (R.meaning resources.now) t)) (λ r. slice_get (R.meaning resources.now).«module».elements at ≡ None) }
+    ensures { MatchResult result (λ t. slice_get (R.meaning resources.now).«module».elements at ≡ Some
+        (reference_in (R.meaning resources.now) t)) (λ r. slice_get
+        (R.meaning resources.now).«module».elements at ≡ None) }
 {
     match resources.element_type_at(at) {
         Some(ty) => Ok(ty),
@@ -232,7 +239,8 @@ fn find_elements<R: WasmModuleResources>(resources: &R, at: u32) -> Result<RefTy
 
 // Whether the data count section names a segment.
 fn find_data<R: WasmModuleResources>(resources: &R, at: u32) -> Result<(), Refusal>
-    ensures { MatchResult result (λ _. names_data (R.meaning resources.now).«module».data_count at ≡ true) (λ r. names_data (R.meaning resources.now).«module».data_count at ≡ false) }
+    ensures { MatchResult result (λ _. names_data (R.meaning resources.now).«module».data_count at ≡ true)
+        (λ r. names_data (R.meaning resources.now).«module».data_count at ≡ false) }
 {
     let count = match resources.data_count() {
         Some(count) => count,

@@ -21,7 +21,8 @@ pub(crate) fn begin<R: WasmModuleResources>(
     resources: &R,
     op: &GcOperator,
 ) -> Result<(), Refusal>
-    ensures { MatchResult result (λ _. MayBegin validator.now Gc false) (λ r. Checks (R.meaning resources.now) validator.now (Op.Gc op.now) (Some (kind_of r)) validator.now) }
+    ensures { MatchResult result (λ _. MayBegin validator.now Gc false)
+        (λ r. Checks (R.meaning resources.now) validator.now (Op.Gc op.now) (Some (kind_of r)) validator.now) }
 {
     let _resources = resources;
     let _op = op;
@@ -41,7 +42,8 @@ pub(crate) fn exchange<R: WasmModuleResources>(
     gives: &[ValType],
 ) -> Result<(), Refusal>
     requires begun { MayBegin validator.old Gc false }
-    requires row { IsRow (R.meaning resources.now) validator.old op.now (types_in (R.meaning resources.now) takes.now) (types_in (R.meaning resources.now) gives.now) }
+    requires row { IsRow (R.meaning resources.now) validator.old op.now (types_in (R.meaning resources.now) takes.now)
+        (types_in (R.meaning resources.now) gives.now) }
     ensures { Checks (R.meaning resources.now) validator.old (Op.Gc op.now) (refused result) validator.new }
 {
     let _op = op;

@@ -47,7 +47,8 @@ pub(crate) fn storage_fits<R: WasmModuleResources>(
     from: &StorageType,
     to: &StorageType,
 ) -> bool
-    ensures { IsTrue result ↔ StorageMatches (storage_in (R.meaning resources.now) from.now) (storage_in (R.meaning resources.now) to.now) }
+    ensures { IsTrue result ↔ StorageMatches (storage_in (R.meaning resources.now) from.now)
+        (storage_in (R.meaning resources.now) to.now) }
 {
     match from {
         StorageType::I8 => match to {

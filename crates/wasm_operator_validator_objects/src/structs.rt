@@ -24,7 +24,8 @@ pub fn check_struct_new<R: WasmModuleResources>(
     resources: &R,
     type_index: u32,
 ) -> Result<(), Refusal>
-    ensures { Checks (R.meaning resources.now) validator.old (Op.Gc (GcOperator.StructNew type_index)) (refused result) validator.new }
+    ensures { Checks (R.meaning resources.now) validator.old (Op.Gc (GcOperator.StructNew type_index))
+        (refused result) validator.new }
 {
     let op = GcOperator::StructNew {
         struct_type_index: type_index,
@@ -53,7 +54,9 @@ fn make<R: WasmModuleResources>(
     made: &ValType,
 ) -> Result<(), Refusal>
     requires begun { MayBegin validator.old Gc false }
-    requires row { IsRow (R.meaning resources.now) validator.old op.now (types_in (R.meaning resources.now) (unpacked_fields fields.now)) (types_in (R.meaning resources.now) (made.now ∷ [])) }
+    requires row { IsRow (R.meaning resources.now) validator.old op.now
+        (types_in (R.meaning resources.now) (unpacked_fields fields.now))
+        (types_in (R.meaning resources.now) (made.now ∷ [])) }
     ensures { Checks (R.meaning resources.now) validator.old (Op.Gc op.now) (refused result) validator.new }
 {
     let _op = op;
@@ -70,7 +73,8 @@ pub fn check_struct_new_default<R: WasmModuleResources>(
     resources: &R,
     type_index: u32,
 ) -> Result<(), Refusal>
-    ensures { Checks (R.meaning resources.now) validator.old (Op.Gc (GcOperator.StructNewDefault type_index)) (refused result) validator.new }
+    ensures { Checks (R.meaning resources.now) validator.old (Op.Gc (GcOperator.StructNewDefault type_index))
+        (refused result) validator.new }
 {
     let op = GcOperator::StructNewDefault {
         struct_type_index: type_index,
@@ -127,7 +131,8 @@ pub fn check_struct_set<R: WasmModuleResources>(
     type_index: u32,
     field_index: u32,
 ) -> Result<(), Refusal>
-    ensures { Checks (R.meaning resources.now) validator.old (Op.Gc (GcOperator.StructSet type_index field_index)) (refused result) validator.new }
+    ensures { Checks (R.meaning resources.now) validator.old (Op.Gc (GcOperator.StructSet type_index field_index))
+        (refused result) validator.new }
 {
     let op = GcOperator::StructSet {
         struct_type_index: type_index,

@@ -72,7 +72,10 @@ pub(crate) fn castable_top<R: WasmModuleResources>(
     resources: &R,
     named: &RefType,
 ) -> Option<ValType>
-    ensures { MatchOption result (is_castable (heap_in (R.meaning resources.now) named.now.heap) ≡ false) (λ t. (is_castable (heap_in (R.meaning resources.now) named.now.heap) ≡ true) × (type_in (R.meaning resources.now) t ≡ ref true (top_heap (heap_in (R.meaning resources.now) named.now.heap)))) }
+    ensures { MatchOption result (is_castable (heap_in (R.meaning resources.now) named.now.heap) ≡ false)
+        (λ t. (is_castable (heap_in (R.meaning resources.now) named.now.heap) ≡ true)
+        × (type_in (R.meaning resources.now) t ≡ ref true (top_heap
+        (heap_in (R.meaning resources.now) named.now.heap)))) }
 {
     match resources.top_type(&named.heap_type()) {
         HeapType::Abstract { shared, ty } => {

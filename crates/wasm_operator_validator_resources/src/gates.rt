@@ -40,7 +40,8 @@ pub fn check_value_type_features(features: &WasmFeatures, ty: &ValType, offset: 
 
 #[tactic(auto, unfolding(crate::specs::Answers::has))]
 fn check_reference(features: &WasmFeatures, ty: &RefType, offset: u64) -> Result<()>
-    ensures answer { Tells result (Has features.now.0 ReferenceTypes × HeapIsAllowed features.now.0 ty.now.nullable (heap_of ty.now.heap)) }
+    ensures answer { Tells result (Has features.now.0 ReferenceTypes
+        × HeapIsAllowed features.now.0 ty.now.nullable (heap_of ty.now.heap)) }
     ensures missing { IfErr result (λ e. IsMissing features.now.0 e.kind) }
     ensures at { RefusedAt offset result }
 {
@@ -90,7 +91,8 @@ fn check_abstract(
     ty: AbstractHeapType,
     offset: u64,
 ) -> Result<()>
-    ensures answer { Tells result (HeapIsAllowed {R = UnpackedIndex} features.now.0 nullable (abstract shared (abstract_of ty))) }
+    ensures answer { Tells result (HeapIsAllowed {R = UnpackedIndex} features.now.0 nullable
+        (abstract shared (abstract_of ty))) }
     ensures missing { IfErr result (λ e. IsMissing features.now.0 e.kind) }
     ensures at { RefusedAt offset result }
 {

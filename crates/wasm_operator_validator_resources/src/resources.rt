@@ -33,7 +33,8 @@ pub trait WasmModuleResources {
 
     /// The function type of the tag at an index.
     fn tag_at(&self, at: u32) -> Option<&FuncType>
-        ensures { option_map (λ f. function_in (meaning self.now) f.now) result ≡ option_map expanded (slice_get (meaning self.now).«module».tags at) };
+        ensures { option_map (λ f. function_in (meaning self.now) f.now) result ≡ option_map expanded
+            (slice_get (meaning self.now).«module».tags at) };
 
     /// The global at an index.
     fn global_at(&self, at: u32) -> Option<GlobalType>
@@ -41,7 +42,8 @@ pub trait WasmModuleResources {
 
     /// The type at an index of the module.
     fn sub_type_at(&self, type_index: u32) -> Option<&SubType>
-        ensures { option_map (λ t. entry_in (meaning self.now) t.now) result ≡ option_map opened (slice_get (meaning self.now).«module».types type_index) };
+        ensures { option_map (λ t. entry_in (meaning self.now) t.now) result ≡ option_map opened
+            (slice_get (meaning self.now).«module».types type_index) };
 
     /// Whether a type has this id.
     fn knows_id(&self, id: CoreTypeId) -> bool
@@ -54,7 +56,8 @@ pub trait WasmModuleResources {
 
     /// The id of a function's type.
     fn type_id_of_function(&self, function_index: u32) -> Option<CoreTypeId>
-        ensures value { option_map (type_of_id (meaning self.now)) result ≡ slice_get (meaning self.now).«module».functions function_index }
+        ensures value { option_map (type_of_id (meaning self.now)) result ≡ slice_get
+            (meaning self.now).«module».functions function_index }
         ensures known { IfSome result (IsKnown (meaning self.now)) };
 
     /// The index of a function's type.
@@ -63,7 +66,8 @@ pub trait WasmModuleResources {
 
     /// The type of the element segment at an index.
     fn element_type_at(&self, at: u32) -> Option<RefType>
-        ensures { option_map (reference_in (meaning self.now)) result ≡ slice_get (meaning self.now).«module».elements at };
+        ensures { option_map (reference_in (meaning self.now)) result ≡ slice_get
+            (meaning self.now).«module».elements at };
 
     /// How many element segments there are.
     fn element_count(&self) -> u32
@@ -96,7 +100,8 @@ pub trait WasmModuleResources {
     /// Checks a value type as a module writes it, under these features, and names the types in it by their ids. A refused
     /// one stays as it was.
     fn check_value_type(&self, ty: &mut ValType, features: &WasmFeatures, offset: u64) -> Result<()>
-        ensures answer { Tells result (IsType features.now.0 (meaning self.now).«module» ty.old (type_in (meaning self.now) ty.new)) }
+        ensures answer { Tells result (IsType features.now.0 (meaning self.now).«module» ty.old
+            (type_in (meaning self.now) ty.new)) }
         ensures refused { IfErr result (λ _. ty.new ≡ ty.old) }
         ensures at { RefusedAt offset result }
     {

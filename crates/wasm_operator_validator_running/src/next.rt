@@ -29,7 +29,8 @@ pub(crate) fn take_next<R: WasmModuleResources>(
     requires begins { Begins bytes.now at code }
     requires shape { IsShape shape code }
     ensures taken { IfSome result (λ end. Takes (R.meaning resources.now) features.0 bytes.now at
-        (Surrounds body.now.features.0 body.now.locals.now body.now.inits.now.first body.now.inits.now.set body.now.frames.now)
+        (Surrounds body.now.features.0 body.now.locals.now body.now.inits.now.first body.now.inits.now.set
+        body.now.frames.now)
         operands.old operands.new end) }
     ensures forward { IfSome result (λ end. at < end) }
     ensures under { operands.new.1 ≡ operands.old.1 }

@@ -18,7 +18,8 @@ fn continued(byte: u8, before: usize) -> usize
 #[inline(always)]
 fn going_on(bytes: &[u8], at: usize) -> usize
     requires { at + 6 ≤ length bytes.now }
-    ensures value { result ≡ going (get_or bytes.now at 0) (get_or bytes.now (at + 1) 0) (get_or bytes.now (at + 2) 0) (get_or bytes.now (at + 3) 0) }
+    ensures value { result ≡ going (get_or bytes.now at 0) (get_or bytes.now (at + 1) 0) (get_or bytes.now (at + 2) 0)
+        (get_or bytes.now (at + 3) 0) }
     ensures within { result ≤ 4 }
 {
     let first = continued(bytes[at], 1);

@@ -24,7 +24,8 @@ impl<'a, 'r, R: WasmModuleResources> Run for Plain<'a, 'r, R> {
     ghost use Rattle.std.specs.Prelude.{◌≡◌, ◌-◌, length};
     ghost use Rattle.wasm_operator_validator_running.specs.Steps.{IsTaken};
 
-    ghost steps = { λ v σ w τ. (w.bytes.now ≡ v.bytes.now) × (w.features ≡ v.features) × (w.resources.now ≡ v.resources.now)
+    ghost steps = { λ v σ w τ. (w.bytes.now ≡ v.bytes.now) × (w.features ≡ v.features)
+        × (w.resources.now ≡ v.resources.now)
         × IsTaken (R.meaning v.resources.now) v.features.0 v.bytes.now v.at w.at σ τ };
 
     ghost left = { λ v. length v.bytes.now - v.at };

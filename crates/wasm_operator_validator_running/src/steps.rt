@@ -37,7 +37,8 @@ pub(crate) fn local_get(
 ) -> Option<usize>
     requires { Begins bytes.now at 0x20 }
     ensures taken { IfSome result (λ end. (m : Meaning) → Takes m features.0 bytes.now at
-        (Surrounds body.now.features.0 body.now.locals.now body.now.inits.now.first body.now.inits.now.set body.now.frames.now)
+        (Surrounds body.now.features.0 body.now.locals.now body.now.inits.now.first body.now.inits.now.set
+        body.now.frames.now)
         operands.old operands.new end) }
     ensures forward { IfSome result (λ end. at < end) }
     ensures under { operands.new.1 ≡ operands.old.1 }
@@ -69,7 +70,8 @@ pub(crate) fn local_set(
 ) -> Option<usize>
     requires { Begins bytes.now at 0x21 }
     ensures taken { IfSome result (λ end. (m : Meaning) → Takes m features.0 bytes.now at
-        (Surrounds body.now.features.0 body.now.locals.now body.now.inits.now.first body.now.inits.now.set body.now.frames.now)
+        (Surrounds body.now.features.0 body.now.locals.now body.now.inits.now.first body.now.inits.now.set
+        body.now.frames.now)
         operands.old operands.new end) }
     ensures forward { IfSome result (λ end. at < end) }
     ensures under { operands.new.1 ≡ operands.old.1 }
@@ -101,7 +103,8 @@ pub(crate) fn local_tee(
 ) -> Option<usize>
     requires { Begins bytes.now at 0x22 }
     ensures taken { IfSome result (λ end. (m : Meaning) → Takes m features.0 bytes.now at
-        (Surrounds body.now.features.0 body.now.locals.now body.now.inits.now.first body.now.inits.now.set body.now.frames.now)
+        (Surrounds body.now.features.0 body.now.locals.now body.now.inits.now.first body.now.inits.now.set
+        body.now.frames.now)
         operands.old operands.new end) }
     ensures forward { IfSome result (λ end. at < end) }
     ensures under { operands.new.1 ≡ operands.old.1 }
@@ -133,7 +136,8 @@ pub(crate) fn br_if(
 ) -> Option<usize>
     requires { Begins bytes.now at 0x0d }
     ensures taken { IfSome result (λ end. (m : Meaning) → Takes m features.0 bytes.now at
-        (Surrounds body.now.features.0 body.now.locals.now body.now.inits.now.first body.now.inits.now.set body.now.frames.now)
+        (Surrounds body.now.features.0 body.now.locals.now body.now.inits.now.first body.now.inits.now.set
+        body.now.frames.now)
         operands.old operands.new end) }
     ensures forward { IfSome result (λ end. at < end) }
     ensures under { operands.new.1 ≡ operands.old.1 }
@@ -162,7 +166,8 @@ pub(crate) fn drop_top(
 ) -> Option<usize>
     requires { Begins bytes.now at 0x1a }
     ensures taken { IfSome result (λ end. (m : Meaning) → Takes m features.0 bytes.now at
-        (Surrounds body.now.features.0 body.now.locals.now body.now.inits.now.first body.now.inits.now.set body.now.frames.now)
+        (Surrounds body.now.features.0 body.now.locals.now body.now.inits.now.first body.now.inits.now.set
+        body.now.frames.now)
         operands.old operands.new end) }
     ensures forward { IfSome result (λ end. at < end) }
     ensures under { operands.new.1 ≡ operands.old.1 }
@@ -187,7 +192,8 @@ pub(crate) fn i32_const(
 ) -> Option<usize>
     requires { Begins bytes.now at 0x41 }
     ensures taken { IfSome result (λ end. (m : Meaning) → Takes m features.0 bytes.now at
-        (Surrounds body.now.features.0 body.now.locals.now body.now.inits.now.first body.now.inits.now.set body.now.frames.now)
+        (Surrounds body.now.features.0 body.now.locals.now body.now.inits.now.first body.now.inits.now.set
+        body.now.frames.now)
         operands.old operands.new end) }
     ensures forward { IfSome result (λ end. at < end) }
     ensures under { operands.new.1 ≡ operands.old.1 }
@@ -213,7 +219,8 @@ pub(crate) fn i64_const(
 ) -> Option<usize>
     requires { Begins bytes.now at 0x42 }
     ensures taken { IfSome result (λ end. (m : Meaning) → Takes m features.0 bytes.now at
-        (Surrounds body.now.features.0 body.now.locals.now body.now.inits.now.first body.now.inits.now.set body.now.frames.now)
+        (Surrounds body.now.features.0 body.now.locals.now body.now.inits.now.first body.now.inits.now.set
+        body.now.frames.now)
         operands.old operands.new end) }
     ensures forward { IfSome result (λ end. at < end) }
     ensures under { operands.new.1 ≡ operands.old.1 }
@@ -239,7 +246,8 @@ pub(crate) fn f32_const(
 ) -> Option<usize>
     requires { Begins bytes.now at 0x43 }
     ensures taken { IfSome result (λ end. (m : Meaning) → Takes m features.0 bytes.now at
-        (Surrounds body.now.features.0 body.now.locals.now body.now.inits.now.first body.now.inits.now.set body.now.frames.now)
+        (Surrounds body.now.features.0 body.now.locals.now body.now.inits.now.first body.now.inits.now.set
+        body.now.frames.now)
         operands.old operands.new end) }
     ensures forward { IfSome result (λ end. at < end) }
     ensures under { operands.new.1 ≡ operands.old.1 }
@@ -268,7 +276,8 @@ pub(crate) fn f64_const(
 ) -> Option<usize>
     requires { Begins bytes.now at 0x44 }
     ensures taken { IfSome result (λ end. (m : Meaning) → Takes m features.0 bytes.now at
-        (Surrounds body.now.features.0 body.now.locals.now body.now.inits.now.first body.now.inits.now.set body.now.frames.now)
+        (Surrounds body.now.features.0 body.now.locals.now body.now.inits.now.first body.now.inits.now.set
+        body.now.frames.now)
         operands.old operands.new end) }
     ensures forward { IfSome result (λ end. at < end) }
     ensures under { operands.new.1 ≡ operands.old.1 }
@@ -318,7 +327,8 @@ pub(crate) fn load<R: WasmModuleResources>(
     requires begins { Begins bytes.now at code }
     requires access { IsAccessAt load_of code natural number }
     ensures taken { IfSome result (λ end. Takes (R.meaning resources.now) features.0 bytes.now at
-        (Surrounds body.now.features.0 body.now.locals.now body.now.inits.now.first body.now.inits.now.set body.now.frames.now)
+        (Surrounds body.now.features.0 body.now.locals.now body.now.inits.now.first body.now.inits.now.set
+        body.now.frames.now)
         operands.old operands.new end) }
     ensures forward { IfSome result (λ end. at < end) }
     ensures under { operands.new.1 ≡ operands.old.1 }
@@ -356,7 +366,8 @@ pub(crate) fn store<R: WasmModuleResources>(
     requires begins { Begins bytes.now at code }
     requires access { IsAccessAt store_of code natural number }
     ensures taken { IfSome result (λ end. Takes (R.meaning resources.now) features.0 bytes.now at
-        (Surrounds body.now.features.0 body.now.locals.now body.now.inits.now.first body.now.inits.now.set body.now.frames.now)
+        (Surrounds body.now.features.0 body.now.locals.now body.now.inits.now.first body.now.inits.now.set
+        body.now.frames.now)
         operands.old operands.new end) }
     ensures forward { IfSome result (λ end. at < end) }
     ensures under { operands.new.1 ≡ operands.old.1 }
@@ -393,7 +404,8 @@ pub(crate) fn change(
     requires begins { Begins bytes.now at code }
     requires number { IsNumberAt code (floats_of takes || floats_of gives) (type_of takes ∷ []) (type_of gives ∷ []) }
     ensures taken { IfSome result (λ end. (m : Meaning) → Takes m features.0 bytes.now at
-        (Surrounds body.now.features.0 body.now.locals.now body.now.inits.now.first body.now.inits.now.set body.now.frames.now)
+        (Surrounds body.now.features.0 body.now.locals.now body.now.inits.now.first body.now.inits.now.set
+        body.now.frames.now)
         operands.old operands.new end) }
     ensures forward { IfSome result (λ end. at < end) }
     ensures under { operands.new.1 ≡ operands.old.1 }
@@ -422,9 +434,11 @@ pub(crate) fn combine(
     body: &RunBody<'_>,
 ) -> Option<usize>
     requires begins { Begins bytes.now at code }
-    requires number { IsNumberAt code (floats_of takes || floats_of gives) (type_of takes ∷ type_of takes ∷ []) (type_of gives ∷ []) }
+    requires number { IsNumberAt code (floats_of takes || floats_of gives) (type_of takes ∷ type_of takes ∷ [])
+        (type_of gives ∷ []) }
     ensures taken { IfSome result (λ end. (m : Meaning) → Takes m features.0 bytes.now at
-        (Surrounds body.now.features.0 body.now.locals.now body.now.inits.now.first body.now.inits.now.set body.now.frames.now)
+        (Surrounds body.now.features.0 body.now.locals.now body.now.inits.now.first body.now.inits.now.set
+        body.now.frames.now)
         operands.old operands.new end) }
     ensures forward { IfSome result (λ end. at < end) }
     ensures under { operands.new.1 ≡ operands.old.1 }

@@ -25,7 +25,18 @@ impl OperatorValidator {
         requires first { AreFirst params locals inits.first }
         requires none_set { inits.set ≡ [] }
         requires none_saved { inits.saved ≡ None }
-        ensures { result ≡ record { given = record { bits = features.0; locals = locals; params = params; shared = shared }; inits = []; opens = []; failed = false; saved = none_saved } }
+        ensures { result ≡ record {
+          given = record {
+            bits = features.0;
+            locals = locals;
+            params = params;
+            shared = shared;
+          };
+          inits = [];
+          opens = [];
+          failed = false;
+          saved = none_saved;
+        } }
     {
         let mut operands = operands;
         let mut control = control;

@@ -29,8 +29,10 @@ impl OperatorValidator {
         resources: &R,
     ) -> Result<()>
         requires within { IsWithinCeilings limits }
-        ensures defined { OnOk result (DefinesLocals (R.meaning resources.now) limits.locals self.old count ty self.new) }
-        ensures refused { IfErr result (λ e. RefusesLocals (R.meaning resources.now) limits.locals self.old count ty e.kind) }
+        ensures defined { OnOk result (DefinesLocals (R.meaning resources.now) limits.locals self.old
+            count ty self.new) }
+        ensures refused { IfErr result (λ e. RefusesLocals (R.meaning resources.now) limits.locals self.old
+            count ty e.kind) }
         ensures stays { IfErr result (λ _. self.new ≡ self.old) }
         ensures at { RefusedAt offset result }
     {
@@ -50,7 +52,8 @@ impl OperatorValidator {
         resources: &R,
     ) -> Result<ValType>
         ensures answer { MatchResult result
-            (λ named. IsType self.now.given.bits (R.meaning resources.now).«module» ty (type_in (R.meaning resources.now) named))
+            (λ named. IsType self.now.given.bits (R.meaning resources.now).«module» ty
+            (type_in (R.meaning resources.now) named))
             (λ e. Denies e.kind (MayWrite (R.meaning resources.now) self.now ty)) }
         ensures at { RefusedAt offset result }
     {
@@ -72,7 +75,8 @@ impl OperatorValidator {
         resources: &R,
     ) -> Result<ValType>
         ensures answer { MatchResult result
-            (λ named. IsType self.now.given.bits (R.meaning resources.now).«module» ty (type_in (R.meaning resources.now) named))
+            (λ named. IsType self.now.given.bits (R.meaning resources.now).«module» ty
+            (type_in (R.meaning resources.now) named))
             (λ e. Denies e.kind (MayWrite (R.meaning resources.now) self.now ty)) }
         ensures at { RefusedAt offset result }
     {

@@ -30,7 +30,8 @@ pub(crate) fn is_same(found: &MaybeType, expected: &ValType) -> bool
 
 /// Whether what is known of an operand may be taken for one of this type.
 pub fn is_fit<R: WasmModuleResources>(resources: &R, found: &MaybeType, expected: &ValType) -> bool
-    ensures { IsTrue result ↔ Stands (R.meaning resources.now) found.now (known (type_in (R.meaning resources.now) expected.now)) }
+    ensures { IsTrue result ↔ Stands (R.meaning resources.now) found.now
+        (known (type_in (R.meaning resources.now) expected.now)) }
 {
     match found {
         MaybeType::Bottom => true,
@@ -45,7 +46,8 @@ fn is_unknown_fit<R: WasmModuleResources>(
     ty: Option<AbstractHeapType>,
     expected: &ValType,
 ) -> bool
-    ensures { IsTrue result ↔ Stands (R.meaning resources.now) (MaybeType.UnknownRef ty) (known (type_in (R.meaning resources.now) expected.now)) }
+    ensures { IsTrue result ↔ Stands (R.meaning resources.now) (MaybeType.UnknownRef ty)
+        (known (type_in (R.meaning resources.now) expected.now)) }
 {
     match ty {
         None => expected.is_reference_type(),

@@ -48,7 +48,8 @@ impl OperatorValidator {
 
     /// Opens a frame. Its parameters are not on the operands yet. It is refused for memory alone, and nothing changes then.
     pub fn enter(&mut self, kind: FrameKind, block_type: BlockType) -> Result<(), Refusal>
-        ensures entered { OnOk result (self.new ≡ record self.old { opens = begun kind block_type self.old.inits ∷ self.old.opens }) }
+        ensures entered { OnOk result (self.new ≡ record self.old
+            { opens = begun kind block_type self.old.inits ∷ self.old.opens }) }
         ensures refused { IfErr result (λ r. (r ≡ OutOfMemory) × (self.new ≡ self.old)) }
     {
         let frame = Frame {
@@ -68,7 +69,8 @@ impl OperatorValidator {
     #[inline(always)]
     pub fn leave(&mut self) -> Result<Frame, Refusal>
         requires { IsOpen self.old.opens }
-        ensures left { MatchResult result (λ frame. Leaves self.old frame self.new) (λ r. Denies (kind_of r) (IsBare self.old.opens)) }
+        ensures left { MatchResult result (λ frame. Leaves self.old frame self.new)
+            (λ r. Denies (kind_of r) (IsBare self.old.opens)) }
         ensures given { self.new.given ≡ self.old.given }
         ensures failed { self.new.failed ≡ self.old.failed }
         ensures saved { self.new.saved ≡ self.old.saved }

@@ -30,7 +30,8 @@ impl OperatorValidator {
 
     /// The frame that a label names, which counts outwards from the innermost, if there is one.
     pub fn get_frame(&self, depth: usize) -> Option<&Frame>
-        ensures { MatchOption result (frame_at self.now.opens depth ≡ None) (λ f. frame_at self.now.opens depth ≡ Some f.now) }
+        ensures { MatchOption result (frame_at self.now.opens depth ≡ None)
+            (λ f. frame_at self.now.opens depth ≡ Some f.now) }
     {
         let frames = self.control.as_slice();
         if depth >= frames.len() {

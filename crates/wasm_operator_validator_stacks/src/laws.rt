@@ -11,6 +11,8 @@ ghost use Rattle.wasm_operator_validator_stacks.specs.Layout.{none_saved, rolled
 /// outside an attempt.
 #[tactic(auto, using(crate::specs::laws::Attempts::taken_back_checks, crate::specs::laws::Attempts::taken_back_visits))]
 pub fn attempts_are_taken_back()
-    ensures checks { (m : Meaning) (σ β τ : State) (o : Op) (answer : Option ErrorKind) → Begins σ β → Checks m β o answer τ → rolled_back τ ≡ record σ { saved = none_saved } }
-    ensures visits { (m : Meaning) (σ β τ : State) (o : Op) (answer : Option ErrorKind) → Begins σ β → Visits m β o answer τ → rolled_back τ ≡ record σ { saved = none_saved } }
+    ensures checks { (m : Meaning) (σ β τ : State) (o : Op) (answer : Option ErrorKind) → Begins σ β
+        → Checks m β o answer τ → rolled_back τ ≡ record σ { saved = none_saved } }
+    ensures visits { (m : Meaning) (σ β τ : State) (o : Op) (answer : Option ErrorKind) → Begins σ β
+        → Visits m β o answer τ → rolled_back τ ≡ record σ { saved = none_saved } }
 {}

@@ -57,7 +57,8 @@ pub trait Run {
     /// Takes one more operator, which exchanges operands of the innermost frame; or none, and then nothing changes.
     fn next(&mut self, operands: &mut RunOperands, body: &RunBody<'_>) -> bool
         ensures stepped { result ≡ true → (σ : State)
-            → Surrounds body.now.features.0 body.now.locals.now body.now.inits.now.first body.now.inits.now.set body.now.frames.now σ
+            → Surrounds body.now.features.0 body.now.locals.now body.now.inits.now.first body.now.inits.now.set
+            body.now.frames.now σ
             → own_of σ.opens ≡ operands.old.0 → steps self.old σ self.new (over σ operands.new.0) }
         ensures under { operands.new.1 ≡ operands.old.1 }
         ensures fewer { result ≡ true → left self.new < left self.old }
@@ -194,7 +195,8 @@ impl<'v> RunBody<'v> {
     #[inline(always)]
     pub fn local(&self, index: u32) -> Option<ValType>
         ensures { IfSome result (λ t. (σ : State)
-            → Surrounds self.now.features.0 self.now.locals.now self.now.inits.now.first self.now.inits.now.set self.now.frames.now σ
+            → Surrounds self.now.features.0 self.now.locals.now self.now.inits.now.first self.now.inits.now.set
+            self.now.frames.now σ
             → HasLocal σ index t) }
     {
         let Some(ty) = self.locals.get_first(index) else {
@@ -210,7 +212,8 @@ impl<'v> RunBody<'v> {
     #[inline(always)]
     pub fn has_bare_label(&self, depth: u32) -> bool
         ensures { result ≡ true → (σ : State)
-            → Surrounds self.now.features.0 self.now.locals.now self.now.inits.now.first self.now.inits.now.set self.now.frames.now σ
+            → Surrounds self.now.features.0 self.now.locals.now self.now.inits.now.first self.now.inits.now.set
+            self.now.frames.now σ
             → HasBareLabel σ depth }
     {
         let depth = depth as usize;
@@ -247,7 +250,8 @@ fn is_bare(block_type: &BlockType, kind: FrameKind) -> bool
 #[inline(always)]
 fn run_over<U: Run>(run: U, operands: RunOperands, body: RunBody<'_>) -> (U, RunOperands)
     ensures under { result.1.1 ≡ operands.1 }
-    ensures runs { (σ : State) → Surrounds body.entry.features.0 body.entry.locals.now body.entry.inits.now.first body.entry.inits.now.set body.entry.frames.now σ
+    ensures runs { (σ : State) → Surrounds body.entry.features.0 body.entry.locals.now body.entry.inits.now.first
+        body.entry.inits.now.set body.entry.frames.now σ
         → own_of σ.opens ≡ operands.0 → Runs U.steps run σ result.0 (over σ result.1.0) }
 {
     let mut run = run;

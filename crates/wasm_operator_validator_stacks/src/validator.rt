@@ -37,11 +37,18 @@ pub struct OperatorValidator {
 impl Model for OperatorValidator {
     ghost Value = { State };
 
-    ghost view = { λ v. state_of (record { bits = v.features.0; locals = v.locals; params = v.params; shared = v.shared })
-        (record { operands = v.operands.1; frames = v.control.1; inits = v.inits.saved; failed = v.failed_before }) v.failed v.control.0 v.operands.0
+    ghost view = { λ v. state_of (record {
+      bits = v.features.0;
+      locals = v.locals;
+      params = v.params;
+      shared = v.shared;
+    })
+        (record { operands = v.operands.1; frames = v.control.1; inits = v.inits.saved; failed = v.failed_before })
+        v.failed v.control.0 v.operands.0
         v.inits.set };
 
-    ghost invariant = { λ v. IsLayered v.control.0 v.operands.0 v.inits.set × IsSavedLayered v.control.1 v.operands.1 v.inits.saved × AreFirst v.params v.locals v.inits.first };
+    ghost invariant = { λ v. IsLayered v.control.0 v.operands.0 v.inits.set
+        × IsSavedLayered v.control.1 v.operands.1 v.inits.saved × AreFirst v.params v.locals v.inits.first };
 }
 
 impl OperatorValidator {
@@ -64,7 +71,8 @@ impl OperatorValidator {
     /// Takes an operand off, whatever it is.
     #[inline]
     pub fn pop_any(&mut self) -> Result<MaybeType, Refusal>
-        ensures does { (m : Meaning) → MatchResult result (λ a. PoppedAny m self.old a self.new) (λ r. Denies (kind_of r) (MayPopAny m self.old)) }
+        ensures does { (m : Meaning) → MatchResult result (λ a. PoppedAny m self.old a self.new)
+            (λ r. Denies (kind_of r) (MayPopAny m self.old)) }
         ensures given { self.new.given ≡ self.old.given }
         ensures failed { self.new.failed ≡ self.old.failed }
         ensures saved { self.new.saved ≡ self.old.saved }
@@ -225,7 +233,8 @@ impl OperatorValidator {
         types: &[ValType],
     ) -> Result<(), Refusal>
         requires { IsOpen self.old.opens }
-        ensures does { Does (refused result) (Pushed (R.meaning resources.now) self.old (stack (types_in (R.meaning resources.now) types.now)) self.new) (Unit {0}) }
+        ensures does { Does (refused result) (Pushed (R.meaning resources.now) self.old
+            (stack (types_in (R.meaning resources.now) types.now)) self.new) (Unit {0}) }
         ensures given { self.new.given ≡ self.old.given }
         ensures failed { self.new.failed ≡ self.old.failed }
         ensures saved { self.new.saved ≡ self.old.saved }
@@ -265,8 +274,10 @@ impl OperatorValidator {
     ) -> Result<(), Refusal>
         requires { IsOpen self.old.opens }
         ensures does { Does (refused result) (Exchanged (R.meaning resources.now) self.old
-            (types_in (R.meaning resources.now) (popped.now ∷ popped.now ∷ [])) (types_in (R.meaning resources.now) (pushed.now ∷ [])) self.new)
-            (MayPop (R.meaning resources.now) self.old (stack (types_in (R.meaning resources.now) (popped.now ∷ popped.now ∷ [])))) }
+            (types_in (R.meaning resources.now) (popped.now ∷ popped.now ∷ []))
+            (types_in (R.meaning resources.now) (pushed.now ∷ [])) self.new)
+            (MayPop (R.meaning resources.now) self.old (stack
+            (types_in (R.meaning resources.now) (popped.now ∷ popped.now ∷ [])))) }
         ensures given { self.new.given ≡ self.old.given }
         ensures failed { self.new.failed ≡ self.old.failed }
         ensures saved { self.new.saved ≡ self.old.saved }
@@ -295,8 +306,10 @@ impl OperatorValidator {
     ) -> Result<(), Refusal>
         requires { IsOpen self.old.opens }
         ensures does { Does (refused result) (Exchanged (R.meaning resources.now) self.old
-            (types_in (R.meaning resources.now) (popped.now ∷ popped.now ∷ [])) (types_in (R.meaning resources.now) (pushed.now ∷ [])) self.new)
-            (MayPop (R.meaning resources.now) self.old (stack (types_in (R.meaning resources.now) (popped.now ∷ popped.now ∷ [])))) }
+            (types_in (R.meaning resources.now) (popped.now ∷ popped.now ∷ []))
+            (types_in (R.meaning resources.now) (pushed.now ∷ [])) self.new)
+            (MayPop (R.meaning resources.now) self.old (stack
+            (types_in (R.meaning resources.now) (popped.now ∷ popped.now ∷ [])))) }
         ensures given { self.new.given ≡ self.old.given }
         ensures failed { self.new.failed ≡ self.old.failed }
         ensures saved { self.new.saved ≡ self.old.saved }
@@ -313,7 +326,8 @@ impl OperatorValidator {
         pushed: &[ValType],
     ) -> Result<(), Refusal>
         requires { IsOpen self.old.opens }
-        ensures does { Does (refused result) (Exchanged (R.meaning resources.now) self.old (types_in (R.meaning resources.now) popped.now)
+        ensures does { Does (refused result) (Exchanged (R.meaning resources.now) self.old
+            (types_in (R.meaning resources.now) popped.now)
             (types_in (R.meaning resources.now) pushed.now) self.new)
             (MayPop (R.meaning resources.now) self.old (stack (types_in (R.meaning resources.now) popped.now))) }
         ensures given { self.new.given ≡ self.old.given }

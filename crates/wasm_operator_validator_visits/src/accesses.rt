@@ -26,7 +26,8 @@ impl<'v, 'r, R: WasmModuleResources, A: AnswerAs> ValidatingVisitor<'v, 'r, R, A
         ty: &ValType,
     ) -> A::Output
         requires { IsAccess load op memarg.now floats ty.now }
-        ensures tells { A.tells (R.meaning self.old.resources.now) self.old.inner.now self.old.answer (Op.Memory op) result self.new.inner.now self.new.answer }
+        ensures tells { A.tells (R.meaning self.old.resources.now) self.old.inner.now self.old.answer
+            (Op.Memory op) result self.new.inner.now self.new.answer }
         ensures lent { self.new.inner.ghost_name ≡ self.old.inner.ghost_name }
         ensures resources { self.new.resources.now ≡ self.old.resources.now }
     {
@@ -44,7 +45,8 @@ impl<'v, 'r, R: WasmModuleResources, A: AnswerAs> ValidatingVisitor<'v, 'r, R, A
         ty: &ValType,
     ) -> A::Output
         requires { IsAccess store op memarg.now floats ty.now }
-        ensures tells { A.tells (R.meaning self.old.resources.now) self.old.inner.now self.old.answer (Op.Memory op) result self.new.inner.now self.new.answer }
+        ensures tells { A.tells (R.meaning self.old.resources.now) self.old.inner.now self.old.answer
+            (Op.Memory op) result self.new.inner.now self.new.answer }
         ensures lent { self.new.inner.ghost_name ≡ self.old.inner.ghost_name }
         ensures resources { self.new.resources.now ≡ self.old.resources.now }
     {
@@ -61,7 +63,8 @@ impl<'v, 'r, R: WasmModuleResources, A: AnswerAs> ValidatingVisitor<'v, 'r, R, A
         ty: &ValType,
     ) -> A::Output
         requires { IsAtomic load op memarg.now ty.now }
-        ensures tells { A.tells (R.meaning self.old.resources.now) self.old.inner.now self.old.answer (Op.Atomic op) result self.new.inner.now self.new.answer }
+        ensures tells { A.tells (R.meaning self.old.resources.now) self.old.inner.now self.old.answer
+            (Op.Atomic op) result self.new.inner.now self.new.answer }
         ensures lent { self.new.inner.ghost_name ≡ self.old.inner.ghost_name }
         ensures resources { self.new.resources.now ≡ self.old.resources.now }
     {
@@ -78,7 +81,8 @@ impl<'v, 'r, R: WasmModuleResources, A: AnswerAs> ValidatingVisitor<'v, 'r, R, A
         ty: &ValType,
     ) -> A::Output
         requires { IsAtomic store op memarg.now ty.now }
-        ensures tells { A.tells (R.meaning self.old.resources.now) self.old.inner.now self.old.answer (Op.Atomic op) result self.new.inner.now self.new.answer }
+        ensures tells { A.tells (R.meaning self.old.resources.now) self.old.inner.now self.old.answer
+            (Op.Atomic op) result self.new.inner.now self.new.answer }
         ensures lent { self.new.inner.ghost_name ≡ self.old.inner.ghost_name }
         ensures resources { self.new.resources.now ≡ self.old.resources.now }
     {
@@ -95,7 +99,8 @@ impl<'v, 'r, R: WasmModuleResources, A: AnswerAs> ValidatingVisitor<'v, 'r, R, A
         ty: &ValType,
     ) -> A::Output
         requires { IsAtomic modify op memarg.now ty.now }
-        ensures tells { A.tells (R.meaning self.old.resources.now) self.old.inner.now self.old.answer (Op.Atomic op) result self.new.inner.now self.new.answer }
+        ensures tells { A.tells (R.meaning self.old.resources.now) self.old.inner.now self.old.answer
+            (Op.Atomic op) result self.new.inner.now self.new.answer }
         ensures lent { self.new.inner.ghost_name ≡ self.old.inner.ghost_name }
         ensures resources { self.new.resources.now ≡ self.old.resources.now }
     {
@@ -112,7 +117,8 @@ impl<'v, 'r, R: WasmModuleResources, A: AnswerAs> ValidatingVisitor<'v, 'r, R, A
         ty: &ValType,
     ) -> A::Output
         requires { IsAtomic compare_exchange op memarg.now ty.now }
-        ensures tells { A.tells (R.meaning self.old.resources.now) self.old.inner.now self.old.answer (Op.Atomic op) result self.new.inner.now self.new.answer }
+        ensures tells { A.tells (R.meaning self.old.resources.now) self.old.inner.now self.old.answer
+            (Op.Atomic op) result self.new.inner.now self.new.answer }
         ensures lent { self.new.inner.ghost_name ≡ self.old.inner.ghost_name }
         ensures resources { self.new.resources.now ≡ self.old.resources.now }
     {
@@ -129,7 +135,8 @@ impl<'v, 'r, R: WasmModuleResources, A: AnswerAs> ValidatingVisitor<'v, 'r, R, A
         ty: &ValType,
     ) -> A::Output
         requires { IsAtomic wait op memarg.now ty.now }
-        ensures tells { A.tells (R.meaning self.old.resources.now) self.old.inner.now self.old.answer (Op.Atomic op) result self.new.inner.now self.new.answer }
+        ensures tells { A.tells (R.meaning self.old.resources.now) self.old.inner.now self.old.answer
+            (Op.Atomic op) result self.new.inner.now self.new.answer }
         ensures lent { self.new.inner.ghost_name ≡ self.old.inner.ghost_name }
         ensures resources { self.new.resources.now ≡ self.old.resources.now }
     {

@@ -21,11 +21,13 @@ pub trait AnswerAs {
 
     /// The answer, where the operator was refused for this or was not.
     fn answer(&self, answer: Result<(), Refusal>) -> Self::Output
-        ensures { (m : Meaning) (σ τ : State) (o : Op) → Visits m σ o (refused answer) τ → Self.tells m σ self.now o result τ self.now };
+        ensures { (m : Meaning) (σ τ : State) (o : Op) → Visits m σ o (refused answer) τ
+            → Self.tells m σ self.now o result τ self.now };
 
     /// The answer, where the operator of this name was refused since it has no rule yet.
     fn unsupported(&self, name: &'static str) -> Self::Output
-        ensures { (m : Meaning) (σ τ : State) (o : Op) → Visits m σ o (Some Other) τ → Self.tells m σ self.now o result τ self.now };
+        ensures { (m : Meaning) (σ τ : State) (o : Op) → Visits m σ o (Some Other) τ
+            → Self.tells m σ self.now o result τ self.now };
 }
 
 /// By a refusal in few bytes, without a text and an offset.
@@ -58,7 +60,8 @@ pub struct AsError {
 impl AnswerAs for AsError {
     type Output = wasm_types::Result<()>;
 
-    ghost tells = { λ m σ before o answer τ after. Tells m σ before.offset o answer τ × (after.offset ≡ before.offset) };
+    ghost tells = { λ m σ before o answer τ after. Tells m σ before.offset o answer τ
+        × (after.offset ≡ before.offset) };
 
     #[inline(always)]
     fn answer(&self, answer: Result<(), Refusal>) -> wasm_types::Result<()> {

@@ -23,7 +23,8 @@ impl<'v, 'r, R: WasmModuleResources, A: AnswerAs> ValidatingVisitor<'v, 'r, R, A
         gives: &[ValType],
     ) -> A::Output
         requires { IsNumeric op proposal floats takes.now gives.now }
-        ensures tells { A.tells (R.meaning self.old.resources.now) self.old.inner.now self.old.answer (Op.Numeric op) result self.new.inner.now self.new.answer }
+        ensures tells { A.tells (R.meaning self.old.resources.now) self.old.inner.now self.old.answer
+            (Op.Numeric op) result self.new.inner.now self.new.answer }
         ensures lent { self.new.inner.ghost_name ≡ self.old.inner.ghost_name }
         ensures resources { self.new.resources.now ≡ self.old.resources.now }
     {
@@ -49,7 +50,8 @@ impl<'v, 'r, R: WasmModuleResources, A: AnswerAs> ValidatingVisitor<'v, 'r, R, A
         gives: &ValType,
     ) -> A::Output
         requires { IsNumeric op Mvp floats (takes.now ∷ takes.now ∷ []) (gives.now ∷ []) }
-        ensures tells { A.tells (R.meaning self.old.resources.now) self.old.inner.now self.old.answer (Op.Numeric op) result self.new.inner.now self.new.answer }
+        ensures tells { A.tells (R.meaning self.old.resources.now) self.old.inner.now self.old.answer
+            (Op.Numeric op) result self.new.inner.now self.new.answer }
         ensures lent { self.new.inner.ghost_name ≡ self.old.inner.ghost_name }
         ensures resources { self.new.resources.now ≡ self.old.resources.now }
     {
@@ -66,7 +68,8 @@ impl<'v, 'r, R: WasmModuleResources, A: AnswerAs> ValidatingVisitor<'v, 'r, R, A
         gives: &ValType,
     ) -> A::Output
         requires { IsNumeric op Mvp false (takes.now ∷ []) (gives.now ∷ []) }
-        ensures tells { A.tells (R.meaning self.old.resources.now) self.old.inner.now self.old.answer (Op.Numeric op) result self.new.inner.now self.new.answer }
+        ensures tells { A.tells (R.meaning self.old.resources.now) self.old.inner.now self.old.answer
+            (Op.Numeric op) result self.new.inner.now self.new.answer }
         ensures lent { self.new.inner.ghost_name ≡ self.old.inner.ghost_name }
         ensures resources { self.new.resources.now ≡ self.old.resources.now }
     {
@@ -82,7 +85,8 @@ impl<'v, 'r, R: WasmModuleResources, A: AnswerAs> ValidatingVisitor<'v, 'r, R, A
         gives: &ValType,
     ) -> A::Output
         requires { IsNumeric op Mvp false (takes.now ∷ takes.now ∷ []) (gives.now ∷ []) }
-        ensures tells { A.tells (R.meaning self.old.resources.now) self.old.inner.now self.old.answer (Op.Numeric op) result self.new.inner.now self.new.answer }
+        ensures tells { A.tells (R.meaning self.old.resources.now) self.old.inner.now self.old.answer
+            (Op.Numeric op) result self.new.inner.now self.new.answer }
         ensures lent { self.new.inner.ghost_name ≡ self.old.inner.ghost_name }
         ensures resources { self.new.resources.now ≡ self.old.resources.now }
     {
@@ -98,7 +102,8 @@ impl<'v, 'r, R: WasmModuleResources, A: AnswerAs> ValidatingVisitor<'v, 'r, R, A
         gives: &ValType,
     ) -> A::Output
         requires { IsNumeric op Mvp true (takes.now ∷ []) (gives.now ∷ []) }
-        ensures tells { A.tells (R.meaning self.old.resources.now) self.old.inner.now self.old.answer (Op.Numeric op) result self.new.inner.now self.new.answer }
+        ensures tells { A.tells (R.meaning self.old.resources.now) self.old.inner.now self.old.answer
+            (Op.Numeric op) result self.new.inner.now self.new.answer }
         ensures lent { self.new.inner.ghost_name ≡ self.old.inner.ghost_name }
         ensures resources { self.new.resources.now ≡ self.old.resources.now }
     {
@@ -114,7 +119,8 @@ impl<'v, 'r, R: WasmModuleResources, A: AnswerAs> ValidatingVisitor<'v, 'r, R, A
         gives: &ValType,
     ) -> A::Output
         requires { IsNumeric op Mvp true (takes.now ∷ takes.now ∷ []) (gives.now ∷ []) }
-        ensures tells { A.tells (R.meaning self.old.resources.now) self.old.inner.now self.old.answer (Op.Numeric op) result self.new.inner.now self.new.answer }
+        ensures tells { A.tells (R.meaning self.old.resources.now) self.old.inner.now self.old.answer
+            (Op.Numeric op) result self.new.inner.now self.new.answer }
         ensures lent { self.new.inner.ghost_name ≡ self.old.inner.ghost_name }
         ensures resources { self.new.resources.now ≡ self.old.resources.now }
     {

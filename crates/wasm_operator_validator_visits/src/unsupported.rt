@@ -13,7 +13,8 @@ impl<'v, 'r, R: WasmModuleResources, A: AnswerAs> ValidatingVisitor<'v, 'r, R, A
     #[cold]
     fn without_rule(&mut self, proposal: Proposal, name: &'static str) -> A::Output
         ensures tells { (o : Op) → IsWithoutRule (R.meaning self.old.resources.now) self.old.inner.now o proposal
-            → A.tells (R.meaning self.old.resources.now) self.old.inner.now self.old.answer o result self.new.inner.now self.new.answer }
+            → A.tells (R.meaning self.old.resources.now) self.old.inner.now self.old.answer o result self.new.inner.now
+            self.new.answer }
         ensures lent { self.new.inner.ghost_name ≡ self.old.inner.ghost_name }
         ensures resources { self.new.resources.now ≡ self.old.resources.now }
     {
@@ -29,7 +30,8 @@ impl<'v, 'r, R: WasmModuleResources, A: AnswerAs> ValidatingVisitor<'v, 'r, R, A
     /// Refuses an operator on descriptors.
     #[cold]
     pub(crate) fn descriptor(&mut self, op: DescriptorOperator) -> A::Output
-        ensures tells { A.tells (R.meaning self.old.resources.now) self.old.inner.now self.old.answer (Op.Descriptor op) result self.new.inner.now self.new.answer }
+        ensures tells { A.tells (R.meaning self.old.resources.now) self.old.inner.now self.old.answer
+            (Op.Descriptor op) result self.new.inner.now self.new.answer }
         ensures lent { self.new.inner.ghost_name ≡ self.old.inner.ghost_name }
         ensures resources { self.new.resources.now ≡ self.old.resources.now }
     {
@@ -40,7 +42,8 @@ impl<'v, 'r, R: WasmModuleResources, A: AnswerAs> ValidatingVisitor<'v, 'r, R, A
     /// Refuses an atomic access to something else than a memory.
     #[cold]
     pub(crate) fn shared(&mut self, op: SharedOperator) -> A::Output
-        ensures tells { A.tells (R.meaning self.old.resources.now) self.old.inner.now self.old.answer (Op.Shared op) result self.new.inner.now self.new.answer }
+        ensures tells { A.tells (R.meaning self.old.resources.now) self.old.inner.now self.old.answer
+            (Op.Shared op) result self.new.inner.now self.new.answer }
         ensures lent { self.new.inner.ghost_name ≡ self.old.inner.ghost_name }
         ensures resources { self.new.resources.now ≡ self.old.resources.now }
     {
@@ -51,7 +54,8 @@ impl<'v, 'r, R: WasmModuleResources, A: AnswerAs> ValidatingVisitor<'v, 'r, R, A
     /// Refuses an operator on continuations.
     #[cold]
     pub(crate) fn continuation(&mut self, op: ContinuationOperator) -> A::Output
-        ensures tells { A.tells (R.meaning self.old.resources.now) self.old.inner.now self.old.answer (Op.Continuation (continuation_of op)) result self.new.inner.now self.new.answer }
+        ensures tells { A.tells (R.meaning self.old.resources.now) self.old.inner.now self.old.answer
+            (Op.Continuation (continuation_of op)) result self.new.inner.now self.new.answer }
         ensures lent { self.new.inner.ghost_name ≡ self.old.inner.ghost_name }
         ensures resources { self.new.resources.now ≡ self.old.resources.now }
     {

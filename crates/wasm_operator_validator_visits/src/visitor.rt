@@ -28,7 +28,8 @@ impl<'a, 'v, 'r, R: WasmModuleResources, A: AnswerAs> Visitor<'a>
     for ValidatingVisitor<'v, 'r, R, A> {
     type Output = A::Output;
 
-    ghost visits = { λ before op answer after. A.tells (R.meaning before.resources.now) before.inner.now before.answer op answer after.inner.now after.answer
+    ghost visits = { λ before op answer after. A.tells (R.meaning before.resources.now) before.inner.now before.answer
+        op answer after.inner.now after.answer
         × (after.inner.ghost_name ≡ before.inner.ghost_name) × (after.resources.now ≡ before.resources.now) };
 }
 
@@ -36,7 +37,8 @@ impl<'v, 'r, R: WasmModuleResources, A: AnswerAs> ValidatingVisitor<'v, 'r, R, A
     /// The answer of a visit to the check of its operator: where that refused it, the validator has failed.
     #[inline(always)]
     pub(crate) fn tell(&mut self, checked: Result<(), Refusal>) -> A::Output
-        ensures tells { (σ : State) (o : Op) → Checks (R.meaning self.old.resources.now) σ o (refused checked) self.old.inner.now
+        ensures tells { (σ : State) (o : Op) → Checks (R.meaning self.old.resources.now) σ o
+            (refused checked) self.old.inner.now
             → A.tells (R.meaning self.old.resources.now) σ self.old.answer o result self.new.inner.now self.new.answer }
         ensures lent { self.new.inner.ghost_name ≡ self.old.inner.ghost_name }
         ensures resources { self.new.resources.now ≡ self.old.resources.now }

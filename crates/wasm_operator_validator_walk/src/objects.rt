@@ -165,7 +165,8 @@ fn object<'a, V: VisitGc<'a>>(
     visitor: &mut V,
 ) -> Option<(V::Output, usize)>
     requires { Begins bytes.now at 0xfb }
-    ensures told { IfSome result (λ r. IsTold features.0 bytes.now at r.1 (λ o. V.visits visitor.old o r.0 visitor.new)) }
+    ensures told { IfSome result (λ r. IsTold features.0 bytes.now at r.1
+        (λ o. V.visits visitor.old o r.0 visitor.new)) }
     ensures none { IfNone result (visitor.new ≡ visitor.old) }
 {
     let Some((code, middle)) = short_u32_at(bytes, at + 1) else {
@@ -194,7 +195,8 @@ fn object_field<'a, V: VisitGc<'a>>(
     visitor: &mut V,
 ) -> Option<(V::Output, usize)>
     requires { BeginsPrefixed bytes.now at 0xfb code middle }
-    ensures told { IfSome result (λ r. IsTold features.0 bytes.now at r.1 (λ o. V.visits visitor.old o r.0 visitor.new)) }
+    ensures told { IfSome result (λ r. IsTold features.0 bytes.now at r.1
+        (λ o. V.visits visitor.old o r.0 visitor.new)) }
     ensures none { IfNone result (visitor.new ≡ visitor.old) }
 {
     let Some((ty, next)) = short_u32_at(bytes, middle) else {
@@ -225,7 +227,8 @@ fn object_type<'a, V: VisitGc<'a>>(
     visitor: &mut V,
 ) -> Option<(V::Output, usize)>
     requires { BeginsPrefixed bytes.now at 0xfb code middle }
-    ensures told { IfSome result (λ r. IsTold features.0 bytes.now at r.1 (λ o. V.visits visitor.old o r.0 visitor.new)) }
+    ensures told { IfSome result (λ r. IsTold features.0 bytes.now at r.1
+        (λ o. V.visits visitor.old o r.0 visitor.new)) }
     ensures none { IfNone result (visitor.new ≡ visitor.old) }
 {
     let Some((ty, end)) = short_u32_at(bytes, middle) else {
@@ -256,7 +259,8 @@ fn object_alone<'a, V: VisitGc<'a>>(
     visitor: &mut V,
 ) -> Option<(V::Output, usize)>
     requires { BeginsPrefixed bytes.now at 0xfb code end }
-    ensures told { IfSome result (λ r. IsTold features.0 bytes.now at r.1 (λ o. V.visits visitor.old o r.0 visitor.new)) }
+    ensures told { IfSome result (λ r. IsTold features.0 bytes.now at r.1
+        (λ o. V.visits visitor.old o r.0 visitor.new)) }
     ensures none { IfNone result (visitor.new ≡ visitor.old) }
 {
     match code {
@@ -281,7 +285,8 @@ fn object_cast<'a, V: VisitGc<'a>>(
     visitor: &mut V,
 ) -> Option<(V::Output, usize)>
     requires { BeginsPrefixed bytes.now at 0xfb code middle }
-    ensures told { IfSome result (λ r. IsTold features.0 bytes.now at r.1 (λ o. V.visits visitor.old o r.0 visitor.new)) }
+    ensures told { IfSome result (λ r. IsTold features.0 bytes.now at r.1
+        (λ o. V.visits visitor.old o r.0 visitor.new)) }
     ensures none { IfNone result (visitor.new ≡ visitor.old) }
 {
     let Some((hty, end)) = heap_type_at(bytes, middle) else {
@@ -306,7 +311,8 @@ fn reference<'a, V: VisitMemory<'a>>(
     visitor: &mut V,
 ) -> Option<(V::Output, usize)>
     requires { Begins bytes.now at code }
-    ensures told { IfSome result (λ r. IsTold features.0 bytes.now at r.1 (λ o. V.visits visitor.old o r.0 visitor.new)) }
+    ensures told { IfSome result (λ r. IsTold features.0 bytes.now at r.1
+        (λ o. V.visits visitor.old o r.0 visitor.new)) }
     ensures none { IfNone result (visitor.new ≡ visitor.old) }
 {
     match code {
@@ -326,7 +332,8 @@ fn null_reference<'a, V: VisitMemory<'a>>(
     visitor: &mut V,
 ) -> Option<(V::Output, usize)>
     requires { Begins bytes.now at code }
-    ensures told { IfSome result (λ r. IsTold features.0 bytes.now at r.1 (λ o. V.visits visitor.old o r.0 visitor.new)) }
+    ensures told { IfSome result (λ r. IsTold features.0 bytes.now at r.1
+        (λ o. V.visits visitor.old o r.0 visitor.new)) }
     ensures none { IfNone result (visitor.new ≡ visitor.old) }
 {
     let Some((hty, end)) = heap_type_at(bytes, at + 1) else {
@@ -348,7 +355,8 @@ fn indexed_reference<'a, V: VisitMemory<'a>>(
     visitor: &mut V,
 ) -> Option<(V::Output, usize)>
     requires { Begins bytes.now at code }
-    ensures told { IfSome result (λ r. IsTold features.0 bytes.now at r.1 (λ o. V.visits visitor.old o r.0 visitor.new)) }
+    ensures told { IfSome result (λ r. IsTold features.0 bytes.now at r.1
+        (λ o. V.visits visitor.old o r.0 visitor.new)) }
     ensures none { IfNone result (visitor.new ≡ visitor.old) }
 {
     let Some((index, end)) = short_u32_at(bytes, at + 1) else {
@@ -372,7 +380,8 @@ fn equal_references<'a, V: VisitGc<'a>>(
     visitor: &mut V,
 ) -> Option<(V::Output, usize)>
     requires { Begins bytes.now at code }
-    ensures told { IfSome result (λ r. IsTold features.0 bytes.now at r.1 (λ o. V.visits visitor.old o r.0 visitor.new)) }
+    ensures told { IfSome result (λ r. IsTold features.0 bytes.now at r.1
+        (λ o. V.visits visitor.old o r.0 visitor.new)) }
     ensures none { IfNone result (visitor.new ≡ visitor.old) }
 {
     match code {
@@ -391,7 +400,8 @@ fn control_reference<'a, V: VisitControl<'a>>(
     visitor: &mut V,
 ) -> Option<(V::Output, usize)>
     requires { Begins bytes.now at code }
-    ensures told { IfSome result (λ r. IsTold features.0 bytes.now at r.1 (λ o. V.visits visitor.old o r.0 visitor.new)) }
+    ensures told { IfSome result (λ r. IsTold features.0 bytes.now at r.1
+        (λ o. V.visits visitor.old o r.0 visitor.new)) }
     ensures none { IfNone result (visitor.new ≡ visitor.old) }
 {
     match code {
@@ -410,7 +420,8 @@ fn branch_reference<'a, V: VisitControl<'a>>(
     visitor: &mut V,
 ) -> Option<(V::Output, usize)>
     requires { Begins bytes.now at code }
-    ensures told { IfSome result (λ r. IsTold features.0 bytes.now at r.1 (λ o. V.visits visitor.old o r.0 visitor.new)) }
+    ensures told { IfSome result (λ r. IsTold features.0 bytes.now at r.1
+        (λ o. V.visits visitor.old o r.0 visitor.new)) }
     ensures none { IfNone result (visitor.new ≡ visitor.old) }
 {
     let Some((index, end)) = short_u32_at(bytes, at + 1) else {

@@ -26,7 +26,8 @@ pub(crate) fn tell_control<'a, R: WasmModuleResources>(
     visitor: &mut ValidatingVisitor<'_, '_, R, AsRefusal>,
     op: ControlOperator<'a>,
 ) -> Result<(), Refusal>
-    ensures visits { Visits (R.meaning visitor.old.resources.now) visitor.old.inner.now (Op.Control op.entry) (refused result) visitor.new.inner.now }
+    ensures visits { Visits (R.meaning visitor.old.resources.now) visitor.old.inner.now (Op.Control op.entry)
+        (refused result) visitor.new.inner.now }
     ensures lent { visitor.new.inner.ghost_name ≡ visitor.old.inner.ghost_name }
     ensures resources { visitor.new.resources.now ≡ visitor.old.resources.now }
 {
@@ -39,7 +40,8 @@ pub(crate) fn tell_parametric<R: WasmModuleResources>(
     visitor: &mut ValidatingVisitor<'_, '_, R, AsRefusal>,
     op: ParametricOperator,
 ) -> Result<(), Refusal>
-    ensures visits { Visits (R.meaning visitor.old.resources.now) visitor.old.inner.now (Op.Parametric (parametric_of op)) (refused result) visitor.new.inner.now }
+    ensures visits { Visits (R.meaning visitor.old.resources.now) visitor.old.inner.now
+        (Op.Parametric (parametric_of op)) (refused result) visitor.new.inner.now }
     ensures lent { visitor.new.inner.ghost_name ≡ visitor.old.inner.ghost_name }
     ensures resources { visitor.new.resources.now ≡ visitor.old.resources.now }
 {
@@ -52,7 +54,8 @@ pub(crate) fn tell_exception<R: WasmModuleResources>(
     visitor: &mut ValidatingVisitor<'_, '_, R, AsRefusal>,
     op: ExceptionOperator,
 ) -> Result<(), Refusal>
-    ensures visits { Visits (R.meaning visitor.old.resources.now) visitor.old.inner.now (Op.Exception (exception_of op)) (refused result) visitor.new.inner.now }
+    ensures visits { Visits (R.meaning visitor.old.resources.now) visitor.old.inner.now (Op.Exception (exception_of op))
+        (refused result) visitor.new.inner.now }
     ensures lent { visitor.new.inner.ghost_name ≡ visitor.old.inner.ghost_name }
     ensures resources { visitor.new.resources.now ≡ visitor.old.resources.now }
 {
@@ -65,7 +68,8 @@ pub(crate) fn tell_continuation<R: WasmModuleResources>(
     visitor: &mut ValidatingVisitor<'_, '_, R, AsRefusal>,
     op: ContinuationOperator,
 ) -> Result<(), Refusal>
-    ensures visits { Visits (R.meaning visitor.old.resources.now) visitor.old.inner.now (Op.Continuation (continuation_of op)) (refused result) visitor.new.inner.now }
+    ensures visits { Visits (R.meaning visitor.old.resources.now) visitor.old.inner.now
+        (Op.Continuation (continuation_of op)) (refused result) visitor.new.inner.now }
     ensures lent { visitor.new.inner.ghost_name ≡ visitor.old.inner.ghost_name }
     ensures resources { visitor.new.resources.now ≡ visitor.old.resources.now }
 {
@@ -78,7 +82,8 @@ pub(crate) fn tell_memory<R: WasmModuleResources>(
     visitor: &mut ValidatingVisitor<'_, '_, R, AsRefusal>,
     op: MemoryOperator,
 ) -> Result<(), Refusal>
-    ensures visits { Visits (R.meaning visitor.old.resources.now) visitor.old.inner.now (Op.Memory op) (refused result) visitor.new.inner.now }
+    ensures visits { Visits (R.meaning visitor.old.resources.now) visitor.old.inner.now (Op.Memory op)
+        (refused result) visitor.new.inner.now }
     ensures lent { visitor.new.inner.ghost_name ≡ visitor.old.inner.ghost_name }
     ensures resources { visitor.new.resources.now ≡ visitor.old.resources.now }
 {
@@ -91,7 +96,8 @@ pub(crate) fn tell_const<R: WasmModuleResources>(
     visitor: &mut ValidatingVisitor<'_, '_, R, AsRefusal>,
     op: ConstOperator,
 ) -> Result<(), Refusal>
-    ensures visits { Visits (R.meaning visitor.old.resources.now) visitor.old.inner.now (Op.Const op) (refused result) visitor.new.inner.now }
+    ensures visits { Visits (R.meaning visitor.old.resources.now) visitor.old.inner.now (Op.Const op)
+        (refused result) visitor.new.inner.now }
     ensures lent { visitor.new.inner.ghost_name ≡ visitor.old.inner.ghost_name }
     ensures resources { visitor.new.resources.now ≡ visitor.old.resources.now }
 {
@@ -104,7 +110,8 @@ pub(crate) fn tell_bulk<R: WasmModuleResources>(
     visitor: &mut ValidatingVisitor<'_, '_, R, AsRefusal>,
     op: BulkOperator,
 ) -> Result<(), Refusal>
-    ensures visits { Visits (R.meaning visitor.old.resources.now) visitor.old.inner.now (Op.Bulk op) (refused result) visitor.new.inner.now }
+    ensures visits { Visits (R.meaning visitor.old.resources.now) visitor.old.inner.now (Op.Bulk op)
+        (refused result) visitor.new.inner.now }
     ensures lent { visitor.new.inner.ghost_name ≡ visitor.old.inner.ghost_name }
     ensures resources { visitor.new.resources.now ≡ visitor.old.resources.now }
 {
@@ -117,7 +124,8 @@ pub(crate) fn tell_numeric<R: WasmModuleResources>(
     visitor: &mut ValidatingVisitor<'_, '_, R, AsRefusal>,
     op: NumericOperator,
 ) -> Result<(), Refusal>
-    ensures visits { Visits (R.meaning visitor.old.resources.now) visitor.old.inner.now (Op.Numeric op) (refused result) visitor.new.inner.now }
+    ensures visits { Visits (R.meaning visitor.old.resources.now) visitor.old.inner.now (Op.Numeric op)
+        (refused result) visitor.new.inner.now }
     ensures lent { visitor.new.inner.ghost_name ≡ visitor.old.inner.ghost_name }
     ensures resources { visitor.new.resources.now ≡ visitor.old.resources.now }
 {
@@ -130,7 +138,8 @@ pub(crate) fn tell_gc<R: WasmModuleResources>(
     visitor: &mut ValidatingVisitor<'_, '_, R, AsRefusal>,
     op: GcOperator,
 ) -> Result<(), Refusal>
-    ensures visits { Visits (R.meaning visitor.old.resources.now) visitor.old.inner.now (Op.Gc op) (refused result) visitor.new.inner.now }
+    ensures visits { Visits (R.meaning visitor.old.resources.now) visitor.old.inner.now (Op.Gc op)
+        (refused result) visitor.new.inner.now }
     ensures lent { visitor.new.inner.ghost_name ≡ visitor.old.inner.ghost_name }
     ensures resources { visitor.new.resources.now ≡ visitor.old.resources.now }
 {
@@ -143,7 +152,8 @@ pub(crate) fn tell_descriptor<R: WasmModuleResources>(
     visitor: &mut ValidatingVisitor<'_, '_, R, AsRefusal>,
     op: DescriptorOperator,
 ) -> Result<(), Refusal>
-    ensures visits { Visits (R.meaning visitor.old.resources.now) visitor.old.inner.now (Op.Descriptor op) (refused result) visitor.new.inner.now }
+    ensures visits { Visits (R.meaning visitor.old.resources.now) visitor.old.inner.now (Op.Descriptor op)
+        (refused result) visitor.new.inner.now }
     ensures lent { visitor.new.inner.ghost_name ≡ visitor.old.inner.ghost_name }
     ensures resources { visitor.new.resources.now ≡ visitor.old.resources.now }
 {
@@ -156,7 +166,8 @@ pub(crate) fn tell_atomic<R: WasmModuleResources>(
     visitor: &mut ValidatingVisitor<'_, '_, R, AsRefusal>,
     op: AtomicOperator,
 ) -> Result<(), Refusal>
-    ensures visits { Visits (R.meaning visitor.old.resources.now) visitor.old.inner.now (Op.Atomic op) (refused result) visitor.new.inner.now }
+    ensures visits { Visits (R.meaning visitor.old.resources.now) visitor.old.inner.now (Op.Atomic op)
+        (refused result) visitor.new.inner.now }
     ensures lent { visitor.new.inner.ghost_name ≡ visitor.old.inner.ghost_name }
     ensures resources { visitor.new.resources.now ≡ visitor.old.resources.now }
 {
@@ -169,7 +180,8 @@ pub(crate) fn tell_shared<R: WasmModuleResources>(
     visitor: &mut ValidatingVisitor<'_, '_, R, AsRefusal>,
     op: SharedOperator,
 ) -> Result<(), Refusal>
-    ensures visits { Visits (R.meaning visitor.old.resources.now) visitor.old.inner.now (Op.Shared op) (refused result) visitor.new.inner.now }
+    ensures visits { Visits (R.meaning visitor.old.resources.now) visitor.old.inner.now (Op.Shared op)
+        (refused result) visitor.new.inner.now }
     ensures lent { visitor.new.inner.ghost_name ≡ visitor.old.inner.ghost_name }
     ensures resources { visitor.new.resources.now ≡ visitor.old.resources.now }
 {

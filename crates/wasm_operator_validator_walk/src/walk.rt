@@ -37,7 +37,8 @@ impl<'a, 'v, 'r, R: WasmModuleResources> Visitor<'a> for ValidatingWalk<'v, 'r, 
     type Output = Result<(), Refusal>;
 
     ghost visits = { λ before op answer after.
-        Visits (R.meaning before.visitor.resources.now) before.visitor.inner.now op (refused answer) after.visitor.inner.now
+        Visits (R.meaning before.visitor.resources.now) before.visitor.inner.now op
+        (refused answer) after.visitor.inner.now
         × (after.visitor.inner.ghost_name ≡ before.visitor.inner.ghost_name)
         × (after.visitor.resources.now ≡ before.visitor.resources.now) };
 }
@@ -167,7 +168,8 @@ impl<'a, 'v, 'r, R: WasmModuleResources> Visitor<'a> for NotingWalk<'v, 'r, R> {
     ghost use Rattle.wasm_operator_validator_expression.specs.Validating.{refused_for};
 
     ghost visits = { λ before op answer after.
-        Visits (R.meaning before.walk.visitor.resources.now) before.walk.visitor.inner.now op (refused_for after.refusal answer) after.walk.visitor.inner.now
+        Visits (R.meaning before.walk.visitor.resources.now) before.walk.visitor.inner.now op
+        (refused_for after.refusal answer) after.walk.visitor.inner.now
         × (after.walk.visitor.inner.ghost_name ≡ before.walk.visitor.inner.ghost_name)
         × (after.walk.visitor.resources.now ≡ before.walk.visitor.resources.now) };
 }
@@ -234,7 +236,8 @@ impl<'a, 'v, 'r, R: WasmModuleResources> Validating<'a> for NotingWalk<'v, 'r, R
 
     ghost why = { λ w. w.refusal };
 
-    ghost keeps = { λ v w. (w.walk.visitor.inner.ghost_name ≡ v.walk.visitor.inner.ghost_name) × (w.walk.visitor.resources.now ≡ v.walk.visitor.resources.now) };
+    ghost keeps = { λ v w. (w.walk.visitor.inner.ghost_name ≡ v.walk.visitor.inner.ghost_name)
+        × (w.walk.visitor.resources.now ≡ v.walk.visitor.resources.now) };
 
     fn refusal(&self) -> Refusal {
         self.refusal
@@ -299,7 +302,8 @@ fn validate_walk<R: WasmModuleResources>(
     reader: BinaryReader<'_>,
     walk: &mut NotingWalk<'_, '_, R>,
 ) -> wasm_types::Result<()>
-    ensures validates { Validates (R.meaning walk.old.walk.visitor.resources.now) walk.old.walk.visitor.inner.now reader.entry result walk.new.walk.visitor.inner.now }
+    ensures validates { Validates (R.meaning walk.old.walk.visitor.resources.now) walk.old.walk.visitor.inner.now
+        reader.entry result walk.new.walk.visitor.inner.now }
     ensures lent { walk.new.walk.visitor.inner.ghost_name ≡ walk.old.walk.visitor.inner.ghost_name }
     ensures resources { walk.new.walk.visitor.resources.now ≡ walk.old.walk.visitor.resources.now }
 {
@@ -339,7 +343,8 @@ fn accepts_walk<R: WasmModuleResources>(
     reader: BinaryReader<'_>,
     walk: &mut NotingWalk<'_, '_, R>,
 ) -> bool
-    ensures validates { result ≡ true → Validates (R.meaning walk.old.walk.visitor.resources.now) walk.old.walk.visitor.inner.now reader.entry (Ok tt) walk.new.walk.visitor.inner.now }
+    ensures validates { result ≡ true → Validates (R.meaning walk.old.walk.visitor.resources.now)
+        walk.old.walk.visitor.inner.now reader.entry (Ok tt) walk.new.walk.visitor.inner.now }
     ensures lent { result ≡ true → walk.new.walk.visitor.inner.ghost_name ≡ walk.old.walk.visitor.inner.ghost_name }
 {
     accepts_operators(alloc, frames, reader, walk)

@@ -65,7 +65,8 @@ impl<'a> FunctionBody<'a> {
     ///
     /// The bytes spell no groups of locals, or more than 50,000 locals.
     pub fn get_binary_reader_for_operators(&self) -> Result<BinaryReader<'a>>
-        ensures answer { MatchResult result (λ reader. OperatorsBegin self.now reader) (λ e. Fails e (locals self.now.settings self.now)) }
+        ensures answer { MatchResult result (λ reader. OperatorsBegin self.now reader)
+            (λ e. Fails e (locals self.now.settings self.now)) }
         ensures no_memory { NeedsNoMemory result }
     {
         let mut groups = self.get_locals_reader()?;
@@ -79,7 +80,8 @@ impl<'a> FunctionBody<'a> {
     ///
     /// As `get_binary_reader_for_operators`.
     pub fn get_operators_reader(&self) -> Result<OperatorsReader<'a>>
-        ensures answer { MatchResult result (λ operators. (t : State) × OperatorsBegin self.now t × (operators ≡ at_start t)) (λ e. Fails e (locals self.now.settings self.now)) }
+        ensures answer { MatchResult result (λ operators. (t : State) × OperatorsBegin self.now t
+            × (operators ≡ at_start t)) (λ e. Fails e (locals self.now.settings self.now)) }
         ensures no_memory { NeedsNoMemory result }
     {
         match self.get_binary_reader_for_operators() {

@@ -50,8 +50,10 @@ impl<'a> ConstExpr<'a> {
     /// No front of the bytes spells such an expression: an operator is refused before the first `end`, or a frame is open behind
     /// it, which is refused there. Or there is no memory for a frame or a list of an operator. The reader stays as it was.
     pub fn read(alloc: Global, reader: &mut BinaryReader<'a>) -> Result<ConstExpr<'a>>
-        ensures read { IfOk result (λ it. (text : List ℕ) × IsConstantText reader.old.settings text × Takes reader.old text reader.new × (it ≡ part_at reader.old text)) }
-        ensures refused { IfErr result (λ e. IsNotMemory e.kind → (text : List ℕ) (t : State) → Takes reader.old text t → IsConstantText reader.old.settings text → ⊥) }
+        ensures read { IfOk result (λ it. (text : List ℕ) × IsConstantText reader.old.settings text
+            × Takes reader.old text reader.new × (it ≡ part_at reader.old text)) }
+        ensures refused { IfErr result (λ e. IsNotMemory e.kind → (text : List ℕ) (t : State) → Takes reader.old text t
+            → IsConstantText reader.old.settings text → ⊥) }
         ensures stops { IfErr result (λ e. StopsConstant (at_start reader.old) e) }
         ensures stays { IfErr result (λ _. reader.new ≡ reader.old) }
     {
@@ -162,7 +164,8 @@ fn is_end(op: &Operator) -> bool
 /// Goes past the first `end`.
 fn pass_end(operators: &mut OperatorsReader<'_>) -> Result<()>
     ensures passed { IfOk result (λ _. PassesTo operators.old true operators.new) }
-    ensures refused { IfErr result (λ e. PassesTo operators.old false operators.new × Refuses operators.new e × ((WantsMemory operators.new → ⊥) → IsNotMemory e.kind)) }
+    ensures refused { IfErr result (λ e. PassesTo operators.old false operators.new × Refuses operators.new e
+        × ((WantsMemory operators.new → ⊥) → IsNotMemory e.kind)) }
 {
     let mut ended = false;
     while !ended {
@@ -189,7 +192,8 @@ fn read_end(operators: &mut OperatorsReader<'_>) -> Result<bool>
 
 /// Where the bytes go on behind a constant expression.
 fn pass_constant<'a>(alloc: Global, reader: BinaryReader<'a>) -> Result<BinaryReader<'a>>
-    ensures read { IfOk result (λ behind. (text : List ℕ) × IsConstantText reader.entry.settings text × Takes reader.entry text behind) }
+    ensures read { IfOk result (λ behind. (text : List ℕ) × IsConstantText reader.entry.settings text
+        × Takes reader.entry text behind) }
     ensures stops { IfErr result (λ e. StopsConstant (at_start reader.entry) e) }
 {
     let mut operators = OperatorsReader::new(alloc, reader);

@@ -18,9 +18,15 @@ pub const fn locals_are_lawful()
 /// Groups that are read one by one to the last that was counted are those that the decoder answers, and the reader then
 /// stands where the operators begin. A refusal on the way is that of the decoder. What the decoder answers can be read so.
 pub const fn locals_are_read_one_by_one()
-    ensures sound { (settings : Settings) (s u : State) (l t : LocalsLeft) (gs : List LocalGroup) → counted_groups settings s ≡ Done l u → ReadsGroups l gs t → t.groups ≡ 0 → locals settings s ≡ Done gs t.bytes }
-    ensures refused { (settings : Settings) (s u : State) (l t : LocalsLeft) (gs : List LocalGroup) (e : ErrorValue) → counted_groups settings s ≡ Done l u → ReadsGroups l gs t → 0 < t.groups → Fails e (group_within t.room t.bytes) → Fails e (locals settings s) }
-    ensures complete { (settings : Settings) (s b : State) (gs : List LocalGroup) → locals settings s ≡ Done gs b → (l t : LocalsLeft) × (u : State) × (counted_groups settings s ≡ Done l u) × ReadsGroups l gs t × (t.groups ≡ 0) × (t.bytes ≡ b) }
+    ensures sound { (settings : Settings) (s u : State) (l t : LocalsLeft) (gs : List LocalGroup)
+        → counted_groups settings s ≡ Done l u → ReadsGroups l gs t → t.groups ≡ 0
+        → locals settings s ≡ Done gs t.bytes }
+    ensures refused { (settings : Settings) (s u : State) (l t : LocalsLeft) (gs : List LocalGroup) (e : ErrorValue)
+        → counted_groups settings s ≡ Done l u → ReadsGroups l gs t → 0 < t.groups
+        → Fails e (group_within t.room t.bytes) → Fails e (locals settings s) }
+    ensures complete { (settings : Settings) (s b : State) (gs : List LocalGroup) → locals settings s ≡ Done gs b
+        → (l t : LocalsLeft) × (u : State) × (counted_groups settings s ≡ Done l u) × ReadsGroups l gs t
+        × (t.groups ≡ 0) × (t.bytes ≡ b) }
 {}
 
 /// `==` of constant expressions holds of those of the same bytes, and of no others.

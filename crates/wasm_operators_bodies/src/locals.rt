@@ -98,8 +98,10 @@ impl<'a> LocalsReader<'a> {
     ///
     /// As `read`.
     pub(crate) fn pass(&mut self) -> Result<()>
-        ensures read { IfOk result (λ _. ((gs : List LocalGroup) × ReadsGroups self.old gs self.new) × (self.new.groups ≡ 0)) }
-        ensures refused { IfErr result (λ e. ((gs : List LocalGroup) × ReadsGroups self.old gs self.new) × (0 < self.new.groups) × Fails e (group_within self.new.room self.new.bytes)) }
+        ensures read { IfOk result (λ _. ((gs : List LocalGroup) × ReadsGroups self.old gs self.new)
+            × (self.new.groups ≡ 0)) }
+        ensures refused { IfErr result (λ e. ((gs : List LocalGroup) × ReadsGroups self.old gs self.new)
+            × (0 < self.new.groups) × Fails e (group_within self.new.room self.new.bytes)) }
         ensures no_memory { NeedsNoMemory result }
     {
         while self.groups != 0 {

@@ -31,7 +31,8 @@ pub fn read_plain<'a>(
     offset: u64,
     reader: &mut BinaryReader<'a>,
 ) -> Result<Operator<'a>>
-    ensures answer { Gives (λ o. coded_of (op_of o)) result reader.new (behind reader.old.settings offset (plain code) reader.old) }
+    ensures answer { Gives (λ o. coded_of (op_of o)) result reader.new
+        (behind reader.old.settings offset (plain code) reader.old) }
     ensures canonical { IfOk result (λ o. IsTrue (is_canonical (op_of o))) }
     ensures no_memory { keeps_list (plain_kinds code) ≡ false → NeedsNoMemory result }
 {
@@ -65,7 +66,8 @@ fn read_further<'a>(
     offset: u64,
     reader: &mut BinaryReader<'a>,
 ) -> Result<Operator<'a>>
-    ensures answer { Gives (λ o. coded_of (op_of o)) result reader.new (carried_by reader.old.settings offset (plain code) (further_kinds code) reader.old) }
+    ensures answer { Gives (λ o. coded_of (op_of o)) result reader.new
+        (carried_by reader.old.settings offset (plain code) (further_kinds code) reader.old) }
     ensures canonical { IfOk result (λ o. IsTrue (is_canonical (op_of o))) }
     ensures no_memory { keeps_list (further_kinds code) ≡ false → NeedsNoMemory result }
 {

@@ -25,7 +25,8 @@ pub fn read_fb<'a>(
     offset: u64,
     reader: &mut BinaryReader<'a>,
 ) -> Result<Operator<'a>>
-    ensures answer { Gives (λ o. coded_of (op_of o)) result reader.new (behind reader.old.settings offset (prefixed 0xfb code) reader.old) }
+    ensures answer { Gives (λ o. coded_of (op_of o)) result reader.new
+        (behind reader.old.settings offset (prefixed 0xfb code) reader.old) }
     ensures canonical { IfOk result (λ o. IsTrue (is_canonical (op_of o))) }
     ensures no_memory { NeedsNoMemory result }
 {
@@ -42,7 +43,8 @@ pub fn read_fb<'a>(
 
 /// What stands behind a code that follows `0xfc`.
 pub fn read_fc<'a>(code: u32, offset: u64, reader: &mut BinaryReader<'a>) -> Result<Operator<'a>>
-    ensures answer { Gives (λ o. coded_of (op_of o)) result reader.new (behind reader.old.settings offset (prefixed 0xfc code) reader.old) }
+    ensures answer { Gives (λ o. coded_of (op_of o)) result reader.new
+        (behind reader.old.settings offset (prefixed 0xfc code) reader.old) }
     ensures canonical { IfOk result (λ o. IsTrue (is_canonical (op_of o))) }
     ensures no_memory { NeedsNoMemory result }
 {
@@ -58,7 +60,8 @@ pub fn read_fc<'a>(code: u32, offset: u64, reader: &mut BinaryReader<'a>) -> Res
 
 /// What stands behind a code that follows `0xfd`.
 pub fn read_fd<'a>(code: u32, offset: u64, reader: &mut BinaryReader<'a>) -> Result<Operator<'a>>
-    ensures answer { Gives (λ o. coded_of (op_of o)) result reader.new (behind reader.old.settings offset (prefixed 0xfd code) reader.old) }
+    ensures answer { Gives (λ o. coded_of (op_of o)) result reader.new
+        (behind reader.old.settings offset (prefixed 0xfd code) reader.old) }
     ensures canonical { IfOk result (λ o. IsTrue (is_canonical (op_of o))) }
     ensures no_memory { NeedsNoMemory result }
 {
@@ -74,7 +77,8 @@ pub fn read_fd<'a>(code: u32, offset: u64, reader: &mut BinaryReader<'a>) -> Res
 
 /// What stands behind a code that follows `0xfe`.
 pub fn read_fe<'a>(code: u32, offset: u64, reader: &mut BinaryReader<'a>) -> Result<Operator<'a>>
-    ensures answer { Gives (λ o. coded_of (op_of o)) result reader.new (behind reader.old.settings offset (prefixed 0xfe code) reader.old) }
+    ensures answer { Gives (λ o. coded_of (op_of o)) result reader.new
+        (behind reader.old.settings offset (prefixed 0xfe code) reader.old) }
     ensures canonical { IfOk result (λ o. IsTrue (is_canonical (op_of o))) }
     ensures no_memory { NeedsNoMemory result }
 {

@@ -31,7 +31,8 @@ fn read_prefixed<'a>(
     reader: &mut BinaryReader<'a>,
 ) -> Result<Operator<'a>>
     requires { IsTrue (is_prefix prefix) }
-    ensures answer { Gives (λ o. coded_of (op_of o)) result reader.new (behind reader.old.settings offset (prefixed prefix code) reader.old) }
+    ensures answer { Gives (λ o. coded_of (op_of o)) result reader.new
+        (behind reader.old.settings offset (prefixed prefix code) reader.old) }
     ensures canonical { IfOk result (λ o. IsTrue (is_canonical (op_of o))) }
     ensures no_memory { NeedsNoMemory result }
 {
@@ -67,7 +68,8 @@ fn read_ahead<'a>(alloc: Global, reader: &mut BinaryReader<'a>) -> Result<Operat
 /// Where the bytes spell no operator that the features of the reader allow, and where the memory for a list that the operator
 /// keeps is refused. The reader then stands where it was.
 pub fn read_operator<'a>(alloc: Global, reader: &mut BinaryReader<'a>) -> Result<Operator<'a>>
-    ensures answer { Answers (λ o. coded_of (op_of o)) result reader.old reader.new (operator reader.old.settings reader.old) }
+    ensures answer { Answers (λ o. coded_of (op_of o)) result reader.old reader.new
+        (operator reader.old.settings reader.old) }
     ensures canonical { IfOk result (λ o. IsTrue (is_canonical (op_of o))) }
     ensures no_memory { keeps_list_at reader.old ≡ false → NeedsNoMemory result }
 {

@@ -66,7 +66,8 @@ fn of_type(code: u32, cont_type_index: u32) -> ContinuationOperator
 // The operator with this code, which carries this.
 fn of_type_type(code: u32, argument_index: u32, result_index: u32) -> ContinuationOperator
     requires { continuation_kinds code ≡ Some (continuation_shape_kinds ContinuationShape.TypeType) }
-    ensures immediates { continuation_immediates (continuation_of result) ≡ Index Types argument_index ∷ Index Types result_index ∷ [] }
+    ensures immediates { continuation_immediates (continuation_of result)
+        ≡ Index Types argument_index ∷ Index Types result_index ∷ [] }
     ensures code { (continuation_info (continuation_of result)).code ≡ code }
     ensures prefix { (continuation_info (continuation_of result)).prefix ≡ None }
 {
@@ -99,7 +100,8 @@ fn of_type_handlers(
     resume_table: ResumeTable,
 ) -> ContinuationOperator
     requires { continuation_kinds code ≡ Some (continuation_shape_kinds ContinuationShape.TypeHandlers) }
-    ensures immediates { continuation_immediates (continuation_of result) ≡ Index Types cont_type_index ∷ Handlers resume_table.handlers.items ∷ [] }
+    ensures immediates { continuation_immediates (continuation_of result)
+        ≡ Index Types cont_type_index ∷ Handlers resume_table.handlers.items ∷ [] }
     ensures code { (continuation_info (continuation_of result)).code ≡ code }
     ensures prefix { (continuation_info (continuation_of result)).prefix ≡ None }
 {
@@ -124,7 +126,8 @@ fn of_type_tag_handlers(
     resume_table: ResumeTable,
 ) -> ContinuationOperator
     requires { continuation_kinds code ≡ Some (continuation_shape_kinds ContinuationShape.TypeTagHandlers) }
-    ensures immediates { continuation_immediates (continuation_of result) ≡ Index Types cont_type_index ∷ Index Tags tag_index ∷ Handlers resume_table.handlers.items ∷ [] }
+    ensures immediates { continuation_immediates (continuation_of result)
+        ≡ Index Types cont_type_index ∷ Index Tags tag_index ∷ Handlers resume_table.handlers.items ∷ [] }
     ensures code { (continuation_info (continuation_of result)).code ≡ code }
     ensures prefix { (continuation_info (continuation_of result)).prefix ≡ None }
 {
@@ -141,7 +144,8 @@ fn of_type_tag_handlers(
 // The operator with this code, which carries this.
 fn of_type_tag(code: u32, cont_type_index: u32, tag_index: u32) -> ContinuationOperator
     requires { continuation_kinds code ≡ Some (continuation_shape_kinds ContinuationShape.TypeTag) }
-    ensures immediates { continuation_immediates (continuation_of result) ≡ Index Types cont_type_index ∷ Index Tags tag_index ∷ [] }
+    ensures immediates { continuation_immediates (continuation_of result)
+        ≡ Index Types cont_type_index ∷ Index Tags tag_index ∷ [] }
     ensures code { (continuation_info (continuation_of result)).code ≡ code }
     ensures prefix { (continuation_info (continuation_of result)).prefix ≡ None }
 {
@@ -168,10 +172,12 @@ pub fn read_continuation<'a>(
     reader: &mut BinaryReader<'a>,
 ) -> Result<ContinuationOperator>
     requires { continuation_kinds code ≡ Some (continuation_shape_kinds shape) }
-    ensures answer { Gives (λ o. continuation_immediates (continuation_of o)) result reader.new (immediates reader.old.settings (continuation_shape_kinds shape) reader.old) }
+    ensures answer { Gives (λ o. continuation_immediates (continuation_of o)) result reader.new
+        (immediates reader.old.settings (continuation_shape_kinds shape) reader.old) }
     ensures code { IfOk result (λ o. (continuation_info (continuation_of o)).code ≡ code) }
     ensures prefix { IfOk result (λ o. (continuation_info (continuation_of o)).prefix ≡ None) }
-    ensures no_memory { shape ≢ ContinuationShape.TypeHandlers → shape ≢ ContinuationShape.TypeTagHandlers → NeedsNoMemory result }
+    ensures no_memory { shape ≢ ContinuationShape.TypeHandlers → shape ≢ ContinuationShape.TypeTagHandlers
+        → NeedsNoMemory result }
 {
     match shape {
         ContinuationShape::Type => {

@@ -190,7 +190,8 @@ pub fn read_control<'a>(
     reader: &mut BinaryReader<'a>,
 ) -> Result<ControlOperator<'a>>
     requires { control_kinds code ≡ Some (control_shape_kinds shape) }
-    ensures answer { Gives control_immediates result reader.new (immediates reader.old.settings (control_shape_kinds shape) reader.old) }
+    ensures answer { Gives control_immediates result reader.new
+        (immediates reader.old.settings (control_shape_kinds shape) reader.old) }
     ensures code { IfOk result (λ o. (control_info o).code ≡ code) }
     ensures prefix { IfOk result (λ o. (control_info o).prefix ≡ None) }
     ensures no_memory { NeedsNoMemory result }

@@ -131,7 +131,8 @@ pub fn read_exception<'a>(
     reader: &mut BinaryReader<'a>,
 ) -> Result<ExceptionOperator>
     requires { exception_kinds code ≡ Some (exception_shape_kinds shape) }
-    ensures answer { Gives (λ o. exception_immediates (exception_of o)) result reader.new (immediates reader.old.settings (exception_shape_kinds shape) reader.old) }
+    ensures answer { Gives (λ o. exception_immediates (exception_of o)) result reader.new
+        (immediates reader.old.settings (exception_shape_kinds shape) reader.old) }
     ensures code { IfOk result (λ o. (exception_info (exception_of o)).code ≡ code) }
     ensures prefix { IfOk result (λ o. (exception_info (exception_of o)).prefix ≡ None) }
     ensures no_memory { shape ≢ ExceptionShape.Clauses → NeedsNoMemory result }

@@ -94,7 +94,8 @@ pub fn read_parametric<'a>(
     reader: &mut BinaryReader<'a>,
 ) -> Result<ParametricOperator>
     requires { parametric_kinds code ≡ Some (parametric_shape_kinds shape) }
-    ensures answer { Gives (λ o. parametric_immediates (parametric_of o)) result reader.new (immediates reader.old.settings (parametric_shape_kinds shape) reader.old) }
+    ensures answer { Gives (λ o. parametric_immediates (parametric_of o)) result reader.new
+        (immediates reader.old.settings (parametric_shape_kinds shape) reader.old) }
     ensures code { IfOk result (λ o. (parametric_info (parametric_of o)).code ≡ code) }
     ensures prefix { IfOk result (λ o. (parametric_info (parametric_of o)).prefix ≡ None) }
     ensures canonical { IfOk result (λ o. IsTrue (is_canonical (parametric_of o))) }

@@ -34,7 +34,8 @@ pub const fn opcodes_and_immediates_are_lawful()
     ensures opcodes { IsLawful opcode }
     ensures opcodes_exact { Decides opcode SpelledOpcode }
     ensures immediates { (settings : Settings) (ks : List Kind) → IsLawful (immediates settings ks) }
-    ensures immediates_exact { (settings : Settings) (ks : List Kind) → Decides (immediates settings ks) (OfKinds settings ks) }
+    ensures immediates_exact { (settings : Settings) (ks : List Kind)
+        → Decides (immediates settings ks) (OfKinds settings ks) }
 {}
 
 /// Operators, each an opcode with the immediates that belong to it, whatever features are allowed and limits hold: a value and a fault stay
@@ -48,7 +49,9 @@ pub const fn operators_are_lawful()
 /// exactly where its opcode and its immediates are; another is never spelled. No two canonical operators share both.
 pub const fn operators_are_spelled()
     ensures kinds { (o : Op) → kinds_at (opcode_of o) ≡ Some (kinds_of o) }
-    ensures spelled { (settings : Settings) (o : Op) (text : List ℕ) → SpelledOperator settings o text → IsTrue (is_canonical o) × SpelledCoded settings (coded_of o) text }
-    ensures spells { (settings : Settings) (o : Op) (text : List ℕ) → IsTrue (is_canonical o) × SpelledCoded settings (coded_of o) text → SpelledOperator settings o text }
+    ensures spelled { (settings : Settings) (o : Op) (text : List ℕ) → SpelledOperator settings o text
+        → IsTrue (is_canonical o) × SpelledCoded settings (coded_of o) text }
+    ensures spells { (settings : Settings) (o : Op) (text : List ℕ)
+        → IsTrue (is_canonical o) × SpelledCoded settings (coded_of o) text → SpelledOperator settings o text }
     ensures apart { (a b : Op) → IsTrue (is_canonical a) → IsTrue (is_canonical b) → coded_of a ≡ coded_of b → a ≡ b }
 {}

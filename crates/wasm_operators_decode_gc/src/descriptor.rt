@@ -109,7 +109,8 @@ pub fn read_descriptor<'a>(
     reader: &mut BinaryReader<'a>,
 ) -> Result<DescriptorOperator>
     requires { descriptor_kinds code ≡ Some (descriptor_shape_kinds shape) }
-    ensures answer { Gives descriptor_immediates result reader.new (immediates reader.old.settings (descriptor_shape_kinds shape) reader.old) }
+    ensures answer { Gives descriptor_immediates result reader.new
+        (immediates reader.old.settings (descriptor_shape_kinds shape) reader.old) }
     ensures code { IfOk result (λ o. (descriptor_info o).code ≡ code) }
     ensures prefix { IfOk result (λ o. (descriptor_info o).prefix ≡ Some 0xfb) }
     ensures no_memory { NeedsNoMemory result }

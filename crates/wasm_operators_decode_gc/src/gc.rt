@@ -267,7 +267,8 @@ pub fn read_gc<'a>(
     reader: &mut BinaryReader<'a>,
 ) -> Result<GcOperator>
     requires { gc_kinds code ≡ Some (gc_shape_kinds shape) }
-    ensures answer { Gives gc_immediates result reader.new (immediates reader.old.settings (gc_shape_kinds shape) reader.old) }
+    ensures answer { Gives gc_immediates result reader.new (immediates reader.old.settings
+        (gc_shape_kinds shape) reader.old) }
     ensures code { IfOk result (λ o. (gc_info o).code ≡ code) }
     ensures prefix { IfOk result (λ o. (gc_info o).prefix ≡ Some 0xfb) }
     ensures no_memory { NeedsNoMemory result }

@@ -51,7 +51,8 @@ fn read_index_or_zero<'a>(allowed: bool, reader: &mut BinaryReader<'a>) -> Resul
 /// The memory of `memory.size` and the like: an index where several memories are allowed, else a byte that is zero
 /// (WebAssembly 3.0, binary format, memory instructions). Another byte is refused at its offset.
 pub fn read_memory_or_zero<'a>(reader: &mut BinaryReader<'a>) -> Result<u32>
-    ensures answer { Gives (λ n. n) result reader.new (index_or_zero (has MultiMemory reader.old.settings.features) reader.old) }
+    ensures answer { Gives (λ n. n) result reader.new (index_or_zero
+        (has MultiMemory reader.old.settings.features) reader.old) }
     ensures no_memory { NeedsNoMemory result }
     ensures forward { Reaches reader.old reader.new }
 {
@@ -62,7 +63,8 @@ pub fn read_memory_or_zero<'a>(reader: &mut BinaryReader<'a>) -> Result<u32>
 /// The table of `call_indirect`: an index where that is allowed, else a byte that is zero (WebAssembly 3.0, binary
 /// format, control instructions). Another byte is refused at its offset.
 pub fn read_table_or_zero<'a>(reader: &mut BinaryReader<'a>) -> Result<u32>
-    ensures answer { Gives (λ n. n) result reader.new (index_or_zero (has CallIndirectOverlong reader.old.settings.features) reader.old) }
+    ensures answer { Gives (λ n. n) result reader.new (index_or_zero
+        (has CallIndirectOverlong reader.old.settings.features) reader.old) }
     ensures no_memory { NeedsNoMemory result }
     ensures forward { Reaches reader.old reader.new }
 {

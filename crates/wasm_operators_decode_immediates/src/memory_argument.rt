@@ -160,7 +160,8 @@ fn read_after_flags<'a>(
     flags: Flags,
     reader: &mut BinaryReader<'a>,
 ) -> Result<MemArg>
-    ensures answer { Gives (λ m. m) result reader.new (after_flags features.0 (access_of access) max_align flags reader.old) }
+    ensures answer { Gives (λ m. m) result reader.new (after_flags features.0
+        (access_of access) max_align flags reader.old) }
     ensures no_memory { NeedsNoMemory result }
     ensures forward { Reaches reader.old reader.new }
 {
@@ -188,7 +189,8 @@ pub fn read_memarg<'a>(
     access: Access,
     max_align: u8,
 ) -> Result<MemArg>
-    ensures answer { Gives (λ m. m) result reader.new (memory_argument reader.old.settings.features (access_of access) max_align reader.old) }
+    ensures answer { Gives (λ m. m) result reader.new (memory_argument reader.old.settings.features
+        (access_of access) max_align reader.old) }
     ensures no_memory { NeedsNoMemory result }
     ensures forward { Reaches reader.old reader.new }
 {

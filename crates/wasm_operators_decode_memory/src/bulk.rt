@@ -175,7 +175,8 @@ pub fn read_bulk<'a>(
     reader: &mut BinaryReader<'a>,
 ) -> Result<BulkOperator>
     requires { bulk_kinds code ≡ Some (bulk_shape_kinds shape) }
-    ensures answer { Gives bulk_immediates result reader.new (immediates reader.old.settings (bulk_shape_kinds shape) reader.old) }
+    ensures answer { Gives bulk_immediates result reader.new (immediates reader.old.settings
+        (bulk_shape_kinds shape) reader.old) }
     ensures code { IfOk result (λ o. (bulk_info o).code ≡ code) }
     ensures prefix { IfOk result (λ o. (bulk_info o).prefix ≡ Some 0xfc) }
     ensures no_memory { NeedsNoMemory result }

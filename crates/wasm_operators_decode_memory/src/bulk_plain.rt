@@ -108,7 +108,8 @@ pub fn read_bulk_plain<'a>(
     reader: &mut BinaryReader<'a>,
 ) -> Result<BulkOperator>
     requires { bulk_plain_kinds code ≡ Some (bulk_plain_shape_kinds shape) }
-    ensures answer { Gives bulk_immediates result reader.new (immediates reader.old.settings (bulk_plain_shape_kinds shape) reader.old) }
+    ensures answer { Gives bulk_immediates result reader.new (immediates reader.old.settings
+        (bulk_plain_shape_kinds shape) reader.old) }
     ensures code { IfOk result (λ o. (bulk_info o).code ≡ code) }
     ensures prefix { IfOk result (λ o. (bulk_info o).prefix ≡ None) }
     ensures no_memory { NeedsNoMemory result }

@@ -104,7 +104,8 @@ pub fn read_const<'a>(
     reader: &mut BinaryReader<'a>,
 ) -> Result<ConstOperator>
     requires { const_kinds code ≡ Some (const_shape_kinds shape) }
-    ensures answer { Gives const_immediates result reader.new (immediates reader.old.settings (const_shape_kinds shape) reader.old) }
+    ensures answer { Gives const_immediates result reader.new
+        (immediates reader.old.settings (const_shape_kinds shape) reader.old) }
     ensures code { IfOk result (λ o. (const_info o).code ≡ code) }
     ensures prefix { IfOk result (λ o. (const_info o).prefix ≡ None) }
     ensures no_memory { NeedsNoMemory result }

@@ -135,7 +135,8 @@ pub fn read_memory<'a>(
     reader: &mut BinaryReader<'a>,
 ) -> Result<MemoryOperator>
     requires { memory_kinds code ≡ Some (memory_shape_kinds shape) }
-    ensures answer { Gives memory_immediates result reader.new (immediates reader.old.settings (memory_shape_kinds shape) reader.old) }
+    ensures answer { Gives memory_immediates result reader.new
+        (immediates reader.old.settings (memory_shape_kinds shape) reader.old) }
     ensures code { IfOk result (λ o. (memory_info o).code ≡ code) }
     ensures prefix { IfOk result (λ o. (memory_info o).prefix ≡ None) }
     ensures no_memory { NeedsNoMemory result }

@@ -303,7 +303,8 @@ pub fn read_atomic<'a>(
     reader: &mut BinaryReader<'a>,
 ) -> Result<AtomicOperator>
     requires { atomic_kinds code ≡ Some (atomic_shape_kinds shape) }
-    ensures answer { Gives atomic_immediates result reader.new (immediates reader.old.settings (atomic_shape_kinds shape) reader.old) }
+    ensures answer { Gives atomic_immediates result reader.new
+        (immediates reader.old.settings (atomic_shape_kinds shape) reader.old) }
     ensures code { IfOk result (λ o. (atomic_info o).code ≡ code) }
     ensures prefix { IfOk result (λ o. (atomic_info o).prefix ≡ Some 0xfe) }
     ensures no_memory { NeedsNoMemory result }

@@ -161,7 +161,8 @@ fn of_ordering_type_field(
     field_index: u32,
 ) -> SharedOperator
     requires { shared_kinds code ≡ Some (shared_shape_kinds SharedShape.OrderingTypeField) }
-    ensures immediates { shared_immediates result ≡ MemoryOrdering ordering ∷ Index Types struct_type_index ∷ Index Fields field_index ∷ [] }
+    ensures immediates { shared_immediates result ≡ MemoryOrdering ordering ∷ Index Types struct_type_index ∷ Index
+        Fields field_index ∷ [] }
     ensures code { (shared_info result).code ≡ code }
     ensures prefix { (shared_info result).prefix ≡ Some 0xfe }
 {
@@ -202,7 +203,8 @@ fn of_field_add_sub_and(
     requires kinds { shared_kinds code ≡ Some (shared_shape_kinds SharedShape.OrderingTypeField) }
     requires from { 0x60 ≤ code }
     requires to { code ≤ 0x62 }
-    ensures immediates { shared_immediates result ≡ MemoryOrdering ordering ∷ Index Types struct_type_index ∷ Index Fields field_index ∷ [] }
+    ensures immediates { shared_immediates result ≡ MemoryOrdering ordering ∷ Index Types struct_type_index ∷ Index
+        Fields field_index ∷ [] }
     ensures code { (shared_info result).code ≡ code }
     ensures prefix { (shared_info result).prefix ≡ Some 0xfe }
 {
@@ -236,7 +238,8 @@ fn of_field_or_xor_exchange(
     requires kinds { shared_kinds code ≡ Some (shared_shape_kinds SharedShape.OrderingTypeField) }
     requires from { 0x63 ≤ code }
     requires to { code ≤ 0x66 }
-    ensures immediates { shared_immediates result ≡ MemoryOrdering ordering ∷ Index Types struct_type_index ∷ Index Fields field_index ∷ [] }
+    ensures immediates { shared_immediates result ≡ MemoryOrdering ordering ∷ Index Types struct_type_index ∷ Index
+        Fields field_index ∷ [] }
     ensures code { (shared_info result).code ≡ code }
     ensures prefix { (shared_info result).prefix ≡ Some 0xfe }
 {
@@ -376,7 +379,8 @@ pub fn read_shared<'a>(
     reader: &mut BinaryReader<'a>,
 ) -> Result<SharedOperator>
     requires { shared_kinds code ≡ Some (shared_shape_kinds shape) }
-    ensures answer { Gives shared_immediates result reader.new (immediates reader.old.settings (shared_shape_kinds shape) reader.old) }
+    ensures answer { Gives shared_immediates result reader.new
+        (immediates reader.old.settings (shared_shape_kinds shape) reader.old) }
     ensures code { IfOk result (λ o. (shared_info o).code ≡ code) }
     ensures prefix { IfOk result (λ o. (shared_info o).prefix ≡ Some 0xfe) }
     ensures no_memory { NeedsNoMemory result }

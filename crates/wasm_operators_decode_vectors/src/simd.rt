@@ -167,7 +167,8 @@ pub fn read_simd<'a>(
     reader: &mut BinaryReader<'a>,
 ) -> Result<SimdOperator>
     requires { simd_kinds code ≡ Some (simd_shape_kinds shape) }
-    ensures answer { Gives simd_immediates result reader.new (immediates reader.old.settings (simd_shape_kinds shape) reader.old) }
+    ensures answer { Gives simd_immediates result reader.new (immediates reader.old.settings
+        (simd_shape_kinds shape) reader.old) }
     ensures code { IfOk result (λ o. (simd_info o).code ≡ code) }
     ensures prefix { IfOk result (λ o. (simd_info o).prefix ≡ Some 0xfd) }
     ensures no_memory { NeedsNoMemory result }

@@ -24,7 +24,10 @@ impl Model for ControlStack {
 
     ghost Value = { OpenFrames };
 
-    ghost view = { λ s. record { frames = frames_in s.innermost s.around.items; capacity = vec_capacity s.around + 1 } };
+    ghost view = { λ s. record {
+      frames = frames_in s.innermost s.around.items;
+      capacity = vec_capacity s.around + 1;
+    } };
 
     ghost invariant = { λ s. IsStack s.innermost s.around.items };
 }
@@ -146,10 +149,12 @@ impl ControlStack {
     /// The operator opens a frame, there is no room for it, and no memory to make any. The frames stay as they were.
     #[inline]
     pub fn advance(&mut self, op: &Operator) -> Result<bool, AllocError>
-        ensures fits { IfOk result (λ fits. after (op_of op.now) self.old.frames ≡ (if fits then Some self.new.frames else None)) }
+        ensures fits { IfOk result (λ fits. after (op_of op.now) self.old.frames ≡
+            (if fits then Some self.new.frames else None)) }
         ensures stays { IfOk result (λ fits. IsFalse fits → self.new ≡ self.old) }
         ensures refused { OnErr result (self.new.frames ≡ self.old.frames) }
-        ensures memory { OnErr result ((frame : Kind) × (after (op_of op.now) self.old.frames ≡ Some (frame ∷ self.old.frames))) }
+        ensures memory { OnErr result ((frame : Kind) × (after (op_of op.now) self.old.frames ≡ Some
+            (frame ∷ self.old.frames))) }
         ensures capacity { self.old.capacity ≤ self.new.capacity }
         ensures succeeds { length self.old.frames < self.old.capacity → IsOk result }
     {
@@ -158,10 +163,12 @@ impl ControlStack {
 
     /// What an operator of this role makes of the frames, if it may come next.
     fn follow(&mut self, role: Role) -> Result<bool, AllocError>
-        ensures fits { IfOk result (λ fits. behind role self.old.frames ≡ (if fits then Some self.new.frames else None)) }
+        ensures fits { IfOk result (λ fits. behind role self.old.frames ≡
+            (if fits then Some self.new.frames else None)) }
         ensures stays { IfOk result (λ fits. IsFalse fits → self.new ≡ self.old) }
         ensures refused { OnErr result (self.new.frames ≡ self.old.frames) }
-        ensures memory { OnErr result ((frame : Kind) × (behind role self.old.frames ≡ Some (frame ∷ self.old.frames))) }
+        ensures memory { OnErr result ((frame : Kind) × (behind role self.old.frames ≡ Some
+            (frame ∷ self.old.frames))) }
         ensures capacity { self.old.capacity ≤ self.new.capacity }
         ensures succeeds { length self.old.frames < self.old.capacity → IsOk result }
     {

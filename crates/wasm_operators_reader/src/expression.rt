@@ -19,8 +19,10 @@ use wasm_types::{BinaryReader, Result};
 /// The bytes spell no expression, or there is no memory. Operators are read in order, and the first that is refused gives kind
 /// and offset; where the bytes end while a frame is open, that is refused at their end.
 pub fn read_expression<'a>(alloc: Global, reader: BinaryReader<'a>) -> Result<Vec<Operator<'a>>>
-    ensures spelled { IfOk result (λ ops. (c : Code) × (walk c ≡ map op_of ops.items) × SpelledExpression reader.entry.settings c reader.entry.rest) }
-    ensures refused { IfErr result (λ e. IsNotMemory e.kind → (c : Code) → SpelledExpression reader.entry.settings c reader.entry.rest → ⊥) }
+    ensures spelled { IfOk result (λ ops. (c : Code) × (walk c ≡ map op_of ops.items)
+        × SpelledExpression reader.entry.settings c reader.entry.rest) }
+    ensures refused { IfErr result (λ e. IsNotMemory e.kind → (c : Code)
+        → SpelledExpression reader.entry.settings c reader.entry.rest → ⊥) }
     ensures stops { IfErr result (λ e. IsNotMemory e.kind → StopsAfter (at_start reader.entry) e) }
     ensures no_memory { (TakesMemory (at_start reader.entry) → ⊥) → NeedsNoMemory result }
 {
@@ -32,8 +34,10 @@ pub fn read_expression<'a>(alloc: Global, reader: BinaryReader<'a>) -> Result<Ve
 
 // Reads operators until no byte is left.
 fn read_all<'a>(alloc: Global, operators: &mut OperatorsReader<'a>) -> Result<Vec<Operator<'a>>>
-    ensures read { IfOk result (λ ops. Runs operators.old (map op_of ops.items) operators.new × (operators.new.bytes.rest ≡ [])) }
-    ensures refused { IfErr result (λ e. IsNotMemory e.kind → ((os : List Op) × Runs operators.old os operators.new) × Refuses operators.new e × (operators.new.bytes.rest ≡ [] → ⊥)) }
+    ensures read { IfOk result (λ ops. Runs operators.old (map op_of ops.items) operators.new
+        × (operators.new.bytes.rest ≡ [])) }
+    ensures refused { IfErr result (λ e. IsNotMemory e.kind → ((os : List Op) × Runs operators.old os operators.new)
+        × Refuses operators.new e × (operators.new.bytes.rest ≡ [] → ⊥)) }
     ensures no_memory { (TakesMemory operators.old → ⊥) → NeedsNoMemory result }
 {
     let mut ops = Vec::new(alloc);

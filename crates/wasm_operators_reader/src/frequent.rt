@@ -20,7 +20,8 @@ fn visit_next<'a, V: TellOperator<'a>>(
     reader: &mut Cursor<'a>,
     visitor: &mut V,
 ) -> Option<V::Output>
-    ensures visited { IfSome result (λ answer. Tells V.visits (plain_role (get_or reader.old.rest 0 0)) reader.old visitor.old answer reader.new visitor.new) }
+    ensures visited { IfSome result (λ answer. Tells V.visits
+        (plain_role (get_or reader.old.rest 0 0)) reader.old visitor.old answer reader.new visitor.new) }
     ensures stays { IfNone result (reader.new ≡ reader.old) }
     ensures told { IfNone result (visitor.new ≡ visitor.old) }
 {
@@ -38,7 +39,8 @@ fn visit_control<'a, V: TellOperator<'a>>(
     reader: &mut Cursor<'a>,
     visitor: &mut V,
 ) -> Option<V::Output>
-    ensures visited { IfSome result (λ answer. Tells V.visits (plain_role (get_or reader.old.rest 0 0)) reader.old visitor.old answer reader.new visitor.new) }
+    ensures visited { IfSome result (λ answer. Tells V.visits
+        (plain_role (get_or reader.old.rest 0 0)) reader.old visitor.old answer reader.new visitor.new) }
     ensures stays { IfNone result (reader.new ≡ reader.old) }
     ensures told { IfNone result (visitor.new ≡ visitor.old) }
 {
@@ -54,7 +56,8 @@ fn visit_control<'a, V: TellOperator<'a>>(
 /// Whether an operator that begins with this byte may come next here, and is a frequent one: the frame that it opens is open then.
 #[inline(always)]
 fn enter(byte: u8, control: &mut ControlStack) -> bool
-    ensures fits { result ≡ true → behind (plain_role byte) control.old.frames ≡ Some (closed (plain_role byte) (held (plain_role byte) control.old.frames)) }
+    ensures fits { result ≡ true → behind (plain_role byte) control.old.frames ≡ Some
+        (closed (plain_role byte) (held (plain_role byte) control.old.frames)) }
     ensures held { result ≡ true → control.new.frames ≡ held (plain_role byte) control.old.frames }
     ensures stays { result ≡ false → control.new.frames ≡ control.old.frames }
 {
@@ -228,7 +231,8 @@ pub(crate) fn read_frequent<'a>(
     reader: &mut Cursor<'a>,
     control: &mut ControlStack,
 ) -> Option<Operator<'a>>
-    ensures read { IfSome result (λ op. Reads (record { bytes = reader.old; frames = control.old.frames }) (op_of op) (record { bytes = reader.new; frames = control.new.frames })) }
+    ensures read { IfSome result (λ op. Reads (record { bytes = reader.old; frames = control.old.frames }) (op_of op)
+        (record { bytes = reader.new; frames = control.new.frames })) }
     ensures stays { IfNone result ((reader.new ≡ reader.old) × (control.new.frames ≡ control.old.frames)) }
 {
     let mut taker = Taker;

@@ -30,7 +30,8 @@ impl<'a> OperatorsIterator<'a> {
 impl<'a> Iterator for OperatorsIterator<'a> {
     type Item = Result<Operator<'a>>;
 
-    ghost next_gives = { λ s item t. NextOf (λ from op to. Reads from (op_of op) to) s.reader s.failed item t.reader t.failed };
+    ghost next_gives = { λ s item t. NextOf (λ from op to. Reads from
+        (op_of op) to) s.reader s.failed item t.reader t.failed };
 
     ghost remaining = { λ s. at_most (items_left s.failed s.reader) };
 
@@ -72,7 +73,8 @@ impl<'a> OperatorsIteratorWithOffsets<'a> {
 impl<'a> Iterator for OperatorsIteratorWithOffsets<'a> {
     type Item = Result<(Operator<'a>, u64)>;
 
-    ghost next_gives = { λ s item t. NextOf (λ from found to. Reads from (op_of found.0) to × (found.1 ≡ from.bytes.place)) s.reader s.failed item t.reader t.failed };
+    ghost next_gives = { λ s item t. NextOf (λ from found to. Reads from (op_of found.0) to
+        × (found.1 ≡ from.bytes.place)) s.reader s.failed item t.reader t.failed };
 
     ghost remaining = { λ s. at_most (items_left s.failed s.reader) };
 

@@ -199,7 +199,8 @@ impl<'a> OperatorsReader<'a> {
     ///
     /// As `read`.
     pub fn read_with_offset(&mut self) -> Result<(Operator<'a>, u64)>
-        ensures read { IfOk result (λ found. Reads self.old (op_of found.0) self.new × (found.1 ≡ self.old.bytes.place)) }
+        ensures read { IfOk result (λ found. Reads self.old (op_of found.0) self.new
+            × (found.1 ≡ self.old.bytes.place)) }
         ensures refused { IfErr result (λ e. Refuses self.old e × (self.new ≡ self.old)) }
         ensures no_memory { (WantsMemory self.old → ⊥) → NeedsNoMemory result }
     {
@@ -215,7 +216,8 @@ impl<'a> OperatorsReader<'a> {
     pub fn tell_run<E: Drop, V>(&mut self, visitor: &mut V) -> Option<(E, u64)>
     where
         V: TellOperator<'a, Output = std::result::Result<(), E>> + TellPlain<'a, E>,
-        ensures ended { IfSome result (λ last. WalksUntilTo V.visits (Ok tt) self.old visitor.old (Err last.0) self.new visitor.new last.1) }
+        ensures ended { IfSome result (λ last. WalksUntilTo V.visits (Ok tt) self.old visitor.old
+            (Err last.0) self.new visitor.new last.1) }
         ensures told { IfNone result (WalksTo V.visits (Ok tt) self.old visitor.old self.new visitor.new) }
     {
         let mut ahead = self.reader.copy();
@@ -238,7 +240,8 @@ impl<'a> OperatorsReader<'a> {
     /// A frame is open, or bytes are left.
     pub fn finish(&self) -> Result<()>
         ensures finished { IfOk result (λ _. IsFinished self.now) }
-        ensures refused { IfErr result (λ e. (IsFinished self.now → ⊥) × (e.kind ≡ Other) × (e.offset ≡ self.now.bytes.place)) }
+        ensures refused { IfErr result (λ e. (IsFinished self.now → ⊥) × (e.kind ≡ Other)
+            × (e.offset ≡ self.now.bytes.place)) }
         ensures no_memory { NeedsNoMemory result }
     {
         if !self.control.is_empty() {

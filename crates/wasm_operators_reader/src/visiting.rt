@@ -23,7 +23,8 @@ impl<'a> OperatorsReader<'a> {
     /// visitor is told nothing.
     #[inline(never)]
     pub fn tell_operator<V: TellOperator<'a>>(&mut self, visitor: &mut V) -> Result<V::Output>
-        ensures visited { IfOk result (λ answer. VisitsPlain V.visits self.old visitor.old answer self.new visitor.new) }
+        ensures visited { IfOk result (λ answer. VisitsPlain V.visits self.old visitor.old answer
+            self.new visitor.new) }
         ensures refused { IfErr result (λ e. RefusesPlain self.old e × (self.new ≡ self.old)) }
         ensures told { IfErr result (λ _. visitor.new ≡ visitor.old) }
         ensures no_memory { (WantsMemory self.old → ⊥) → NeedsNoMemory result }

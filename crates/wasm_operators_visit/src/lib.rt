@@ -36,5 +36,6 @@ where
 {
     type Output = <P::Lent as Visitor<'a>>::Output;
 
-    ghost visits = { λ before op answer after. P.Lent.visits (P.lent before) op answer (P.lent after) × after ≡ P.put before (P.lent after) };
+    ghost visits = { λ before op answer after. P.Lent.visits (P.lent before) op answer (P.lent after)
+        × after ≡ P.put before (P.lent after) };
 }

@@ -60,7 +60,8 @@ pub trait VisitControl<'a>: Visitor<'a> {
 
     /// Visits `call_indirect`.
     fn visit_call_indirect(&mut self, type_index: u32, table_index: u32) -> Self::Output
-        ensures { Self.visits self.old (Op.Control (ControlOperator.CallIndirect type_index table_index)) result self.new };
+        ensures { Self.visits self.old (Op.Control (ControlOperator.CallIndirect type_index table_index))
+            result self.new };
 
     /// Visits `return_call`.
     fn visit_return_call(&mut self, function_index: u32) -> Self::Output
@@ -68,7 +69,8 @@ pub trait VisitControl<'a>: Visitor<'a> {
 
     /// Visits `return_call_indirect`.
     fn visit_return_call_indirect(&mut self, type_index: u32, table_index: u32) -> Self::Output
-        ensures { Self.visits self.old (Op.Control (ControlOperator.ReturnCallIndirect type_index table_index)) result self.new };
+        ensures { Self.visits self.old (Op.Control (ControlOperator.ReturnCallIndirect type_index table_index))
+            result self.new };
 
     /// Visits `call_ref`.
     fn visit_call_ref(&mut self, type_index: u32) -> Self::Output
@@ -136,7 +138,8 @@ pub trait VisitControl<'a>: Visitor<'a> {
 
     /// Visits `try_table`.
     fn visit_try_table(&mut self, try_table: TryTable) -> Self::Output
-        ensures { Self.visits self.old (Op.Exception (ExceptionTree.TryTable (catch_table_of try_table))) result self.new };
+        ensures { Self.visits self.old (Op.Exception (ExceptionTree.TryTable (catch_table_of try_table)))
+            result self.new };
 
     /// Visits `cont.new`.
     fn visit_cont_new(&mut self, cont_type_index: u32) -> Self::Output
@@ -144,7 +147,8 @@ pub trait VisitControl<'a>: Visitor<'a> {
 
     /// Visits `cont.bind`.
     fn visit_cont_bind(&mut self, argument_index: u32, result_index: u32) -> Self::Output
-        ensures { Self.visits self.old (Op.Continuation (ContinuationTree.ContBind argument_index result_index)) result self.new };
+        ensures { Self.visits self.old (Op.Continuation (ContinuationTree.ContBind argument_index result_index))
+            result self.new };
 
     /// Visits `suspend`.
     fn visit_suspend(&mut self, tag_index: u32) -> Self::Output
@@ -152,7 +156,8 @@ pub trait VisitControl<'a>: Visitor<'a> {
 
     /// Visits `resume`.
     fn visit_resume(&mut self, cont_type_index: u32, resume_table: ResumeTable) -> Self::Output
-        ensures { Self.visits self.old (Op.Continuation (ContinuationTree.Resume cont_type_index resume_table.handlers.items)) result self.new };
+        ensures { Self.visits self.old (Op.Continuation (ContinuationTree.Resume cont_type_index
+            resume_table.handlers.items)) result self.new };
 
     /// Visits `resume_throw`.
     fn visit_resume_throw(
@@ -161,7 +166,8 @@ pub trait VisitControl<'a>: Visitor<'a> {
         tag_index: u32,
         resume_table: ResumeTable,
     ) -> Self::Output
-        ensures { Self.visits self.old (Op.Continuation (ContinuationTree.ResumeThrow cont_type_index tag_index resume_table.handlers.items)) result self.new };
+        ensures { Self.visits self.old (Op.Continuation (ContinuationTree.ResumeThrow cont_type_index tag_index
+            resume_table.handlers.items)) result self.new };
 
     /// Visits `resume_throw_ref`.
     fn visit_resume_throw_ref(
@@ -169,9 +175,11 @@ pub trait VisitControl<'a>: Visitor<'a> {
         cont_type_index: u32,
         resume_table: ResumeTable,
     ) -> Self::Output
-        ensures { Self.visits self.old (Op.Continuation (ContinuationTree.ResumeThrowRef cont_type_index resume_table.handlers.items)) result self.new };
+        ensures { Self.visits self.old (Op.Continuation (ContinuationTree.ResumeThrowRef cont_type_index
+            resume_table.handlers.items)) result self.new };
 
     /// Visits `switch`.
     fn visit_switch(&mut self, cont_type_index: u32, tag_index: u32) -> Self::Output
-        ensures { Self.visits self.old (Op.Continuation (ContinuationTree.Switch cont_type_index tag_index)) result self.new };
+        ensures { Self.visits self.old (Op.Continuation (ContinuationTree.Switch cont_type_index tag_index))
+            result self.new };
 }

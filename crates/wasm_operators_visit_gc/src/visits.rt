@@ -52,11 +52,13 @@ pub trait VisitGc<'a>: Visitor<'a> {
 
     /// Visits `array.new_data`.
     fn visit_array_new_data(&mut self, array_type_index: u32, array_data_index: u32) -> Self::Output
-        ensures { Self.visits self.old (Op.Gc (GcOperator.ArrayNewData array_type_index array_data_index)) result self.new };
+        ensures { Self.visits self.old (Op.Gc (GcOperator.ArrayNewData array_type_index array_data_index))
+            result self.new };
 
     /// Visits `array.new_elem`.
     fn visit_array_new_elem(&mut self, array_type_index: u32, array_elem_index: u32) -> Self::Output
-        ensures { Self.visits self.old (Op.Gc (GcOperator.ArrayNewElem array_type_index array_elem_index)) result self.new };
+        ensures { Self.visits self.old (Op.Gc (GcOperator.ArrayNewElem array_type_index array_elem_index))
+            result self.new };
 
     /// Visits `array.get`.
     fn visit_array_get(&mut self, array_type_index: u32) -> Self::Output
@@ -88,7 +90,8 @@ pub trait VisitGc<'a>: Visitor<'a> {
         array_type_index_dst: u32,
         array_type_index_src: u32,
     ) -> Self::Output
-        ensures { Self.visits self.old (Op.Gc (GcOperator.ArrayCopy array_type_index_dst array_type_index_src)) result self.new };
+        ensures { Self.visits self.old (Op.Gc (GcOperator.ArrayCopy array_type_index_dst array_type_index_src))
+            result self.new };
 
     /// Visits `array.init_data`.
     fn visit_array_init_data(
@@ -96,7 +99,8 @@ pub trait VisitGc<'a>: Visitor<'a> {
         array_type_index: u32,
         array_data_index: u32,
     ) -> Self::Output
-        ensures { Self.visits self.old (Op.Gc (GcOperator.ArrayInitData array_type_index array_data_index)) result self.new };
+        ensures { Self.visits self.old (Op.Gc (GcOperator.ArrayInitData array_type_index array_data_index))
+            result self.new };
 
     /// Visits `array.init_elem`.
     fn visit_array_init_elem(
@@ -104,7 +108,8 @@ pub trait VisitGc<'a>: Visitor<'a> {
         array_type_index: u32,
         array_elem_index: u32,
     ) -> Self::Output
-        ensures { Self.visits self.old (Op.Gc (GcOperator.ArrayInitElem array_type_index array_elem_index)) result self.new };
+        ensures { Self.visits self.old (Op.Gc (GcOperator.ArrayInitElem array_type_index array_elem_index))
+            result self.new };
 
     /// Visits `ref.test` to a non-null type.
     fn visit_ref_test_non_null(&mut self, hty: HeapType) -> Self::Output
@@ -129,7 +134,8 @@ pub trait VisitGc<'a>: Visitor<'a> {
         from_ref_type: RefType,
         to_ref_type: RefType,
     ) -> Self::Output
-        ensures { Self.visits self.old (Op.Gc (GcOperator.BrOnCast relative_depth from_ref_type to_ref_type)) result self.new };
+        ensures { Self.visits self.old (Op.Gc (GcOperator.BrOnCast relative_depth from_ref_type to_ref_type))
+            result self.new };
 
     /// Visits `br_on_cast_fail`.
     fn visit_br_on_cast_fail(
@@ -138,7 +144,8 @@ pub trait VisitGc<'a>: Visitor<'a> {
         from_ref_type: RefType,
         to_ref_type: RefType,
     ) -> Self::Output
-        ensures { Self.visits self.old (Op.Gc (GcOperator.BrOnCastFail relative_depth from_ref_type to_ref_type)) result self.new };
+        ensures { Self.visits self.old (Op.Gc (GcOperator.BrOnCastFail relative_depth from_ref_type to_ref_type))
+            result self.new };
 
     /// Visits `any.convert_extern`.
     fn visit_any_convert_extern(&mut self) -> Self::Output
@@ -162,11 +169,13 @@ pub trait VisitGc<'a>: Visitor<'a> {
 
     /// Visits `struct.new_desc`.
     fn visit_struct_new_desc(&mut self, struct_type_index: u32) -> Self::Output
-        ensures { Self.visits self.old (Op.Descriptor (DescriptorOperator.StructNewDesc struct_type_index)) result self.new };
+        ensures { Self.visits self.old (Op.Descriptor (DescriptorOperator.StructNewDesc struct_type_index))
+            result self.new };
 
     /// Visits `struct.new_default_desc`.
     fn visit_struct_new_default_desc(&mut self, struct_type_index: u32) -> Self::Output
-        ensures { Self.visits self.old (Op.Descriptor (DescriptorOperator.StructNewDefaultDesc struct_type_index)) result self.new };
+        ensures { Self.visits self.old (Op.Descriptor (DescriptorOperator.StructNewDefaultDesc struct_type_index))
+            result self.new };
 
     /// Visits `ref.get_desc`.
     fn visit_ref_get_desc(&mut self, type_index: u32) -> Self::Output
@@ -187,7 +196,8 @@ pub trait VisitGc<'a>: Visitor<'a> {
         from_ref_type: RefType,
         to_ref_type: RefType,
     ) -> Self::Output
-        ensures { Self.visits self.old (Op.Descriptor (DescriptorOperator.BrOnCastDescEq relative_depth from_ref_type to_ref_type)) result self.new };
+        ensures { Self.visits self.old (Op.Descriptor (DescriptorOperator.BrOnCastDescEq relative_depth from_ref_type
+            to_ref_type)) result self.new };
 
     /// Visits `br_on_cast_desc_eq_fail`.
     fn visit_br_on_cast_desc_eq_fail(
@@ -196,5 +206,6 @@ pub trait VisitGc<'a>: Visitor<'a> {
         from_ref_type: RefType,
         to_ref_type: RefType,
     ) -> Self::Output
-        ensures { Self.visits self.old (Op.Descriptor (DescriptorOperator.BrOnCastDescEqFail relative_depth from_ref_type to_ref_type)) result self.new };
+        ensures { Self.visits self.old (Op.Descriptor (DescriptorOperator.BrOnCastDescEqFail relative_depth
+            from_ref_type to_ref_type)) result self.new };
 }

@@ -18,7 +18,8 @@ pub(crate) fn memory_copy<'a, V: VisitMemory<'a>>(
     visitor: &mut V,
 ) -> Option<(V::Output, usize)>
     requires { BeginsPrefixed bytes.now at 0xfc code middle }
-    ensures told { IfSome result (λ r. IsTold features.0 bytes.now at r.1 (λ o. V.visits visitor.old o r.0 visitor.new)) }
+    ensures told { IfSome result (λ r. IsTold features.0 bytes.now at r.1
+        (λ o. V.visits visitor.old o r.0 visitor.new)) }
     ensures none { IfNone result (visitor.new ≡ visitor.old) }
 {
     let Some((dst_mem, next)) = short_u32_at(bytes, middle) else {
@@ -44,7 +45,8 @@ pub(crate) fn memory_fill<'a, V: VisitMemory<'a>>(
     visitor: &mut V,
 ) -> Option<(V::Output, usize)>
     requires { BeginsPrefixed bytes.now at 0xfc code middle }
-    ensures told { IfSome result (λ r. IsTold features.0 bytes.now at r.1 (λ o. V.visits visitor.old o r.0 visitor.new)) }
+    ensures told { IfSome result (λ r. IsTold features.0 bytes.now at r.1
+        (λ o. V.visits visitor.old o r.0 visitor.new)) }
     ensures none { IfNone result (visitor.new ≡ visitor.old) }
 {
     let Some((mem, end)) = short_u32_at(bytes, middle) else {

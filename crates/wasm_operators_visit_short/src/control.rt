@@ -18,7 +18,8 @@ pub fn short_alone<'a, V: VisitControl<'a>>(
     visitor: &mut V,
 ) -> Option<(V::Output, usize)>
     requires { Begins bytes.now at code }
-    ensures told { IfSome result (λ r. IsTold features.0 bytes.now at r.1 (λ o. V.visits visitor.old o r.0 visitor.new)) }
+    ensures told { IfSome result (λ r. IsTold features.0 bytes.now at r.1
+        (λ o. V.visits visitor.old o r.0 visitor.new)) }
     ensures none { IfNone result (visitor.new ≡ visitor.old) }
 {
     match code {
@@ -43,7 +44,8 @@ pub fn short_block<'a, V: VisitControl<'a>>(
     visitor: &mut V,
 ) -> Option<(V::Output, usize)>
     requires { Begins bytes.now at code }
-    ensures told { IfSome result (λ r. IsTold features.0 bytes.now at r.1 (λ o. V.visits visitor.old o r.0 visitor.new)) }
+    ensures told { IfSome result (λ r. IsTold features.0 bytes.now at r.1
+        (λ o. V.visits visitor.old o r.0 visitor.new)) }
     ensures none { IfNone result (visitor.new ≡ visitor.old) }
 {
     let Some((ty, end)) = block_type_at(bytes, at + 1) else {
@@ -67,7 +69,8 @@ pub fn short_index<'a, V: VisitControl<'a>>(
     visitor: &mut V,
 ) -> Option<(V::Output, usize)>
     requires { Begins bytes.now at code }
-    ensures told { IfSome result (λ r. IsTold features.0 bytes.now at r.1 (λ o. V.visits visitor.old o r.0 visitor.new)) }
+    ensures told { IfSome result (λ r. IsTold features.0 bytes.now at r.1
+        (λ o. V.visits visitor.old o r.0 visitor.new)) }
     ensures none { IfNone result (visitor.new ≡ visitor.old) }
 {
     let Some((index, end)) = short_u32_at(bytes, at + 1) else {
@@ -91,7 +94,8 @@ pub fn short_indirect<'a, V: VisitControl<'a>>(
     visitor: &mut V,
 ) -> Option<(V::Output, usize)>
     requires { Begins bytes.now at code }
-    ensures told { IfSome result (λ r. IsTold features.0 bytes.now at r.1 (λ o. V.visits visitor.old o r.0 visitor.new)) }
+    ensures told { IfSome result (λ r. IsTold features.0 bytes.now at r.1
+        (λ o. V.visits visitor.old o r.0 visitor.new)) }
     ensures none { IfNone result (visitor.new ≡ visitor.old) }
 {
     let Some((type_index, middle)) = short_u32_at(bytes, at + 1) else {

@@ -18,7 +18,8 @@ use wasm_types_numbers::{short_s33_at, short_u32_at, short_u64_at};
 #[inline(always)]
 #[tactic(auto, using(crate::proofs::Carried::zero_there))]
 pub fn zero_at(bytes: &[u8], at: usize) -> Option<(u32, usize)>
-    ensures { IfSome result (λ r. (r.0 ≡ 0) × ((allowed : Bool) → GivesAt (index_or_zero allowed) bytes.now at r.0 r.1)) }
+    ensures { IfSome result (λ r. (r.0 ≡ 0) × ((allowed : Bool)
+        → GivesAt (index_or_zero allowed) bytes.now at r.0 r.1)) }
 {
     if at < bytes.len() && bytes[at] == 0 {
         return Some((0, at + 1));
@@ -93,7 +94,8 @@ fn offset_at(bytes: &[u8], at: usize, wide: bool) -> Option<(u64, usize)>
 #[tactic(auto, using(crate::proofs::Carried::access_there))]
 pub fn access_at(bytes: &[u8], at: usize, features: WasmFeatures) -> Option<((u8, u64), usize)>
     requires { at ≤ length bytes.now }
-    ensures { IfSome result (λ r. (natural : ℕ) → GivesAt (memory_argument features.0 Plain natural) bytes.now at (argument r.0.0 natural 0 None r.0.1) r.1) }
+    ensures { IfSome result (λ r. (natural : ℕ) → GivesAt (memory_argument features.0 Plain natural) bytes.now at
+        (argument r.0.0 natural 0 None r.0.1) r.1) }
 {
     if at >= bytes.len() || bytes[at] >= 0x10 {
         return None;

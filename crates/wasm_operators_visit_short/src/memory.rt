@@ -17,7 +17,8 @@ pub fn short_local_get<'a, V: VisitMemory<'a>>(
     visitor: &mut V,
 ) -> Option<(V::Output, usize)>
     requires { Begins bytes.now at 0x20 }
-    ensures told { IfSome result (λ r. IsTold features.0 bytes.now at r.1 (λ o. V.visits visitor.old o r.0 visitor.new)) }
+    ensures told { IfSome result (λ r. IsTold features.0 bytes.now at r.1
+        (λ o. V.visits visitor.old o r.0 visitor.new)) }
     ensures none { IfNone result (visitor.new ≡ visitor.old) }
 {
     let Some((index, end)) = short_u32_at(bytes, at + 1) else {
@@ -35,7 +36,8 @@ pub fn short_local_set<'a, V: VisitMemory<'a>>(
     visitor: &mut V,
 ) -> Option<(V::Output, usize)>
     requires { Begins bytes.now at 0x21 }
-    ensures told { IfSome result (λ r. IsTold features.0 bytes.now at r.1 (λ o. V.visits visitor.old o r.0 visitor.new)) }
+    ensures told { IfSome result (λ r. IsTold features.0 bytes.now at r.1
+        (λ o. V.visits visitor.old o r.0 visitor.new)) }
     ensures none { IfNone result (visitor.new ≡ visitor.old) }
 {
     let Some((index, end)) = short_u32_at(bytes, at + 1) else {
@@ -53,7 +55,8 @@ pub fn short_local_tee<'a, V: VisitMemory<'a>>(
     visitor: &mut V,
 ) -> Option<(V::Output, usize)>
     requires { Begins bytes.now at 0x22 }
-    ensures told { IfSome result (λ r. IsTold features.0 bytes.now at r.1 (λ o. V.visits visitor.old o r.0 visitor.new)) }
+    ensures told { IfSome result (λ r. IsTold features.0 bytes.now at r.1
+        (λ o. V.visits visitor.old o r.0 visitor.new)) }
     ensures none { IfNone result (visitor.new ≡ visitor.old) }
 {
     let Some((index, end)) = short_u32_at(bytes, at + 1) else {
@@ -72,7 +75,8 @@ pub fn short_global<'a, V: VisitMemory<'a>>(
     visitor: &mut V,
 ) -> Option<(V::Output, usize)>
     requires { Begins bytes.now at code }
-    ensures told { IfSome result (λ r. IsTold features.0 bytes.now at r.1 (λ o. V.visits visitor.old o r.0 visitor.new)) }
+    ensures told { IfSome result (λ r. IsTold features.0 bytes.now at r.1
+        (λ o. V.visits visitor.old o r.0 visitor.new)) }
     ensures none { IfNone result (visitor.new ≡ visitor.old) }
 {
     let Some((index, end)) = short_u32_at(bytes, at + 1) else {
@@ -95,7 +99,8 @@ pub fn short_load<'a, V: VisitMemory<'a>>(
     visitor: &mut V,
 ) -> Option<(V::Output, usize)>
     requires { Begins bytes.now at code }
-    ensures told { IfSome result (λ r. IsTold features.0 bytes.now at r.1 (λ o. V.visits visitor.old o r.0 visitor.new)) }
+    ensures told { IfSome result (λ r. IsTold features.0 bytes.now at r.1
+        (λ o. V.visits visitor.old o r.0 visitor.new)) }
     ensures none { IfNone result (visitor.new ≡ visitor.old) }
 {
     let Some((access, end)) = access_at(bytes, at + 1, features) else {
@@ -134,7 +139,8 @@ pub fn short_store<'a, V: VisitMemory<'a>>(
     visitor: &mut V,
 ) -> Option<(V::Output, usize)>
     requires { Begins bytes.now at code }
-    ensures told { IfSome result (λ r. IsTold features.0 bytes.now at r.1 (λ o. V.visits visitor.old o r.0 visitor.new)) }
+    ensures told { IfSome result (λ r. IsTold features.0 bytes.now at r.1
+        (λ o. V.visits visitor.old o r.0 visitor.new)) }
     ensures none { IfNone result (visitor.new ≡ visitor.old) }
 {
     let Some((access, end)) = access_at(bytes, at + 1, features) else {
@@ -168,7 +174,8 @@ pub fn short_memory_size<'a, V: VisitMemory<'a>>(
     visitor: &mut V,
 ) -> Option<(V::Output, usize)>
     requires { Begins bytes.now at code }
-    ensures told { IfSome result (λ r. IsTold features.0 bytes.now at r.1 (λ o. V.visits visitor.old o r.0 visitor.new)) }
+    ensures told { IfSome result (λ r. IsTold features.0 bytes.now at r.1
+        (λ o. V.visits visitor.old o r.0 visitor.new)) }
     ensures none { IfNone result (visitor.new ≡ visitor.old) }
 {
     let Some((mem, end)) = zero_at(bytes, at + 1) else {
@@ -191,7 +198,8 @@ pub fn short_i32_const<'a, V: VisitMemory<'a>>(
     visitor: &mut V,
 ) -> Option<(V::Output, usize)>
     requires { Begins bytes.now at code }
-    ensures told { IfSome result (λ r. IsTold features.0 bytes.now at r.1 (λ o. V.visits visitor.old o r.0 visitor.new)) }
+    ensures told { IfSome result (λ r. IsTold features.0 bytes.now at r.1
+        (λ o. V.visits visitor.old o r.0 visitor.new)) }
     ensures none { IfNone result (visitor.new ≡ visitor.old) }
 {
     let Some((value, end)) = short_i32_at(bytes, at + 1) else {
@@ -213,7 +221,8 @@ pub fn short_i64_const<'a, V: VisitMemory<'a>>(
     visitor: &mut V,
 ) -> Option<(V::Output, usize)>
     requires { Begins bytes.now at code }
-    ensures told { IfSome result (λ r. IsTold features.0 bytes.now at r.1 (λ o. V.visits visitor.old o r.0 visitor.new)) }
+    ensures told { IfSome result (λ r. IsTold features.0 bytes.now at r.1
+        (λ o. V.visits visitor.old o r.0 visitor.new)) }
     ensures none { IfNone result (visitor.new ≡ visitor.old) }
 {
     let Some((value, end)) = short_i64_at(bytes, at + 1) else {
@@ -235,7 +244,8 @@ pub fn short_f32_const<'a, V: VisitMemory<'a>>(
     visitor: &mut V,
 ) -> Option<(V::Output, usize)>
     requires { Begins bytes.now at code }
-    ensures told { IfSome result (λ r. IsTold features.0 bytes.now at r.1 (λ o. V.visits visitor.old o r.0 visitor.new)) }
+    ensures told { IfSome result (λ r. IsTold features.0 bytes.now at r.1
+        (λ o. V.visits visitor.old o r.0 visitor.new)) }
     ensures none { IfNone result (visitor.new ≡ visitor.old) }
 {
     let Some((value, end)) = f32_at(bytes, at + 1) else {
@@ -257,7 +267,8 @@ pub fn short_f64_const<'a, V: VisitMemory<'a>>(
     visitor: &mut V,
 ) -> Option<(V::Output, usize)>
     requires { Begins bytes.now at code }
-    ensures told { IfSome result (λ r. IsTold features.0 bytes.now at r.1 (λ o. V.visits visitor.old o r.0 visitor.new)) }
+    ensures told { IfSome result (λ r. IsTold features.0 bytes.now at r.1
+        (λ o. V.visits visitor.old o r.0 visitor.new)) }
     ensures none { IfNone result (visitor.new ≡ visitor.old) }
 {
     let Some((value, end)) = f64_at(bytes, at + 1) else {

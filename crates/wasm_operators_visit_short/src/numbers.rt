@@ -18,7 +18,8 @@ pub fn short_number<'a, V: VisitIntegers<'a> + VisitFloats<'a>>(
 ) -> Option<(V::Output, usize)>
     requires begins { Begins bytes.now at code }
     requires low { code < 0xfb }
-    ensures told { IfSome result (λ r. IsTold features.0 bytes.now at r.1 (λ o. V.visits visitor.old o r.0 visitor.new)) }
+    ensures told { IfSome result (λ r. IsTold features.0 bytes.now at r.1
+        (λ o. V.visits visitor.old o r.0 visitor.new)) }
     ensures none { IfNone result (visitor.new ≡ visitor.old) }
 {
     let Some(op) = numeric_of(code as u32) else {
@@ -39,7 +40,8 @@ pub(crate) fn numeric_prefixed<'a, V: VisitIntegers<'a> + VisitFloats<'a>>(
     visitor: &mut V,
 ) -> Option<(V::Output, usize)>
     requires { BeginsPrefixed bytes.now at 0xfc code end }
-    ensures told { IfSome result (λ r. IsTold features.0 bytes.now at r.1 (λ o. V.visits visitor.old o r.0 visitor.new)) }
+    ensures told { IfSome result (λ r. IsTold features.0 bytes.now at r.1
+        (λ o. V.visits visitor.old o r.0 visitor.new)) }
     ensures none { IfNone result (visitor.new ≡ visitor.old) }
 {
     let Some(op) = numeric_prefixed_of(code) else {

@@ -26,7 +26,8 @@ pub fn visit_short<'a, V>(
 ) -> Option<(V::Output, usize)>
 where
     V: VisitControl<'a> + VisitMemory<'a> + VisitIntegers<'a> + VisitFloats<'a>,
-    ensures told { IfSome result (λ r. IsTold features.0 bytes.now at r.1 (λ o. V.visits visitor.old o r.0 visitor.new)) }
+    ensures told { IfSome result (λ r. IsTold features.0 bytes.now at r.1
+        (λ o. V.visits visitor.old o r.0 visitor.new)) }
     ensures none { IfNone result (visitor.new ≡ visitor.old) }
 {
     if at >= bytes.len() {
@@ -76,7 +77,8 @@ pub fn short_prefixed<'a, V>(
 where
     V: VisitMemory<'a> + VisitIntegers<'a> + VisitFloats<'a>,
     requires { Begins bytes.now at 0xfc }
-    ensures told { IfSome result (λ r. IsTold features.0 bytes.now at r.1 (λ o. V.visits visitor.old o r.0 visitor.new)) }
+    ensures told { IfSome result (λ r. IsTold features.0 bytes.now at r.1
+        (λ o. V.visits visitor.old o r.0 visitor.new)) }
     ensures none { IfNone result (visitor.new ≡ visitor.old) }
 {
     if let Some(told) = numbers_prefixed(bytes, at, features, visitor) {
@@ -94,7 +96,8 @@ fn numbers_prefixed<'a, V: VisitIntegers<'a> + VisitFloats<'a>>(
     visitor: &mut V,
 ) -> Option<(V::Output, usize)>
     requires { Begins bytes.now at 0xfc }
-    ensures told { IfSome result (λ r. IsTold features.0 bytes.now at r.1 (λ o. V.visits visitor.old o r.0 visitor.new)) }
+    ensures told { IfSome result (λ r. IsTold features.0 bytes.now at r.1
+        (λ o. V.visits visitor.old o r.0 visitor.new)) }
     ensures none { IfNone result (visitor.new ≡ visitor.old) }
 {
     let Some((code, end)) = short_u32_at(bytes, at + 1) else {
@@ -115,7 +118,8 @@ fn memory_prefixed<'a, V: VisitMemory<'a>>(
     visitor: &mut V,
 ) -> Option<(V::Output, usize)>
     requires { Begins bytes.now at 0xfc }
-    ensures told { IfSome result (λ r. IsTold features.0 bytes.now at r.1 (λ o. V.visits visitor.old o r.0 visitor.new)) }
+    ensures told { IfSome result (λ r. IsTold features.0 bytes.now at r.1
+        (λ o. V.visits visitor.old o r.0 visitor.new)) }
     ensures none { IfNone result (visitor.new ≡ visitor.old) }
 {
     let Some((code, end)) = short_u32_at(bytes, at + 1) else {

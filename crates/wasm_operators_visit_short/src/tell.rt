@@ -29,7 +29,8 @@ pub trait TellOperator<'a>: Visitor<'a> {
         at: usize,
         features: WasmFeatures,
     ) -> Option<(Self::Output, usize)>
-        ensures told { IfSome result (λ r. IsTold features.0 bytes.now at r.1 (λ o. Self.visits self.old o r.0 self.new)) }
+        ensures told { IfSome result (λ r. IsTold features.0 bytes.now at r.1
+            (λ o. Self.visits self.old o r.0 self.new)) }
         ensures none { IfNone result (self.new ≡ self.old) };
 
     /// The same of operators whose first byte is at most 1f, control and parametric ones. All that open or close a frame are among
@@ -40,7 +41,8 @@ pub trait TellOperator<'a>: Visitor<'a> {
         at: usize,
         features: WasmFeatures,
     ) -> Option<(Self::Output, usize)>
-        ensures told { IfSome result (λ r. IsTold features.0 bytes.now at r.1 (λ o. Self.visits self.old o r.0 self.new)) }
+        ensures told { IfSome result (λ r. IsTold features.0 bytes.now at r.1
+            (λ o. Self.visits self.old o r.0 self.new)) }
         ensures none { IfNone result (self.new ≡ self.old) };
 }
 
@@ -64,7 +66,8 @@ impl<'a, 'v, V: Visitor<'a>> Visitor<'a> for LentVisitor<'v, V> {
     type Output = V::Output;
 
     // The visitor's own relation; and it stays the same visitor that is lent.
-    ghost visits = { λ before op answer after. V.visits before.visitor.now op answer after.visitor.now × (after.visitor.ghost_name ≡ before.visitor.ghost_name) };
+    ghost visits = { λ before op answer after. V.visits before.visitor.now op answer after.visitor.now
+        × (after.visitor.ghost_name ≡ before.visitor.ghost_name) };
 }
 
 impl<'a, 'v, V: VisitOperator<'a>> TellOperator<'a> for LentVisitor<'v, V> {

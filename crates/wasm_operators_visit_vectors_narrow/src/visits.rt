@@ -330,5 +330,6 @@ pub trait VisitSimdNarrow<'a>: Visitor<'a> {
 
     /// Visits `i16x8.relaxed_dot_i8x16_i7x16_s`.
     fn visit_i16x8_relaxed_dot_i8x16_i7x16_s(&mut self) -> Self::Output
-        ensures { Self.visits self.old (Op.SimdNumeric SimdNumericOperator.I16x8RelaxedDotI8x16I7x16S) result self.new };
+        ensures { Self.visits self.old (Op.SimdNumeric SimdNumericOperator.I16x8RelaxedDotI8x16I7x16S)
+            result self.new };
 }

@@ -278,11 +278,13 @@ pub trait VisitSimdWide<'a>: Visitor<'a> {
 
     /// Visits `i32x4.relaxed_trunc_f64x2_s_zero`.
     fn visit_i32x4_relaxed_trunc_f64x2_s_zero(&mut self) -> Self::Output
-        ensures { Self.visits self.old (Op.SimdNumeric SimdNumericOperator.I32x4RelaxedTruncF64x2SZero) result self.new };
+        ensures { Self.visits self.old (Op.SimdNumeric SimdNumericOperator.I32x4RelaxedTruncF64x2SZero)
+            result self.new };
 
     /// Visits `i32x4.relaxed_trunc_f64x2_u_zero`.
     fn visit_i32x4_relaxed_trunc_f64x2_u_zero(&mut self) -> Self::Output
-        ensures { Self.visits self.old (Op.SimdNumeric SimdNumericOperator.I32x4RelaxedTruncF64x2UZero) result self.new };
+        ensures { Self.visits self.old (Op.SimdNumeric SimdNumericOperator.I32x4RelaxedTruncF64x2UZero)
+            result self.new };
 
     /// Visits `i32x4.relaxed_laneselect`.
     fn visit_i32x4_relaxed_laneselect(&mut self) -> Self::Output
@@ -294,5 +296,6 @@ pub trait VisitSimdWide<'a>: Visitor<'a> {
 
     /// Visits `i32x4.relaxed_dot_i8x16_i7x16_add_s`.
     fn visit_i32x4_relaxed_dot_i8x16_i7x16_add_s(&mut self) -> Self::Output
-        ensures { Self.visits self.old (Op.SimdNumeric SimdNumericOperator.I32x4RelaxedDotI8x16I7x16AddS) result self.new };
+        ensures { Self.visits self.old (Op.SimdNumeric SimdNumericOperator.I32x4RelaxedDotI8x16I7x16AddS)
+            result self.new };
 }

@@ -27,11 +27,15 @@ pub fn visit_expression<'a, E: Drop, V: VisitOperator<'a, Output = std::result::
     reader: BinaryReader<'a>,
     visitor: &mut V,
 ) -> Result<std::result::Result<(), E>>
-    ensures whole { IfOk result (λ end. IfOk end (λ _. (c : Code) × SpelledExpression reader.entry.settings c reader.entry.rest
+    ensures whole { IfOk result (λ end. IfOk end (λ _. (c : Code)
+        × SpelledExpression reader.entry.settings c reader.entry.rest
         × HasNoVectors (walk c) × VisitsAll V.visits (Ok tt) visitor.old (walk c) visitor.new)) }
-    ensures ended { IfOk result (λ end. IfErr end (λ x. WalksUntil V.visits (Ok tt) (at_start reader.entry) visitor.old (Err x) visitor.new)) }
-    ensures refused { IfErr result (λ e. IsNotMemory e.kind → (c : Code) → SpelledExpression reader.entry.settings c reader.entry.rest → HasNoVectors (walk c) → ⊥) }
-    ensures stops { IfErr result (λ e. (t : Standing) × WalksTo V.visits (Ok tt) (at_start reader.entry) visitor.old t visitor.new × StopsPlain t e) }
+    ensures ended { IfOk result (λ end. IfErr end (λ x. WalksUntil V.visits (Ok tt) (at_start reader.entry) visitor.old
+        (Err x) visitor.new)) }
+    ensures refused { IfErr result (λ e. IsNotMemory e.kind → (c : Code)
+        → SpelledExpression reader.entry.settings c reader.entry.rest → HasNoVectors (walk c) → ⊥) }
+    ensures stops { IfErr result (λ e. (t : Standing) × WalksTo V.visits (Ok tt)
+        (at_start reader.entry) visitor.old t visitor.new × StopsPlain t e) }
 {
     let end = match visit_expression_with_offset(alloc, reader, visitor) {
         Ok(end) => end,
@@ -57,11 +61,15 @@ pub fn visit_expression_with_offset<
     reader: BinaryReader<'a>,
     visitor: &mut V,
 ) -> Result<std::result::Result<(), (E, u64)>>
-    ensures whole { IfOk result (λ end. IfOk end (λ _. (c : Code) × SpelledExpression reader.entry.settings c reader.entry.rest
+    ensures whole { IfOk result (λ end. IfOk end (λ _. (c : Code)
+        × SpelledExpression reader.entry.settings c reader.entry.rest
         × HasNoVectors (walk c) × VisitsAll V.visits (Ok tt) visitor.old (walk c) visitor.new)) }
-    ensures ended { IfOk result (λ end. IfErr end (λ x. WalksUntilAt V.visits (Ok tt) (at_start reader.entry) visitor.old (Err x.0) visitor.new x.1)) }
-    ensures refused { IfErr result (λ e. IsNotMemory e.kind → (c : Code) → SpelledExpression reader.entry.settings c reader.entry.rest → HasNoVectors (walk c) → ⊥) }
-    ensures stops { IfErr result (λ e. (t : Standing) × WalksTo V.visits (Ok tt) (at_start reader.entry) visitor.old t visitor.new × StopsPlain t e) }
+    ensures ended { IfOk result (λ end. IfErr end (λ x. WalksUntilAt V.visits (Ok tt)
+        (at_start reader.entry) visitor.old (Err x.0) visitor.new x.1)) }
+    ensures refused { IfErr result (λ e. IsNotMemory e.kind → (c : Code)
+        → SpelledExpression reader.entry.settings c reader.entry.rest → HasNoVectors (walk c) → ⊥) }
+    ensures stops { IfErr result (λ e. (t : Standing) × WalksTo V.visits (Ok tt)
+        (at_start reader.entry) visitor.old t visitor.new × StopsPlain t e) }
 {
     let mut lent = LentVisitor { visitor };
     tell_lent(alloc, reader, &mut lent)
@@ -74,11 +82,15 @@ fn tell_lent<'a, E: Drop, V: VisitOperator<'a, Output = std::result::Result<(), 
     reader: BinaryReader<'a>,
     lent: &mut LentVisitor<'_, V>,
 ) -> Result<std::result::Result<(), (E, u64)>>
-    ensures whole { IfOk result (λ end. IfOk end (λ _. (c : Code) × SpelledExpression reader.entry.settings c reader.entry.rest
+    ensures whole { IfOk result (λ end. IfOk end (λ _. (c : Code)
+        × SpelledExpression reader.entry.settings c reader.entry.rest
         × HasNoVectors (walk c) × VisitsAll V.visits (Ok tt) lent.old.visitor.now (walk c) lent.new.visitor.now)) }
-    ensures ended { IfOk result (λ end. IfErr end (λ x. WalksUntilAt V.visits (Ok tt) (at_start reader.entry) lent.old.visitor.now (Err x.0) lent.new.visitor.now x.1)) }
-    ensures refused { IfErr result (λ e. IsNotMemory e.kind → (c : Code) → SpelledExpression reader.entry.settings c reader.entry.rest → HasNoVectors (walk c) → ⊥) }
-    ensures stops { IfErr result (λ e. (t : Standing) × WalksTo V.visits (Ok tt) (at_start reader.entry) lent.old.visitor.now t lent.new.visitor.now × StopsPlain t e) }
+    ensures ended { IfOk result (λ end. IfErr end (λ x. WalksUntilAt V.visits (Ok tt)
+        (at_start reader.entry) lent.old.visitor.now (Err x.0) lent.new.visitor.now x.1)) }
+    ensures refused { IfErr result (λ e. IsNotMemory e.kind → (c : Code)
+        → SpelledExpression reader.entry.settings c reader.entry.rest → HasNoVectors (walk c) → ⊥) }
+    ensures stops { IfErr result (λ e. (t : Standing) × WalksTo V.visits (Ok tt)
+        (at_start reader.entry) lent.old.visitor.now t lent.new.visitor.now × StopsPlain t e) }
     ensures same { lent.new.visitor.ghost_name ≡ lent.old.visitor.ghost_name }
 {
     tell_expression_with_offset(alloc, reader, lent)

@@ -29,8 +29,10 @@ pub trait ReadToVisitor<'a, V: VisitOperator<'a> + FrameStack> {
     /// As `ReadOperators::peek_operator`; and where the operator is one on vectors, which is refused where it begins. The reader stays as it
     /// was, and the visitor is told nothing.
     fn visit_operator(&mut self, alloc: Global, visitor: &mut V) -> Result<V::Output>
-        ensures visited { IfOk result (λ answer. (o : Op) × ReadsIn (V.frame visitor.old) (state self.old) o (state self.new) × (is_simd o ≡ false) × V.visits visitor.old o answer visitor.new) }
-        ensures refused { IfErr result (λ e. RefusesPlainIn (V.frame visitor.old) (state self.old) e × (self.new ≡ self.old)) }
+        ensures visited { IfOk result (λ answer. (o : Op) × ReadsIn (V.frame visitor.old) (state self.old) o
+            (state self.new) × (is_simd o ≡ false) × V.visits visitor.old o answer visitor.new) }
+        ensures refused { IfErr result (λ e. RefusesPlainIn (V.frame visitor.old) (state self.old) e
+            × (self.new ≡ self.old)) }
         ensures told { IfErr result (λ _. visitor.new ≡ visitor.old) }
         ensures no_memory { keeps_list_at (state self.old) ≡ false → NeedsNoMemory result };
 }
@@ -48,8 +50,10 @@ pub trait ReadToSimdVisitor<'a, V: VisitSimdOperator<'a> + FrameStack> {
     ///
     /// As `ReadOperators::peek_operator`. The reader stays as it was, and the visitor is told nothing.
     fn visit_operator_simd(&mut self, alloc: Global, visitor: &mut V) -> Result<V::Output>
-        ensures visited { IfOk result (λ answer. (o : Op) × ReadsIn (V.frame visitor.old) (state self.old) o (state self.new) × V.visits visitor.old o answer visitor.new) }
-        ensures refused { IfErr result (λ e. RefusesIn (V.frame visitor.old) (state self.old) e × (self.new ≡ self.old)) }
+        ensures visited { IfOk result (λ answer. (o : Op) × ReadsIn (V.frame visitor.old) (state self.old) o
+            (state self.new) × V.visits visitor.old o answer visitor.new) }
+        ensures refused { IfErr result (λ e. RefusesIn (V.frame visitor.old) (state self.old) e
+            × (self.new ≡ self.old)) }
         ensures told { IfErr result (λ _. visitor.new ≡ visitor.old) }
         ensures no_memory { keeps_list_at (state self.old) ≡ false → NeedsNoMemory result };
 }

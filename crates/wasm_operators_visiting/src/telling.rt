@@ -39,7 +39,8 @@ pub fn tell_operator_simd<'a, V: TellSimdOperator<'a>>(
     operators: &mut OperatorsReader<'a>,
     visitor: &mut V,
 ) -> Result<V::Output>
-    ensures visited { IfOk result (λ answer. Visits V.visits operators.old visitor.old answer operators.new visitor.new) }
+    ensures visited { IfOk result (λ answer. Visits V.visits operators.old visitor.old answer
+        operators.new visitor.new) }
     ensures refused { IfErr result (λ e. Refuses operators.old e × (operators.new ≡ operators.old)) }
     ensures told { IfErr result (λ _. visitor.new ≡ visitor.old) }
     ensures no_memory { (WantsMemory operators.old → ⊥) → NeedsNoMemory result }
@@ -62,7 +63,8 @@ pub fn tell_operator_in_frame_simd<'a, V: TellSimdOperator<'a> + FrameStack>(
     reader: &mut BinaryReader<'a>,
     visitor: &mut V,
 ) -> Result<V::Output>
-    ensures visited { IfOk result (λ answer. (o : Op) × ReadsIn (V.frame visitor.old) reader.old o reader.new × V.visits visitor.old o answer visitor.new) }
+    ensures visited { IfOk result (λ answer. (o : Op) × ReadsIn (V.frame visitor.old) reader.old o reader.new
+        × V.visits visitor.old o answer visitor.new) }
     ensures refused { IfErr result (λ e. RefusesIn (V.frame visitor.old) reader.old e × (reader.new ≡ reader.old)) }
     ensures told { IfErr result (λ _. visitor.new ≡ visitor.old) }
     ensures no_memory { keeps_list_at reader.old ≡ false → NeedsNoMemory result }

@@ -24,7 +24,8 @@ pub trait VisitNext<'a, V: VisitOperator<'a>> {
     /// As `OperatorsReader::read`; and where the operator is one on vectors, which is refused where it begins. The reader stays as it was,
     /// and the visitor is told nothing.
     fn visit_operator(&mut self, visitor: &mut V) -> Result<V::Output>
-        ensures visited { IfOk result (λ answer. VisitsPlain V.visits (standing self.old) visitor.old answer (standing self.new) visitor.new) }
+        ensures visited { IfOk result (λ answer. VisitsPlain V.visits (standing self.old) visitor.old answer
+            (standing self.new) visitor.new) }
         ensures refused { IfErr result (λ e. RefusesPlain (standing self.old) e × (self.new ≡ self.old)) }
         ensures told { IfErr result (λ _. visitor.new ≡ visitor.old) }
         ensures no_memory { (WantsMemory (standing self.old) → ⊥) → NeedsNoMemory result };
@@ -43,7 +44,8 @@ pub trait VisitNextSimd<'a, V: VisitSimdOperator<'a>> {
     ///
     /// As `OperatorsReader::read`. The reader stays as it was, and the visitor is told nothing.
     fn visit_operator_simd(&mut self, visitor: &mut V) -> Result<V::Output>
-        ensures visited { IfOk result (λ answer. Visits V.visits (standing self.old) visitor.old answer (standing self.new) visitor.new) }
+        ensures visited { IfOk result (λ answer. Visits V.visits (standing self.old) visitor.old answer
+            (standing self.new) visitor.new) }
         ensures refused { IfErr result (λ e. Refuses (standing self.old) e × (self.new ≡ self.old)) }
         ensures told { IfErr result (λ _. visitor.new ≡ visitor.old) }
         ensures no_memory { (WantsMemory (standing self.old) → ⊥) → NeedsNoMemory result };

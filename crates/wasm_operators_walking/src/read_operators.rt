@@ -41,7 +41,8 @@ pub trait ReadOperators<'a> {
     /// A frame is open, or bytes are left.
     fn finish_expression<S: FrameStack>(&self, stack: &S) -> Result<()>
         ensures finished { IfOk result (λ _. (S.frame stack.now ≡ None) × ((state self.now).rest ≡ [])) }
-        ensures refused { IfErr result (λ e. (S.frame stack.now ≡ None → (state self.now).rest ≡ [] → ⊥) × (e.kind ≡ Other) × (e.offset ≡ (state self.now).place)) }
+        ensures refused { IfErr result (λ e. (S.frame stack.now ≡ None → (state self.now).rest ≡ [] → ⊥)
+            × (e.kind ≡ Other) × (e.offset ≡ (state self.now).place)) }
         ensures no_memory { NeedsNoMemory result };
 }
 

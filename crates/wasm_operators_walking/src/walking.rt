@@ -31,10 +31,15 @@ pub fn tell_expression_with_offset<'a, E: Drop, V>(
 ) -> Result<std::result::Result<(), (E, u64)>>
 where
     V: TellOperator<'a, Output = std::result::Result<(), E>> + TellPlain<'a, E>,
-    ensures whole { IfOk result (λ end. IfOk end (λ _. (c : Code) × SpelledExpression reader.entry.settings c reader.entry.rest × HasNoVectors (walk c) × VisitsAll V.visits (Ok tt) visitor.old (walk c) visitor.new)) }
-    ensures ended { IfOk result (λ end. IfErr end (λ x. WalksUntilAt V.visits (Ok tt) (at_start reader.entry) visitor.old (Err x.0) visitor.new x.1)) }
-    ensures refused { IfErr result (λ e. IsNotMemory e.kind → (c : Code) → SpelledExpression reader.entry.settings c reader.entry.rest → HasNoVectors (walk c) → ⊥) }
-    ensures stops { IfErr result (λ e. (t : Standing) × WalksTo V.visits (Ok tt) (at_start reader.entry) visitor.old t visitor.new × StopsPlain t e) }
+    ensures whole { IfOk result (λ end. IfOk end (λ _. (c : Code)
+        × SpelledExpression reader.entry.settings c reader.entry.rest × HasNoVectors (walk c)
+        × VisitsAll V.visits (Ok tt) visitor.old (walk c) visitor.new)) }
+    ensures ended { IfOk result (λ end. IfErr end (λ x. WalksUntilAt V.visits (Ok tt)
+        (at_start reader.entry) visitor.old (Err x.0) visitor.new x.1)) }
+    ensures refused { IfErr result (λ e. IsNotMemory e.kind → (c : Code)
+        → SpelledExpression reader.entry.settings c reader.entry.rest → HasNoVectors (walk c) → ⊥) }
+    ensures stops { IfErr result (λ e. (t : Standing) × WalksTo V.visits (Ok tt)
+        (at_start reader.entry) visitor.old t visitor.new × StopsPlain t e) }
 {
     let mut operators = OperatorsReader::new(alloc, reader);
     let end = match visit_all(&mut operators, visitor) {
@@ -57,9 +62,12 @@ fn visit_all<'a, E: Drop, V>(
 ) -> Result<std::result::Result<(), (E, u64)>>
 where
     V: TellOperator<'a, Output = std::result::Result<(), E>> + TellPlain<'a, E>,
-    ensures whole { IfOk result (λ end. IfOk end (λ _. WalksTo V.visits (Ok tt) operators.old visitor.old operators.new visitor.new × (operators.new.bytes.rest ≡ []))) }
-    ensures ended { IfOk result (λ end. IfErr end (λ x. WalksUntilAt V.visits (Ok tt) operators.old visitor.old (Err x.0) visitor.new x.1)) }
-    ensures refused { IfErr result (λ e. WalksTo V.visits (Ok tt) operators.old visitor.old operators.new visitor.new × StopsPlain operators.new e) }
+    ensures whole { IfOk result (λ end. IfOk end (λ _. WalksTo V.visits
+        (Ok tt) operators.old visitor.old operators.new visitor.new × (operators.new.bytes.rest ≡ []))) }
+    ensures ended { IfOk result (λ end. IfErr end (λ x. WalksUntilAt V.visits (Ok tt) operators.old visitor.old
+        (Err x.0) visitor.new x.1)) }
+    ensures refused { IfErr result (λ e. WalksTo V.visits (Ok tt) operators.old visitor.old operators.new visitor.new
+        × StopsPlain operators.new e) }
 {
     while !operators.eof() {
         if let Some(ended) = operators.tell_run(visitor) {
@@ -92,7 +100,8 @@ pub fn tells_whole<'a, E: Drop, V>(
 ) -> bool
 where
     V: TellOperator<'a, Output = std::result::Result<(), E>> + TellPlain<'a, E>,
-    ensures { result ≡ true → (c : Code) × SpelledExpression reader.entry.settings c reader.entry.rest × HasNoVectors (walk c) × VisitsAll V.visits (Ok tt) visitor.old (walk c) visitor.new }
+    ensures { result ≡ true → (c : Code) × SpelledExpression reader.entry.settings c reader.entry.rest
+        × HasNoVectors (walk c) × VisitsAll V.visits (Ok tt) visitor.old (walk c) visitor.new }
 {
     let used = replace(frames, OperatorsReaderAllocations::new(alloc));
     let mut operators = OperatorsReader::new_with_allocs(alloc, reader, used);
@@ -107,7 +116,8 @@ where
 fn tells_all<'a, E: Drop, V>(operators: &mut OperatorsReader<'a>, visitor: &mut V) -> bool
 where
     V: TellOperator<'a, Output = std::result::Result<(), E>> + TellPlain<'a, E>,
-    ensures { result ≡ true → WalksTo V.visits (Ok tt) operators.old visitor.old operators.new visitor.new × (operators.new.bytes.rest ≡ []) }
+    ensures { result ≡ true → WalksTo V.visits (Ok tt) operators.old visitor.old operators.new visitor.new
+        × (operators.new.bytes.rest ≡ []) }
 {
     while !operators.eof() {
         if operators.tell_run(visitor).is_some() {

@@ -22,24 +22,35 @@ use wasm_types::FromReader;
 /// it gave, and no byte after them. Where they do, the count is that of the items, and a walk gives these and no error, out
 /// of memory aside.
 pub fn sections_are_exact<'a, T: FromReader<'a>>()
-    ensures sound { (z : Settings) (s t : State) (n : ℕ) (xs : List T.Value) → u32_decoder s ≡ Done n t → Drains (plainly (T.decoder z)) (fresh n t) (map ok xs) → IsListed (T.grammar z) xs s.rest }
-    ensures complete { (z : Settings) (s : State) (xs : List T.Value) → IsListed (T.grammar z) xs s.rest → (t : State) × (u32_decoder s ≡ Done (length xs) t)
-        × ((items : List (Result T.Value ErrorValue)) → Drains (plainly (T.decoder z)) (fresh (length xs) t) items → NeverLacksMemory items → items ≡ map ok xs) }
+    ensures sound { (z : Settings) (s t : State) (n : ℕ) (xs : List T.Value) → u32_decoder s ≡ Done n t
+        → Drains (plainly (T.decoder z)) (fresh n t) (map ok xs) → IsListed (T.grammar z) xs s.rest }
+    ensures complete { (z : Settings) (s : State) (xs : List T.Value) → IsListed (T.grammar z) xs s.rest
+        → (t : State) × (u32_decoder s ≡ Done (length xs) t)
+        × ((items : List (Result T.Value ErrorValue)) → Drains (plainly (T.decoder z)) (fresh (length xs) t) items
+        → NeverLacksMemory items → items ≡ map ok xs) }
 {}
 
 /// A run of an iterator over a section's items, from its first call to `None`. Where it gave no error, the contents spell the
 /// count and the items that it gave, and no byte after them. Where they do, it gives these and no error, out of memory aside.
 pub fn runs_are_exact<'a, T: FromReader<'a>>()
-    ensures sound { (b t : State) (n : ℕ) (it : SectionLimitedIntoIter T) (xs : List T) → u32_decoder b ≡ Done n t → place_in it ≡ fresh n t
-        → Drains (Steps T.decoder place_in (told T.takes_memory) (plain T.view T.decoder)) it (map ok xs) → IsListed (T.grammar t.settings) (map T.view xs) b.rest }
-    ensures complete { (b t : State) (n : ℕ) (it : SectionLimitedIntoIter T) (xs : List T.Value) (items : List (Result T ErrorValue)) → u32_decoder b ≡ Done n t
-        → place_in it ≡ fresh n t → IsListed (T.grammar t.settings) xs b.rest → Drains (Steps T.decoder place_in (told T.takes_memory) (plain T.view T.decoder)) it items
+    ensures sound { (b t : State) (n : ℕ) (it : SectionLimitedIntoIter T) (xs : List T) → u32_decoder b ≡ Done n t
+        → place_in it ≡ fresh n t
+        → Drains (Steps T.decoder place_in (told T.takes_memory) (plain T.view T.decoder)) it (map ok xs)
+        → IsListed (T.grammar t.settings) (map T.view xs) b.rest }
+    ensures complete { (b t : State) (n : ℕ) (it : SectionLimitedIntoIter T) (xs : List T.Value)
+        (items : List (Result T ErrorValue)) → u32_decoder b ≡ Done n t
+        → place_in it ≡ fresh n t → IsListed (T.grammar t.settings) xs b.rest
+        → Drains (Steps T.decoder place_in (told T.takes_memory) (plain T.view T.decoder)) it items
         → NeverLacksMemory items → map (seen T.view) items ≡ map ok xs }
-    ensures sound_with_offsets { (b t : State) (n : ℕ) (it : SectionLimitedIntoIterWithOffsets T) (xs : List (ℕ × T)) → u32_decoder b ≡ Done n t → place_with_offsets it ≡ fresh n t
-        → Drains (Steps T.decoder place_with_offsets (told T.takes_memory) (with_offset T.view T.decoder)) it (map ok xs) → IsListed (T.grammar t.settings) (map (λ x. T.view x.1) xs) b.rest }
-    ensures complete_with_offsets { (b t : State) (n : ℕ) (it : SectionLimitedIntoIterWithOffsets T) (xs : List T.Value) (items : List (Result (ℕ × T) ErrorValue))
+    ensures sound_with_offsets { (b t : State) (n : ℕ) (it : SectionLimitedIntoIterWithOffsets T) (xs : List (ℕ × T))
+        → u32_decoder b ≡ Done n t → place_with_offsets it ≡ fresh n t
+        → Drains (Steps T.decoder place_with_offsets (told T.takes_memory) (with_offset T.view T.decoder)) it
+        (map ok xs) → IsListed (T.grammar t.settings) (map (λ x. T.view x.1) xs) b.rest }
+    ensures complete_with_offsets { (b t : State) (n : ℕ) (it : SectionLimitedIntoIterWithOffsets T) (xs : List T.Value)
+        (items : List (Result (ℕ × T) ErrorValue))
         → u32_decoder b ≡ Done n t → place_with_offsets it ≡ fresh n t → IsListed (T.grammar t.settings) xs b.rest
-        → Drains (Steps T.decoder place_with_offsets (told T.takes_memory) (with_offset T.view T.decoder)) it items → NeverLacksMemory items → map (seen (λ x. T.view x.1)) items ≡ map ok xs }
+        → Drains (Steps T.decoder place_with_offsets (told T.takes_memory) (with_offset T.view T.decoder)) it items
+        → NeverLacksMemory items → map (seen (λ x. T.view x.1)) items ≡ map ok xs }
 {}
 
 /// A run over the function types of a type section, from its first call to `None`. Where it gave no error, the contents spell the
@@ -48,11 +59,15 @@ pub fn runs_are_exact<'a, T: FromReader<'a>>()
 pub const fn function_types_are_exact()
     ensures lawful { (z : Settings) → IsLawful (function_alone z) }
     ensures exact { (z : Settings) → Decides (function_alone z) (SpelledAlone z) }
-    ensures sound { (b t : State) (n : ℕ) (it : FuncTypesIntoIter) (xs : List FuncType) → u32_decoder b ≡ Done n t → place_of_functions it ≡ fresh n t
-        → Drains (Steps function_alone place_of_functions (told true) (plain (λ f. f) function_alone)) it (map ok xs) → IsListed (SpelledAlone t.settings) xs b.rest }
-    ensures complete { (b t : State) (n : ℕ) (it : FuncTypesIntoIter) (xs : List Signature) (items : List (Result FuncType ErrorValue)) → u32_decoder b ≡ Done n t
+    ensures sound { (b t : State) (n : ℕ) (it : FuncTypesIntoIter) (xs : List FuncType) → u32_decoder b ≡ Done n t
+        → place_of_functions it ≡ fresh n t
+        → Drains (Steps function_alone place_of_functions (told true) (plain (λ f. f) function_alone)) it (map ok xs)
+        → IsListed (SpelledAlone t.settings) xs b.rest }
+    ensures complete { (b t : State) (n : ℕ) (it : FuncTypesIntoIter) (xs : List Signature)
+        (items : List (Result FuncType ErrorValue)) → u32_decoder b ≡ Done n t
         → place_of_functions it ≡ fresh n t → IsListed (SpelledAlone t.settings) xs b.rest
-        → Drains (Steps function_alone place_of_functions (told true) (plain (λ f. f) function_alone)) it items → NeverLacksMemory items → items ≡ map ok xs }
+        → Drains (Steps function_alone place_of_functions (told true) (plain (λ f. f) function_alone)) it items
+        → NeverLacksMemory items → items ≡ map ok xs }
 {}
 
 /// Walks that were worked by hand, over one-byte items: none, all of two, one too few, and a byte too many. And groups that are

@@ -23,7 +23,8 @@ pub struct SectionLimited<'a, T: FromReader<'a>> {
 impl<'a, T: FromReader<'a>> SectionLimited<'a, T> {
     /// A section of these contents: reads the count, a number of 32 bits. Items that take memory take it of `alloc`.
     pub fn new(alloc: Global, reader: BinaryReader<'a>) -> Result<SectionLimited<'a, T>>
-        ensures answer { MatchResult result (λ s. u32_decoder reader.entry ≡ Done s.count s.reader) (λ e. Fails e (u32_decoder reader.entry)) }
+        ensures answer { MatchResult result (λ s. u32_decoder reader.entry ≡ Done s.count s.reader)
+            (λ e. Fails e (u32_decoder reader.entry)) }
         ensures no_memory { IfErr result (λ e. IsNotMemory e.kind) }
     {
         let mut reader = reader;
@@ -52,7 +53,10 @@ impl<'a, T: FromReader<'a>> SectionLimited<'a, T> {
 
     /// The offsets of the contents, the count too.
     pub fn range(&self) -> Range<u64>
-        ensures { result ≡ record { start = self.now.reader.start; end = self.now.reader.place + length self.now.reader.rest } }
+        ensures { result ≡ record {
+          start = self.now.reader.start;
+          end = self.now.reader.place + length self.now.reader.rest;
+        } }
     {
         self.reader.range()
     }

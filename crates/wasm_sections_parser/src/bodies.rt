@@ -18,7 +18,8 @@ impl Parser {
     #[inline(always)]
     pub fn next_body<'d>(&mut self, data: &'d [u8]) -> Option<(BinaryReader<'d>, usize)>
         requires { self.old.offset + length data.now < 2 ^ 64 }
-        ensures body { IfSome result (λ x. (eof : Bool) → Parses self.old data.now eof (Ok (Parsed x.1 (CodeEntry x.0))) self.new) }
+        ensures body { IfSome result (λ x. (eof : Bool) → Parses self.old data.now eof
+            (Ok (Parsed x.1 (CodeEntry x.0))) self.new) }
         ensures stays { IfNone result (self.new ≡ self.old) }
     {
         let progress = self.progress;
@@ -64,8 +65,10 @@ fn short_entry<'a>(
     end: u64,
     reader: &mut BinaryReader<'a>,
 ) -> Option<BinaryReader<'a>>
-    ensures read { IfSome result (λ r. next_entry progress left end reader.old ≡ Done (entry r.rest, one_less progress left end) reader.new) }
-    ensures placed { IfSome result (λ r. (r.start ≡ r.place) × (r.place + length r.rest ≡ reader.new.place) × (r.settings ≡ reader.old.settings)) }
+    ensures read { IfSome result (λ r. next_entry progress left end reader.old ≡ Done
+        (entry r.rest, one_less progress left end) reader.new) }
+    ensures placed { IfSome result (λ r. (r.start ≡ r.place) × (r.place + length r.rest ≡ reader.new.place)
+        × (r.settings ≡ reader.old.settings)) }
     ensures forward { Reaches reader.old reader.new }
 {
     let Some(size) = reader.short_u32() else {

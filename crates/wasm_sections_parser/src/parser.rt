@@ -46,11 +46,20 @@ impl Model for Parser {
 
     ghost Value = { Standing };
 
-    ghost view = { λ p. record { offset = p.offset; settings = record { features = p.features.0; limits = p.limits }; progress = p.progress } };
+    ghost view = { λ p. record {
+      offset = p.offset;
+      settings = record { features = p.features.0; limits = p.limits };
+      progress = p.progress;
+    } };
 
     ghost invariant = { λ p. IsWithinCeilings p.limits };
 
-    ghost inverse = { λ s. record { offset = s.offset; features = record { 0 = s.settings.features }; limits = s.settings.limits; progress = s.progress } };
+    ghost inverse = { λ s. record {
+      offset = s.offset;
+      features = record { 0 = s.settings.features };
+      limits = s.settings.limits;
+      progress = s.progress;
+    } };
 }
 
 impl Parser {
@@ -58,7 +67,14 @@ impl Parser {
     pub fn new(offset: u64) -> Parser
         ensures offset { result.offset ≡ offset }
         ensures settings { result.settings ≡ record { features = bits_of default_features; limits = default_limits } }
-        ensures progress { result.progress ≡ record { stage = Header; last = 0; functions = 0; bodies = 0; data_count = None; segments = 0 } }
+        ensures progress { result.progress ≡ record {
+          stage = Header;
+          last = 0;
+          functions = 0;
+          bodies = 0;
+          data_count = None;
+          segments = 0;
+        } }
     {
         Parser {
             offset,
@@ -84,7 +100,10 @@ impl Parser {
 
     /// Allows these features from here on.
     pub fn set_features(&mut self, features: WasmFeatures)
-        ensures { self.new ≡ record self.old { settings = record { features = features.0; limits = self.old.settings.limits } } }
+        ensures { self.new ≡ record self.old {
+          settings = record
+              { features = features.0; limits = self.old.settings.limits };
+        } }
     {
         self.features = features;
     }
@@ -100,7 +119,10 @@ impl Parser {
     /// Holds to these limits from here on.
     pub fn set_limits(&mut self, limits: Limits)
         requires within { IsWithinCeilings limits }
-        ensures { self.new ≡ record self.old { settings = record { features = self.old.settings.features; limits = limits } } }
+        ensures { self.new ≡ record self.old {
+          settings = record
+              { features = self.old.settings.features; limits = limits };
+        } }
     {
         self.limits = limits;
     }

@@ -61,8 +61,10 @@ fn read_custom<'a>(
     part: BinaryReader<'a>,
     _reader: &BinaryReader<'a>,
 ) -> Result<Read<'a>>
-    ensures answer { Gives (λ x. (shape_of x.frame, x.progress)) result _reader.now (in_part (name part.entry.settings.limits.string_bytes) (custom_next progress) part.entry _reader.now) }
-    ensures placed { IfOk result (λ x. IsPlacedBy (λ n. n ≡ part.entry.start) part.entry.settings x.frame x.progress (part.entry.place + length part.entry.rest)) }
+    ensures answer { Gives (λ x. (shape_of x.frame, x.progress)) result _reader.now
+        (in_part (name part.entry.settings.limits.string_bytes) (custom_next progress) part.entry _reader.now) }
+    ensures placed { IfOk result (λ x. IsPlacedBy (λ n. n ≡ part.entry.start) part.entry.settings x.frame x.progress
+        (part.entry.place + length part.entry.rest)) }
     ensures no_memory { NeedsNoMemory result }
 {
     let mut part = part;
@@ -91,9 +93,11 @@ fn read_counted<'a>(
     part: BinaryReader<'a>,
     _reader: &BinaryReader<'a>,
 ) -> Result<Read<'a>>
-    ensures answer { Gives (λ x. (shape_of x.frame, x.progress)) result _reader.now (in_part u32_decoder (section_next progress id part.entry.rest) part.entry _reader.now) }
+    ensures answer { Gives (λ x. (shape_of x.frame, x.progress)) result _reader.now
+        (in_part u32_decoder (section_next progress id part.entry.rest) part.entry _reader.now) }
     ensures placed { IfOk result (λ x. part.entry.start ≡ part.entry.place
-        → IsPlacedBy (λ n. n ≡ part.entry.start) part.entry.settings x.frame x.progress (part.entry.place + length part.entry.rest)) }
+        → IsPlacedBy (λ n. n ≡ part.entry.start) part.entry.settings x.frame x.progress
+        (part.entry.place + length part.entry.rest)) }
     ensures no_memory { NeedsNoMemory result }
 {
     let mut ahead = part.clone();
@@ -115,8 +119,10 @@ fn read_contents<'a>(
     size: u32,
     reader: &mut BinaryReader<'a>,
 ) -> Result<Read<'a>>
-    ensures answer { Gives (λ x. (shape_of x.frame, x.progress)) result reader.new (contents reader.old.settings progress id size reader.old) }
-    ensures placed { IfOk result (λ x. IsPlacedBy (λ n. n ≡ reader.old.place) reader.old.settings x.frame x.progress reader.new.place) }
+    ensures answer { Gives (λ x. (shape_of x.frame, x.progress)) result reader.new
+        (contents reader.old.settings progress id size reader.old) }
+    ensures placed { IfOk result (λ x. IsPlacedBy (λ n. n ≡ reader.old.place) reader.old.settings x.frame x.progress
+        reader.new.place) }
     ensures no_memory { NeedsNoMemory result }
     ensures forward { Reaches reader.old reader.new }
 {
@@ -140,8 +146,10 @@ fn read_code_start<'a>(
     size: u32,
     reader: &mut BinaryReader<'a>,
 ) -> Result<Read<'a>>
-    ensures answer { Gives (λ x. (shape_of x.frame, x.progress)) result reader.new (code_start progress size reader.old) }
-    ensures placed { IfOk result (λ x. IsPlacedBy (λ n. n ≡ reader.old.place) reader.old.settings x.frame x.progress reader.new.place) }
+    ensures answer { Gives (λ x. (shape_of x.frame, x.progress)) result reader.new
+        (code_start progress size reader.old) }
+    ensures placed { IfOk result (λ x. IsPlacedBy (λ n. n ≡ reader.old.place) reader.old.settings x.frame x.progress
+        reader.new.place) }
     ensures no_memory { NeedsNoMemory result }
     ensures forward { Reaches reader.old reader.new }
 {
@@ -164,7 +172,8 @@ fn read_code_start<'a>(
 // A section: its id, its size and what follows.
 #[tactic(auto, using(wasm_types::specs::Laws::reaches_self, wasm_types::specs::Laws::reaches_then), unfolding(crate::specs::Steps::next_section))]
 fn read_section<'a>(progress: Progress, reader: &mut BinaryReader<'a>) -> Result<Read<'a>>
-    ensures answer { Gives (λ x. (shape_of x.frame, x.progress)) result reader.new (next_section reader.old.settings progress reader.old) }
+    ensures answer { Gives (λ x. (shape_of x.frame, x.progress)) result reader.new
+        (next_section reader.old.settings progress reader.old) }
     ensures placed { IfOk result (λ x. IsPlaced x.frame x.progress reader.old reader.new.place) }
     ensures no_memory { NeedsNoMemory result }
     ensures forward { Reaches reader.old reader.new }
@@ -189,7 +198,8 @@ fn read_body<'a>(
     size: u32,
     reader: &mut BinaryReader<'a>,
 ) -> Result<Read<'a>>
-    ensures answer { Gives (λ x. (shape_of x.frame, x.progress)) result reader.new (body progress left end size reader.old) }
+    ensures answer { Gives (λ x. (shape_of x.frame, x.progress)) result reader.new
+        (body progress left end size reader.old) }
     ensures placed { IfOk result (λ x. IsPlacedBy (λ n. ⊥) reader.old.settings x.frame x.progress reader.new.place) }
     ensures no_memory { NeedsNoMemory result }
     ensures forward { Reaches reader.old reader.new }
@@ -214,7 +224,8 @@ fn read_entry<'a>(
     end: u64,
     reader: &mut BinaryReader<'a>,
 ) -> Result<Read<'a>>
-    ensures answer { Gives (λ x. (shape_of x.frame, x.progress)) result reader.new (next_entry progress left end reader.old) }
+    ensures answer { Gives (λ x. (shape_of x.frame, x.progress)) result reader.new
+        (next_entry progress left end reader.old) }
     ensures placed { IfOk result (λ x. IsPlaced x.frame x.progress reader.old reader.new.place) }
     ensures no_memory { NeedsNoMemory result }
     ensures forward { Reaches reader.old reader.new }
@@ -230,7 +241,8 @@ fn read_behind_code<'a>(
     end: u64,
     reader: &mut BinaryReader<'a>,
 ) -> Result<Read<'a>>
-    ensures answer { Gives (λ x. (shape_of x.frame, x.progress)) result reader.new (behind_code reader.old.settings progress end reader.old) }
+    ensures answer { Gives (λ x. (shape_of x.frame, x.progress)) result reader.new
+        (behind_code reader.old.settings progress end reader.old) }
     ensures placed { IfOk result (λ x. IsPlaced x.frame x.progress reader.old reader.new.place) }
     ensures no_memory { NeedsNoMemory result }
     ensures forward { Reaches reader.old reader.new }
@@ -321,7 +333,8 @@ fn encoding_of(layer: u16) -> Encoding
 /// What comes next; nothing behind the end and behind a refusal.
 #[tactic(auto, using(wasm_types::specs::Laws::reaches_self, wasm_types::specs::Laws::reaches_then), unfolding(crate::specs::Steps::step))]
 pub(crate) fn read_frame<'a>(progress: Progress, reader: &mut BinaryReader<'a>) -> Result<Read<'a>>
-    ensures answer { Gives (λ x. (shape_of x.frame, x.progress)) result reader.new (step reader.old.settings progress reader.old) }
+    ensures answer { Gives (λ x. (shape_of x.frame, x.progress)) result reader.new
+        (step reader.old.settings progress reader.old) }
     ensures placed { IfOk result (λ x. IsPlaced x.frame x.progress reader.old reader.new.place) }
     ensures no_memory { NeedsNoMemory result }
     ensures forward { Reaches reader.old reader.new }

@@ -28,7 +28,8 @@ pub(crate) fn read_items<'a, T: FromReader<'a>>(
     alloc: Global,
     reader: BinaryReader<'a>,
 ) -> Result<SectionLimited<'a, T>>
-    ensures answer { MatchResult result (λ s. u32_decoder reader.entry ≡ Done s.count s.reader) (λ e. Fails e (cut (u32_decoder reader.entry))) }
+    ensures answer { MatchResult result (λ s. u32_decoder reader.entry ≡ Done s.count s.reader)
+        (λ e. Fails e (cut (u32_decoder reader.entry))) }
     ensures no_memory { IfErr result (λ e. IsNotMemory e.kind) }
 {
     match SectionLimited::new(alloc, reader) {
@@ -39,7 +40,8 @@ pub(crate) fn read_items<'a, T: FromReader<'a>>(
 
 /// A number that is the whole of the contents.
 pub(crate) fn read_only_number(reader: BinaryReader<'_>) -> Result<u32>
-    ensures answer { MatchResult result (λ n. only_number reader.entry ≡ Done n reader.entry) (λ e. Fails e (only_number reader.entry)) }
+    ensures answer { MatchResult result (λ n. only_number reader.entry ≡ Done n reader.entry)
+        (λ e. Fails e (only_number reader.entry)) }
     ensures no_memory { IfErr result (λ e. IsNotMemory e.kind) }
 {
     let mut reader = reader;

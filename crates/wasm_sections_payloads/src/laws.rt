@@ -23,11 +23,16 @@ ghost use Rattle.wasm_sections_payloads.specs.Worked.{PayloadRows, RefusedRows, 
 /// that is the end, and those before it are the payloads of the frames of the module that the bytes spell. A whole module is
 /// refused only at a frame that is no payload.
 pub const fn payloads_are_of_modules()
-    ensures calls { (ps : List Payload) (s t : Standing) → Walks s ps t → (fs : List Frame) × ArePayloads fs ps × Calls s.parser s.rest fs t.parser t.rest }
-    ensures ends { (ps : List Payload) (p : Payload) (s u t : Standing) → s.parser.progress ≡ fresh → Walks s ps u → NextPayload u (Some (Ok p)) t → t.over ≡ true
-        → (fs : List Frame) × ArePayloads fs ps × IsModule s.parser.settings s.rest (shapes_of fs) × (p ≡ End (s.parser.offset + length s.rest)) }
-    ensures accepted { (ps : List Payload) (e : ErrorValue) (ys : List Shape) (s u t : Standing) → s.parser.progress ≡ fresh → s.parser.offset + length s.rest < 2 ^ 64
-        → IsModule s.parser.settings s.rest ys → Walks s ps u → NextPayload u (Some (Err e)) t → (f : Frame) × IsFrameOf u.parser u.rest f t.parser t.rest × IsRefusedAs f e }
+    ensures calls { (ps : List Payload) (s t : Standing) → Walks s ps t
+        → (fs : List Frame) × ArePayloads fs ps × Calls s.parser s.rest fs t.parser t.rest }
+    ensures ends { (ps : List Payload) (p : Payload) (s u t : Standing) → s.parser.progress ≡ fresh → Walks s ps u
+        → NextPayload u (Some (Ok p)) t → t.over ≡ true
+        → (fs : List Frame) × ArePayloads fs ps × IsModule s.parser.settings s.rest (shapes_of fs)
+        × (p ≡ End (s.parser.offset + length s.rest)) }
+    ensures accepted { (ps : List Payload) (e : ErrorValue) (ys : List Shape) (s u t : Standing)
+        → s.parser.progress ≡ fresh → s.parser.offset + length s.rest < 2 ^ 64
+        → IsModule s.parser.settings s.rest ys → Walks s ps u → NextPayload u (Some (Err e)) t
+        → (f : Frame) × IsFrameOf u.parser u.rest f t.parser t.rest × IsRefusedAs f e }
 {}
 
 /// What calls of `Parser::parse` give, however the bytes are cut into pieces: the payloads of the frames that calls of the parser of
@@ -36,16 +41,24 @@ pub const fn payloads_are_of_modules()
 /// end. No refusal is for memory. A refused parser has failed, and where it has failed or given the end nothing comes but an error of
 /// its own kind.
 pub const fn calls_are_of_modules()
-    ensures frames { (xs : List Payload) (p q : Parser) (text rest : List ℕ) → PayloadCalls p text xs q rest → (fs : List Frame) × ArePayloads fs xs × Calls p text fs q rest }
-    ensures payloads { (fs : List Frame) (xs : List Payload) (p q : Parser) (text rest : List ℕ) → Calls p text fs q rest → ArePayloads fs xs → PayloadCalls p text xs q rest }
-    ensures end { (p q r : Parser) (text rest : List ℕ) (xs : List Payload) (n place : ℕ) → p.progress ≡ fresh → PayloadCalls p text xs q rest
-        → CalledPayload q rest (Ok (Parsed n (End place))) r → (fs : List Frame) × ArePayloads fs xs × IsModule p.settings text (shapes_of fs) × (rest ≡ []) × (place ≡ p.offset + length text) }
-    ensures accepted { (p q r : Parser) (text rest : List ℕ) (xs : List Payload) (ys : List Shape) (e : ErrorValue) → p.progress ≡ fresh → p.offset + length text < 2 ^ 64
+    ensures frames { (xs : List Payload) (p q : Parser) (text rest : List ℕ) → PayloadCalls p text xs q rest
+        → (fs : List Frame) × ArePayloads fs xs × Calls p text fs q rest }
+    ensures payloads { (fs : List Frame) (xs : List Payload) (p q : Parser) (text rest : List ℕ)
+        → Calls p text fs q rest → ArePayloads fs xs → PayloadCalls p text xs q rest }
+    ensures end { (p q r : Parser) (text rest : List ℕ) (xs : List Payload) (n place : ℕ) → p.progress ≡ fresh
+        → PayloadCalls p text xs q rest
+        → CalledPayload q rest (Ok (Parsed n (End place))) r → (fs : List Frame) × ArePayloads fs xs
+        × IsModule p.settings text (shapes_of fs) × (rest ≡ []) × (place ≡ p.offset + length text) }
+    ensures accepted { (p q r : Parser) (text rest : List ℕ) (xs : List Payload) (ys : List Shape) (e : ErrorValue)
+        → p.progress ≡ fresh → p.offset + length text < 2 ^ 64
         → IsModule p.settings text ys → PayloadCalls p text xs q rest → CalledPayload q rest (Err e) r → EndIsLast xs
         ⊎ ((n : ℕ) × (f : Frame) × (v : Parser) × Called q rest (Ok (FrameParsed n f)) v × IsRefusedAs f e) }
-    ensures refused { (p : Parser) (text : List ℕ) (eof : Bool) (e : ErrorValue) (q : Parser) → ParsesPayload p text eof (Err e) q → is_over q.progress ≡ true }
-    ensures memory { (p : Parser) (text : List ℕ) (eof : Bool) (e : ErrorValue) (q : Parser) → ParsesPayload p text eof (Err e) q → IsNotMemory e.kind }
-    ensures over { (p : Parser) (text : List ℕ) (eof : Bool) (r : Result Chunk ErrorValue) (q : Parser) → is_over p.progress ≡ true → ParsesPayload p text eof r q → FailedBefore p r q }
+    ensures refused { (p : Parser) (text : List ℕ) (eof : Bool) (e : ErrorValue) (q : Parser)
+        → ParsesPayload p text eof (Err e) q → is_over q.progress ≡ true }
+    ensures memory { (p : Parser) (text : List ℕ) (eof : Bool) (e : ErrorValue) (q : Parser)
+        → ParsesPayload p text eof (Err e) q → IsNotMemory e.kind }
+    ensures over { (p : Parser) (text : List ℕ) (eof : Bool) (r : Result Chunk ErrorValue) (q : Parser)
+        → is_over p.progress ≡ true → ParsesPayload p text eof r q → FailedBefore p r q }
 {}
 
 /// Worked frames, calls and walks, each with a yes or a no.

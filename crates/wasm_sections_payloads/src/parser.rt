@@ -42,7 +42,10 @@ impl Parser {
     /// of its payloads takes memory of `alloc`; the parser takes none.
     pub fn new(alloc: Global, offset: u64) -> Parser
         ensures offset { result.frames.offset ≡ offset }
-        ensures settings { result.frames.settings ≡ record { features = bits_of default_features; limits = default_limits } }
+        ensures settings { result.frames.settings ≡ record {
+          features = bits_of default_features;
+          limits = default_limits;
+        } }
         ensures fresh { result.frames.progress ≡ fresh }
     {
         Parser {
@@ -60,7 +63,10 @@ impl Parser {
 
     /// Allows these features from here on.
     pub fn set_features(&mut self, features: WasmFeatures)
-        ensures { self.new.frames ≡ record self.old.frames { settings = record { features = features.0; limits = self.old.frames.settings.limits } } }
+        ensures { self.new.frames ≡ record self.old.frames {
+          settings = record
+              { features = features.0; limits = self.old.frames.settings.limits };
+        } }
     {
         self.frames.set_features(features);
     }
@@ -76,7 +82,10 @@ impl Parser {
     /// Holds to these limits from here on.
     pub fn set_limits(&mut self, limits: Limits)
         requires within { IsWithinCeilings limits }
-        ensures { self.new.frames ≡ record self.old.frames { settings = record { features = self.old.frames.settings.features; limits = limits } } }
+        ensures { self.new.frames ≡ record self.old.frames {
+          settings = record
+              { features = self.old.frames.settings.features; limits = limits };
+        } }
     {
         self.frames.set_limits(limits);
     }

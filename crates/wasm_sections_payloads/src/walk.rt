@@ -71,9 +71,11 @@ fn is_end(frame: &Frame<'_>) -> bool
 // The next frame, which is taken from the bytes.
 fn next_frame<'a>(parser: &mut Parser, bytes: &'a [u8]) -> Result<(Frame<'a>, &'a [u8])>
     requires { parser.old.offset + length bytes.now < 2 ^ 64 }
-    ensures answer { MatchResult result (λ x. IsFrameOf parser.old bytes.now x.0 parser.new x.1.now) (λ e. IsFaultOf parser.old bytes.now e parser.new) }
+    ensures answer { MatchResult result (λ x. IsFrameOf parser.old bytes.now x.0 parser.new x.1.now)
+        (λ e. IsFaultOf parser.old bytes.now e parser.new) }
     ensures no_memory { NeedsNoMemory result }
-    ensures fits { MatchResult result (λ x. parser.new.offset + length x.1.now ≡ parser.old.offset + length bytes.now) (λ e. parser.new.offset ≡ parser.old.offset) }
+    ensures fits { MatchResult result (λ x. parser.new.offset + length x.1.now ≡ parser.old.offset + length bytes.now)
+        (λ e. parser.new.offset ≡ parser.old.offset) }
 {
     match parser.parse(bytes, true) {
         Ok(Chunk::Parsed { consumed, frame }) => Ok((frame, &bytes[consumed..])),
@@ -102,7 +104,8 @@ impl<'a> ParseAll<'a> {
     fn short_body(&mut self) -> Option<Payload<'a>>
         requires { self.old.over ≡ false }
         ensures answer { IfSome result (λ p. NextPayload self.old (Some (Ok p)) self.new) }
-        ensures fewer { IfSome result (λ p. payloads_left self.new.over self.new.rest + 1 ≤ payloads_left self.old.over self.old.rest) }
+        ensures fewer { IfSome result (λ p. payloads_left self.new.over self.new.rest + 1
+            ≤ payloads_left self.old.over self.old.rest) }
         ensures stays { IfNone result (self.new ≡ self.old) }
     {
         let Some((part, rest)) = next_body(&mut self.parser, self.bytes) else {

@@ -96,7 +96,11 @@ impl Error {
     /// The data end at `offset`, kind 1, and `needed_hint` bytes more would keep them from ending there.
     #[cold]
     pub fn eof(offset: u64, needed_hint: usize) -> Error
-        ensures { result ≡ record { kind = kinds.EndOfData needed_hint; offset = offset; message = codes "unexpected end-of-file" } }
+        ensures { result ≡ record {
+          kind = kinds.EndOfData needed_hint;
+          offset = offset;
+          message = codes "unexpected end-of-file";
+        } }
     {
         Error::of_kind(
             ErrorKind::EndOfData { needed_hint },
@@ -108,7 +112,11 @@ impl Error {
     /// What only these features allow, kind 2.
     #[cold]
     pub fn missing_feature(feature: WasmFeatures, message: &str, offset: u64) -> Error
-        ensures { result ≡ record { kind = kinds.MissingFeature feature; offset = offset; message = message_of message.now } }
+        ensures { result ≡ record {
+          kind = kinds.MissingFeature feature;
+          offset = offset;
+          message = message_of message.now;
+        } }
     {
         Error::of_kind(ErrorKind::MissingFeature(feature), message, offset)
     }

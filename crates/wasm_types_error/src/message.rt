@@ -31,7 +31,8 @@ impl Message {
 
 /// Every write succeeds: what there is no room for is left out.
 impl fmt::Write for Message {
-    ghost write_str_gives = { λ before more after. (text : List ℕ) → Keeps text before.kept.bytes before.is_full → Keeps (text ++ more) after.kept.bytes after.is_full };
+    ghost write_str_gives = { λ before more after. (text : List ℕ) → Keeps text before.kept.bytes before.is_full
+        → Keeps (text ++ more) after.kept.bytes after.is_full };
 
     fn write_str(&mut self, s: &str) -> fmt::Result {
         if self.is_full {

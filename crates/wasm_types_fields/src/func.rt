@@ -29,7 +29,10 @@ impl Model for FuncType {
 
     ghost Value = { Signature };
 
-    ghost view = { λ f. record { params = take f.len_params f.params_results.items; results = drop f.len_params f.params_results.items } };
+    ghost view = { λ f. record {
+      params = take f.len_params f.params_results.items;
+      results = drop f.len_params f.params_results.items;
+    } };
 
     ghost invariant = { λ f. f.len_params ≤ length f.params_results.items };
 }
@@ -46,10 +49,14 @@ impl FuncType {
     where
         P: IntoIterator<Item = ValType>,
         R: IntoIterator<Item = ValType> + Drop,
-        requires params { (s : P.IntoIter) → P.into_iter_gives params s → P.IntoIter.can_next s × IsFinite (P.IntoIter.remaining s) }
-        requires results { (s : R.IntoIter) → R.into_iter_gives results s → R.IntoIter.can_next s × IsFinite (R.IntoIter.remaining s) }
-        ensures params { IfOk result (λ f. (s : P.IntoIter) × P.into_iter_gives params s × Drains P.IntoIter.next_gives s f.params) }
-        ensures results { IfOk result (λ f. (s : R.IntoIter) × R.into_iter_gives results s × Drains R.IntoIter.next_gives s f.results) }
+        requires params { (s : P.IntoIter) → P.into_iter_gives params s
+            → P.IntoIter.can_next s × IsFinite (P.IntoIter.remaining s) }
+        requires results { (s : R.IntoIter) → R.into_iter_gives results s
+            → R.IntoIter.can_next s × IsFinite (R.IntoIter.remaining s) }
+        ensures params { IfOk result (λ f. (s : P.IntoIter) × P.into_iter_gives params s
+            × Drains P.IntoIter.next_gives s f.params) }
+        ensures results { IfOk result (λ f. (s : R.IntoIter) × R.into_iter_gives results s
+            × Drains R.IntoIter.next_gives s f.results) }
     {
         let params = Vec::from_iter(alloc, params)?;
         let results = Vec::from_iter(alloc, results)?;
@@ -97,7 +104,8 @@ impl FuncType {
         f: &F,
     ) -> Reading<()>
         requires { F.IsAlwaysCallable f.now }
-        ensures remapped { Remapped inner_shape inner_indices (F.post f.now) result (function_tree self.old) (function_tree self.new) }
+        ensures remapped { Remapped inner_shape inner_indices (F.post f.now) result (function_tree self.old)
+            (function_tree self.new) }
     {
         remap_values(self.params_results.as_mut_slice(), f)
     }

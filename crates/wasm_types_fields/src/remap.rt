@@ -16,7 +16,8 @@ pub(crate) fn remap_values<F: Fn(PackedIndex) -> Result<PackedIndex>>(
     f: &F,
 ) -> Result<()>
     requires { F.IsAlwaysCallable f.now }
-    ensures remapped { Remapped (map value_shape) (flat_map value_indices) (F.post f.now) result (map value_of types.old) (map value_of types.new) }
+    ensures remapped { Remapped (map value_shape) (flat_map value_indices) (F.post f.now) result
+        (map value_of types.old) (map value_of types.new) }
 {
     for place in 0..types.len() {
         types[place].remap_indices(f)?;
@@ -30,7 +31,8 @@ fn remap_fields<F: Fn(PackedIndex) -> Result<PackedIndex>>(
     f: &F,
 ) -> Result<()>
     requires { F.IsAlwaysCallable f.now }
-    ensures remapped { Remapped (map field_shape) (flat_map field_indices) (F.post f.now) result (map field_of fields.old) (map field_of fields.new) }
+    ensures remapped { Remapped (map field_shape) (flat_map field_indices) (F.post f.now) result
+        (map field_of fields.old) (map field_of fields.new) }
 {
     for place in 0..fields.len() {
         fields[place].remap_indices(f)?;
@@ -42,7 +44,8 @@ impl FieldType {
     /// Replaces its index, if it has one, by what `f` makes of it. Where `f` refuses, so does the call, and the type stays.
     pub fn remap_indices<F: Fn(PackedIndex) -> Result<PackedIndex>>(&mut self, f: &F) -> Result<()>
         requires { F.IsAlwaysCallable f.now }
-        ensures remapped { Remapped field_shape field_indices (F.post f.now) result (field_of self.old) (field_of self.new) }
+        ensures remapped { Remapped field_shape field_indices (F.post f.now) result (field_of self.old)
+            (field_of self.new) }
         ensures stays { OnErr result (self.new ≡ self.old) }
     {
         self.element_type.remap_indices(f)
@@ -53,7 +56,8 @@ impl ArrayType {
     /// Replaces its index, if it has one, by what `f` makes of it. Where `f` refuses, so does the call, and the type stays.
     pub fn remap_indices<F: Fn(PackedIndex) -> Result<PackedIndex>>(&mut self, f: &F) -> Result<()>
         requires { F.IsAlwaysCallable f.now }
-        ensures remapped { Remapped inner_shape inner_indices (F.post f.now) result (array_tree self.old) (array_tree self.new) }
+        ensures remapped { Remapped inner_shape inner_indices (F.post f.now) result (array_tree self.old)
+            (array_tree self.new) }
         ensures stays { OnErr result (self.new ≡ self.old) }
     {
         self.0.remap_indices(f)
@@ -64,7 +68,8 @@ impl ContType {
     /// Replaces its index by what `f` makes of it. Where `f` refuses, so does the call, and the type stays.
     pub fn remap_indices<F: Fn(PackedIndex) -> Result<PackedIndex>>(&mut self, f: &F) -> Result<()>
         requires { F.IsAlwaysCallable f.now }
-        ensures remapped { Remapped inner_shape inner_indices (F.post f.now) result (continuation_tree self.old) (continuation_tree self.new) }
+        ensures remapped { Remapped inner_shape inner_indices (F.post f.now) result (continuation_tree self.old)
+            (continuation_tree self.new) }
         ensures stays { OnErr result (self.new ≡ self.old) }
     {
         self.0 = f(self.0)?;
@@ -77,7 +82,8 @@ impl StructType {
     /// are replaced, and it and those behind it stay.
     pub fn remap_indices<F: Fn(PackedIndex) -> Result<PackedIndex>>(&mut self, f: &F) -> Result<()>
         requires { F.IsAlwaysCallable f.now }
-        ensures remapped { Remapped inner_shape inner_indices (F.post f.now) result (struct_tree self.old) (struct_tree self.new) }
+        ensures remapped { Remapped inner_shape inner_indices (F.post f.now) result (struct_tree self.old)
+            (struct_tree self.new) }
     {
         remap_fields(self.fields.as_mut_slice(), f)
     }

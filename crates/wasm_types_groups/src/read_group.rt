@@ -19,8 +19,10 @@ fn read_subtypes<'a>(
     count: usize,
     reader: &mut BinaryReader<'a>,
 ) -> Result<(Vec<SubType>, Vec<u64>)>
-    ensures answer { Gives (λ p. map sub_value p.0.items) result reader.new (repeated count (sub_type reader.old.settings) reader.old) }
-    ensures places { IfOk result (λ p. repeated count (place_of (sub_type reader.old.settings)) reader.old ≡ Done p.1.items reader.new) }
+    ensures answer { Gives (λ p. map sub_value p.0.items) result reader.new
+        (repeated count (sub_type reader.old.settings) reader.old) }
+    ensures places { IfOk result (λ p. repeated count (place_of (sub_type reader.old.settings)) reader.old
+        ≡ Done p.1.items reader.new) }
     ensures even { IfOk result (λ p. length p.0.items ≡ length p.1.items) }
     ensures forward { Reaches reader.old reader.new }
 {
@@ -72,7 +74,8 @@ impl<'a> FromReader<'a> for RecGroup {
     fn from_reader(alloc: Global, reader: &mut BinaryReader<'a>) -> Result<RecGroup>
         ensures answer { Gives group_value result reader.new (rec_group reader.old.settings reader.old) }
         ensures forward { Reaches reader.old reader.new }
-        ensures places { IfOk result (λ g. group_places reader.old.settings reader.old ≡ Done g.offsets.items reader.new) }
+        ensures places { IfOk result (λ g. group_places reader.old.settings reader.old
+            ≡ Done g.offsets.items reader.new) }
     {
         let offset = reader.original_position();
         let byte = reader.read_u8()?;

@@ -74,7 +74,8 @@ fn last_after_byte<'a>(
     reader: &mut BinaryReader<'a>,
 ) -> Result<CompositeType>
     requires { 0 < reader.old.place }
-    ensures answer { Gives composite_value result reader.new (last_after reader.old.settings (marked shared) describes_idx descriptor_idx byte reader.old) }
+    ensures answer { Gives composite_value result reader.new (last_after reader.old.settings
+        (marked shared) describes_idx descriptor_idx byte reader.old) }
     ensures forward { Reaches reader.old reader.new }
 {
     let inner = inner_after_byte(byte, alloc, reader)?;
@@ -96,7 +97,8 @@ fn descriptor_after_byte<'a>(
     reader: &mut BinaryReader<'a>,
 ) -> Result<CompositeType>
     requires { 0 < reader.old.place }
-    ensures answer { Gives composite_value result reader.new (descriptor_after reader.old.settings (marked shared) describes_idx byte reader.old) }
+    ensures answer { Gives composite_value result reader.new (descriptor_after reader.old.settings
+        (marked shared) describes_idx byte reader.old) }
     ensures forward { Reaches reader.old reader.new }
 {
     if byte == 0x4d {
@@ -116,7 +118,8 @@ fn describes_after_byte<'a>(
     reader: &mut BinaryReader<'a>,
 ) -> Result<CompositeType>
     requires { 0 < reader.old.place }
-    ensures answer { Gives composite_value result reader.new (describes_after reader.old.settings (marked shared) byte reader.old) }
+    ensures answer { Gives composite_value result reader.new (describes_after reader.old.settings
+        (marked shared) byte reader.old) }
     ensures forward { Reaches reader.old reader.new }
 {
     if byte == 0x4c {

@@ -109,7 +109,8 @@ impl RecGroup {
         ensures offsets { into_iter_items (zip_first result) ≡ self.offsets.items }
         ensures types { into_iter_items (zip_second result) ≡ subtypes self }
         ensures even { length self.offsets.items ≡ length (subtypes self) }
-        ensures len { (into_iter_len (zip_first result) ≡ length (subtypes self)) × (into_iter_len (zip_second result) ≡ length (subtypes self)) }
+        ensures len { (into_iter_len (zip_first result) ≡ length (subtypes self))
+            × (into_iter_len (zip_second result) ≡ length (subtypes self)) }
     {
         self.offsets.into_iter().zip(self.types)
     }
@@ -121,7 +122,8 @@ impl RecGroup {
         f: &F,
     ) -> Reading<()>
         requires { F.IsAlwaysCallable f.now }
-        ensures remapped { Remapped (map declared_shape) (flat_map declared_indices) (F.post f.now) result (declared_types self.old) (declared_types self.new) }
+        ensures remapped { Remapped (map declared_shape) (flat_map declared_indices) (F.post f.now) result
+            (declared_types self.old) (declared_types self.new) }
         ensures offsets { self.new.offsets.items ≡ self.old.offsets.items }
         ensures explicit { self.new.is_explicit ≡ self.old.is_explicit }
     {

@@ -50,7 +50,8 @@ fn remap_declared<F: Fn(PackedIndex) -> Result<PackedIndex>>(
     requires { F.IsAlwaysCallable f.now }
     ensures supertypes { list_shape supertypes.new ≡ list_shape supertypes.old }
     ensures composite { entry_shape (composite_of composite.new) ≡ entry_shape (composite_of composite.old) }
-    ensures walked { IsWalked (F.post f.now) result (supertypes.old ++ entry_indices (composite_of composite.old)) (supertypes.new ++ entry_indices (composite_of composite.new)) }
+    ensures walked { IsWalked (F.post f.now) result (supertypes.old ++ entry_indices (composite_of composite.old))
+        (supertypes.new ++ entry_indices (composite_of composite.new)) }
 {
     remap_list(supertypes, f)?;
     composite.remap_indices(f)
@@ -61,7 +62,8 @@ impl CompositeInnerType {
     /// are replaced, and it and those behind it stay.
     pub fn remap_indices<F: Fn(PackedIndex) -> Result<PackedIndex>>(&mut self, f: &F) -> Result<()>
         requires { F.IsAlwaysCallable f.now }
-        ensures remapped { Remapped inner_shape inner_indices (F.post f.now) result (inner_of self.old) (inner_of self.new) }
+        ensures remapped { Remapped inner_shape inner_indices (F.post f.now) result (inner_of self.old)
+            (inner_of self.new) }
     {
         match self {
             CompositeInnerType::Func(ty) => ty.remap_indices(f),
@@ -77,7 +79,8 @@ impl CompositeType {
     /// are replaced, and it and those behind it stay.
     pub fn remap_indices<F: Fn(PackedIndex) -> Result<PackedIndex>>(&mut self, f: &F) -> Result<()>
         requires { F.IsAlwaysCallable f.now }
-        ensures remapped { Remapped entry_shape entry_indices (F.post f.now) result (composite_of self.old) (composite_of self.new) }
+        ensures remapped { Remapped entry_shape entry_indices (F.post f.now) result (composite_of self.old)
+            (composite_of self.new) }
     {
         self.inner.remap_indices(f)?;
         self.descriptor_idx = remap_option(self.descriptor_idx, f)?;
@@ -92,7 +95,8 @@ impl SubType {
     #[tactic(auto, using(crate::proofs::Remapping::same_declared))]
     pub fn remap_indices<F: Fn(PackedIndex) -> Result<PackedIndex>>(&mut self, f: &F) -> Result<()>
         requires { F.IsAlwaysCallable f.now }
-        ensures remapped { Remapped declared_shape declared_indices (F.post f.now) result (declared_of self.old) (declared_of self.new) }
+        ensures remapped { Remapped declared_shape declared_indices (F.post f.now) result (declared_of self.old)
+            (declared_of self.new) }
     {
         let supertypes = self.supertype_idxs.as_mut_slice();
         remap_declared(supertypes, &mut self.composite_type, f)
@@ -105,7 +109,8 @@ pub(crate) fn remap_types<F: Fn(PackedIndex) -> Result<PackedIndex>>(
     f: &F,
 ) -> Result<()>
     requires { F.IsAlwaysCallable f.now }
-    ensures remapped { Remapped (map declared_shape) (flat_map declared_indices) (F.post f.now) result (map declared_of types.old) (map declared_of types.new) }
+    ensures remapped { Remapped (map declared_shape) (flat_map declared_indices) (F.post f.now) result
+        (map declared_of types.old) (map declared_of types.new) }
 {
     for place in 0..types.len() {
         types[place].remap_indices(f)?;

@@ -131,7 +131,10 @@ impl Limits {
 
     // Whether those of types and names are at most these.
     fn are_types_within(&self, most: &Limits) -> bool
-        ensures { IsTrue result ↔ ((self.now.types ≤ most.now.types) × (self.now.params ≤ most.now.params) × (self.now.results ≤ most.now.results) × (self.now.fields ≤ most.now.fields) × (self.now.string_bytes ≤ most.now.string_bytes) × (self.now.subtyping_depth ≤ most.now.subtyping_depth) × (self.now.type_size ≤ most.now.type_size)) }
+        ensures { IsTrue result ↔ ((self.now.types ≤ most.now.types) × (self.now.params ≤ most.now.params)
+            × (self.now.results ≤ most.now.results) × (self.now.fields ≤ most.now.fields)
+            × (self.now.string_bytes ≤ most.now.string_bytes) × (self.now.subtyping_depth ≤ most.now.subtyping_depth)
+            × (self.now.type_size ≤ most.now.type_size)) }
     {
         self.types <= most.types
             && self.params <= most.params
@@ -144,7 +147,10 @@ impl Limits {
 
     // Whether those of what a module declares are at most these.
     fn are_entities_within(&self, most: &Limits) -> bool
-        ensures { IsTrue result ↔ ((self.now.imports ≤ most.now.imports) × (self.now.exports ≤ most.now.exports) × (self.now.functions ≤ most.now.functions) × (self.now.globals ≤ most.now.globals) × (self.now.tags ≤ most.now.tags) × (self.now.tables ≤ most.now.tables) × (self.now.memories ≤ most.now.memories)) }
+        ensures { IsTrue result ↔ ((self.now.imports ≤ most.now.imports) × (self.now.exports ≤ most.now.exports)
+            × (self.now.functions ≤ most.now.functions) × (self.now.globals ≤ most.now.globals)
+            × (self.now.tags ≤ most.now.tags) × (self.now.tables ≤ most.now.tables)
+            × (self.now.memories ≤ most.now.memories)) }
     {
         self.imports <= most.imports
             && self.exports <= most.exports
@@ -157,7 +163,10 @@ impl Limits {
 
     // Whether those of segments and bodies are at most these.
     fn are_contents_within(&self, most: &Limits) -> bool
-        ensures { IsTrue result ↔ ((self.now.element_segments ≤ most.now.element_segments) × (self.now.data_segments ≤ most.now.data_segments) × (self.now.segment_items ≤ most.now.segment_items) × (self.now.body_bytes ≤ most.now.body_bytes) × (self.now.select_types ≤ most.now.select_types) × (self.now.locals ≤ most.now.locals) × (self.now.catches ≤ most.now.catches)) }
+        ensures { IsTrue result ↔ ((self.now.element_segments ≤ most.now.element_segments)
+            × (self.now.data_segments ≤ most.now.data_segments) × (self.now.segment_items ≤ most.now.segment_items)
+            × (self.now.body_bytes ≤ most.now.body_bytes) × (self.now.select_types ≤ most.now.select_types)
+            × (self.now.locals ≤ most.now.locals) × (self.now.catches ≤ most.now.catches)) }
     {
         self.element_segments <= most.element_segments
             && self.data_segments <= most.data_segments

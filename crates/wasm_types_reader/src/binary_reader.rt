@@ -39,9 +39,15 @@ impl<'a> Model for BinaryReader<'a> {
 
     ghost Value = { State };
 
-    ghost view = { λ r. record { rest = drop r.position r.buffer.now; place = r.original_offset + r.position; settings = record { features = r.features.0; limits = r.limits }; start = r.original_offset } };
+    ghost view = { λ r. record {
+      rest = drop r.position r.buffer.now;
+      place = r.original_offset + r.position;
+      settings = record { features = r.features.0; limits = r.limits };
+      start = r.original_offset;
+    } };
 
-    ghost invariant = { λ r. (r.position ≤ length r.buffer.now) × (r.original_offset + length r.buffer.now < 2 ^ 64) × IsWithinCeilings r.limits };
+    ghost invariant = { λ r. (r.position ≤ length r.buffer.now) × (r.original_offset + length r.buffer.now < 2 ^ 64)
+        × IsWithinCeilings r.limits };
 }
 
 impl<'a> Clone for BinaryReader<'a> {
@@ -77,7 +83,13 @@ impl<'a> BinaryReader<'a> {
         features: WasmFeatures,
     ) -> BinaryReader<'a>
         requires { original_offset + length buffer.now < 2 ^ 64 }
-        ensures { result ≡ record { rest = buffer.now; place = original_offset; settings = record { features = features.0; limits = default_limits }; start = original_offset } }
+        ensures { result ≡ record {
+          rest = buffer.now;
+          place = original_offset;
+          settings = record
+              { features = features.0; limits = default_limits };
+          start = original_offset;
+        } }
     {
         BinaryReader::new_limited(buffer, original_offset, features, Limits::default())
     }
@@ -92,7 +104,13 @@ impl<'a> BinaryReader<'a> {
     ) -> BinaryReader<'a>
         requires places { original_offset + length buffer.now < 2 ^ 64 }
         requires within { IsWithinCeilings limits }
-        ensures { result ≡ record { rest = buffer.now; place = original_offset; settings = record { features = features.0; limits = limits }; start = original_offset } }
+        ensures { result ≡ record {
+          rest = buffer.now;
+          place = original_offset;
+          settings = record
+              { features = features.0; limits = limits };
+          start = original_offset;
+        } }
     {
         BinaryReader {
             buffer,
@@ -179,7 +197,13 @@ impl<'a> BinaryReader<'a> {
     /// Allows these features from here on.
     #[inline]
     pub fn set_features(&mut self, features: WasmFeatures)
-        ensures { self.new ≡ record { rest = self.old.rest; place = self.old.place; settings = record { features = features.0; limits = self.old.settings.limits }; start = self.old.start } }
+        ensures { self.new ≡ record {
+          rest = self.old.rest;
+          place = self.old.place;
+          settings = record
+              { features = features.0; limits = self.old.settings.limits };
+          start = self.old.start;
+        } }
     {
         self.features = features;
     }
@@ -197,7 +221,13 @@ impl<'a> BinaryReader<'a> {
     #[inline]
     pub fn set_limits(&mut self, limits: Limits)
         requires within { IsWithinCeilings limits }
-        ensures { self.new ≡ record { rest = self.old.rest; place = self.old.place; settings = record { features = self.old.settings.features; limits = limits }; start = self.old.start } }
+        ensures { self.new ≡ record {
+          rest = self.old.rest;
+          place = self.old.place;
+          settings = record
+              { features = self.old.settings.features; limits = limits };
+          start = self.old.start;
+        } }
     {
         self.limits = limits;
     }
@@ -235,7 +265,12 @@ impl<'a> BinaryReader<'a> {
     /// A reader over what is left, which begins at this offset.
     #[inline]
     pub fn shrink(&self) -> BinaryReader<'a>
-        ensures { result ≡ record { rest = self.now.rest; place = self.now.place; settings = self.now.settings; start = self.now.place } }
+        ensures { result ≡ record {
+          rest = self.now.rest;
+          place = self.now.place;
+          settings = self.now.settings;
+          start = self.now.place;
+        } }
     {
         BinaryReader {
             buffer: &self.buffer[self.position..],
@@ -325,7 +360,8 @@ impl<'a> BinaryReader<'a> {
     pub fn read_size(&mut self, limit: usize, desc: &str) -> Result<usize>
         ensures answer { Answers (λ n. n) result self.old self.new (size_within limit self.old) }
         ensures no_memory { NeedsNoMemory result }
-        ensures message { SaysIf (is_above limit (u32_decoder self.old)) (IsWrittenMessage (desc.now ++ codes " size is out of bounds")) result }
+        ensures message { SaysIf (is_above limit (u32_decoder self.old))
+            (IsWrittenMessage (desc.now ++ codes " size is out of bounds")) result }
         ensures forward { Reaches self.old self.new }
     {
         let mut ahead = self.clone();
@@ -360,9 +396,12 @@ impl<'a> BinaryReader<'a> {
         f: F,
     ) -> Result<BinaryReader<'a>>
         requires callable { F.IsAlwaysCallable f }
-        requires goes_on { (after : State) → FnOnceReturnsAtMut F.FnOnce f self.old (Ok tt) after → Reaches self.old after }
-        ensures passed { IfOk result (λ passed. FnOnceReturnsAtMut F.FnOnce f self.old (Ok tt) self.new × IsPassed self.old self.new passed) }
-        ensures refused { IfErr result (λ e. ((after : State) × FnOnceReturnsAtMut F.FnOnce f self.old (Err e) after) × (self.new ≡ self.old)) }
+        requires goes_on { (after : State) → FnOnceReturnsAtMut F.FnOnce f self.old (Ok tt) after
+            → Reaches self.old after }
+        ensures passed { IfOk result (λ passed. FnOnceReturnsAtMut F.FnOnce f self.old (Ok tt) self.new
+            × IsPassed self.old self.new passed) }
+        ensures refused { IfErr result (λ e. ((after : State) × FnOnceReturnsAtMut F.FnOnce f self.old (Err e) after)
+            × (self.new ≡ self.old)) }
     {
         let start = self.clone();
         let run = f(self);

@@ -51,9 +51,11 @@ impl<'a> BinaryReader<'a> {
         limit: usize,
         desc: &str,
     ) -> Result<BinaryReaderIter<'a, '_, T>>
-        ensures answer { MatchResult result (λ values. size_within limit self.old ≡ Done values.remaining values.reader.now) (λ e. Fails e (size_within limit self.old)) }
+        ensures answer { MatchResult result (λ values. size_within limit self.old
+            ≡ Done values.remaining values.reader.now) (λ e. Fails e (size_within limit self.old)) }
         ensures no_memory { IfErr result (λ e. IsNotMemory e.kind) }
-        ensures message { SaysIf (is_above limit (u32_decoder self.old)) (IsWrittenMessage (desc.now ++ codes " size is out of bounds")) result }
+        ensures message { SaysIf (is_above limit (u32_decoder self.old))
+            (IsWrittenMessage (desc.now ++ codes " size is out of bounds")) result }
         ensures same_reference { IfOk result (λ values. values.reader.ghost_name ≡ self.entry.ghost_name) }
     {
         let count = self.read_size(limit, desc)?;
@@ -64,7 +66,9 @@ impl<'a> BinaryReader<'a> {
 impl<'a, 'me, T: FromReader<'a>> Iterator for BinaryReaderIter<'a, 'me, T> {
     type Item = Result<T>;
 
-    ghost next_gives = { λ s r t. NextItem T.view (T.decoder s.reader.now.settings) s.remaining s.reader.now r t.remaining t.reader.now × (t.reader.ghost_name ≡ s.reader.ghost_name) × IfSome r (λ item. MemoryOnlyIf T.takes_memory item) };
+    ghost next_gives = { λ s r t. NextItem T.view (T.decoder s.reader.now.settings) s.remaining s.reader.now r
+        t.remaining t.reader.now × (t.reader.ghost_name ≡ s.reader.ghost_name)
+        × IfSome r (λ item. MemoryOnlyIf T.takes_memory item) };
 
     ghost remaining = { λ s. at_most s.remaining };
 
@@ -84,7 +88,8 @@ impl<'a, 'me, T: FromReader<'a>> Iterator for BinaryReaderIter<'a, 'me, T> {
 
 impl<'a, 'me, T: FromReader<'a>> Drop for BinaryReaderIter<'a, 'me, T> {
     fn drop(self)
-        ensures { Drains (T.decoder self.entry.reader.now.settings) T.takes_memory self.entry.remaining self.entry.reader.now self.exit.0.now }
+        ensures { Drains (T.decoder self.entry.reader.now.settings) T.takes_memory self.entry.remaining
+            self.entry.reader.now self.exit.0.now }
     {
         let BinaryReaderIter {
             reader,

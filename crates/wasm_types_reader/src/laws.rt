@@ -16,18 +16,25 @@ use crate::FromReader;
 /// end too early, they still do at this offset with fewer bytes than were needed, and no longer with as many. A value is
 /// read exactly where a front of the bytes is one of its spellings.
 pub fn reading_is_lawful<'a, T: FromReader<'a>>()
-    ensures value { (z : Settings) (s t : State) (more : List ℕ) (x : T.Value) → T.decoder z s ≡ Done x t → T.decoder z (extended s more) ≡ Done x (extended t more) }
-    ensures fault { (z : Settings) (s : State) (more : List ℕ) (k : Refusal) (p : ℕ) → T.decoder z s ≡ Fault k p → T.decoder z (extended s more) ≡ Fault k p }
-    ensures fewer { (z : Settings) (s : State) (more : List ℕ) (p h : ℕ) → T.decoder z s ≡ Short p h → length more < h → T.decoder z (extended s more) ≡ Short p (h - length more) }
-    ensures enough { (z : Settings) (s : State) (more : List ℕ) (p h : ℕ) → T.decoder z s ≡ Short p h → h ≤ length more → IsBeyond p (T.decoder z (extended s more)) }
-    ensures sound { (z : Settings) (s t : State) (x : T.Value) → T.decoder z s ≡ Done x t → (text : List ℕ) × Takes s text t × T.grammar z x text }
-    ensures complete { (z : Settings) (s t : State) (x : T.Value) (text : List ℕ) → Takes s text t → T.grammar z x text → T.decoder z s ≡ Done x t }
+    ensures value { (z : Settings) (s t : State) (more : List ℕ) (x : T.Value) → T.decoder z s ≡ Done x t
+        → T.decoder z (extended s more) ≡ Done x (extended t more) }
+    ensures fault { (z : Settings) (s : State) (more : List ℕ) (k : Refusal) (p : ℕ) → T.decoder z s ≡ Fault k p
+        → T.decoder z (extended s more) ≡ Fault k p }
+    ensures fewer { (z : Settings) (s : State) (more : List ℕ) (p h : ℕ) → T.decoder z s ≡ Short p h → length more < h
+        → T.decoder z (extended s more) ≡ Short p (h - length more) }
+    ensures enough { (z : Settings) (s : State) (more : List ℕ) (p h : ℕ) → T.decoder z s ≡ Short p h → h ≤ length more
+        → IsBeyond p (T.decoder z (extended s more)) }
+    ensures sound { (z : Settings) (s t : State) (x : T.Value) → T.decoder z s ≡ Done x t
+        → (text : List ℕ) × Takes s text t × T.grammar z x text }
+    ensures complete { (z : Settings) (s t : State) (x : T.Value) (text : List ℕ) → Takes s text t → T.grammar z x text
+        → T.decoder z s ≡ Done x t }
 {}
 
 /// The same of lists that are counted within a limit, of any type that is read.
 pub fn lists_are_lawful<'a, T: FromReader<'a>>()
     ensures lawful { (z : Settings) (limit : ℕ) → IsLawful (listed_within limit (T.decoder z)) }
-    ensures exact { (z : Settings) (limit : ℕ) → Decides (listed_within limit (T.decoder z)) (IsListedWithin limit (T.grammar z)) }
+    ensures exact { (z : Settings) (limit : ℕ) → Decides (listed_within limit (T.decoder z))
+        (IsListedWithin limit (T.grammar z)) }
 {}
 
 /// The same of numbers of a fixed length, bytes below 128, sizes with a limit and texts; and of what has no spelling of its

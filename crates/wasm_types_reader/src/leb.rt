@@ -16,7 +16,8 @@ use wasm_types_numbers::{Flaw, long_i32_at, long_i64_at, long_s33_at, long_u32_a
 /// What holds of numbers of any width, by their decoders: a value and a fault stay, whatever bytes follow; the hint of an end of data is
 /// exact; and a number is read exactly where a front of the bytes is one of its spellings.
 pub fn numbers_are_lawful()
-    ensures unsigned { (k r : ℕ) → 0 < r → r ≤ 7 → IsLawful (unsigned k r) × Decides (unsigned k r) (IsUnsigned (7 * k + r)) }
+    ensures unsigned { (k r : ℕ) → 0 < r → r ≤ 7 → IsLawful (unsigned k r)
+        × Decides (unsigned k r) (IsUnsigned (7 * k + r)) }
     ensures signed { (k r : ℕ) → 0 < r → r ≤ 7 → IsLawful (signed k r) × Decides (signed k r) (IsSigned (7 * k + r)) }
 {}
 

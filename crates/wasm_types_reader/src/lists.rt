@@ -20,10 +20,13 @@ pub fn read_list<'a, T: FromReader<'a>>(
     desc: &str,
     reader: &mut BinaryReader<'a>,
 ) -> Result<Vec<T>>
-    ensures answer { Gives (λ v. map T.view v.items) result reader.new (listed_within limit (T.decoder reader.old.settings) reader.old) }
-    ensures memory { MemoryOnlyIf (counted_room T.takes_memory (T.decoder reader.old.settings) (size_within limit reader.old)) result }
+    ensures answer { Gives (λ v. map T.view v.items) result reader.new
+        (listed_within limit (T.decoder reader.old.settings) reader.old) }
+    ensures memory { MemoryOnlyIf (counted_room T.takes_memory (T.decoder reader.old.settings)
+        (size_within limit reader.old)) result }
     ensures stays { IfErr result (λ e. reader.new ≡ reader.old) }
-    ensures message { SaysIf (is_above limit (u32_decoder reader.old)) (IsWrittenMessage (desc.now ++ codes " size is out of bounds")) result }
+    ensures message { SaysIf (is_above limit (u32_decoder reader.old))
+        (IsWrittenMessage (desc.now ++ codes " size is out of bounds")) result }
     ensures forward { Reaches reader.old reader.new }
 {
     let start = reader.clone();
@@ -44,7 +47,8 @@ pub fn read_many<'a, T: FromReader<'a>>(
     count: usize,
     reader: &mut BinaryReader<'a>,
 ) -> Result<Vec<T>>
-    ensures answer { Gives (λ v. map T.view v.items) result reader.new (repeated count (T.decoder reader.old.settings) reader.old) }
+    ensures answer { Gives (λ v. map T.view v.items) result reader.new
+        (repeated count (T.decoder reader.old.settings) reader.old) }
     ensures memory { MemoryOnlyIf (takes_room T.takes_memory (T.decoder reader.old.settings) count reader.old) result }
     ensures stays { IfErr result (λ e. reader.new ≡ reader.old) }
     ensures forward { Reaches reader.old reader.new }
@@ -68,9 +72,12 @@ fn counted_items<'a, T: FromReader<'a>>(
     desc: &str,
     reader: &mut BinaryReader<'a>,
 ) -> Result<Vec<T>>
-    ensures answer { Gives (λ v. map T.view v.items) result reader.new (listed_within limit (T.decoder reader.old.settings) reader.old) }
-    ensures memory { MemoryOnlyIf (counted_room T.takes_memory (T.decoder reader.old.settings) (size_within limit reader.old)) result }
-    ensures message { SaysIf (is_above limit (u32_decoder reader.old)) (IsWrittenMessage (desc.now ++ codes " size is out of bounds")) result }
+    ensures answer { Gives (λ v. map T.view v.items) result reader.new
+        (listed_within limit (T.decoder reader.old.settings) reader.old) }
+    ensures memory { MemoryOnlyIf (counted_room T.takes_memory (T.decoder reader.old.settings)
+        (size_within limit reader.old)) result }
+    ensures message { SaysIf (is_above limit (u32_decoder reader.old))
+        (IsWrittenMessage (desc.now ++ codes " size is out of bounds")) result }
     ensures forward { Reaches reader.old reader.new }
 {
     let count = reader.read_size(limit, desc)?;
@@ -84,7 +91,8 @@ fn some_items<'a, T: FromReader<'a>>(
     count: usize,
     reader: &mut BinaryReader<'a>,
 ) -> Result<Vec<T>>
-    ensures answer { Gives (λ v. map T.view v.items) result reader.new (repeated count (T.decoder reader.old.settings) reader.old) }
+    ensures answer { Gives (λ v. map T.view v.items) result reader.new
+        (repeated count (T.decoder reader.old.settings) reader.old) }
     ensures memory { MemoryOnlyIf (takes_room T.takes_memory (T.decoder reader.old.settings) count reader.old) result }
     ensures forward { Reaches reader.old reader.new }
 {

@@ -17,10 +17,13 @@ impl<'a> BinaryReader<'a> {
     /// bytes at the last of them.
     #[inline]
     pub fn read_string(&mut self) -> Result<&'a str>
-        ensures answer { Answers (λ s. s.now) result self.old self.new (name self.old.settings.limits.string_bytes self.old) }
+        ensures answer { Answers (λ s. s.now) result self.old self.new
+            (name self.old.settings.limits.string_bytes self.old) }
         ensures no_memory { NeedsNoMemory result }
-        ensures too_long { SaysIf (is_above self.old.settings.limits.string_bytes (u32_decoder self.old)) (λ m. m ≡ codes "string size out of bounds") result }
-        ensures malformed { SaysIf (is_whole_within self.old.settings.limits.string_bytes (u32_decoder self.old)) (λ m. m ≡ codes "malformed UTF-8 encoding") result }
+        ensures too_long { SaysIf (is_above self.old.settings.limits.string_bytes (u32_decoder self.old))
+            (λ m. m ≡ codes "string size out of bounds") result }
+        ensures malformed { SaysIf (is_whole_within self.old.settings.limits.string_bytes (u32_decoder self.old))
+            (λ m. m ≡ codes "malformed UTF-8 encoding") result }
         ensures forward { Reaches self.old self.new }
     {
         let start = self.clone();
@@ -39,7 +42,8 @@ impl<'a> BinaryReader<'a> {
     pub fn read_unlimited_string(&mut self) -> Result<&'a str>
         ensures answer { Answers (λ s. s.now) result self.old self.new (any_name self.old) }
         ensures no_memory { NeedsNoMemory result }
-        ensures malformed { SaysIf (is_whole (u32_decoder self.old)) (λ m. m ≡ codes "malformed UTF-8 encoding") result }
+        ensures malformed { SaysIf (is_whole (u32_decoder self.old))
+            (λ m. m ≡ codes "malformed UTF-8 encoding") result }
         ensures forward { Reaches self.old self.new }
     {
         let before = self.clone();
@@ -56,9 +60,11 @@ impl<'a> BinaryReader<'a> {
     /// Goes on behind a count in LEB128 of at most the limit of a string's bytes and as many bytes, whatever they are.
     #[inline]
     pub fn skip_string(&mut self) -> Result<()>
-        ensures answer { Answers (λ u. u) result self.old self.new (skipped_name self.old.settings.limits.string_bytes self.old) }
+        ensures answer { Answers (λ u. u) result self.old self.new
+            (skipped_name self.old.settings.limits.string_bytes self.old) }
         ensures no_memory { NeedsNoMemory result }
-        ensures too_long { SaysIf (is_above self.old.settings.limits.string_bytes (u32_decoder self.old)) (λ m. m ≡ codes "string size out of bounds") result }
+        ensures too_long { SaysIf (is_above self.old.settings.limits.string_bytes (u32_decoder self.old))
+            (λ m. m ≡ codes "string size out of bounds") result }
         ensures forward { Reaches self.old self.new }
     {
         let here = self.clone();
@@ -73,8 +79,10 @@ impl<'a> BinaryReader<'a> {
     fn limited_text(&mut self) -> Result<&'a str>
         ensures answer { Gives (λ s. s.now) result self.new (name self.old.settings.limits.string_bytes self.old) }
         ensures no_memory { NeedsNoMemory result }
-        ensures too_long { SaysIf (is_above self.old.settings.limits.string_bytes (u32_decoder self.old)) (λ m. m ≡ codes "string size out of bounds") result }
-        ensures malformed { SaysIf (is_whole_within self.old.settings.limits.string_bytes (u32_decoder self.old)) (λ m. m ≡ codes "malformed UTF-8 encoding") result }
+        ensures too_long { SaysIf (is_above self.old.settings.limits.string_bytes (u32_decoder self.old))
+            (λ m. m ≡ codes "string size out of bounds") result }
+        ensures malformed { SaysIf (is_whole_within self.old.settings.limits.string_bytes (u32_decoder self.old))
+            (λ m. m ≡ codes "malformed UTF-8 encoding") result }
         ensures forward { Reaches self.old self.new }
     {
         let limit = self.limits().string_bytes as usize;
@@ -89,7 +97,8 @@ impl<'a> BinaryReader<'a> {
     fn counted_text(&mut self) -> Result<&'a str>
         ensures answer { Gives (λ s. s.now) result self.new (any_name self.old) }
         ensures no_memory { NeedsNoMemory result }
-        ensures malformed { SaysIf (is_whole (u32_decoder self.old)) (λ m. m ≡ codes "malformed UTF-8 encoding") result }
+        ensures malformed { SaysIf (is_whole (u32_decoder self.old))
+            (λ m. m ≡ codes "malformed UTF-8 encoding") result }
         ensures forward { Reaches self.old self.new }
     {
         let count = self.read_var_u32()?;
@@ -100,7 +109,8 @@ impl<'a> BinaryReader<'a> {
     fn skip_text(&mut self) -> Result<()>
         ensures answer { Gives (λ u. u) result self.new (skipped_name self.old.settings.limits.string_bytes self.old) }
         ensures no_memory { NeedsNoMemory result }
-        ensures too_long { SaysIf (is_above self.old.settings.limits.string_bytes (u32_decoder self.old)) (λ m. m ≡ codes "string size out of bounds") result }
+        ensures too_long { SaysIf (is_above self.old.settings.limits.string_bytes (u32_decoder self.old))
+            (λ m. m ≡ codes "string size out of bounds") result }
         ensures forward { Reaches self.old self.new }
     {
         let limit = self.limits().string_bytes as usize;

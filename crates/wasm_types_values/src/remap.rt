@@ -13,7 +13,8 @@ impl ValType {
     #[tactic(auto, using(crate::proofs::Remapping::refused_value, crate::proofs::Remapping::replaced_exact, crate::proofs::Remapping::replaced_concrete))]
     pub fn remap_indices<F: Fn(PackedIndex) -> Result<PackedIndex>>(&mut self, f: &F) -> Result<()>
         requires { F.IsAlwaysCallable f.now }
-        ensures remapped { Remapped value_shape value_indices (F.post f.now) result (value_of self.old) (value_of self.new) }
+        ensures remapped { Remapped value_shape value_indices (F.post f.now) result (value_of self.old)
+            (value_of self.new) }
         ensures stays { OnErr result (self.new ≡ self.old) }
     {
         let Some(ty) = self.as_reference_type() else {
@@ -36,7 +37,8 @@ impl StorageType {
     /// Replaces its index, if it has one, by what `f` makes of it. Where `f` refuses, so does the call, and the type stays.
     pub fn remap_indices<F: Fn(PackedIndex) -> Result<PackedIndex>>(&mut self, f: &F) -> Result<()>
         requires { F.IsAlwaysCallable f.now }
-        ensures remapped { Remapped storage_shape storage_indices (F.post f.now) result (storage_of self.old) (storage_of self.new) }
+        ensures remapped { Remapped storage_shape storage_indices (F.post f.now) result (storage_of self.old)
+            (storage_of self.new) }
         ensures stays { OnErr result (self.new ≡ self.old) }
     {
         match self {

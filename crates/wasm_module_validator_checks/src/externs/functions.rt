@@ -39,7 +39,8 @@ pub fn func_type_at<R: WasmModuleResources>(
     offset: u64,
 ) -> Result<&FuncType>
     ensures answer { Tells result (IsFunctionIndex (R.meaning resources.now).«module» type_index) }
-    ensures function { IfOk result (λ f. IsFunctionAt (R.meaning resources.now) type_index (Some (signature_in (R.meaning resources.now) f.now))) }
+    ensures function { IfOk result (λ f. IsFunctionAt (R.meaning resources.now) type_index
+        (Some (signature_in (R.meaning resources.now) f.now))) }
     ensures refused { IfErr result (λ e. (e.kind ≡ Other) × (e.offset ≡ offset)) }
 {
     let Some(function) = function_at(resources, type_index) else {

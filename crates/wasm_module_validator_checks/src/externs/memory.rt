@@ -15,9 +15,11 @@ use wasm_types::{Error, MemoryType, Result, WasmFeatures};
 // How many bytes a page has, by its logarithm where it is written: 1 or 65,536.
 #[tactic(auto, unfolding(crate::specs::externs::Refusals::has))]
 fn check_page_size(page_size_log2: Option<u32>, settings: &Settings, offset: u64) -> Result<u64>
-    ensures answer { Tells result (IfThere (λ n. Has settings.now.features CustomPageSizes × ((n ≡ 0) ⊎ (n ≡ 16))) page_size_log2) }
+    ensures answer { Tells result (IfThere (λ n. Has settings.now.features CustomPageSizes
+        × ((n ≡ 0) ⊎ (n ≡ 16))) page_size_log2) }
     ensures bytes { IfOk result (λ page. (page ≡ bytes_in_page page_size_log2) × ((page ≡ 1) ⊎ (page ≡ 65536))) }
-    ensures refused { IfErr result (λ e. IsNeeded settings.now.features (λ b. IfThere (λ n. Has b CustomPageSizes × ((n ≡ 0) ⊎ (n ≡ 16))) page_size_log2) e.kind) }
+    ensures refused { IfErr result (λ e. IsNeeded settings.now.features
+        (λ b. IfThere (λ n. Has b CustomPageSizes × ((n ≡ 0) ⊎ (n ≡ 16))) page_size_log2) e.kind) }
     ensures at { IfErr result (λ e. e.offset ≡ offset) }
 {
     let Some(logarithm) = page_size_log2 else {
@@ -70,8 +72,10 @@ fn too_large(most: u64, page_size: u64, offset: u64) -> Error
 // The features of wide and of shared memories.
 #[tactic(auto, unfolding(crate::specs::externs::Refusals::has))]
 fn check_memory_features(ty: &MemoryType, settings: &Settings, offset: u64) -> Result<()>
-    ensures answer { Tells result ((IsTrue ty.now.memory64 → Has settings.now.features Memory64) × (IsTrue ty.now.shared → Has settings.now.features Threads)) }
-    ensures refused { IfErr result (λ e. IsNeeded settings.now.features (λ b. (IsTrue ty.now.memory64 → Has b Memory64) × (IsTrue ty.now.shared → Has b Threads)) e.kind) }
+    ensures answer { Tells result ((IsTrue ty.now.memory64 → Has settings.now.features Memory64)
+        × (IsTrue ty.now.shared → Has settings.now.features Threads)) }
+    ensures refused { IfErr result (λ e. IsNeeded settings.now.features (λ b. (IsTrue ty.now.memory64 → Has b Memory64)
+        × (IsTrue ty.now.shared → Has b Threads)) e.kind) }
     ensures at { IfErr result (λ e. e.offset ≡ offset) }
 {
     require(
@@ -97,7 +101,8 @@ fn check_memory_features(ty: &MemoryType, settings: &Settings, offset: u64) -> R
 /// `offset`.
 pub fn check_memory_type(ty: &MemoryType, settings: &Settings, offset: u64) -> Result<()>
     ensures answer { Tells result (IsValidMemoryType settings.now ty.now) }
-    ensures refused { IfErr result (λ e. IsNeeded settings.now.features (λ b. IsValidMemoryType (allowing b settings.now) ty.now) e.kind) }
+    ensures refused { IfErr result (λ e. IsNeeded settings.now.features
+        (λ b. IsValidMemoryType (allowing b settings.now) ty.now) e.kind) }
     ensures at { IfErr result (λ e. e.offset ≡ offset) }
 {
     check_limits(ty.initial, ty.maximum, offset)?;

@@ -26,9 +26,11 @@ fn check_element_type<R: WasmModuleResources>(
     offset: u64,
 ) -> Result<()>
     ensures answer { Tells result (IsValidElementType settings.now (R.meaning resources.now).«module» ty.old) }
-    ensures named { OnOk result (reference_in (R.meaning resources.now) ty.new ≡ value_in (R.meaning resources.now).«module».types (value.Ref ty.old)) }
+    ensures named { OnOk result (reference_in (R.meaning resources.now) ty.new ≡ value_in
+        (R.meaning resources.now).«module».types (value.Ref ty.old)) }
     ensures known { OnOk result (EachHeap (IsKnownIndex (R.meaning resources.now)) (heap_of ty.new.heap)) }
-    ensures refused { IfErr result (λ e. IsRefusal settings.now.features (λ b. IsValidElementType (allowing b settings.now) (R.meaning resources.now).«module» ty.old) e.kind) }
+    ensures refused { IfErr result (λ e. IsRefusal settings.now.features
+        (λ b. IsValidElementType (allowing b settings.now) (R.meaning resources.now).«module» ty.old) e.kind) }
     ensures at { IfErr result (λ e. e.offset ≡ offset) }
 {
     if *ty == RefType::FUNCREF {
@@ -63,8 +65,10 @@ fn too_large(most: u64, offset: u64) -> Error
 // The features of wide and of shared tables.
 #[tactic(auto, unfolding(crate::specs::externs::Refusals::has))]
 fn check_table_features(ty: &TableType, settings: &Settings, offset: u64) -> Result<()>
-    ensures answer { Tells result ((IsTrue ty.now.table64 → Has settings.now.features Memory64) × (IsTrue ty.now.shared → Has settings.now.features SharedEverythingThreads)) }
-    ensures refused { IfErr result (λ e. IsNeeded settings.now.features (λ b. (IsTrue ty.now.table64 → Has b Memory64) × (IsTrue ty.now.shared → Has b SharedEverythingThreads)) e.kind) }
+    ensures answer { Tells result ((IsTrue ty.now.table64 → Has settings.now.features Memory64)
+        × (IsTrue ty.now.shared → Has settings.now.features SharedEverythingThreads)) }
+    ensures refused { IfErr result (λ e. IsNeeded settings.now.features (λ b. (IsTrue ty.now.table64 → Has b Memory64)
+        × (IsTrue ty.now.shared → Has b SharedEverythingThreads)) e.kind) }
     ensures at { IfErr result (λ e. e.offset ≡ offset) }
 {
     require(
@@ -95,11 +99,13 @@ pub fn check_table_type<R: WasmModuleResources>(
     offset: u64,
 ) -> Result<()>
     ensures answer { Tells result (IsValidTableType settings.now (R.meaning resources.now).«module» ty.old) }
-    ensures named { OnOk result (table_in (R.meaning resources.now) ty.new ≡ table_written (R.meaning resources.now).«module».types ty.old) }
+    ensures named { OnOk result (table_in (R.meaning resources.now) ty.new ≡ table_written
+        (R.meaning resources.now).«module».types ty.old) }
     ensures known { OnOk result (EachHeap (IsKnownIndex (R.meaning resources.now)) (heap_of ty.new.element_type.heap)) }
     ensures sizes { (ty.new.initial ≡ ty.old.initial) × (ty.new.maximum ≡ ty.old.maximum) }
     ensures kept { OnErr result (ty.new ≡ ty.old) }
-    ensures refused { IfErr result (λ e. IsRefusal settings.now.features (λ b. IsValidTableType (allowing b settings.now) (R.meaning resources.now).«module» ty.old) e.kind) }
+    ensures refused { IfErr result (λ e. IsRefusal settings.now.features
+        (λ b. IsValidTableType (allowing b settings.now) (R.meaning resources.now).«module» ty.old) e.kind) }
     ensures at { IfErr result (λ e. e.offset ≡ offset) }
 {
     let mut element_type = ty.element_type;

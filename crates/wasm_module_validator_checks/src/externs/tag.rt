@@ -26,8 +26,10 @@ pub fn check_tag_type<'a, R: WasmModuleResources>(
     offset: u64,
 ) -> Result<&'a FuncType>
     ensures answer { Tells result (IsValidTagType settings.now (R.meaning resources.now).«module» ty.now) }
-    ensures function { IfOk result (λ f. IsFunctionAt (R.meaning resources.now) ty.now.func_type_idx (Some (signature_in (R.meaning resources.now) f.now))) }
-    ensures refused { IfErr result (λ e. IsNeeded settings.now.features (λ b. IsValidTagType (allowing b settings.now) (R.meaning resources.now).«module» ty.now) e.kind) }
+    ensures function { IfOk result (λ f. IsFunctionAt (R.meaning resources.now) ty.now.func_type_idx
+        (Some (signature_in (R.meaning resources.now) f.now))) }
+    ensures refused { IfErr result (λ e. IsNeeded settings.now.features
+        (λ b. IsValidTagType (allowing b settings.now) (R.meaning resources.now).«module» ty.now) e.kind) }
     ensures at { IfErr result (λ e. e.offset ≡ offset) }
 {
     require(

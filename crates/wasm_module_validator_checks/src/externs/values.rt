@@ -29,9 +29,11 @@ pub fn check_value_type<R: WasmModuleResources>(
     offset: u64,
 ) -> Result<()>
     ensures answer { Tells result (IsValidValueType settings.now (R.meaning resources.now).«module» ty.old) }
-    ensures named { OnOk result (type_in (R.meaning resources.now) ty.new ≡ value_in (R.meaning resources.now).«module».types ty.old) }
+    ensures named { OnOk result (type_in (R.meaning resources.now) ty.new ≡ value_in
+        (R.meaning resources.now).«module».types ty.old) }
     ensures kept { OnErr result (ty.new ≡ ty.old) }
-    ensures refused { IfErr result (λ e. IsRefusal settings.now.features (λ b. IsValidValueType (allowing b settings.now) (R.meaning resources.now).«module» ty.old) e.kind) }
+    ensures refused { IfErr result (λ e. IsRefusal settings.now.features
+        (λ b. IsValidValueType (allowing b settings.now) (R.meaning resources.now).«module» ty.old) e.kind) }
     ensures at { IfErr result (λ e. e.offset ≡ offset) }
 {
     check_value_type_features(&settings.features(), ty, offset)?;
@@ -71,9 +73,11 @@ pub fn check_global_type<R: WasmModuleResources>(
     offset: u64,
 ) -> Result<()>
     ensures answer { Tells result (IsValidGlobalType settings.now (R.meaning resources.now).«module» ty.old) }
-    ensures named { OnOk result (global_in (R.meaning resources.now) ty.new ≡ global_written (R.meaning resources.now).«module».types ty.old) }
+    ensures named { OnOk result (global_in (R.meaning resources.now) ty.new ≡ global_written
+        (R.meaning resources.now).«module».types ty.old) }
     ensures kept { OnErr result (ty.new ≡ ty.old) }
-    ensures refused { IfErr result (λ e. IsRefusal settings.now.features (λ b. IsValidGlobalType (allowing b settings.now) (R.meaning resources.now).«module» ty.old) e.kind) }
+    ensures refused { IfErr result (λ e. IsRefusal settings.now.features
+        (λ b. IsValidGlobalType (allowing b settings.now) (R.meaning resources.now).«module» ty.old) e.kind) }
     ensures at { IfErr result (λ e. e.offset ≡ offset) }
 {
     let mut content_type = ty.content_type;

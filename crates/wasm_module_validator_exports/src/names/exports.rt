@@ -130,7 +130,8 @@ impl Exports {
     /// The name is taken: an error of kind `Other`, at `offset`; or memory is refused.
     pub fn insert(&mut self, name: &str, kind: ExternalKind, index: u32, offset: u64) -> Result<()>
         ensures answer { Tells result (IsNew name.now (names_of self.old)) }
-        ensures added { OnOk result (self.new ≡ self.old ++ record { name = name.now; kind = kind; index = index } ∷ []) }
+        ensures added { OnOk result (self.new ≡ self.old ++ record
+            { name = name.now; kind = kind; index = index } ∷ []) }
         ensures kept { OnErr result (self.new ≡ self.old) }
         ensures refused { IfErr result (λ e. UnlessMemory e.kind ((e.kind ≡ Other) × (e.offset ≡ offset))) }
     {

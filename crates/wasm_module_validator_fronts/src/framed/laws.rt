@@ -16,10 +16,13 @@ ghost use Rattle.wasm_module_validator_steps.specs.Steps.{SoFar, nothing, Judges
 /// Where the frames of a module were judged one after the other, the bytes spell what was read, with the code that the bodies spell. It is
 /// valid where each body is.
 pub fn judged_frames_are_modules()
-    ensures spelled { (z : Settings) (text : List ℕ) (xs : List Shape) (q : SoFar) (cs : List Function) → IsModule z text xs
-        → JudgesShapes z nothing xs q → AllZip (SpelledFunction z) cs q.bodies → SpelledModule z (record q.tree { code = cs }) text }
+    ensures spelled { (z : Settings) (text : List ℕ) (xs : List Shape) (q : SoFar) (cs : List Function)
+        → IsModule z text xs
+        → JudgesShapes z nothing xs q → AllZip (SpelledFunction z) cs q.bodies
+        → SpelledModule z (record q.tree { code = cs }) text }
     ensures valid { (z : Settings) (xs : List Shape) (q : SoFar) (cs : List Function) → JudgesShapes z nothing xs q
-        → AllZip (HasValidBody z (module_of q.tree)) q.tree.functions cs → IsValidInOrder z (record q.tree { code = cs }) }
+        → AllZip (HasValidBody z (module_of q.tree)) q.tree.functions cs
+        → IsValidInOrder z (record q.tree { code = cs }) }
 {}
 
 /// The frames of a module that is spelled and valid are judged one after the other. What was read then is the module but for its code,
@@ -34,10 +37,13 @@ pub fn valid_modules_are_judged()
 /// after the other and the bytes of each body spell a valid function of its type. Of a module there are as many bodies as functions.
 pub fn accepted_modules_are_judged()
     ensures framed { (z : Settings) (text : List ℕ) → AcceptsUnder z text → (xs : List Shape) × IsModule z text xs }
-    ensures one { (z : Settings) (text : List ℕ) (xs ys : List Shape) → IsModule z text xs → IsModule z text ys → xs ≡ ys }
-    ensures exact { (z : Settings) (text : List ℕ) (xs : List Shape) → IsModule z text xs → AcceptsUnder z text ↔ ((q : SoFar)
+    ensures one { (z : Settings) (text : List ℕ) (xs ys : List Shape) → IsModule z text xs
+        → IsModule z text ys → xs ≡ ys }
+    ensures exact { (z : Settings) (text : List ℕ) (xs : List Shape) → IsModule z text xs
+        → AcceptsUnder z text ↔ ((q : SoFar)
         × JudgesShapes z nothing xs q
-        × AllZip (λ x body. (f : Function) × SpelledFunction z f body × HasValidBody z (module_of q.tree) x f) q.tree.functions q.bodies) }
+        × AllZip (λ x body. (f : Function) × SpelledFunction z f body
+        × HasValidBody z (module_of q.tree) x f) q.tree.functions q.bodies) }
     ensures bodies { (z : Settings) (text : List ℕ) (xs : List Shape) (q : SoFar) → IsModule z text xs
         → JudgesShapes z nothing xs q → length q.bodies ≡ length q.tree.functions }
 {}

@@ -34,7 +34,8 @@ pub fn judge_bodies<R: WasmModuleResources>(
 ) -> Result<()>
     requires within { IsWithinCeilings limits }
     ensures { (z : Settings) → z.limits ≡ limits → Each (λ b. IsReadBy z features.0 b.body) bodies.now
-        → Tells result (Each (λ b. IsFunctionOf z (R.meaning resources.now).«module» b.type_index b.body.rest) bodies.now) }
+        → Tells result (Each (λ b. IsFunctionOf z (R.meaning resources.now).«module» b.type_index
+        b.body.rest) bodies.now) }
 {
     let mut judge = BodyJudge::new(alloc, features);
     let mut plain = PlainJudge::new(alloc, resources, features, entries_for(bodies.len()));
@@ -70,7 +71,8 @@ fn accepts<R: WasmModuleResources>(
     requires within { IsWithinCeilings limits }
     requires plain { IsJudgeOf (R.meaning resources.now).«module» features.0 plain.old }
     ensures valid { result ≡ true
-        → SpellsValidFunction (judged_by features.0 limits) (R.meaning resources.now).«module» body.now.type_index body.now.body.rest }
+        → SpellsValidFunction (judged_by features.0 limits) (R.meaning resources.now).«module» body.now.type_index
+        body.now.body.rest }
     ensures stays { IsJudgeOf (R.meaning resources.now).«module» features.0 plain.new }
 {
     if plain.accepts(resources, body.type_index, features, limits, &body.body) {

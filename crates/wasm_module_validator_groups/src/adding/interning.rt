@@ -41,7 +41,8 @@ fn check_added<M: InternRecGroup>(
 ) -> Result<(u32, u32)>
     requires number { number.0 < length types.now.groups }
     requires ids { WhereCanonical (M.settings target.now).features (HaveKnownIds types.now.groups) }
-    ensures answer { Tells result (IsTrue is_new → AreGroupTypesValid (M.settings target.now) types.now.groups number.0) }
+    ensures answer { Tells result (IsTrue is_new → AreGroupTypesValid
+        (M.settings target.now) types.now.groups number.0) }
     ensures ids { IfOk result (λ r. HasIds types.now.groups number.0 r.0 r.1) }
     ensures at { RefusedAt offset result }
 {
@@ -76,7 +77,8 @@ pub fn canonicalize_and_intern_rec_group<M: InternRecGroup>(
     requires known { AreIdsKnown types.old.groups (M.ids target.old) }
     requires short { length (M.ids target.old) + length (declared_types rec_group) < 2 ^ 32 }
     requires indices { AreModuleIndices (declared_types rec_group) }
-    ensures answer { Tells result (IsValidGroup (M.settings target.old) (space_of types.old.groups (M.ids target.old)) (written_group rec_group)
+    ensures answer { Tells result (IsValidGroup (M.settings target.old) (space_of types.old.groups (M.ids target.old))
+        (written_group rec_group)
         × HasRoom types.old.groups (length (declared_types rec_group))) }
     ensures added { OnOk result (AddsGroup types.old.groups types.new.groups (M.ids target.old) (M.ids target.new)
         (kept_group (M.settings target.old).features (M.ids target.old) (declared_types rec_group))) }
@@ -86,7 +88,8 @@ pub fn canonicalize_and_intern_rec_group<M: InternRecGroup>(
     ensures known { OnOk result (AreIdsKnown types.new.groups (M.ids target.new)) }
     ensures refused { OnErr result (M.ids target.new ≡ M.ids target.old) }
     ensures list { OnErr result ((types.new.groups ≡ types.old.groups)
-        ⊎ (types.new.groups ≡ kept_group (M.settings target.old).features (M.ids target.old) (declared_types rec_group) ∷ types.old.groups)) }
+        ⊎ (types.new.groups ≡ kept_group (M.settings target.old).features (M.ids target.old)
+        (declared_types rec_group) ∷ types.old.groups)) }
     ensures at { RefusedAt offset result }
     ensures settings { M.settings target.new ≡ M.settings target.old }
     ensures can_intern { IsTrue types.new.can_intern }

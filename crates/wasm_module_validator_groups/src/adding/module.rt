@@ -114,12 +114,16 @@ impl Module {
         requires can_intern { IsTrue types.old.can_intern }
         requires checked { IsChecked (settings_of self.old.features.0 self.old.limits) types.old.groups }
         requires known { AreIdsKnown types.old.groups self.old.types.items }
-        requires short { check_limit ≡ false → length self.old.types.items + length (declared_types rec_group) < 2 ^ 32 }
+        requires short { check_limit ≡ false → length self.old.types.items + length
+            (declared_types rec_group) < 2 ^ 32 }
         requires indices { AreModuleIndices (declared_types rec_group) }
-        ensures answer { Tells result ((IsTrue check_limit → length self.old.types.items + length (declared_types rec_group) ≤ self.old.limits.types)
-            × IsValidGroup (settings_of self.old.features.0 self.old.limits) (space_of types.old.groups self.old.types.items) (written_group rec_group)
+        ensures answer { Tells result ((IsTrue check_limit → length self.old.types.items + length
+            (declared_types rec_group) ≤ self.old.limits.types)
+            × IsValidGroup (settings_of self.old.features.0 self.old.limits)
+            (space_of types.old.groups self.old.types.items) (written_group rec_group)
             × HasRoom types.old.groups (length (declared_types rec_group))) }
-        ensures added { OnOk result (AddsGroup types.old.groups types.new.groups self.old.types.items self.new.types.items
+        ensures added { OnOk result (AddsGroup types.old.groups types.new.groups self.old.types.items
+            self.new.types.items
             (kept_group self.old.features.0 self.old.types.items (declared_types rec_group))) }
         ensures space { OnOk result (space_of types.new.groups self.new.types.items
             ≡ space_of types.old.groups self.old.types.items ++ types_of (space_of types.old.groups self.old.types.items) (written_group rec_group)) }
@@ -127,9 +131,11 @@ impl Module {
         ensures known { OnOk result (AreIdsKnown types.new.groups self.new.types.items) }
         ensures refused { OnErr result (self.new.types.items ≡ self.old.types.items) }
         ensures list { OnErr result ((types.new.groups ≡ types.old.groups)
-            ⊎ (types.new.groups ≡ kept_group self.old.features.0 self.old.types.items (declared_types rec_group) ∷ types.old.groups)) }
+            ⊎ (types.new.groups ≡ kept_group self.old.features.0 self.old.types.items
+            (declared_types rec_group) ∷ types.old.groups)) }
         ensures at { RefusedAt offset result }
-        ensures settings { settings_of self.new.features.0 self.new.limits ≡ settings_of self.old.features.0 self.old.limits }
+        ensures settings { settings_of self.new.features.0 self.new.limits
+            ≡ settings_of self.old.features.0 self.old.limits }
         ensures can_intern { IsTrue types.new.can_intern }
         ensures limits { types.new.limits ≡ types.old.limits }
     {

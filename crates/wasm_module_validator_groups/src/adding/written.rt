@@ -30,7 +30,8 @@ fn check_supertypes(types: &[SubType], offset: u64) -> Result<()>
 
 /// Refuses a group that is written as one where garbage collection is not allowed, and a type with more than one supertype.
 pub(crate) fn check_written(features: WasmFeatures, rec_group: &RecGroup, offset: u64) -> Result<()>
-    ensures answer { Tells result ((IsTrue rec_group.now.is_explicit → Has features.0 Gc) × HaveOneSupertype (declared_types rec_group.now)) }
+    ensures answer { Tells result ((IsTrue rec_group.now.is_explicit → Has features.0 Gc)
+        × HaveOneSupertype (declared_types rec_group.now)) }
     ensures at { RefusedAt offset result }
 {
     require(
@@ -50,9 +51,12 @@ pub(crate) fn kept_form<M: InternRecGroup>(
     offset: u64,
 ) -> Result<RecGroup>
     requires ids { All IdFits (M.ids target.now) }
-    ensures answer { Tells result (WhereCanonical (M.settings target.now).features (AreTypesAllowed (has Gc (M.settings target.now).features) (length (M.ids target.now))
-        (length (M.ids target.now) + length (declared_types rec_group)) (length (M.ids target.now)) (declared_types rec_group))) }
-    ensures kept { IfOk result (λ g. declared_types g ≡ kept_types (needs_canonical_types (M.settings target.now).features) (M.ids target.now) (declared_types rec_group)) }
+    ensures answer { Tells result (WhereCanonical (M.settings target.now).features
+        (AreTypesAllowed (has Gc (M.settings target.now).features) (length (M.ids target.now))
+        (length (M.ids target.now) + length (declared_types rec_group)) (length (M.ids target.now))
+        (declared_types rec_group))) }
+    ensures kept { IfOk result (λ g. declared_types g ≡ kept_types
+        (needs_canonical_types (M.settings target.now).features) (M.ids target.now) (declared_types rec_group)) }
     ensures at { FailsAt offset result }
 {
     if !target.features().needs_type_canonicalization() {

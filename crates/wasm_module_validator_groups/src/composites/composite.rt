@@ -45,7 +45,8 @@ impl<'a> Check<'a> {
     // The parts of a function, and the feature of several results.
     fn check_function(&self, shared: bool, ty: &FuncType) -> Result<()>
         requires { HasIds self.now.types.now.groups self.now.features.0 (function_tree ty.now) }
-        ensures answer { Tells result (IsInnerValid self.now.types.now.groups self.now.features.0 shared (function_tree ty.now)) }
+        ensures answer { Tells result (IsInnerValid self.now.types.now.groups self.now.features.0 shared
+            (function_tree ty.now)) }
         ensures at { RefusedAt self.now.offset result }
     {
         self.check_parts(shared, ty.params())?;
@@ -75,7 +76,8 @@ impl<'a> Check<'a> {
     // The features of continuations, and that one is made of a function type.
     fn check_continuation(&self, shared: bool, ty: &ContType) -> Result<()>
         requires { HasIds self.now.types.now.groups self.now.features.0 (continuation_tree ty.now) }
-        ensures answer { Tells result (IsInnerValid self.now.types.now.groups self.now.features.0 shared (continuation_tree ty.now)) }
+        ensures answer { Tells result (IsInnerValid self.now.types.now.groups self.now.features.0 shared
+            (continuation_tree ty.now)) }
         ensures at { RefusedAt self.now.offset result }
     {
         require(
@@ -102,7 +104,8 @@ impl<'a> Check<'a> {
     // A composite type by its constructor.
     fn check_inner(&self, shared: bool, inner: &CompositeInnerType) -> Result<()>
         requires { HasIds self.now.types.now.groups self.now.features.0 (inner_of inner.now) }
-        ensures answer { Tells result (IsInnerValid self.now.types.now.groups self.now.features.0 shared (inner_of inner.now)) }
+        ensures answer { Tells result (IsInnerValid self.now.types.now.groups self.now.features.0 shared
+            (inner_of inner.now)) }
         ensures at { RefusedAt self.now.offset result }
     {
         match inner {

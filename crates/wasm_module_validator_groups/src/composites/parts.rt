@@ -36,8 +36,10 @@ pub(crate) struct Check<'a> {
 impl<'a> Check<'a> {
     // Refuses a value type that the features don't allow, and one that is not shared in a composite type that is.
     fn check_part(&self, shared: bool, ty: &ValType) -> Result<()>
-        requires { WhereCanonical self.now.features.0 (EachValue (IsIdBelow (count self.now.types.now.groups)) (value_of ty.now)) }
-        ensures answer { Tells result (IsPartValid self.now.types.now.groups self.now.features.0 shared (value_of ty.now)) }
+        requires { WhereCanonical self.now.features.0 (EachValue (IsIdBelow (count self.now.types.now.groups))
+            (value_of ty.now)) }
+        ensures answer { Tells result (IsPartValid self.now.types.now.groups self.now.features.0 shared
+            (value_of ty.now)) }
         ensures at { RefusedAt self.now.offset result }
     {
         check_value_type_features(&self.features, ty, self.offset)?;
@@ -52,8 +54,10 @@ impl<'a> Check<'a> {
 
     /// The same of each of these value types, in order.
     pub(crate) fn check_parts(&self, shared: bool, types: &[ValType]) -> Result<()>
-        requires { WhereCanonical self.now.features.0 (EachValues (IsIdBelow (count self.now.types.now.groups)) (map value_of types.now)) }
-        ensures answer { Tells result (ArePartsValid self.now.types.now.groups self.now.features.0 shared (map value_of types.now)) }
+        requires { WhereCanonical self.now.features.0 (EachValues (IsIdBelow (count self.now.types.now.groups))
+            (map value_of types.now)) }
+        ensures answer { Tells result (ArePartsValid self.now.types.now.groups self.now.features.0 shared
+            (map value_of types.now)) }
         ensures at { RefusedAt self.now.offset result }
     {
         for i in 0..types.len() {
@@ -64,8 +68,10 @@ impl<'a> Check<'a> {
 
     /// The same of a storage type: packed types are always valid.
     pub(crate) fn check_storage(&self, shared: bool, ty: &StorageType) -> Result<()>
-        requires { WhereCanonical self.now.features.0 (EachStorage (IsIdBelow (count self.now.types.now.groups)) (storage_of ty.now)) }
-        ensures answer { Tells result (IsStorageValid self.now.types.now.groups self.now.features.0 shared (storage_of ty.now)) }
+        requires { WhereCanonical self.now.features.0 (EachStorage (IsIdBelow (count self.now.types.now.groups))
+            (storage_of ty.now)) }
+        ensures answer { Tells result (IsStorageValid self.now.types.now.groups self.now.features.0 shared
+            (storage_of ty.now)) }
         ensures at { RefusedAt self.now.offset result }
     {
         match ty {
@@ -77,8 +83,10 @@ impl<'a> Check<'a> {
 
     /// The same of each of these fields, in order.
     pub(crate) fn check_fields(&self, shared: bool, fields: &[FieldType]) -> Result<()>
-        requires { WhereCanonical self.now.features.0 (EachFields (IsIdBelow (count self.now.types.now.groups)) (map field_of fields.now)) }
-        ensures answer { Tells result (AreFieldsValid self.now.types.now.groups self.now.features.0 shared (map field_of fields.now)) }
+        requires { WhereCanonical self.now.features.0 (EachFields (IsIdBelow (count self.now.types.now.groups))
+            (map field_of fields.now)) }
+        ensures answer { Tells result (AreFieldsValid self.now.types.now.groups self.now.features.0 shared
+            (map field_of fields.now)) }
         ensures at { RefusedAt self.now.offset result }
     {
         for i in 0..fields.len() {

@@ -44,7 +44,8 @@ fn put_into<C: Compare>(
     requires takes { Takes (C.order sought.now) (numbers_of chunks.old.items) at }
     requires ascends { Ascends (C.order sought.now) (concat (numbers_of chunks.old.items)) }
     requires misses { Misses (C.order sought.now) (concat (numbers_of chunks.old.items)) }
-    ensures ok { OnOk result (IsPut (C.order sought.now) number (concat (numbers_of chunks.old.items)) (concat (numbers_of chunks.new.items))) }
+    ensures ok { OnOk result (IsPut (C.order sought.now) number (concat (numbers_of chunks.old.items))
+        (concat (numbers_of chunks.new.items))) }
     ensures err { OnErr result (concat (numbers_of chunks.new.items) ≡ concat (numbers_of chunks.old.items)) }
     ensures sized { AreChunks (numbers_of chunks.new.items) }
 {
@@ -74,7 +75,8 @@ fn begin_chunk(chunks: &mut Vec<Vec<u32>>, number: u32) -> Result<(), AllocError
 // Adds a number behind all others.
 fn append(chunks: &mut Vec<Vec<u32>>, number: u32) -> Result<(), AllocError>
     requires { AreChunks (numbers_of chunks.old.items) }
-    ensures ok { OnOk result (concat (numbers_of chunks.new.items) ≡ concat (numbers_of chunks.old.items) ++ number ∷ []) }
+    ensures ok { OnOk result (concat (numbers_of chunks.new.items) ≡ concat
+        (numbers_of chunks.old.items) ++ number ∷ []) }
     ensures err { OnErr result (concat (numbers_of chunks.new.items) ≡ concat (numbers_of chunks.old.items)) }
     ensures sized { AreChunks (numbers_of chunks.new.items) }
 {
@@ -143,7 +145,8 @@ pub(crate) fn insert_among<C: Compare>(
     requires sized { AreChunks (numbers_of chunks.old.items) }
     requires ascends { Ascends (C.order sought.now) (concat (numbers_of chunks.old.items)) }
     requires misses { Misses (C.order sought.now) (concat (numbers_of chunks.old.items)) }
-    ensures ok { OnOk result (IsPut (C.order sought.now) number (concat (numbers_of chunks.old.items)) (concat (numbers_of chunks.new.items))) }
+    ensures ok { OnOk result (IsPut (C.order sought.now) number (concat (numbers_of chunks.old.items))
+        (concat (numbers_of chunks.new.items))) }
     ensures err { OnErr result (concat (numbers_of chunks.new.items) ≡ concat (numbers_of chunks.old.items)) }
     ensures sized { AreChunks (numbers_of chunks.new.items) }
 {

@@ -33,7 +33,8 @@ pub(crate) fn place_in<C: Compare>(numbers: &[u32], sought: &C) -> usize
 // The number that is equal to what is sought, if there is one.
 fn find_in<C: Compare>(numbers: &[u32], sought: &C) -> Option<u32>
     requires { Ascends (C.order sought.now) numbers.now }
-    ensures { MatchOption result (Misses (C.order sought.now) numbers.now) (λ n. Finds (C.order sought.now) numbers.now n) }
+    ensures { MatchOption result (Misses (C.order sought.now) numbers.now)
+        (λ n. Finds (C.order sought.now) numbers.now n) }
 {
     let at = place_in(numbers, sought);
     if at == numbers.len() {
@@ -81,7 +82,8 @@ pub(crate) fn chunk_for<C: Compare>(chunks: &[Vec<u32>], sought: &C) -> usize
 pub(crate) fn find_among<C: Compare>(chunks: &[Vec<u32>], sought: &C) -> Option<u32>
     requires sized { AreChunks (numbers_of chunks.now) }
     requires ascends { Ascends (C.order sought.now) (concat (numbers_of chunks.now)) }
-    ensures { MatchOption result (Misses (C.order sought.now) (concat (numbers_of chunks.now))) (λ n. Finds (C.order sought.now) (concat (numbers_of chunks.now)) n) }
+    ensures { MatchOption result (Misses (C.order sought.now) (concat (numbers_of chunks.now)))
+        (λ n. Finds (C.order sought.now) (concat (numbers_of chunks.now)) n) }
 {
     let at = chunk_for(chunks, sought);
     if at == chunks.len() {

@@ -40,7 +40,8 @@ impl<'a> TypesRef<'a> {
     /// The id of the type of the function at an index.
     pub fn core_function_at(&self, index: u32) -> CoreTypeId
         requires { index < length self.now.spaces.functions }
-        ensures { (f : Function) → slice_get self.now.spaces.functions index ≡ Some f → slice_get self.now.spaces.types f.type_index ≡ Some result }
+        ensures { (f : Function) → slice_get self.now.spaces.functions index ≡ Some f
+            → slice_get self.now.spaces.types f.type_index ≡ Some result }
     {
         match self.module.function_at(index) {
             Some(function) => known(self.module.type_ids(), function.type_index),

@@ -45,7 +45,9 @@ ghost use Rattle.wasm_module_validator_standing.specs.so_far.laws.Referring.{mar
 /// to each function, it is the context in which the tree's next item is judged.
 pub fn contexts_are_of_trees()
     ensures trees { (groups : List Group) (s : Spaces) (m : ModuleTree) → IsReadAs groups s m
-        → context_of groups s ≡ record (module_of m) { referenced = places (λ (f : Function). f.is_referenced) 0 s.functions } }
+        → context_of groups s ≡ record (module_of m) {
+          referenced = places (λ (f : Function). f.is_referenced) 0 s.functions;
+        } }
     ensures items { (groups : List Group) (s : Spaces) (m : ModuleTree) → IsReadAs groups s m
         → record (context_of groups s) { referenced = places_from 0 s.functions } ≡ context_so_far m }
 {}
@@ -54,91 +56,150 @@ pub fn contexts_are_of_trees()
 /// what is imported. What is in no space changes none, and a function that code may refer to is what it was.
 pub fn items_are_added()
     ensures nothing { (groups : List Group) (z : Settings) → IsReadAs groups (nothing_read z) no_items }
-    ensures groups { (old new : List Group) (s : Spaces) (ids : List CoreTypeId) (gs : List Written) (g : Written) → IsReadAs old s (types_alone gs)
-        → space_of new ids ≡ space_of old s.types ++ types_of (space_of old s.types) g → IsReadAs new (record s { types = ids }) (types_alone (gs ++ g ∷ [])) }
-    ensures functions { (groups : List Group) (s : Spaces) (m : ModuleTree) → IsReadAs groups s m → (x : ℕ) → IsReadAs groups (record s { functions = s.functions ++ own_function x ∷ [] }) (record m { functions = m.functions ++ x ∷ [] }) }
+    ensures groups { (old new : List Group) (s : Spaces) (ids : List CoreTypeId) (gs : List Written) (g : Written)
+        → IsReadAs old s (types_alone gs)
+        → space_of new ids ≡ space_of old s.types ++ types_of (space_of old s.types) g
+        → IsReadAs new (record s { types = ids }) (types_alone (gs ++ g ∷ [])) }
+    ensures functions { (groups : List Group) (s : Spaces) (m : ModuleTree) → IsReadAs groups s m → (x : ℕ)
+        → IsReadAs groups (record s { functions = s.functions ++ own_function x ∷ [] })
+        (record m { functions = m.functions ++ x ∷ [] }) }
     ensures tables { (groups : List Group) (s : Spaces) (m : ModuleTree) → IsReadAs groups s m
         → (x : TableTree Code) (kept : TableType)
         → table_in (names_in groups s.types) kept ≡ tree.table_in (types_behind [] m.types) x.ty
         → sizes_of kept ≡ sizes_of x.ty
         → IsReadAs groups (record s { tables = s.tables ++ kept ∷ [] }) (record m { tables = m.tables ++ x ∷ [] }) }
-    ensures memories { (groups : List Group) (s : Spaces) (m : ModuleTree) → IsReadAs groups s m → (x : MemoryType) → IsReadAs groups (record s { memories = s.memories ++ x ∷ [] }) (record m { memories = m.memories ++ x ∷ [] }) }
-    ensures tags { (groups : List Group) (s : Spaces) (m : ModuleTree) → IsReadAs groups s m → (x : TagType) → x.func_type_idx < length s.types → IsReadAs groups (record s { tags = s.tags ++ id_at s.types x.func_type_idx ∷ [] }) (record m { tags = m.tags ++ x ∷ [] }) }
-    ensures globals { (groups : List Group) (s : Spaces) (m : ModuleTree) → IsReadAs groups s m → (x : GlobalTree Code) (kept : GlobalType) → global_in (names_in groups s.types) kept ≡ tree.global_in (types_behind [] m.types) x.ty → IsReadAs groups (record s { globals = s.globals ++ kept ∷ [] }) (record m { globals = m.globals ++ x ∷ [] }) }
-    ensures elements { (groups : List Group) (s : Spaces) (m : ModuleTree) → IsReadAs groups s m → (x : ElementTree Code) (kept : Reference) → reference_in (names_in groups s.types) kept ≡ element_type (types_behind [] m.types) x.items → IsReadAs groups (record s { elements = s.elements ++ kept ∷ [] }) (record m { element_segments = m.element_segments ++ x ∷ [] }) }
-    ensures data_count { (groups : List Group) (s : Spaces) (m : ModuleTree) → IsReadAs groups s m → (n : ℕ) → IsReadAs groups (record s { data_count = Some n }) (record m { data_count = Some n }) }
-    ensures others { (groups : List Group) (s : Spaces) (m : ModuleTree) → IsReadAs groups s m → (n : ModuleTree) → n ≡ record m { exports = n.exports; start = n.start; code = n.code; data_segments = n.data_segments } → IsReadAs groups s n }
-    ensures referring { (groups : List Group) (s : Spaces) (m : ModuleTree) → IsReadAs groups s m → (n : ℕ) → IsReadAs groups (record s { functions = referring_to n s.functions }) m }
+    ensures memories { (groups : List Group) (s : Spaces) (m : ModuleTree) → IsReadAs groups s m → (x : MemoryType)
+        → IsReadAs groups (record s { memories = s.memories ++ x ∷ [] })
+        (record m { memories = m.memories ++ x ∷ [] }) }
+    ensures tags { (groups : List Group) (s : Spaces) (m : ModuleTree) → IsReadAs groups s m → (x : TagType)
+        → x.func_type_idx < length s.types → IsReadAs groups (record s
+        { tags = s.tags ++ id_at s.types x.func_type_idx ∷ [] }) (record m { tags = m.tags ++ x ∷ [] }) }
+    ensures globals { (groups : List Group) (s : Spaces) (m : ModuleTree) → IsReadAs groups s m
+        → (x : GlobalTree Code) (kept : GlobalType) → global_in (names_in groups s.types) kept ≡ tree.global_in
+        (types_behind [] m.types) x.ty → IsReadAs groups (record s { globals = s.globals ++ kept ∷ [] })
+        (record m { globals = m.globals ++ x ∷ [] }) }
+    ensures elements { (groups : List Group) (s : Spaces) (m : ModuleTree) → IsReadAs groups s m
+        → (x : ElementTree Code) (kept : Reference) → reference_in (names_in groups s.types) kept ≡ element_type
+        (types_behind [] m.types) x.items → IsReadAs groups (record s { elements = s.elements ++ kept ∷ [] })
+        (record m { element_segments = m.element_segments ++ x ∷ [] }) }
+    ensures data_count { (groups : List Group) (s : Spaces) (m : ModuleTree) → IsReadAs groups s m → (n : ℕ)
+        → IsReadAs groups (record s { data_count = Some n }) (record m { data_count = Some n }) }
+    ensures others { (groups : List Group) (s : Spaces) (m : ModuleTree) → IsReadAs groups s m → (n : ModuleTree)
+        → n ≡ record m { exports = n.exports; start = n.start; code = n.code; data_segments = n.data_segments }
+        → IsReadAs groups s n }
+    ensures referring { (groups : List Group) (s : Spaces) (m : ModuleTree) → IsReadAs groups s m → (n : ℕ)
+        → IsReadAs groups (record s { functions = referring_to n s.functions }) m }
 {}
 
 /// An import is added while nothing but types and imports was read.
 pub fn imports_are_added()
-    ensures functions { (groups : List Group) (s : Spaces) (gs : List Written) (is : List ImportTree) → IsReadAs groups s (imports_alone gs is) → (i : ImportTree) → (x : ℕ) → i.ty ≡ import.Func x → IsReadAs groups (record s { functions = s.functions ++ imported_function false x ∷ []; imported_functions = s.imported_functions + 1 }) (imports_alone gs (is ++ i ∷ [])) }
-    ensures exact_functions { (groups : List Group) (s : Spaces) (gs : List Written) (is : List ImportTree) → IsReadAs groups s (imports_alone gs is) → (i : ImportTree) → (x : ℕ) → i.ty ≡ import.FuncExact x → IsReadAs groups (record s { functions = s.functions ++ imported_function true x ∷ []; imported_functions = s.imported_functions + 1 }) (imports_alone gs (is ++ i ∷ [])) }
+    ensures functions { (groups : List Group) (s : Spaces) (gs : List Written) (is : List ImportTree)
+        → IsReadAs groups s (imports_alone gs is) → (i : ImportTree) → (x : ℕ) → i.ty ≡ import.Func x
+        → IsReadAs groups (record s {
+          functions = s.functions ++ imported_function false x ∷ [];
+          imported_functions = s.imported_functions + 1;
+        }) (imports_alone gs (is ++ i ∷ [])) }
+    ensures exact_functions { (groups : List Group) (s : Spaces) (gs : List Written) (is : List ImportTree)
+        → IsReadAs groups s (imports_alone gs is) → (i : ImportTree) → (x : ℕ) → i.ty ≡ import.FuncExact x
+        → IsReadAs groups (record s {
+          functions = s.functions ++ imported_function true x ∷ [];
+          imported_functions = s.imported_functions + 1;
+        }) (imports_alone gs (is ++ i ∷ [])) }
     ensures tables { (groups : List Group) (s : Spaces) (gs : List Written) (is : List ImportTree)
         → IsReadAs groups s (imports_alone gs is) → (i : ImportTree) → (t kept : TableType) → i.ty ≡ import.Table t
         → table_in (names_in groups s.types) kept ≡ tree.table_in (types_behind [] gs) t → sizes_of kept ≡ sizes_of t
         → IsReadAs groups (record s { tables = s.tables ++ kept ∷ [] }) (imports_alone gs (is ++ i ∷ [])) }
-    ensures memories { (groups : List Group) (s : Spaces) (gs : List Written) (is : List ImportTree) → IsReadAs groups s (imports_alone gs is) → (i : ImportTree) → (t : MemoryType) → i.ty ≡ import.Memory t → IsReadAs groups (record s { memories = s.memories ++ t ∷ [] }) (imports_alone gs (is ++ i ∷ [])) }
-    ensures globals { (groups : List Group) (s : Spaces) (gs : List Written) (is : List ImportTree) → IsReadAs groups s (imports_alone gs is) → (i : ImportTree) → (t kept : GlobalType) → i.ty ≡ import.Global t → global_in (names_in groups s.types) kept ≡ tree.global_in (types_behind [] gs) t → IsReadAs groups (record s { globals = s.globals ++ kept ∷ []; imported_globals = s.imported_globals + 1 }) (imports_alone gs (is ++ i ∷ [])) }
-    ensures tags { (groups : List Group) (s : Spaces) (gs : List Written) (is : List ImportTree) → IsReadAs groups s (imports_alone gs is) → (i : ImportTree) → (t : TagType) → i.ty ≡ import.Tag t → t.func_type_idx < length s.types → IsReadAs groups (record s { tags = s.tags ++ id_at s.types t.func_type_idx ∷ [] }) (imports_alone gs (is ++ i ∷ [])) }
+    ensures memories { (groups : List Group) (s : Spaces) (gs : List Written) (is : List ImportTree)
+        → IsReadAs groups s (imports_alone gs is) → (i : ImportTree) → (t : MemoryType) → i.ty ≡ import.Memory t
+        → IsReadAs groups (record s { memories = s.memories ++ t ∷ [] }) (imports_alone gs (is ++ i ∷ [])) }
+    ensures globals { (groups : List Group) (s : Spaces) (gs : List Written) (is : List ImportTree)
+        → IsReadAs groups s (imports_alone gs is) → (i : ImportTree) → (t kept : GlobalType) → i.ty ≡ import.Global t
+        → global_in (names_in groups s.types) kept ≡ tree.global_in (types_behind [] gs) t
+        → IsReadAs groups (record s { globals = s.globals ++ kept ∷ []; imported_globals = s.imported_globals + 1 })
+        (imports_alone gs (is ++ i ∷ [])) }
+    ensures tags { (groups : List Group) (s : Spaces) (gs : List Written) (is : List ImportTree)
+        → IsReadAs groups s (imports_alone gs is) → (i : ImportTree) → (t : TagType) → i.ty ≡ import.Tag t
+        → t.func_type_idx < length s.types → IsReadAs groups (record s
+        { tags = s.tags ++ id_at s.types t.func_type_idx ∷ [] }) (imports_alone gs (is ++ i ∷ [])) }
 {}
 
 /// A type that is kept as the module writes it, by its own indices, means what is written.
 pub fn types_are_kept_as_written()
-    ensures values { (groups : List Group) (ids : List CoreTypeId) (v : WrittenType) → EachValue (IsTypeIndex (with_types (space_of groups ids))) (value_of v)
+    ensures values { (groups : List Group) (ids : List CoreTypeId) (v : WrittenType)
+        → EachValue (IsTypeIndex (with_types (space_of groups ids))) (value_of v)
         → type_in (names_in groups ids) v ≡ value_in (space_of groups ids) v }
-    ensures references { (groups : List Group) (ids : List CoreTypeId) (r : Reference) → EachValue (IsTypeIndex (with_types (space_of groups ids))) (value_of (value.Ref r))
+    ensures references { (groups : List Group) (ids : List CoreTypeId) (r : Reference)
+        → EachValue (IsTypeIndex (with_types (space_of groups ids))) (value_of (value.Ref r))
         → reference_in (names_in groups ids) r ≡ value_in (space_of groups ids) (value.Ref r) }
-    ensures tables { (groups : List Group) (ids : List CoreTypeId) (t : TableType) → EachValue (IsTypeIndex (with_types (space_of groups ids))) (value_of (value.Ref t.element_type))
+    ensures tables { (groups : List Group) (ids : List CoreTypeId) (t : TableType)
+        → EachValue (IsTypeIndex (with_types (space_of groups ids))) (value_of (value.Ref t.element_type))
         → table_in (names_in groups ids) t ≡ tree.table_in (space_of groups ids) t }
-    ensures globals { (groups : List Group) (ids : List CoreTypeId) (t : GlobalType) → EachValue (IsTypeIndex (with_types (space_of groups ids))) (value_of t.content_type)
+    ensures globals { (groups : List Group) (ids : List CoreTypeId) (t : GlobalType)
+        → EachValue (IsTypeIndex (with_types (space_of groups ids))) (value_of t.content_type)
         → global_in (names_in groups ids) t ≡ tree.global_in (space_of groups ids) t }
 {}
 
 /// A type that is kept by ids means what is written, where look-ups in the module say that it does: as a valid value type, as the type of a
 /// table, of a global, and of the elements of a segment.
 pub fn types_are_kept_by_ids()
-    ensures values { (groups : List Group) (s : Spaces) (m : ModuleTree) → IsReadAs groups s m → (bits : ℕ) (written kept : WrittenType)
-        → IsType bits (context_of groups s) written (type_in (meaning_of groups s) kept) → type_in (names_in groups s.types) kept ≡ value_in (types_behind [] m.types) written }
-    ensures references { (groups : List Group) (s : Spaces) (m : ModuleTree) → IsReadAs groups s m → (written : WrittenType) (kept : Reference)
-        → reference_in (meaning_of groups s) kept ≡ value_in (context_of groups s).types written → reference_in (names_in groups s.types) kept ≡ value_in (types_behind [] m.types) written }
-    ensures tables { (groups : List Group) (s : Spaces) (m : ModuleTree) → IsReadAs groups s m → (written kept : TableType)
-        → table_in (meaning_of groups s) kept ≡ tree.table_in (context_of groups s).types written → table_in (names_in groups s.types) kept ≡ tree.table_in (types_behind [] m.types) written }
-    ensures globals { (groups : List Group) (s : Spaces) (m : ModuleTree) → IsReadAs groups s m → (written kept : GlobalType)
-        → global_in (meaning_of groups s) kept ≡ tree.global_in (context_of groups s).types written → global_in (names_in groups s.types) kept ≡ tree.global_in (types_behind [] m.types) written }
+    ensures values { (groups : List Group) (s : Spaces) (m : ModuleTree) → IsReadAs groups s m
+        → (bits : ℕ) (written kept : WrittenType)
+        → IsType bits (context_of groups s) written (type_in (meaning_of groups s) kept)
+        → type_in (names_in groups s.types) kept ≡ value_in (types_behind [] m.types) written }
+    ensures references { (groups : List Group) (s : Spaces) (m : ModuleTree) → IsReadAs groups s m
+        → (written : WrittenType) (kept : Reference)
+        → reference_in (meaning_of groups s) kept ≡ value_in (context_of groups s).types written
+        → reference_in (names_in groups s.types) kept ≡ value_in (types_behind [] m.types) written }
+    ensures tables { (groups : List Group) (s : Spaces) (m : ModuleTree) → IsReadAs groups s m
+        → (written kept : TableType)
+        → table_in (meaning_of groups s) kept ≡ tree.table_in (context_of groups s).types written
+        → table_in (names_in groups s.types) kept ≡ tree.table_in (types_behind [] m.types) written }
+    ensures globals { (groups : List Group) (s : Spaces) (m : ModuleTree) → IsReadAs groups s m
+        → (written kept : GlobalType)
+        → global_in (meaning_of groups s) kept ≡ tree.global_in (context_of groups s).types written
+        → global_in (names_in groups s.types) kept ≡ tree.global_in (types_behind [] m.types) written }
 {}
 
 /// The functions that are marked are those that the tree refers to: none at first; none more while nothing refers to a function; and by
 /// each table, global, export and element segment those that it names. What names none changes nothing.
 pub fn functions_are_referred_to()
     ensures nothing { (z : Settings) → IsReferredAs (nothing_read z) no_items }
-    ensures functions { (s t : Spaces) (m n : ModuleTree) (f : Function) → IsReferredAs s m → referenced_in m ≡ [] → referenced_in n ≡ [] → f.is_referenced ≡ false
+    ensures functions { (s t : Spaces) (m n : ModuleTree) (f : Function) → IsReferredAs s m → referenced_in m ≡ []
+        → referenced_in n ≡ [] → f.is_referenced ≡ false
         → t.functions ≡ s.functions ++ f ∷ [] → IsReferredAs t n }
-    ensures others { (s t : Spaces) (m n : ModuleTree) → IsReferredAs s m → t.functions ≡ s.functions → referenced_in n ≡ referenced_in m → IsReferredAs t n }
+    ensures others { (s t : Spaces) (m n : ModuleTree) → IsReferredAs s m → t.functions ≡ s.functions
+        → referenced_in n ≡ referenced_in m → IsReferredAs t n }
     ensures tables { (s : Spaces) (m : ModuleTree) → IsReferredAs s m → (t : Spaces) (x : TableTree Code)
-        → t.functions ≡ referring_to_each (referred_in_option x.init) s.functions → IsReferredAs t (record m { tables = m.tables ++ x ∷ [] }) }
+        → t.functions ≡ referring_to_each (referred_in_option x.init) s.functions
+        → IsReferredAs t (record m { tables = m.tables ++ x ∷ [] }) }
     ensures globals { (s : Spaces) (m : ModuleTree) → IsReferredAs s m → (t : Spaces) (x : GlobalTree Code)
-        → t.functions ≡ referring_to_each (referred_in x.init) s.functions → IsReferredAs t (record m { globals = m.globals ++ x ∷ [] }) }
+        → t.functions ≡ referring_to_each (referred_in x.init) s.functions
+        → IsReferredAs t (record m { globals = m.globals ++ x ∷ [] }) }
     ensures exports { (s : Spaces) (m : ModuleTree) → IsReferredAs s m → (t : Spaces) (x : ExportTree)
-        → t.functions ≡ referring_to_each (exported_function x.kind x.index) s.functions → IsReferredAs t (record m { exports = m.exports ++ x ∷ [] }) }
+        → t.functions ≡ referring_to_each (exported_function x.kind x.index) s.functions
+        → IsReferredAs t (record m { exports = m.exports ++ x ∷ [] }) }
     ensures elements { (s : Spaces) (m : ModuleTree) → IsReferredAs s m → (t : Spaces) (x : ElementTree Code)
-        → t.functions ≡ referring_to_each (referred_in_mode x.mode ++ referred_in_items x.items) s.functions → IsReferredAs t (record m { element_segments = m.element_segments ++ x ∷ [] }) }
+        → t.functions ≡ referring_to_each (referred_in_mode x.mode ++ referred_in_items x.items) s.functions
+        → IsReferredAs t (record m { element_segments = m.element_segments ++ x ∷ [] }) }
 {}
 
 /// A body is valid in the context of a module that is being read exactly where it is valid in that of the tree.
 pub fn bodies_are_judged_alike()
     ensures { (groups : List Group) (s : Spaces) (m : ModuleTree) → IsReadAs groups s m → IsReferredAs s m
-        → (z : Settings) (x : ℕ) (f : Body) → HasValidBody z (context_of groups s) x f ↔ HasValidBody z (module_of m) x f }
+        → (z : Settings) (x : ℕ) (f : Body) → HasValidBody z (context_of groups s) x f
+        ↔ HasValidBody z (module_of m) x f }
 {}
 
 /// Limits are those of the spaces: each holds as much as its space of the tree. Sizes are summed over one section and then over the
 /// next, and the size of an item is the same in each context that has what it names.
 pub fn limits_are_of_spaces()
-    ensures counts { (groups : List Group) (s : Spaces) (m : ModuleTree) → IsReadAs groups s m → AreCounted (module_of m) s }
-    ensures sums { (limit sum : ℕ) (ns more : List ℕ) → SumsBelow limit sum (ns ++ more) ↔ (SumsBelow limit sum ns × SumsBelow limit (sum_with sum ns) more) }
+    ensures counts { (groups : List Group) (s : Spaces) (m : ModuleTree) → IsReadAs groups s m
+        → AreCounted (module_of m) s }
+    ensures sums { (limit sum : ℕ) (ns more : List ℕ) → SumsBelow limit sum (ns ++ more)
+        ↔ (SumsBelow limit sum ns × SumsBelow limit (sum_with sum ns) more) }
     ensures imports { (g h : Module) → AgreeOnTypes g h → (t : TypeRef) → import_size g t ≡ import_size h t }
-    ensures exports { (g h : Module) → AgreeForExports g h → (k : ExternalKind) (x : ℕ) → export_size g k x ≡ export_size h k x }
+    ensures exports { (g h : Module) → AgreeForExports g h → (k : ExternalKind) (x : ℕ)
+        → export_size g k x ≡ export_size h k x }
 {}
 
 /// Worked functions: of those that are marked and those that are named exactly the same there are, or not.
@@ -146,7 +207,8 @@ pub fn marks_are_worked()
     ensures marked { AreMarked (marked_function ∷ own_function 0 ∷ []) (5 ∷ 0 ∷ []) }
     ensures unmarked { AreMarked (own_function 0 ∷ []) (0 ∷ []) → ⊥ }
     ensures unnamed { AreMarked (marked_function ∷ []) [] → ⊥ }
-    ensures each { referring_to_each (1 ∷ 7 ∷ []) (own_function 0 ∷ own_function 0 ∷ []) ≡ own_function 0 ∷ marked_function ∷ [] }
+    ensures each { referring_to_each (1 ∷ 7 ∷ []) (own_function 0 ∷ own_function 0 ∷ [])
+        ≡ own_function 0 ∷ marked_function ∷ [] }
     ensures none { referring_to_each [] (own_function 0 ∷ []) ≡ own_function 0 ∷ [] }
 {}
 

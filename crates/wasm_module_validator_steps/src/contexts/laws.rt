@@ -25,39 +25,52 @@ ghost use Rattle.wasm_module_validator_steps.specs.contexts.InOrder.{context_so_
 
 /// Types, functions of the module and imports are judged by the types of the context alone.
 pub fn types_look_at()
-    ensures values { (g h : Module) → AgreeOnTypes g h → (z : Settings) (v : WrittenType) → IsValidValueType z g v → IsValidValueType z h v }
+    ensures values { (g h : Module) → AgreeOnTypes g h → (z : Settings) (v : WrittenType) → IsValidValueType z g v
+        → IsValidValueType z h v }
     ensures functions { (g h : Module) → AgreeOnTypes g h → (x : ℕ) → IsFunctionIndex g x → IsFunctionIndex h x }
-    ensures tables { (g h : Module) → AgreeOnTypes g h → (z : Settings) (t : TableType) → IsValidTableType z g t → IsValidTableType z h t }
-    ensures globals { (g h : Module) → AgreeOnTypes g h → (z : Settings) (t : GlobalType) → IsValidGlobalType z g t → IsValidGlobalType z h t }
-    ensures tags { (g h : Module) → AgreeOnTypes g h → (z : Settings) (t : TagType) → IsValidTagType z g t → IsValidTagType z h t }
-    ensures imports { (g h : Module) → AgreeOnTypes g h → (z : Settings) (t : TypeRef) → IsValidImport z g t → IsValidImport z h t }
+    ensures tables { (g h : Module) → AgreeOnTypes g h → (z : Settings) (t : TableType) → IsValidTableType z g t
+        → IsValidTableType z h t }
+    ensures globals { (g h : Module) → AgreeOnTypes g h → (z : Settings) (t : GlobalType) → IsValidGlobalType z g t
+        → IsValidGlobalType z h t }
+    ensures tags { (g h : Module) → AgreeOnTypes g h → (z : Settings) (t : TagType) → IsValidTagType z g t
+        → IsValidTagType z h t }
+    ensures imports { (g h : Module) → AgreeOnTypes g h → (z : Settings) (t : TypeRef) → IsValidImport z g t
+        → IsValidImport z h t }
 {}
 
 /// A constant is judged by types, functions and globals, and by whether code may refer to the functions that it names; one that gives
 /// a number names none.
 pub fn constants_look_at()
-    ensures constants { (g h : Module) (bits count : ℕ) (t : ValueType) → AgreeForConstants g h → (c : Code) → MayReferToEach h (referred_in c)
+    ensures constants { (g h : Module) (bits count : ℕ) (t : ValueType) → AgreeForConstants g h → (c : Code)
+        → MayReferToEach h (referred_in c)
         → IsConstant bits g count t c → IsConstant bits h count t c }
-    ensures numbers { (bits : ℕ) (g : Module) (count : ℕ) (n : Number) (c : Code) → IsConstant bits g count (number n) c → referred_in c ≡ [] }
+    ensures numbers { (bits : ℕ) (g : Module) (count : ℕ) (n : Number) (c : Code) → IsConstant bits g count (number n) c
+        → referred_in c ≡ [] }
 {}
 
 /// Tables and globals are judged by the types and what their values see; segments by what their constants see, and by tables or
 /// memories; exports by the spaces that they name; the start function by the functions.
 pub fn items_look_at()
-    ensures tables { (g h : Module) (z : Settings) (count : ℕ) → AgreeForConstants (seeing count g) (seeing count h) → (x : TableTree Code) → MayReferToEach h (referred_in_option x.init)
+    ensures tables { (g h : Module) (z : Settings) (count : ℕ) → AgreeForConstants (seeing count g) (seeing count h)
+        → (x : TableTree Code) → MayReferToEach h (referred_in_option x.init)
         → IsValidTable z g count x → IsValidTable z h count x }
-    ensures globals { (g h : Module) (z : Settings) (count i j : ℕ) → AgreeForConstants (seeing i g) (seeing j h) → (x : GlobalTree Code) → MayReferToEach h (referred_in x.init)
+    ensures globals { (g h : Module) (z : Settings) (count i j : ℕ) → AgreeForConstants (seeing i g) (seeing j h)
+        → (x : GlobalTree Code) → MayReferToEach h (referred_in x.init)
         → IsValidGlobal z g count i x → IsValidGlobal z h count j x }
-    ensures elements { (g h : Module) (z : Settings) (count : ℕ) → AgreeForElements g h → (x : ElementTree Code) → MayReferToEach h (referred_in_mode x.mode ++ referred_in_items x.items)
+    ensures elements { (g h : Module) (z : Settings) (count : ℕ) → AgreeForElements g h → (x : ElementTree Code)
+        → MayReferToEach h (referred_in_mode x.mode ++ referred_in_items x.items)
         → IsValidElement z g count x → IsValidElement z h count x }
-    ensures segments { (g h : Module) (z : Settings) (count : ℕ) → AgreeForData g h → (x : DataMode Code) → IsValidData z g count x → IsValidData z h count x }
-    ensures exports { (g h : Module) (z : Settings) → AgreeForExports g h → (k : ExternalKind) (x : ℕ) → IsValidExport z g k x → IsValidExport z h k x }
+    ensures segments { (g h : Module) (z : Settings) (count : ℕ) → AgreeForData g h → (x : DataMode Code)
+        → IsValidData z g count x → IsValidData z h count x }
+    ensures exports { (g h : Module) (z : Settings) → AgreeForExports g h → (k : ExternalKind) (x : ℕ)
+        → IsValidExport z g k x → IsValidExport z h k x }
     ensures start { (g h : Module) → AgreeOnFunctions g h → (x : ℕ) → IsValidStart g x → IsValidStart h x }
 {}
 
 /// A body may stand where there are as many functions to refer to, all else being the same.
 pub fn bodies_look_at()
-    ensures { (g h : Module) → AgreeForCode g h → ((x : ℕ) → x < length g.functions → IsOneOf x g.referenced → IsOneOf x h.referenced)
+    ensures { (g h : Module) → AgreeForCode g h → ((x : ℕ) → x < length g.functions → IsOneOf x g.referenced
+        → IsOneOf x h.referenced)
         → (z : Settings) (x : ℕ) (f : Function) → HasValidBody z g x f → HasValidBody z h x f }
 {}
 

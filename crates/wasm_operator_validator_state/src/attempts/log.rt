@@ -53,7 +53,15 @@ impl Model for RollbackLog {
 
     ghost Value = { Log };
 
-    ghost view = { λ l. record { pushed = l.pushed; popped = l.popped.items; opened = l.opened; closed = l.closed.items; marked = l.marked; kept = l.kept; unset = reverse l.unset.items } };
+    ghost view = { λ l. record {
+      pushed = l.pushed;
+      popped = l.popped.items;
+      opened = l.opened;
+      closed = l.closed.items;
+      marked = l.marked;
+      kept = l.kept;
+      unset = reverse l.unset.items;
+    } };
 }
 
 impl RollbackLog {
@@ -109,7 +117,8 @@ impl RollbackLog {
 
     /// Notes that a frame was closed, and that these locals, which were set in it, are not set any more.
     pub fn pop_ctrl(&mut self, frame: Frame, inits: &[u32]) -> Result<(), AllocError>
-        ensures noted { (s : Stacks) → length s.set ≡ frame.init_height → OnOk result (Notes self.old (with_frame frame (with_set inits.now s)) self.new s) }
+        ensures noted { (s : Stacks) → length s.set ≡ frame.init_height
+            → OnOk result (Notes self.old (with_frame frame (with_set inits.now s)) self.new s) }
         ensures refused { IfErr result (λ _. self.new ≡ self.old) }
     {
         let held = self.unset.as_slice().len();
@@ -134,7 +143,8 @@ impl RollbackLog {
 
     /// Notes that nothing is reached any more in the innermost frame, where that was reached until now. It takes no memory.
     pub fn set_unreachable(&mut self)
-        ensures { (s : Stacks) (f : TheFrame) → f.unreachable ≡ false → Notes self.old (with_frame f s) self.new (with_frame (unreached f) s) }
+        ensures { (s : Stacks) (f : TheFrame) → f.unreachable ≡ false
+            → Notes self.old (with_frame f s) self.new (with_frame (unreached f) s) }
     {
         if self.opened == 0 {
             self.marked = true;

@@ -48,7 +48,8 @@ impl Transaction {
         f: F,
     ) -> Result<(), AllocError>
         requires { F.IsAlwaysCallable f }
-        ensures { Maps (λ before answer after. FnOnceReturnsAtMut F.FnOnce f before answer after) self.old result self.new }
+        ensures { Maps (λ before answer after. FnOnceReturnsAtMut F.FnOnce f before answer after) self.old
+            result self.new }
     {
         match self {
             Transaction::Active(log) => f(log),

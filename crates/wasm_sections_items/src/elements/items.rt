@@ -43,7 +43,8 @@ pub(crate) fn read_section<'a, T: FromReader<'a>>(
     alloc: Global,
     reader: &mut BinaryReader<'a>,
 ) -> Result<SectionLimited<'a, T>>
-    ensures answer { Gives (λ s. items_at (T.decoder s.reader.settings) s.count s.reader) result reader.new (listed (T.decoder reader.old.settings) reader.old) }
+    ensures answer { Gives (λ s. items_at (T.decoder s.reader.settings) s.count s.reader) result reader.new
+        (listed (T.decoder reader.old.settings) reader.old) }
     ensures holds { IfOk result (λ s. Holds (T.decoder reader.old.settings) reader.old reader.new s.count s.reader) }
     ensures memory { MemoryOnlyIf T.takes_memory result }
     ensures forward { Reaches reader.old reader.new }

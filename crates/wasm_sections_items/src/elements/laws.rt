@@ -14,12 +14,14 @@ use wasm_types::FromReader;
 /// Whatever constant expressions are read from bytes: a value and a fault stay whatever bytes follow, an end of data needs
 /// exactly as many bytes as are missing, and a segment is read exactly where a front of the bytes spells it.
 pub fn elements_are_lawful<'a, E: FromReader<'a>>()
-    ensures { (z : Settings) → IsLawful (element (E.decoder z)) × Decides (element (E.decoder z)) (SpelledElement (E.grammar z)) }
+    ensures { (z : Settings) → IsLawful (element (E.decoder z))
+        × Decides (element (E.decoder z)) (SpelledElement (E.grammar z)) }
 {}
 
 /// Walks over the readers of a segment that has this tree give its elements and no error, out of memory aside.
 pub fn elements_are_whole<'a, E: FromReader<'a>>()
-    ensures { (x : ElementOf E) (t : ElementTree E.Value) → tree_of E.view E.decoder x ≡ Some t → GivesItems E.decoder x.items t.items }
+    ensures { (x : ElementOf E) (t : ElementTree E.Value) → tree_of E.view E.decoder x ≡ Some t
+        → GivesItems E.decoder x.items t.items }
 {}
 
 /// Worked bytes: each flag, and what is refused.

@@ -19,7 +19,8 @@ fn read_kind<'a, E: FromReader<'a>>(
     alloc: Global,
     reader: &mut BinaryReader<'a>,
 ) -> Result<ElementKindOf<E>>
-    ensures answer { Gives (mode_of E.view) result reader.new (mode_by (E.decoder reader.old.settings) bits reader.old) }
+    ensures answer { Gives (mode_of E.view) result reader.new
+        (mode_by (E.decoder reader.old.settings) bits reader.old) }
     ensures memory { MemoryOnlyIf E.takes_memory result }
     ensures forward { Reaches reader.old reader.new }
 {
@@ -87,7 +88,8 @@ fn read_functions<'a, E: FromReader<'a>>(
     alloc: Global,
     reader: &mut BinaryReader<'a>,
 ) -> Result<ElementOf<'a, E>>
-    ensures answer { Gives (λ x. record { mode = mode_of E.view x.kind; items = items_of E.decoder x.items }) result reader.new (functions_by bits (mode_of E.view kind) reader.old) }
+    ensures answer { Gives (λ x. record { mode = mode_of E.view x.kind; items = items_of E.decoder x.items }) result
+        reader.new (functions_by bits (mode_of E.view kind) reader.old) }
     ensures range { IfOk result (λ x. x.range ≡ record { start = start; end = reader.new.place }) }
     ensures items { IfOk result (λ x. HoldsItems E.decoder reader.new x.items) }
     ensures no_memory { NeedsNoMemory result }
@@ -144,7 +146,8 @@ fn read_element<'a, E: FromReader<'a>>(
     alloc: Global,
     reader: &mut BinaryReader<'a>,
 ) -> Result<ElementOf<'a, E>>
-    ensures answer { Gives (λ x. record { mode = mode_of E.view x.kind; items = items_of E.decoder x.items }) result reader.new (element (E.decoder reader.old.settings) reader.old) }
+    ensures answer { Gives (λ x. record { mode = mode_of E.view x.kind; items = items_of E.decoder x.items }) result
+        reader.new (element (E.decoder reader.old.settings) reader.old) }
     ensures memory { MemoryOnlyIf E.takes_memory result }
     ensures forward { Reaches reader.old reader.new }
     ensures range { IfOk result (λ x. x.range ≡ record { start = reader.old.place; end = reader.new.place }) }
@@ -187,7 +190,8 @@ impl<'a, E: FromReader<'a>> FromReader<'a> for ElementOf<'a, E> {
     ghost exact = { λ z. decides-segment (E.decoder z) (E.grammar z) (E.exact z) };
 
     fn from_reader(alloc: Global, reader: &mut BinaryReader<'a>) -> Result<ElementOf<'a, E>>
-        ensures answer { Gives (tree_of E.view E.decoder) result reader.new (segment (E.decoder reader.old.settings) reader.old) }
+        ensures answer { Gives (tree_of E.view E.decoder) result reader.new
+            (segment (E.decoder reader.old.settings) reader.old) }
         ensures memory { MemoryOnlyIf E.takes_memory result }
         ensures forward { Reaches reader.old reader.new }
         ensures range { IfOk result (λ x. x.range ≡ record { start = reader.old.place; end = reader.new.place }) }

@@ -42,7 +42,8 @@ impl<'a> FromReader<'a> for Export<'a> {
 
     #[tactic(auto, using(wasm_types::specs::Laws::reaches_self, wasm_types::specs::Laws::reaches_then), unfolding(crate::specs::imports::Decode::export))]
     fn from_reader(alloc: Global, reader: &mut BinaryReader<'a>) -> Result<Export<'a>>
-        ensures answer { Gives (λ e. record { name = e.name.now; kind = e.kind; index = e.index }) result reader.new (export reader.old.settings reader.old) }
+        ensures answer { Gives (λ e. record { name = e.name.now; kind = e.kind; index = e.index }) result reader.new
+            (export reader.old.settings reader.old) }
         ensures forward { Reaches reader.old reader.new }
         ensures no_memory { NeedsNoMemory result }
     {

@@ -42,7 +42,8 @@ impl<'a> FromReader<'a> for Import<'a> {
 
     #[tactic(auto, using(wasm_types::specs::Laws::reaches_self, wasm_types::specs::Laws::reaches_then), unfolding(crate::specs::imports::Decode::import))]
     fn from_reader(alloc: Global, reader: &mut BinaryReader<'a>) -> Result<Import<'a>>
-        ensures answer { Gives (λ i. record { module_name = i.«module».now; field_name = i.name.now; ty = i.ty }) result reader.new (import reader.old.settings reader.old) }
+        ensures answer { Gives (λ i. record { module_name = i.«module».now; field_name = i.name.now; ty = i.ty }) result
+            reader.new (import reader.old.settings reader.old) }
         ensures forward { Reaches reader.old reader.new }
         ensures no_memory { NeedsNoMemory result }
     {

@@ -12,9 +12,12 @@ use wasm_types::FromReader;
 /// Whatever constant expressions are read from bytes: a value and a fault stay whatever bytes follow, an end of data needs
 /// exactly as many bytes as are missing, and a value is read exactly where a front of the bytes spells one.
 pub fn items_are_lawful<'a, E: FromReader<'a>>()
-    ensures globals { (z : Settings) → IsLawful (global (E.decoder z)) × Decides (global (E.decoder z)) (SpelledGlobalItem (E.grammar z)) }
-    ensures tables { (z : Settings) → IsLawful (table (E.decoder z)) × Decides (table (E.decoder z)) (SpelledTableItem (E.grammar z)) }
-    ensures segments { (z : Settings) → IsLawful (data_segment (E.decoder z)) × Decides (data_segment (E.decoder z)) (SpelledData (E.grammar z)) }
+    ensures globals { (z : Settings) → IsLawful (global (E.decoder z))
+        × Decides (global (E.decoder z)) (SpelledGlobalItem (E.grammar z)) }
+    ensures tables { (z : Settings) → IsLawful (table (E.decoder z))
+        × Decides (table (E.decoder z)) (SpelledTableItem (E.grammar z)) }
+    ensures segments { (z : Settings) → IsLawful (data_segment (E.decoder z))
+        × Decides (data_segment (E.decoder z)) (SpelledData (E.grammar z)) }
 {}
 
 /// Worked bytes: globals, tables, each flag of a data segment, and what is refused.

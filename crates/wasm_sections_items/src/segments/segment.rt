@@ -54,7 +54,8 @@ fn read_content<'a, E: FromReader<'a>>(
     start: u64,
     reader: &mut BinaryReader<'a>,
 ) -> Result<DataOf<'a, E>>
-    ensures answer { Gives (λ x. record { mode = mode_of E.view x.kind; content = x.bytes.now }) result reader.new (content (mode_of E.view kind) reader.old) }
+    ensures answer { Gives (λ x. record { mode = mode_of E.view x.kind; content = x.bytes.now }) result reader.new
+        (content (mode_of E.view kind) reader.old) }
     ensures range { IfOk result (λ x. x.range ≡ record { start = start; end = reader.new.place }) }
     ensures no_memory { NeedsNoMemory result }
     ensures forward { Reaches reader.old reader.new }
@@ -75,7 +76,8 @@ fn read_placed<'a, E: FromReader<'a>>(
     alloc: Global,
     reader: &mut BinaryReader<'a>,
 ) -> Result<DataOf<'a, E>>
-    ensures answer { Gives (λ x. record { mode = mode_of E.view x.kind; content = x.bytes.now }) result reader.new (placed_in (E.decoder reader.old.settings) memory_index reader.old) }
+    ensures answer { Gives (λ x. record { mode = mode_of E.view x.kind; content = x.bytes.now }) result reader.new
+        (placed_in (E.decoder reader.old.settings) memory_index reader.old) }
     ensures range { IfOk result (λ x. x.range ≡ record { start = start; end = reader.new.place }) }
     ensures memory { MemoryOnlyIf E.takes_memory result }
     ensures forward { Reaches reader.old reader.new }
@@ -110,7 +112,8 @@ impl<'a, E: FromReader<'a>> FromReader<'a> for DataOf<'a, E> {
 
     #[tactic(auto, using(wasm_types::specs::Laws::reaches_self, wasm_types::specs::Laws::reaches_then), unfolding(crate::specs::segments::Decode::data_segment))]
     fn from_reader(alloc: Global, reader: &mut BinaryReader<'a>) -> Result<DataOf<'a, E>>
-        ensures answer { Gives (λ x. record { mode = mode_of E.view x.kind; content = x.bytes.now }) result reader.new (data_segment (E.decoder reader.old.settings) reader.old) }
+        ensures answer { Gives (λ x. record { mode = mode_of E.view x.kind; content = x.bytes.now }) result reader.new
+            (data_segment (E.decoder reader.old.settings) reader.old) }
         ensures memory { MemoryOnlyIf E.takes_memory result }
         ensures forward { Reaches reader.old reader.new }
         ensures range { IfOk result (λ x. x.range ≡ record { start = reader.old.place; end = reader.new.place }) }

@@ -31,7 +31,8 @@ fn read_behind_mark<'a, E: FromReader<'a>>(
     alloc: Global,
     reader: &mut BinaryReader<'a>,
 ) -> Result<TableOf<E>>
-    ensures answer { Gives (λ x. record { ty = x.ty; init = init_of E.view x.init }) result reader.new (behind_mark (E.decoder reader.old.settings) reader.old) }
+    ensures answer { Gives (λ x. record { ty = x.ty; init = init_of E.view x.init }) result reader.new
+        (behind_mark (E.decoder reader.old.settings) reader.old) }
     ensures memory { MemoryOnlyIf E.takes_memory result }
     ensures forward { Reaches reader.old reader.new }
 {
@@ -54,7 +55,8 @@ fn read_initialised<'a, E: FromReader<'a>>(
     alloc: Global,
     reader: &mut BinaryReader<'a>,
 ) -> Result<TableOf<E>>
-    ensures answer { Gives (λ x. record { ty = x.ty; init = init_of E.view x.init }) result reader.new (initialised (E.decoder reader.old.settings) reader.old) }
+    ensures answer { Gives (λ x. record { ty = x.ty; init = init_of E.view x.init }) result reader.new
+        (initialised (E.decoder reader.old.settings) reader.old) }
     ensures memory { MemoryOnlyIf E.takes_memory result }
     ensures forward { Reaches reader.old reader.new }
 {

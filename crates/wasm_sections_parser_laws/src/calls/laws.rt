@@ -12,8 +12,11 @@ ghost use Rattle.wasm_sections_parser_laws.specs.calls.Advance.{is_end};
 /// A call that gives a frame takes bytes that are there, one at least but for the end, and leaves the parser behind them; it is over
 /// exactly behind the end. A refused call leaves the parser at its offset.
 pub const fn calls_move_on()
-    ensures within { (p : Parser) (text : List ℕ) (eof : Bool) (n : ℕ) (f : Frame) (q : Parser) → Parses p text eof (Ok (Parsed n f)) q
+    ensures within { (p : Parser) (text : List ℕ) (eof : Bool) (n : ℕ) (f : Frame) (q : Parser)
+        → Parses p text eof (Ok (Parsed n f)) q
         → (n ≤ length text) × (is_end f ≡ false → 0 < n) × (q.offset ≡ p.offset + n) }
-    ensures over { (p : Parser) (text : List ℕ) (eof : Bool) (n : ℕ) (f : Frame) (q : Parser) → Parses p text eof (Ok (Parsed n f)) q → is_over q.progress ≡ is_end f }
-    ensures refused { (p : Parser) (text : List ℕ) (eof : Bool) (e : ErrorValue) (q : Parser) → Parses p text eof (Err e) q → q.offset ≡ p.offset }
+    ensures over { (p : Parser) (text : List ℕ) (eof : Bool) (n : ℕ) (f : Frame) (q : Parser)
+        → Parses p text eof (Ok (Parsed n f)) q → is_over q.progress ≡ is_end f }
+    ensures refused { (p : Parser) (text : List ℕ) (eof : Bool) (e : ErrorValue) (q : Parser)
+        → Parses p text eof (Err e) q → q.offset ≡ p.offset }
 {}

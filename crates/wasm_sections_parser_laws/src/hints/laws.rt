@@ -11,7 +11,8 @@ ghost use Rattle.wasm_sections_parser_laws.specs.hints.Worked.{HeaderRows, CutRo
 /// some so many do, and with fewer it asks for more again, no less than those that are still missing. Where no bytes follow, none are
 /// asked for.
 pub const fn hints_are_least()
-    ensures least { (p q : Parser) (text : List ℕ) (n : ℕ) → Parses p text false (Ok (NeedMoreData n)) q → (q ≡ p) × IsLeast p text n }
+    ensures least { (p q : Parser) (text : List ℕ) (n : ℕ) → Parses p text false (Ok (NeedMoreData n)) q
+        → (q ≡ p) × IsLeast p text n }
     ensures ended { (p q : Parser) (text : List ℕ) (n : ℕ) → Parses p text true (Ok (NeedMoreData n)) q → ⊥ }
 {}
 

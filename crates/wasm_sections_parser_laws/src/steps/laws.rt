@@ -10,11 +10,15 @@ ghost use Rattle.wasm_sections_frames.specs.Outer.{Header, SpelledHeader, Spelle
 /// The header, each whole section and each body that a parser gives is spelled by exactly the bytes that it took; a body's lie
 /// within the code section.
 pub const fn frames_are_spelled()
-    ensures headers { (p q : Progress) (s t : State) (h : Header) → next_header p s ≡ Done (version h, q) t → (text : List ℕ) × Takes s text t × SpelledHeader h text }
-    ensures sections { (z : Settings) (p q : Progress) (s t : State) (id : ℕ) (c : List ℕ) → next_section z p s ≡ Done (section id c, q) t → (text : List ℕ) × Takes s text t
+    ensures headers { (p q : Progress) (s t : State) (h : Header) → next_header p s ≡ Done (version h, q) t
+        → (text : List ℕ) × Takes s text t × SpelledHeader h text }
+    ensures sections { (z : Settings) (p q : Progress) (s t : State) (id : ℕ) (c : List ℕ)
+        → next_section z p s ≡ Done (section id c, q) t → (text : List ℕ) × Takes s text t
         × SpelledPart z (outer_section id c) text }
-    ensures customs { (z : Settings) (p q : Progress) (s t : State) (n c : List ℕ) → next_section z p s ≡ Done (custom n c, q) t → (text : List ℕ) × Takes s text t
+    ensures customs { (z : Settings) (p q : Progress) (s t : State) (n c : List ℕ)
+        → next_section z p s ≡ Done (custom n c, q) t → (text : List ℕ) × Takes s text t
         × SpelledPart z (outer_custom n c) text }
-    ensures bodies { (p q : Progress) (left end : ℕ) (s t : State) (c : List ℕ) → next_entry p left end s ≡ Done (entry c, q) t → (text : List ℕ) × Takes s text t
+    ensures bodies { (p q : Progress) (left end : ℕ) (s t : State) (c : List ℕ)
+        → next_entry p left end s ≡ Done (entry c, q) t → (text : List ℕ) × Takes s text t
         × SpelledEntry c text × (t.place ≤ end) }
 {}
