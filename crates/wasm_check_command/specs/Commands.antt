@@ -41,7 +41,8 @@ pub record AreRead : Type 0 where
   pub two_lists : refusals_of (line_of (codes "--features=mvp" ∷ codes "--features=gc" ∷ codes "a" ∷ [])) ≡ ArgumentConflict ∷ []
   pub list_lacks : refusals_of (line_of (codes "a" ∷ codes "--features" ∷ [])) ≡ InvalidValue ∷ []
   pub limits : NamesOne (line_of (codes "--limits" ∷ codes "locals=10" ∷ codes "a" ∷ [])) (codes "a") None (Some (codes "locals=10"))
-  pub limits_in_one_word : NamesOne (line_of (codes "a" ∷ codes "--limits=locals=10" ∷ codes "--features" ∷ codes "gc" ∷ [])) (codes "a") (Some (codes "gc"))
+  pub limits_in_one_word : NamesOne (line_of (codes "a" ∷ codes "--limits=locals=10" ∷ codes "--features" ∷ codes "gc" ∷ [])) (codes "a")
+      (Some (codes "gc"))
       (Some (codes "locals=10"))
   pub pieces : NamesPieces (line_of (codes "--pieces" ∷ codes "4096" ∷ codes "a" ∷ [])) (codes "a") (codes "4096")
   pub pieces_in_one_word : NamesPieces (line_of (codes "a" ∷ codes "--pieces=1" ∷ [])) (codes "a") (codes "1")

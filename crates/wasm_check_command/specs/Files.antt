@@ -51,7 +51,8 @@ JudgesFile ruling name old new valid = (said : Option (List ℕ)) × IsJudged ru
 
 -- The judging of these files stopped at the error's place: exactly the lines before it were written. The sources are those of the files up
 -- to there.
-pub record StopsChecking (ruling : Ruling) (names : List (List ℕ)) (old new : Option (List ℕ)) (error : CheckError) (name : List ℕ) : Type 0 where
+pub record StopsChecking (ruling : Ruling) (names : List (List ℕ)) (old new : Option (List ℕ)) (error : CheckError)
+    (name : List ℕ) : Type 0 where
   pub sources : List Source
   pub named : map (λ s. s.name) sources ≡ take (length sources) names
   pub stopped : Stops ruling sources old new error
@@ -133,7 +134,8 @@ RefusesLimits list faults.OutOfMemory = ⊥
 
 -- a list is refused: that of `--features`; or it is not, and that of `--limits` is
 abbrev pub RefusesLists : Asked → Fault → Type 0
-RefusesLists asked fault = RefusesFeatures asked.features fault ⊎ (((features : ℕ) × (features_by asked.features ≡ Ok features)) × RefusesLimits asked.limits fault)
+RefusesLists asked fault = RefusesFeatures asked.features fault
+    ⊎ (((features : ℕ) × (features_by asked.features ≡ Ok features)) × RefusesLimits asked.limits fault)
 
 -- The run stopped before any file was opened: the number of `--pieces` is refused; or it is not, and a list is; or memory ran out.
 abbrev pub StopsEarly : Asked → Fault → Type 0
@@ -155,7 +157,8 @@ asked_of o = record {
 }
 
 -- What is asked for was done: these files were judged by the settings that the options give, each with a line.
-pub record ReportsBy (accepts : Settings → List ℕ → Type 0) (asked : Asked) (names : List (List ℕ)) (old new : Option (List ℕ)) (status : Status) : Type 0 where
+pub record ReportsBy (accepts : Settings → List ℕ → Type 0) (asked : Asked) (names : List (List ℕ)) (old new : Option (List ℕ))
+    (status : Status) : Type 0 where
   pub settings : Settings
   pub mode : Mode
   pub given : IsGiven asked settings mode
@@ -173,7 +176,8 @@ IsStopped accepts words old new = (fault : Fault) × StopsBy accepts (asked_by w
 
 -- The files of these words, at least one, were judged by the settings that the words ask for: a line was written for each, and the status
 -- says whether all are valid.
-pub record Reports (accepts : Settings → List ℕ → Type 0) (words : List (List ℕ)) (old new : Option (List ℕ)) (status : Status) : Type 0 where
+pub record Reports (accepts : Settings → List ℕ → Type 0) (words : List (List ℕ)) (old new : Option (List ℕ))
+    (status : Status) : Type 0 where
   pub some : 0 < length (files_of words)
   pub reported : ReportsBy accepts (asked_by words) (files_of words) old new status
 

@@ -27,7 +27,8 @@ abbrev pub Lines : Ruling → List Source → List (List ℕ) → List ℕ → T
 Lines ruling [] [] text = text ≡ []
 Lines ruling [] (bytes ∷ contents) text = ⊥
 Lines ruling (s ∷ sources) [] text = ⊥
-Lines ruling (s ∷ sources) (bytes ∷ contents) text = (line : List ℕ) × (rest : List ℕ) × HasBytes ruling s.said bytes × IsLine ruling s.name bytes line
+Lines ruling (s ∷ sources) (bytes ∷ contents) text = (line : List ℕ) × (rest : List ℕ) × HasBytes ruling s.said bytes
+    × IsLine ruling s.name bytes line
     × Lines ruling sources contents rest × (text ≡ line ++ rest)
 
 -- The lines of these sources, which have these bytes, were written.

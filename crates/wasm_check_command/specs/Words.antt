@@ -25,7 +25,8 @@ with_version a = record a { top = record a.top { has_version = true } }
 
 -- a command with the options
 abbrev pub with_options : App → App
-with_options a = with_rule (with_rule (with_rule a (option_rule (codes "features"))) (option_rule (codes "limits"))) (option_rule (codes "pieces"))
+with_options a = with_rule (with_rule (with_rule a (option_rule (codes "features"))) (option_rule (codes "limits")))
+    (option_rule (codes "pieces"))
 
 -- the command
 abbrev pub wasm_check : App

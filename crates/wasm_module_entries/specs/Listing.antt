@@ -35,7 +35,8 @@ abbrev pub AreExports : Settings → List ExportTree → List ℕ → Type 0
 AreExports z exports text = IsListed (SpelledExport z) exports text
 
 -- where a list of entries stands at an offset, they are counted and written
-abbrev pub ListsFrom : {A R : Type 0} → (Settings → List A → List ℕ → Type 0) → (List ℕ → List A → List R → Type 0) → List ℕ → ℕ → Option ℕ → List R → Type 0
+abbrev pub ListsFrom : {A R : Type 0} → (Settings → List A → List ℕ → Type 0) → (List ℕ → List A → List R → Type 0) → List ℕ → ℕ → Option ℕ
+    → List R → Type 0
 ListsFrom {A} {R} spelled writes text start count rows =
     (z : Settings) (xs : List A) (content rest : List ℕ) → spelled z xs content → drop start text ≡ content ++ rest
     → IsSomeAnd count (λ n. (n ≡ length xs) × writes text xs rows)

@@ -39,7 +39,8 @@ IsValidOutsideBodies z bytes = (q : SoFar) × IsReadAs z bytes q
 abbrev pub IsVerdict : Settings → ValidatorId → List Group → List ℕ → Verdict → Type 0
 IsVerdict z id held bytes (Accepted types) = AcceptsUnder z bytes × IsShown z bytes types × (types.id ≡ id)
 IsVerdict z id held bytes (Refused error true) = (AcceptsUnder z bytes → ⊥) × IsNotMemory error.kind × IsValidOutsideBodies z bytes
-IsVerdict z id held bytes (Refused error false) = IsNotMemory error.kind × (IsPastTotal held (no_items z) (HasGroupIn z bytes) error ⊎ (IsValidOutsideBodies z bytes → ⊥))
+IsVerdict z id held bytes (Refused error false) = IsNotMemory error.kind
+    × (IsPastTotal held (no_items z) (HasGroupIn z bytes) error ⊎ (IsValidOutsideBodies z bytes → ⊥))
 
 -- ---- one module after the other
 

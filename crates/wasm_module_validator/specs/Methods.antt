@@ -48,7 +48,8 @@ failure Module = None
 failure Ended = None
 
 -- What a method promises: out of turn it refuses, and changes nothing; in turn it tells something, and leaves something.
-pub record InTurn {X : Type 0} (turn : Option ErrorKind) (v : Validator) (answer : Result X ErrorValue) (w : Validator) (Told Left : Type 0) : Type 0 where
+pub record InTurn {X : Type 0} (turn : Option ErrorKind) (v : Validator) (answer : Result X ErrorValue) (w : Validator)
+    (Told Left : Type 0) : Type 0 where
   pub out : (k : ErrorKind) → turn ≡ Some k → (refused_by answer ≡ Some k) × (w ≡ v)
   pub told : turn ≡ None → Told
   pub left : turn ≡ None → Left
@@ -86,7 +87,8 @@ TakesData x v answer w = TakesWhere true x v answer w
 
 -- what is kept where the code has begun, of which no body came yet
 abbrev pub IsCodeBegun : {X : Type 0} → Validator → Result X ErrorValue → Validator → Type 0
-IsCodeBegun v (Ok x) w = (w ≡ record v { reached = w.reached }) × (w.reached.code ≡ Some 0) × (w.reached.progress.kept ≡ v.reached.progress.kept)
+IsCodeBegun v (Ok x) w = (w ≡ record v { reached = w.reached }) × (w.reached.code ≡ Some 0)
+    × (w.reached.progress.kept ≡ v.reached.progress.kept)
     × ((z : Settings) (p : SoFar) → IsReached z v.reached p → IsReached z w.reached (record p { last = code_place }))
 IsCodeBegun v (Err e) w = w ≡ record v { state = Failed; reached = w.reached }
 

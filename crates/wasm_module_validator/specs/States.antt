@@ -36,7 +36,8 @@ held_by v = kept_groups v.settings v.reached.progress.kept
 -- Ok exactly where the bytes are accepted, unless memory ran out, or a group of the bytes passed the total of types behind those that the
 -- list has.
 abbrev pub TellsBehind : {X : Type 0} → Validator → Result X ErrorValue → List ℕ → Type 0
-TellsBehind v result bytes = TellsWithinTotal (held_by v) (no_items v.settings) (HasGroupIn v.settings bytes) result (AcceptsUnder v.settings bytes)
+TellsBehind v result bytes = TellsWithinTotal (held_by v) (no_items v.settings) (HasGroupIn v.settings bytes) result
+    (AcceptsUnder v.settings bytes)
 
 -- Behind a module that was accepted, or of which a function alone was refused, the list of types has what it had, with further groups or
 -- none; and the module was read by the validator's features and limits.

@@ -29,7 +29,8 @@ pub record AreAdded {M A : Type 0} (g : Grammar A) (adds : M → A → M → Typ
 
 -- From one offset of a text to another stand the bytes of an item, by any settings with these limits. It may be added to whatever was
 -- read before, and the state stands for what is read then.
-pub record AddsShort {T V A M S : Type 0} (view : T → V) (of : T → A) (g : Settings → Grammar V) (adds : M → A → M → Type 0) (reads : S → M → Type 0)
+pub record AddsShort {T V A M S : Type 0} (view : T → V) (of : T → A) (g : Settings → Grammar V) (adds : M → A → M → Type 0)
+    (reads : S → M → Type 0)
     (before after : S) (l : Limits) (text : List ℕ) (i j : ℕ) : Type 0 where
   pub item : T
   pub front : List ℕ
@@ -51,18 +52,21 @@ abbrev pub IsByteLeft : State → ErrorValue → Type 0
 IsByteLeft s e = (0 < length s.rest) × (e.kind ≡ Other) × (e.offset ≡ s.place)
 
 -- the item here is read and refused
-abbrev pub IsItemRefused : {T V A M : Type 0} → (T → V) → (T → A) → Decoder V → (M → A → ℕ → ErrorValue → Type 0) → State → M → ErrorValue → Type 0
+abbrev pub IsItemRefused : {T V A M : Type 0} → (T → V) → (T → A) → Decoder V → (M → A → ℕ → ErrorValue → Type 0) → State → M → ErrorValue
+    → Type 0
 IsItemRefused view item d refuses s m e = (x : _) × (t : State) × (d s ≡ Done (view x) t) × refuses m (item x) s.place e
 
 -- Some items were read and added, which leads here. Behind them all a byte is left; or the next item is not read, or is refused.
-pub record StopsAdding {T V A M : Type 0} (view : T → V) (item : T → A) (d : Decoder V) (adds : M → A → M → Type 0) (refuses : M → A → ℕ → ErrorValue → Type 0) (n : ℕ)
+pub record StopsAdding {T V A M : Type 0} (view : T → V) (item : T → A) (d : Decoder V) (adds : M → A → M → Type 0)
+    (refuses : M → A → ℕ → ErrorValue → Type 0) (n : ℕ)
     (s : State) (before : M) (e : ErrorValue) : Type 0 where
   pub items : List A
   pub here : State
   pub now : M
   pub read : AddsEach (IsRead view item d) s items here
   pub each : AddsEach adds before items now
-  pub stops : ((length items ≡ n) × IsByteLeft here e) ⊎ ((length items < n) × (Fails e (d here) ⊎ IsItemRefused view item d refuses here now e))
+  pub stops : ((length items ≡ n) × IsByteLeft here e)
+      ⊎ ((length items < n) × (Fails e (d here) ⊎ IsItemRefused view item d refuses here now e))
 
 -- ---- what is full
 

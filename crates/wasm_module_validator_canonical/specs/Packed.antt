@@ -9,6 +9,7 @@ abbrev pub packed_id : UnpackedIndex → CoreTypeId → UnpackedIndex
 packed_id index id = if nat_lt id.0 0x10_0000 then Id id else index
 
 abbrev pub packed_canonical : List CoreTypeId → UnpackedIndex → UnpackedIndex
-packed_canonical ids (Module n) = if nat_lt n (length ids) then packed_id (Module n) (get_or ids n (record { 0 = 0 })) else RecGroup (n - length ids)
+packed_canonical ids (Module n) = if nat_lt n (length ids) then packed_id (Module n) (get_or ids n (record { 0 = 0 })) else RecGroup
+    (n - length ids)
 packed_canonical ids (RecGroup p) = RecGroup p
 packed_canonical ids (Id i) = Id i

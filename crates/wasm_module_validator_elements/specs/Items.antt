@@ -72,9 +72,12 @@ IsItemType z g (items.Expressions r s) = IsValidValueType z g (value.Ref r)
 abbrev pub IsMode : Settings → Module → ℕ → ValueType → ElementKindOf State → Type 0
 IsMode z g count t kinds.Passive = Has z.features BulkMemory
 IsMode z g count t kinds.Declared = Has z.features BulkMemory
-IsMode z g count t (kinds.Active x e) = (v : Table) × (slice_get g.tables (table_index x) ≡ Some v) × Below t v.element × IsConstantText z g count (address_type v.table64) e.rest
+IsMode z g count t (kinds.Active x e) = (v : Table) × (slice_get g.tables (table_index x) ≡ Some v) × Below t v.element
+    × IsConstantText z g count (address_type v.table64) e.rest
 
 -- as many elements as are counted, and no more of them than the limit: functions of the module, or constants of this type
 abbrev pub AreItems : Settings → Module → ℕ → ValueType → ElementItemsOf State → Type 0
-AreItems z g count t (items.Functions s) = (s.count ≤ z.limits.segment_items) × AllLeft (IsFunction g) function_index (fresh s.count s.reader)
-AreItems z g count t (items.Expressions r s) = (s.count ≤ z.limits.segment_items) × AllLeft (IsConstantText z g count t) constant (fresh s.count s.reader)
+AreItems z g count t (items.Functions s) = (s.count ≤ z.limits.segment_items)
+    × AllLeft (IsFunction g) function_index (fresh s.count s.reader)
+AreItems z g count t (items.Expressions r s) = (s.count ≤ z.limits.segment_items)
+    × AllLeft (IsConstantText z g count t) constant (fresh s.count s.reader)

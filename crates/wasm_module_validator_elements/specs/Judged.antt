@@ -12,7 +12,8 @@ use Rattle.wasm_module_validator_segments.specs.steps.Texts.{SpelledMode, Spelle
 
 -- an element segment that is valid
 abbrev pub IsElement : Settings → Module → ℕ → ElementTree (List ℕ) → Type 0
-IsElement z g count x = (y : ElementTree Code) × SpelledMode z x.mode y.mode × SpelledElements z x.items y.items × IsValidElement z g count y
+IsElement z g count x = (y : ElementTree Code) × SpelledMode z x.mode y.mode × SpelledElements z x.items y.items
+    × IsValidElement z g count y
 
 -- the same, where there is one
 abbrev pub IsElementThere : Settings → Module → ℕ → Option (ElementTree (List ℕ)) → Type 0

@@ -35,7 +35,8 @@ NamesEach N (x ∷ xs) before after = (now : List ℕ) × N x before now × Name
 
 -- the same of the values that are left
 abbrev pub NamesLeft : {A : Type 0} → (A → List ℕ → List ℕ → Type 0) → (Settings → Decoder A) → Walk → List ℕ → List ℕ → Type 0
-NamesLeft {A} N d w before after = (xs : List A) (t : State) → repeated w.left (d w.reader.settings) w.reader ≡ Done xs t → NamesEach N xs before after
+NamesLeft {A} N d w before after = (xs : List A) (t : State) → repeated w.left (d w.reader.settings) w.reader ≡ Done xs t
+    → NamesEach N xs before after
 
 abbrev pub NamesItems : Settings → ElementItemsOf State → List ℕ → List ℕ → Type 0
 NamesItems z (items.Functions s) before after = NamesLeft NamesFunction function_index (fresh s.count s.reader) before after

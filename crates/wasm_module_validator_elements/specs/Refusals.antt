@@ -36,7 +36,8 @@ RefusesMode z m count offset t (element_kind.Active x s) e = ((slice_get m.«mod
 
 -- the next index is none of a function, and is refused where it begins
 abbrev pub RefusesFunction : Module → Walk → ErrorValue → Type 0
-RefusesFunction g w e = (x : ℕ) × (t : State) × (function_index w.reader.settings w.reader ≡ Done x t) × (IsFunction g x → ⊥) × IsFault w.reader.place e
+RefusesFunction g w e = (x : ℕ) × (t : State) × (function_index w.reader.settings w.reader ≡ Done x t) × (IsFunction g x → ⊥)
+    × IsFault w.reader.place e
 
 -- the next expression is refused, somewhere in its bytes, which begin where it does
 abbrev pub RefusesConstant : Settings → Meaning → ℕ → ValueType → Walk → ErrorValue → Type 0

@@ -9,6 +9,7 @@ unfoldable pub use Rattle.wasm_types.specs.features.Features.{has}
 
 -- what is by ids stands for what is written; only tables and globals name types by ids
 abbrev pub IsNamedImport : Meaning → TypeRef → TypeRef → Type 0
-IsNamedImport m (import.Table t) (import.Table u) = (table_in m u ≡ table_written m.«module».types t) × (u.initial ≡ t.initial) × (u.maximum ≡ t.maximum)
+IsNamedImport m (import.Table t) (import.Table u) = (table_in m u ≡ table_written m.«module».types t) × (u.initial ≡ t.initial)
+    × (u.maximum ≡ t.maximum)
 IsNamedImport m (import.Global t) (import.Global u) = global_in m u ≡ global_written m.«module».types t
 IsNamedImport m t u = u ≡ t

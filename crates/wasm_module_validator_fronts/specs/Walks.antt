@@ -30,5 +30,6 @@ pub record IsBehind (p : Parser) (text : List ℕ) (fs : List Frame) (s : Standi
 -- Of these frames of a module the one that comes behind those is refused: it is a section, read by the settings of the parser, whose
 -- contents don't begin with a count, or are not the one number that they are to be. It is never for memory.
 abbrev pub RefusesNext : Parser → List Frame → List Shape → ErrorValue → Type 0
-RefusesNext p fs ys e = (id : ℕ) × (b : State) × (zs : List Shape) × (ys ≡ shapes_of fs ++ section id b.rest ∷ zs) × (b.settings ≡ p.settings)
+RefusesNext p fs ys e = (id : ℕ) × (b : State) × (zs : List Shape) × (ys ≡ shapes_of fs ++ section id b.rest ∷ zs)
+    × (b.settings ≡ p.settings)
     × IsNotMemory e.kind × Fails e (front_of id b)

@@ -74,7 +74,8 @@ StopsFunction m z s σ e = StopsLocals m z s σ e ⊎ StopsInBody m z s σ e
 -- out of memory aside. From any state it is Ok only where the bytes are the rest of a function that is accepted from there, and never
 -- after the end. If something was refused before it is refused for that. Behind it no frame is open, or the validator has failed. The
 -- features, and what an attempt has saved, stay.
-pub record ValidatesFunction (m : Meaning) (l : Limits) (s : Bytes) (σ : State) (answer : Result (Unit {0}) ErrorValue) (τ : State) : Type 0 where
+pub record ValidatesFunction (m : Meaning) (l : Limits) (s : Bytes) (σ : State) (answer : Result (Unit {0}) ErrorValue)
+    (τ : State) : Type 0 where
   pub exact : (x : ℕ) → Begins m σ.given.bits x σ → Tells answer (SpellsValidFunction (judged_by σ.given.bits l) m.«module» x s.rest)
   pub accepted : OnOk answer (AcceptsRest m (judged_by σ.given.bits l) (under (judged_by σ.given.bits l) s) σ)
   pub over : σ.opens ≡ [] → OnOk answer ⊥

@@ -106,7 +106,8 @@ relocated σ ts = record σ { given = record σ.given { locals = ts } }
 
 -- Reading the locals of a body is not refused exactly where the bytes spell locals that the function may have, out of memory aside;
 -- where something was refused before it is refused for that. Refused, the reader stays, and the validator has failed.
-pub record ReadsLocals (m : Meaning) (l : Limits) (s : Bytes) (σ : State) (answer : Result (Unit {0}) ErrorValue) (t : Bytes) (τ : State) : Type 0 where
+pub record ReadsLocals (m : Meaning) (l : Limits) (s : Bytes) (σ : State) (answer : Result (Unit {0}) ErrorValue) (t : Bytes)
+    (τ : State) : Type 0 where
   pub exact : σ.failed ≡ false → Tells answer (SpellsLocals (judged_by σ.given.bits l) m.«module» (length σ.given.locals) s.rest)
   pub stopped : σ.failed ≡ true → refused_by answer ≡ Some kinds.Failed
   pub taken : OnOk answer (TakesLocals m (judged_by σ.given.bits l) s σ t τ)
@@ -117,11 +118,13 @@ pub record ReadsLocals (m : Meaning) (l : Limits) (s : Bytes) (σ : State) (answ
 
 -- why locals of a type are refused: something was refused before, or they are
 abbrev pub RefusesMore : Meaning → ℕ → State → ℕ → ValType → ErrorKind → Type 0
-RefusesMore m most σ count written k = ((σ.failed ≡ true) × (k ≡ kinds.Failed)) ⊎ ((σ.failed ≡ false) × RefusesLocals m most σ count written k)
+RefusesMore m most σ count written k = ((σ.failed ≡ true) × (k ≡ kinds.Failed))
+    ⊎ ((σ.failed ≡ false) × RefusesLocals m most σ count written k)
 
 -- Locals of a type are put at the end exactly where nothing was refused before, the module may write the type, and there is room for
 -- them, out of memory aside.
-pub record DefinesMore (m : Meaning) (most : ℕ) (σ : State) (count : ℕ) (written : ValType) (answer : Result (Unit {0}) ErrorValue) (τ : State) : Type 0 where
+pub record DefinesMore (m : Meaning) (most : ℕ) (σ : State) (count : ℕ) (written : ValType) (answer : Result (Unit {0}) ErrorValue)
+    (τ : State) : Type 0 where
   pub exact : Tells answer ((σ.failed ≡ false) × MayWrite m σ written × HasRoomFor most σ count)
   pub defined : OnOk answer (DefinesLocals m most σ count written τ)
   pub refused : IfErr answer (λ e. RefusesMore m most σ count written e.kind)

@@ -64,7 +64,8 @@ module _ (groups : List Group) where
   -- so it is of descriptors, and of what is described
   abbrev pub DescriptorsGoAlong : EntryOf UnpackedIndex → Option CoreTypeId → Type 0
   DescriptorsGoAlong x None = Unit {0}
-  DescriptorsGoAlong x (Some u) = GoAlong x.descriptor (entry_by_id groups u).descriptor × GoAlong x.describes (entry_by_id groups u).describes
+  DescriptorsGoAlong x (Some u) = GoAlong x.descriptor (entry_by_id groups u).descriptor
+      × GoAlong x.describes (entry_by_id groups u).describes
 
   -- the descriptor of a type describes it, and is final where it is
   abbrev pub IsDescribedBy : CoreTypeId → Option UnpackedIndex → Type 0

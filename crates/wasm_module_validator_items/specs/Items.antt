@@ -117,7 +117,8 @@ next_function first (Some i) = i
 -- The next function and the index of its type, which the module has; the one behind it comes next. Where there is no function left
 -- nothing changes.
 abbrev pub IsNextCode : Items → Items → Option (ℕ × ℕ) → Type 0
-IsNextCode before after None = (length before.spaces.functions ≤ next_function before.spaces.imported_functions before.next_code) × (after ≡ before)
+IsNextCode before after None = (length before.spaces.functions ≤ next_function before.spaces.imported_functions before.next_code)
+    × (after ≡ before)
 IsNextCode before after (Some entry) =
     (entry.0 ≡ next_function before.spaces.imported_functions before.next_code)
     × ((f : Function) × (slice_get before.spaces.functions entry.0 ≡ Some f) × (f.type_index ≡ entry.1) × (f.type_index < length before.spaces.types))

@@ -55,20 +55,23 @@ fails (Err errors.Read) = true
 fails (Err errors.TooLong) = false
 
 -- what is answered of a reader that may have so many bytes
-abbrev pub Answers : {D : Type 0} → (List ℕ → D → Type 0) → (List ℕ → ErrorValue → Type 0) → ℕ → Option (List ℕ) → Option (List ℕ) → Result D ReadError → Type 0
+abbrev pub Answers : {D : Type 0} → (List ℕ → D → Type 0) → (List ℕ → ErrorValue → Type 0) → ℕ → Option (List ℕ) → Option (List ℕ)
+    → Result D ReadError → Type 0
 Answers shown denied most before after (Ok d) = AcceptsAll shown most before after d
 Answers shown denied most before after (Err (errors.Refused e)) = RefusesAll denied before after e
 Answers shown denied most before after (Err errors.Read) = ReadsSome (λ n. n ≤ most) before after
 Answers shown denied most before after (Err errors.TooLong) = ReadsSome (λ n. most < n) before after
 
 -- what is answered of bytes behind which none follow
-abbrev pub Concludes : {S D : Type 0} → (S → List ℕ → D → Type 0) → (S → List ℕ → ErrorValue → Type 0) → S → List ℕ → Result D ReadError → Type 0
+abbrev pub Concludes : {S D : Type 0} → (S → List ℕ → D → Type 0) → (S → List ℕ → ErrorValue → Type 0) → S → List ℕ → Result D ReadError
+    → Type 0
 Concludes shown denied first got (Ok d) = shown first got d
 Concludes shown denied first got (Err (errors.Refused e)) = IsDenied denied first got true e
 Concludes shown denied first got (Err errors.Read) = ⊥
 Concludes shown denied first got (Err errors.TooLong) = ⊥
 
 -- Some bytes came, at most so many with the room that is left, and these are left of them.
-abbrev pub HasCome : {S : Type 0} → (S → List ℕ → Bool → List ℕ → S → Type 0) → S → ℕ → ℕ → Option (List ℕ) → Option (List ℕ) → List ℕ → S → Type 0
+abbrev pub HasCome : {S : Type 0} → (S → List ℕ → Bool → List ℕ → S → Type 0) → S → ℕ → ℕ → Option (List ℕ) → Option (List ℕ) → List ℕ → S
+    → Type 0
 HasCome stands first most room before after rest now =
     (got : List ℕ) × (length got + room ≡ most) × Consumes before after got × stands first got false rest now

@@ -16,7 +16,8 @@ pub record IsMidst {S : Type 0} (stands : S → List ℕ → Bool → List ℕ �
 
 -- Wherever it stood, with these left of the bytes that came, it stands now, with those left.
 abbrev pub Carries : {S : Type 0} → (S → List ℕ → Bool → List ℕ → S → Type 0) → Bool → List ℕ → S → List ℕ → S → Type 0
-Carries {S = S} stands eof before then rest now = (first : S) (got : List ℕ) → stands first got eof before then → length got < 2 ^ 64 → stands first got eof rest now
+Carries {S = S} stands eof before then rest now = (first : S) (got : List ℕ) → stands first got eof before then → length got < 2 ^ 64
+    → stands first got eof rest now
 
 -- An error denies whatever begins with the bytes that came.
 abbrev pub IsDenied : {S E : Type 0} → (S → List ℕ → E → Type 0) → S → List ℕ → Bool → E → Type 0
@@ -40,20 +41,26 @@ IsPassed {S = S} stands waits first text = (rest : List ℕ) × (now : S) × sta
 -- ---- what a call answers
 
 -- What a call answers to the bytes that are left, and where it stands then.
-abbrev pub Takes : {S D : Type 0} → (S → List ℕ → Bool → List ℕ → S → Type 0) → (S → List ℕ → D → Type 0) → (S → List ℕ → ErrorValue → Type 0)
+abbrev pub Takes : {S D : Type 0} → (S → List ℕ → Bool → List ℕ → S → Type 0) → (S → List ℕ → D → Type 0)
+    → (S → List ℕ → ErrorValue → Type 0)
     → (S → List ℕ → Type 0) → S → List ℕ → Bool → List ℕ → Taken D → S → Type 0
 Takes stands shown denied waits first got eof rest (taken.Item n) now = (0 < n) × (n ≤ length rest) × stands first got eof (drop n rest) now
-Takes stands shown denied waits first got eof rest (taken.Waits n) now = (eof ≡ false) × stands first got eof rest now × WaitsFor waits n rest now
+Takes stands shown denied waits first got eof rest (taken.Waits n) now = (eof ≡ false) × stands first got eof rest now
+    × WaitsFor waits n rest now
 Takes stands shown denied waits first got eof rest (taken.Ended d) now = (eof ≡ true) × shown first got d
 Takes stands shown denied waits first got eof rest (taken.Refused e) now = IsDenied denied first got eof e
 
 -- The same of all whole items.
-abbrev pub Advances : {S D : Type 0} → (S → List ℕ → Bool → List ℕ → S → Type 0) → (S → List ℕ → D → Type 0) → (S → List ℕ → ErrorValue → Type 0)
+abbrev pub Advances : {S D : Type 0} → (S → List ℕ → Bool → List ℕ → S → Type 0) → (S → List ℕ → D → Type 0)
+    → (S → List ℕ → ErrorValue → Type 0)
     → (S → List ℕ → Type 0) → S → List ℕ → Bool → List ℕ → Advanced D → S → Type 0
-Advances stands shown denied waits first got eof rest (advanced.Waits n k) now = (eof ≡ false) × (n ≤ length rest) × stands first got eof (drop n rest) now × WaitsFor waits k (drop n rest) now
+Advances stands shown denied waits first got eof rest (advanced.Waits n k) now = (eof ≡ false) × (n ≤ length rest)
+    × stands first got eof (drop n rest) now × WaitsFor waits k (drop n rest) now
 Advances stands shown denied waits first got eof rest (advanced.Ended d) now = (eof ≡ true) × shown first got d
 Advances stands shown denied waits first got eof rest (advanced.Refused e) now = IsDenied denied first got eof e
 
 -- Wherever it stood, the error denies whatever begins with the bytes that came.
-abbrev pub DeniesFrom : {S E : Type 0} → (S → List ℕ → Bool → List ℕ → S → Type 0) → (S → List ℕ → E → Type 0) → Bool → List ℕ → S → E → Type 0
-DeniesFrom {S = S} stands denied eof before then e = (first : S) (got : List ℕ) → stands first got eof before then → length got < 2 ^ 64 → IsDenied denied first got eof e
+abbrev pub DeniesFrom : {S E : Type 0} → (S → List ℕ → Bool → List ℕ → S → Type 0) → (S → List ℕ → E → Type 0) → Bool → List ℕ → S → E
+    → Type 0
+DeniesFrom {S = S} stands denied eof before then e = (first : S) (got : List ℕ) → stands first got eof before then → length got < 2 ^ 64
+    → IsDenied denied first got eof e

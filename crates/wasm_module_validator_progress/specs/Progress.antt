@@ -97,7 +97,8 @@ IsRead s k u = Reads s k.groups k.items k.count u.settings u.tree
 
 -- From one offset of a text to another stand the bytes of an item, by any settings with these limits; it is added to what was read, and the
 -- list of types stays.
-abbrev pub AddsShortIn : {T V : Type 0} (s : Section) → (T → V) → (T → ItemRead s) → (Settings → Grammar V) → List Group → Items → Items → Limits → List ℕ → ℕ → ℕ
+abbrev pub AddsShortIn : {T V : Type 0} (s : Section) → (T → V) → (T → ItemRead s) → (Settings → Grammar V) → List Group → Items → Items
+    → Limits → List ℕ → ℕ → ℕ
     → Type 0
 AddsShortIn s view of g groups i j l text from to =
     (count : ℕ) → AddsShort view of g (AddsIn s) (IsRead s) (kept groups i count) (kept groups j count) l text from to

@@ -105,7 +105,8 @@ bottom_under a = a
 
 -- so many types from two ids on are stored alike
 abbrev pub AreStoredAlike : List Group → ℕ → ℕ → ℕ → Type 0
-AreStoredAlike groups first other n = (p : ℕ) → p < n → get_or (declared_by_id groups) (first + p) undeclared ≡ get_or (declared_by_id groups) (other + p) undeclared
+AreStoredAlike groups first other n = (p : ℕ) → p < n
+    → get_or (declared_by_id groups) (first + p) undeclared ≡ get_or (declared_by_id groups) (other + p) undeclared
 
 -- the ids of the group of a type: from the first on, so many
 pub record HasSpan (groups : List Group) (id first len : ℕ) : Type 0 where

@@ -80,7 +80,8 @@ pub record IsValidTableType (z : Settings) (g : Module) (t : TableType) : Type 0
   pub element : IsValidElementType z g t.element_type
   pub limits : IsValidLimits (most_elements t.table64) t.initial t.maximum
   pub wide : IsTrue t.table64 → Has z.features Memory64
-  pub shared : IsTrue t.shared → Has z.features SharedEverythingThreads × IsTrue (value_is_shared (value_in g.types (value.Ref t.element_type)))
+  pub shared : IsTrue t.shared → Has z.features SharedEverythingThreads
+      × IsTrue (value_is_shared (value_in g.types (value.Ref t.element_type)))
 
 -- the size of a page by its logarithm, which is 0 or 16 (the proposal on custom page sizes)
 abbrev pub page_size : Option ℕ → ℕ
@@ -147,14 +148,16 @@ HaveOwnNames (e ∷ es) = Each (λ (f : ExportTree). e.name ≡ f.name → ⊥) 
 -- a table: without an expression its elements are null at first
 abbrev pub IsInitialised : Settings → Module → ℕ → TableType → Option Code → Type 0
 IsInitialised z g imported t None = IsTrue t.element_type.nullable
-IsInitialised z g imported t (Some c) = Has z.features FunctionReferences × IsConstant z.features (seeing imported g) imported (value_in g.types (value.Ref t.element_type)) c
+IsInitialised z g imported t (Some c) = Has z.features FunctionReferences
+    × IsConstant z.features (seeing imported g) imported (value_in g.types (value.Ref t.element_type)) c
 
 abbrev pub IsValidTable : Settings → Module → ℕ → TableTree Code → Type 0
 IsValidTable z g imported x = IsValidTableType z g x.ty × IsInitialised z g imported x.ty x.init
 
 -- a global, whose value sees so many globals
 abbrev pub IsValidGlobal : Settings → Module → ℕ → ℕ → GlobalTree Code → Type 0
-IsValidGlobal z g imported seen x = IsValidGlobalType z g x.ty × IsConstant z.features (seeing seen g) imported (value_in g.types x.ty.content_type) x.init
+IsValidGlobal z g imported seen x = IsValidGlobalType z g x.ty
+    × IsConstant z.features (seeing seen g) imported (value_in g.types x.ty.content_type) x.init
 
 -- globals one after the other, each seeing those before it
 abbrev pub AreValidGlobals : Settings → Module → ℕ → ℕ → List (GlobalTree Code) → Type 0
@@ -180,12 +183,14 @@ table_index (Some x) = x
 abbrev pub IsValidMode : Settings → Module → ℕ → ValueType → ElementMode Code → Type 0
 IsValidMode z g imported t passive = Has z.features BulkMemory
 IsValidMode z g imported t declared = Has z.features BulkMemory
-IsValidMode z g imported t (active x c) = (v : Table) × (slice_get g.tables (table_index x) ≡ Some v) × Below t v.element × IsOffset z g imported v.table64 c
+IsValidMode z g imported t (active x c) = (v : Table) × (slice_get g.tables (table_index x) ≡ Some v) × Below t v.element
+    × IsOffset z g imported v.table64 c
 
 -- the elements: functions of the module, or constants of the type that is written
 abbrev pub AreValidItems : Settings → Module → ℕ → ElementItems Code → Type 0
 AreValidItems z g imported (functions xs) = Each (λ x. x < length g.functions) xs
-AreValidItems z g imported (expressions r cs) = IsValidValueType z g (value.Ref r) × Each (IsConstant z.features g imported (value_in g.types (value.Ref r))) cs
+AreValidItems z g imported (expressions r cs) = IsValidValueType z g (value.Ref r)
+    × Each (IsConstant z.features g imported (value_in g.types (value.Ref r))) cs
 
 -- how many elements there are
 abbrev pub item_count : ElementItems Code → ℕ

@@ -27,7 +27,8 @@ IsConstantText z g count t text = (c : Code) × SpelledExpression z c text × Is
 
 -- a global that is valid, where its value sees the globals that there are
 abbrev pub IsGlobal : Settings → Module → ℕ → GlobalTree (List ℕ) → Type 0
-IsGlobal z g count x = (c : Code) × SpelledExpression z c x.init × IsValidGlobal z g count (length g.globals) (record { ty = x.ty; init = c })
+IsGlobal z g count x = (c : Code) × SpelledExpression z c x.init
+    × IsValidGlobal z g count (length g.globals) (record { ty = x.ty; init = c })
 
 -- what elements of this type, which may be null or not, are at first: null, or the value of an expression
 abbrev pub IsInitText : Settings → Module → ℕ → Bool → ValueType → Option (List ℕ) → Type 0
@@ -36,7 +37,8 @@ IsInitText z g count nullable t (Some text) = Has z.features FunctionReferences 
 
 -- a table whose expression sees the globals that there are
 abbrev pub IsTableHere : Settings → Module → ℕ → TableTree (List ℕ) → Type 0
-IsTableHere z g count x = IsValidTableType z g x.ty × IsInitText z g count x.ty.element_type.nullable (value_in g.types (value.Ref x.ty.element_type)) x.init
+IsTableHere z g count x = IsValidTableType z g x.ty
+    × IsInitText z g count x.ty.element_type.nullable (value_in g.types (value.Ref x.ty.element_type)) x.init
 
 -- a table that is valid: its expression sees the imported globals alone
 abbrev pub IsTable : Settings → Module → ℕ → TableTree (List ℕ) → Type 0

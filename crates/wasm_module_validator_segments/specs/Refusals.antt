@@ -63,7 +63,8 @@ RefusesGlobal z m count offset x e = IsTypeRefusal z (λ y. IsValidGlobalType y 
 -- Elements that are not null have no expression; or the feature of expressions is missing; or the expression is refused.
 abbrev pub RefusesInit : Settings → Meaning → ℕ → ℕ → Bool → ValueType → TableInitOf State → ErrorValue → Type 0
 RefusesInit z m count offset nullable t init.RefNull e = (nullable ≡ false) × IsFault offset e
-RefusesInit z m count offset nullable t (init.Expr s) e = IsMissing z FunctionReferences offset e ⊎ (Has z.features FunctionReferences × StopsText z m count t s e)
+RefusesInit z m count offset nullable t (init.Expr s) e = IsMissing z FunctionReferences offset e
+    ⊎ (Has z.features FunctionReferences × StopsText z m count t s e)
 
 -- its type is refused, or what it holds at first
 abbrev pub RefusesTable : Settings → Meaning → ℕ → ℕ → TableOf State → ErrorValue → Type 0

@@ -97,7 +97,8 @@ TellsNext r x answer = UnlessFull (FullBy x r.progress.kept) answer (TellsFrame 
 
 -- What is kept then stands for whatever was judged with that frame.
 abbrev pub Follows : Reached → Payload → Reached → Type 0
-Follows r x s = (z : Settings) (p q : SoFar) (f : Frame) → IsReached z r p → HasSettings z f → IsPayloadOf f x → JudgesShape z p (shape_of f) q
+Follows r x s = (z : Settings) (p q : SoFar) (f : Frame) → IsReached z r p → HasSettings z f → IsPayloadOf f x
+    → JudgesShape z p (shape_of f) q
     → IsReached z s q
 
 -- ---- bodies
@@ -139,6 +140,7 @@ BodyFollows r y body (Err e) s = (s ≡ r) × Denies e.kind (FitsNext r body)
 
 -- What a body is answered: where what is kept stands for what was judged, a function is handed out exactly where the body may come next,
 -- memory aside.
-pub record IsNextFunction (r : Reached) (y : Settings) (body : State) (answer : Result (Option Handed) ErrorValue) (s : Reached) : Type 0 where
+pub record IsNextFunction (r : Reached) (y : Settings) (body : State) (answer : Result (Option Handed) ErrorValue)
+    (s : Reached) : Type 0 where
   pub told : (z : Settings) (p : SoFar) → IsReached z r p → body.settings ≡ z → TellsBody z p body.rest answer
   pub follows : BodyFollows r y body answer s

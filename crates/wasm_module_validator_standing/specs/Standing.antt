@@ -42,7 +42,8 @@ place_behind is t = record { kind = kind_of t; index = imports_before t is }
 -- these imports behind others, which have these names
 abbrev pub named_behind : List ImportTree → List ImportedName → List ImportTree → List ImportedName
 named_behind before names [] = names
-named_behind before names (i ∷ is) = named_behind (before ++ i ∷ []) (with_import i.module_name i.field_name (place_behind before i.ty) names) is
+named_behind before names (i ∷ is) = named_behind (before ++ i ∷ [])
+    (with_import i.module_name i.field_name (place_behind before i.ty) names) is
 
 -- the imports of a module: each pair of names where it came first, with what is imported by it
 abbrev pub imports_by_name : List ImportTree → List ImportedName
@@ -83,7 +84,8 @@ marking xs s = record s { functions = referring_to_each xs s.functions }
 -- A group of n types comes behind so many groups: there are fewer than the limit of types, and at most as many types with it; and it is
 -- valid behind the types that there are.
 abbrev pub MayGrow : List Group → Items → ℕ → ℕ → Written → Type 0
-MayGrow groups s many n g = (many < s.spaces.settings.limits.types) × ((IsTrue true → length s.spaces.types + n ≤ s.spaces.settings.limits.types)
+MayGrow groups s many n g = (many < s.spaces.settings.limits.types)
+    × ((IsTrue true → length s.spaces.types + n ≤ s.spaces.settings.limits.types)
     × IsValidGroup s.spaces.settings (space_of groups s.spaces.types) g)
 
 -- ---- while a section is read
@@ -101,7 +103,8 @@ pub record IsBefore (s : Section) (groups : List Group) (i : Items) (z : Setting
 -- What a call that adds an item to the state answers: Ok exactly where the rules allow the item behind what was read, for each tree that
 -- the state stands for.
 abbrev pub TellsItem : {X : Type 0} → (s : Section) → List Group → Items → ItemRead s → Result X ErrorValue → Type 0
-TellsItem s groups i x result = (z : Settings) (m : ModuleTree) → IsReading s groups i z m → Tells result ((n : ModuleTree) × AddsRead z s m x n)
+TellsItem s groups i x result = (z : Settings) (m : ModuleTree) → IsReading s groups i z m
+    → Tells result ((n : ModuleTree) × AddsRead z s m x n)
 
 -- And what it leaves, where it is Ok: the state stands for each tree that has the item more. The list of types may have grown.
 abbrev pub AddsItem : (s : Section) → List Group → Items → ItemRead s → List Group → Items → Type 0
@@ -109,7 +112,8 @@ AddsItem s groups i x grown j = (z : Settings) (m n : ModuleTree) → IsReading 
 
 -- An item may be added to each tree that the state stands for, and that state stands for the tree with it.
 abbrev pub IsAdded : (s : Section) → List Group → Items → ItemRead s → Items → Type 0
-IsAdded s groups i x j = ((z : Settings) (m : ModuleTree) → IsReading s groups i z m → (n : ModuleTree) × AddsRead z s m x n) × AddsItem s groups i x groups j
+IsAdded s groups i x j = ((z : Settings) (m : ModuleTree) → IsReading s groups i z m → (n : ModuleTree) × AddsRead z s m x n)
+    × AddsItem s groups i x groups j
 
 -- What is tested where a section begins: Ok exactly where so many items fit, for each such tree.
 abbrev pub TellsFit : {X : Type 0} → (s : Section) → List Group → Items → ℕ → Result X ErrorValue → Type 0

@@ -27,7 +27,8 @@ pub record IsTypeFormed (canonical : Bool) (known places own : ℕ) (d : Declare
 -- the same of each subtype, from the place `own` on
 abbrev pub AreTypesFormed : Bool → ℕ → ℕ → ℕ → List Declared → Type 0
 AreTypesFormed canonical known places own [] = Unit {0}
-AreTypesFormed canonical known places own (d ∷ ds) = IsTypeFormed canonical known places own d × AreTypesFormed canonical known places (suc own) ds
+AreTypesFormed canonical known places own (d ∷ ds) = IsTypeFormed canonical known places own d
+    × AreTypesFormed canonical known places (suc own) ds
 
 -- a group, where the ids below `known` have types
 abbrev pub IsGroupFormed : ℕ → Group → Type 0

@@ -62,7 +62,8 @@ NoneDeclares types ids ds = (n : ℕ) → Declares types ids ds n → ⊥
 pub record KnowsGroups (groups : List Group) (types : List SubType) (known : Known) : Type 0 where
   pub ordered : AllPairs (Precedes types) known.alone
   pub alone : All (IsAlone groups types) known.alone
-  pub found : (g : RecGroup) → MatchOption (number_in known.numbers g) (NoneDeclares types known.alone (declared_types g) → IsMissing groups (group_in true g))
+  pub found : (g : RecGroup) → MatchOption (number_in known.numbers g)
+      (NoneDeclares types known.alone (declared_types g) → IsMissing groups (group_in true g))
       (λ k. group_at groups k.0 ≡ Some (group_in true g))
 
 -- a list that takes no more knows nothing
@@ -73,12 +74,14 @@ Knows groups types (Some known) = KnowsGroups groups types known
 -- a group may be added: the ids stand in order, and in canonical form the group is not among them
 abbrev pub CanLearn : Bool → List SubType → RecGroup → Option Known → Type 0
 CanLearn canonical types g None = Unit {0}
-CanLearn canonical types g (Some known) = AllPairs (Precedes types) known.alone × (IsTrue canonical → NoneDeclares types known.alone (declared_types g))
+CanLearn canonical types g (Some known) = AllPairs (Precedes types) known.alone
+    × (IsTrue canonical → NoneDeclares types known.alone (declared_types g))
 
 -- a group of the number `id`, whose types are stored so from the id `start` on, becomes known: by the id of its only type
 -- where what is stored of it is what the group says, and else by a copy
 pub data Gains (types stored : List SubType) (start : ℕ) (g : RecGroup) (id : RecGroupId) (m n : Known) : Type 0 where
-  by_id : (ty : SubType) → stored ≡ ty ∷ [] → declared_types g ≡ declared_of ty ∷ [] → IsPut (beside types ty) start m.alone n.alone → FindsTheSame m.numbers n.numbers
+  by_id : (ty : SubType) → stored ≡ ty ∷ [] → declared_types g ≡ declared_of ty ∷ [] → IsPut (beside types ty) start m.alone n.alone
+      → FindsTheSame m.numbers n.numbers
       → Gains types stored start g id m n
   by_copy : (length stored ≡ 1 → declared_types g ≡ map declared_of stored → ⊥) → Learns m.numbers n.numbers g id → n.alone ≡ m.alone
       → Gains types stored start g id m n

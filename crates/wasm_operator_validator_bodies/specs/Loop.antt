@@ -37,7 +37,8 @@ inside_all g flat opens = record g { labels = map (label flat) opens ++ g.labels
 abbrev pub Closes : Tables → Context → List Open → Values → List Op → Type 0
 Closes t g [] v os = os ≡ []
 Closes t g (o ∷ outer) v os = (set before : Initialised) → Full t set → Full t before
-    → InFrame (inside_all g t.known.flat.items (o ∷ outer)) (record { kind = o.kind; block = signature_in t.known.flat.items o.sig; before = before }) set (operands v.0) os
+    → InFrame (inside_all g t.known.flat.items (o ∷ outer))
+    (record { kind = o.kind; block = signature_in t.known.flat.items o.sig; before = before }) set (operands v.0) os
     (λ rest. Closes t g outer (with_all (results_in t.known.flat.items o.sig) (lying o.base v.1)) rest)
 
 -- the bytes from an offset on spell such operators
@@ -55,7 +56,8 @@ abbrev pub outermost : Sig → Open
 outermost s = record { kind = frames.Block; base = 0; sig = record { params = 0; param_count = 0; results = s.results; result_count = s.result_count } }
 
 -- a frame of this kind and type begins, with its parameters on it
-pub record Enters (flat : List ℕ) (k : FrameKind) (s : Sig) (v w : Values) (o : Open) (outer : List Open) (n : Open) (others : List Open) : Type 0 where
+pub record Enters (flat : List ℕ) (k : FrameKind) (s : Sig) (v w : Values) (o : Open) (outer : List Open) (n : Open)
+    (others : List Open) : Type 0 where
   pub kind : n.kind ≡ k
   pub sig : n.sig ≡ s
   pub frames : others ≡ o ∷ outer

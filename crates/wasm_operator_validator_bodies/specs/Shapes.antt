@@ -44,7 +44,8 @@ pub record IsAccessAt (kind : Number → Access) (code natural ty : ℕ) : Type 
   pub keeps : (a : MemArg) (set : Initialised) → after (op.Memory (operator a)) set ≡ set
   pub table : (a : MemArg) (g : Context)
       → instruction_type g (op.Memory (operator a)) ≡ accesses g false (Some (record { access = kind (number_of ty); argument = a }))
-  pub row : (a : MemArg) (g : Context) (set : Initialised) (popped pushed : List Operand) → TableRow g (op.Memory (operator a)) popped pushed
+  pub row : (a : MemArg) (g : Context) (set : Initialised) (popped pushed : List Operand)
+      → TableRow g (op.Memory (operator a)) popped pushed
       → GroupRow g set (op.Memory (operator a)) popped pushed
 
 -- a code of one byte has this shape

@@ -53,7 +53,8 @@ HasMemory m = (t : MemoryType) × (slice_get m.memories 0 ≡ Some t) × (t.memo
 
 -- table 0 is one of functions, and of 32 bits
 abbrev pub HasTable : Module → Type 0
-HasTable m = (t : Table) × (slice_get m.tables 0 ≡ Some t) × (t.table64 ≡ false) × ((s : Bool) × Below t.element (ref true (abstract s func)))
+HasTable m = (t : Table) × (slice_get m.tables 0 ≡ Some t) × (t.table64 ≡ false)
+    × ((s : Bool) × Below t.element (ref true (abstract s func)))
 
 -- tables stand for what they name of a module
 pub record Knows (m : Module) (k : Known) : Type 0 where

@@ -31,21 +31,25 @@ RefusedWith w o k = (r : ConstantRefusal) × RefusesOperator w.bits w.meaning.«
 
 -- an operator of a constant is visited
 abbrev pub VisitsConstant : Surroundings → State → Op → Option ErrorKind → State → Type 0
-VisitsConstant w σ o answer τ = VisitsTested (IsConstantOperator w.bits w.meaning.«module» w.imported) (RefusedWith w) w.meaning σ o answer τ
+VisitsConstant w σ o answer τ = VisitsTested (IsConstantOperator w.bits w.meaning.«module» w.imported)
+    (RefusedWith w) w.meaning σ o answer τ
 
 -- the operators of a constant are validated
 abbrev pub ValidatesConstant : Surroundings → State → Bytes → Result (Unit {0}) ErrorValue → Type 0
-ValidatesConstant w σ s answer = ValidatesTested (IsConstantOperator w.bits w.meaning.«module» w.imported) (RefusedWith w) w.meaning σ s answer
+ValidatesConstant w σ s answer = ValidatesTested (IsConstantOperator w.bits w.meaning.«module» w.imported)
+    (RefusedWith w) w.meaning σ s answer
 
 -- ---- whole constants
 
 -- the bytes spell a constant expression of this type
 abbrev pub SpellsConstant : Surroundings → ValType → Bytes → Type 0
-SpellsConstant w t s = (c : Code) × SpelledExpression s.settings c s.rest × IsConstant w.bits w.meaning.«module» w.imported (type_in w.meaning t) c
+SpellsConstant w t s = (c : Code) × SpelledExpression s.settings c s.rest
+    × IsConstant w.bits w.meaning.«module» w.imported (type_in w.meaning t) c
 
 -- why bytes are refused as one, and where
 abbrev pub StopsConstant : Surroundings → ValType → Bytes → ErrorValue → Type 0
-StopsConstant w t s e = StopsTested (IsConstantOperator w.bits w.meaning.«module» w.imported) (RefusedWith w) w.meaning (constant_begins w.bits t) s e
+StopsConstant w t s e = StopsTested (IsConstantOperator w.bits w.meaning.«module» w.imported) (RefusedWith w) w.meaning
+    (constant_begins w.bits t) s e
 
 -- It is not refused exactly where the bytes spell a constant of this type, out of memory aside; a refusal comes where this says.
 pub record ChecksConstant (w : Surroundings) (t : ValType) (s : Bytes) (answer : Result (Unit {0}) ErrorValue) : Type 0 where

@@ -109,8 +109,10 @@ abbrev pub RefusesGlobal : ℕ → Module → ℕ → ℕ → ConstantRefusal �
 RefusesGlobal bits g count x (refusals.Invalid r) = (kind_of r ≡ kinds.Other) × (slice_get g.globals x ≡ None)
 RefusesGlobal bits g count x (refusals.NonConstant name) = ⊥
 RefusesGlobal bits g count x (refusals.NotEnabled f name) = ⊥
-RefusesGlobal bits g count x (refusals.LocalGlobal f) = (v : Global) × (slice_get g.globals x ≡ Some v) × (count ≤ x) × (has Gc bits ≡ false) × IsOf Gc f
-RefusesGlobal bits g count x refusals.MutableGlobal = (v : Global) × (slice_get g.globals x ≡ Some v) × (v.mutable ≡ true) × (count ≤ x → has Gc bits ≡ true)
+RefusesGlobal bits g count x (refusals.LocalGlobal f) = (v : Global) × (slice_get g.globals x ≡ Some v) × (count ≤ x)
+    × (has Gc bits ≡ false) × IsOf Gc f
+RefusesGlobal bits g count x refusals.MutableGlobal = (v : Global) × (slice_get g.globals x ≡ Some v) × (v.mutable ≡ true)
+    × (count ≤ x → has Gc bits ≡ true)
 
 -- Why another operator is refused: it is constant by no features, or by some, but not by these.
 abbrev pub RefusesListed : ℕ → Op → ConstantRefusal → Type 0

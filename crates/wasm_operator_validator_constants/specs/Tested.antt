@@ -45,7 +45,8 @@ AcceptsTested Passes m σ s = (c : Code) × SpelledExpression s.settings c s.res
 
 -- some operators were accepted, and behind them nothing more is read
 abbrev pub StopsReading : (Op → Type 0) → (Op → ErrorKind → Type 0) → Meaning → State → Bytes → ErrorValue → Type 0
-StopsReading Passes Why m σ s e = (t : Standing) × (ρ : State) × WalksTo (VisitsTested Passes Why m) None (at_start s) σ t ρ × StopsPlain t e
+StopsReading Passes Why m σ s e = (t : Standing) × (ρ : State) × WalksTo (VisitsTested Passes Why m) None (at_start s) σ t ρ
+    × StopsPlain t e
 
 -- some operators were accepted, and the next is refused, at its offset
 abbrev pub StopsAtOperator : (Op → Type 0) → (Op → ErrorKind → Type 0) → Meaning → State → Bytes → ErrorValue → Type 0
@@ -63,6 +64,7 @@ StopsTested Passes Why m σ s e = StopsReading Passes Why m σ s e ⊎ (StopsAtO
 
 -- It is not refused exactly where the bytes spell an expression that may come and each of whose operators passes, out of memory aside;
 -- a refusal comes where this says.
-pub record ValidatesTested (Passes : Op → Type 0) (Why : Op → ErrorKind → Type 0) (m : Meaning) (σ : State) (s : Bytes) (answer : Result (Unit {0}) ErrorValue) : Type 0 where
+pub record ValidatesTested (Passes : Op → Type 0) (Why : Op → ErrorKind → Type 0) (m : Meaning) (σ : State) (s : Bytes)
+    (answer : Result (Unit {0}) ErrorValue) : Type 0 where
   pub exact : Tells answer (AcceptsTested Passes m σ s)
   pub stops : IfErr answer (StopsTested Passes Why m σ s)

@@ -37,7 +37,8 @@ SpellsTypedBody m w b s = (c : Code) × SpelledExpression s.settings c s.rest ×
 
 -- where a body begins these are the same
 abbrev pub BodiesAreExpressions : Type 0
-BodiesAreExpressions = (m : Meaning) (w : Given) (b : BlockType) (saved : Saved) (s : Bytes) → AcceptsExpression m (fresh w b saved) s ↔ SpellsTypedBody m w b s
+BodiesAreExpressions = (m : Meaning) (w : Given) (b : BlockType) (saved : Saved) (s : Bytes) → AcceptsExpression m (fresh w b saved) s
+    ↔ SpellsTypedBody m w b s
 
 -- ---- why others are refused, and where
 
@@ -51,7 +52,8 @@ StopsReading m σ s e = (t : Standing) × (ρ : State) × WalksTo (Visits m) Non
 
 -- some operators were accepted, and the next is refused, at its offset
 abbrev pub StopsAtOperator : Meaning → State → Bytes → ErrorValue → State → Type 0
-StopsAtOperator m σ s e τ = (place : ℕ) × WalksUntilAt (Visits m) None (at_start s) σ (Some e.kind) τ place × OfContent e.kind (e.offset ≡ place)
+StopsAtOperator m σ s e τ = (place : ℕ) × WalksUntilAt (Visits m) None (at_start s) σ (Some e.kind) τ place
+    × OfContent e.kind (e.offset ≡ place)
 
 -- an expression was accepted, to the end of the bytes, and a frame is still open
 abbrev pub StopsAtEnd : Meaning → State → Bytes → ErrorValue → Type 0

@@ -26,4 +26,5 @@ pub record Begins (m : Meaning) (bits x : ℕ) (σ : State) : Type 0 where
   pub function : HasFunctionType m x type signature
   pub locals : List ValType
   pub params : types_in m locals ≡ signature.params
-  pub state : σ ≡ fresh (record { bits = bits; locals = locals; params = length locals; shared = is_shared type }) (block.FuncType x) none_saved
+  pub state : σ ≡ fresh (record { bits = bits; locals = locals; params = length locals; shared = is_shared type })
+      (block.FuncType x) none_saved

@@ -21,7 +21,8 @@ exception n = ref n (abstract false exn)
 
 -- what is thrown is taken off, and the next place is not reached; only a clause of an older `try` has an exception to throw again
 abbrev pub ExceptionRow : Context → ExceptionTree → List Operand → List Operand → Type 0
-ExceptionRow g (op.Throw x) popped pushed = (ts : List ValueType) × (any : List Operand) × IsExceptionTag g x ts × (popped ≡ any ++ all_known ts)
+ExceptionRow g (op.Throw x) popped pushed = (ts : List ValueType) × (any : List Operand) × IsExceptionTag g x ts
+    × (popped ≡ any ++ all_known ts)
 ExceptionRow g op.ThrowRef popped pushed = (any : List Operand) × (popped ≡ any ++ known (exception true) ∷ [])
 ExceptionRow g (op.Rethrow l) popped pushed = slice_get g.catches l ≡ Some true
 ExceptionRow g o popped pushed = ⊥

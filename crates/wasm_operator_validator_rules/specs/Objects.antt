@@ -68,8 +68,10 @@ GcRow g (gc.BrOnCast l from to) popped pushed = (h k : HeapOf TypeTree) × IsCas
     × Branches g l (ref from.nullable h) (ref to.nullable k) (difference from to h) popped pushed
 GcRow g (gc.BrOnCastFail l from to) popped pushed = (h k : HeapOf TypeTree) × IsCast g from to h k
     × Branches g l (ref from.nullable h) (difference from to h) (ref to.nullable k) popped pushed
-GcRow g gc.AnyConvertExtern popped pushed = (n s : Bool) × Takes (ref n (abstract s extern) ∷ []) (ref n (abstract s any) ∷ []) popped pushed
-GcRow g gc.ExternConvertAny popped pushed = (n s : Bool) × Takes (ref n (abstract s any) ∷ []) (ref n (abstract s extern) ∷ []) popped pushed
+GcRow g gc.AnyConvertExtern popped pushed = (n s : Bool)
+    × Takes (ref n (abstract s extern) ∷ []) (ref n (abstract s any) ∷ []) popped pushed
+GcRow g gc.ExternConvertAny popped pushed = (n s : Bool)
+    × Takes (ref n (abstract s any) ∷ []) (ref n (abstract s extern) ∷ []) popped pushed
 GcRow g gc.I31GetS popped pushed = (s : Bool) × Takes (ref true (abstract s i31) ∷ []) (i32_type ∷ []) popped pushed
 GcRow g gc.I31GetU popped pushed = (s : Bool) × Takes (ref true (abstract s i31) ∷ []) (i32_type ∷ []) popped pushed
 GcRow g o popped pushed = TableRow g (op.Gc o) popped pushed

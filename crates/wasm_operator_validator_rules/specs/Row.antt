@@ -63,12 +63,14 @@ ControlRow g control.Unreachable popped pushed = Unit {0}
 ControlRow g control.Nop popped pushed = Takes [] [] popped pushed
 ControlRow g (control.Br l) popped pushed = (ts : List ValueType) × (any : List Operand) × IsLabel g l ts × (popped ≡ any ++ all_known ts)
 ControlRow g (control.BrIf l) popped pushed = (ts : List ValueType) × IsLabel g l ts × Takes (ts ++ i32_type ∷ []) ts popped pushed
-ControlRow g (control.BrTable t) popped pushed = (s any : List Operand) × FitEach g s (t.default ∷ t.targets) × (popped ≡ any ++ (s ++ known i32_type ∷ []))
+ControlRow g (control.BrTable t) popped pushed = (s any : List Operand) × FitEach g s (t.default ∷ t.targets)
+    × (popped ≡ any ++ (s ++ known i32_type ∷ []))
 ControlRow g control.Return popped pushed = (any : List Operand) × (popped ≡ any ++ all_known g.results)
 ControlRow g (control.Call x) popped pushed = (b : Signature) × IsCallee g x b × Takes b.params b.results popped pushed
 ControlRow g (control.CallIndirect y x) popped pushed = (t : Table) × (b : Signature) × IsIndirect g y x t b
     × Takes (b.params ++ address_type t.table64 ∷ []) b.results popped pushed
-ControlRow g (control.ReturnCall x) popped pushed = (b : Signature) × (any : List Operand) × IsCallee g x b × IsReturned g b × (popped ≡ any ++ all_known b.params)
+ControlRow g (control.ReturnCall x) popped pushed = (b : Signature) × (any : List Operand) × IsCallee g x b × IsReturned g b
+    × (popped ≡ any ++ all_known b.params)
 ControlRow g (control.ReturnCallIndirect y x) popped pushed = (t : Table) × (b : Signature) × (any : List Operand) × IsIndirect g y x t b
     × IsReturned g b × (popped ≡ any ++ all_known (b.params ++ address_type t.table64 ∷ []))
 ControlRow g (control.ReturnCallRef y) popped pushed = (t : TypeTree) × (b : Signature) × (any : List Operand) × (used_type g y ≡ Some t)

@@ -19,7 +19,8 @@ use Rattle.wasm_operator_validator_rules.specs.Row.{Row, IsEnabled, after}
 -- The operands before and after an operator, the top first: it takes what it pops off some rest, each operand for one above
 -- it, and puts what it pushes on that rest. All subsumption stands here and at the end of a frame.
 abbrev pub Steps : Context → Initialised → Op → List Operand → List Operand → Type 0
-Steps g set o s m = (popped pushed rest : List Operand) × Row g set o popped pushed × AllBelow s (reverse popped ++ rest) × (m ≡ reverse pushed ++ rest)
+Steps g set o s m = (popped pushed rest : List Operand) × Row g set o popped pushed × AllBelow s (reverse popped ++ rest)
+    × (m ≡ reverse pushed ++ rest)
 
 -- the block type that an operator carries
 abbrev pub block_type_of : Op → Option BlockType

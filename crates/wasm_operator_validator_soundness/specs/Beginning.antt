@@ -54,7 +54,8 @@ NullsAreOne = (h : HeapOf TypeTree) (v : Value) → IsNullOf (ref true h) (v ∷
 abbrev pub AnswersExist : Type 0
 AnswersExist =
     (g : Context) (params : ℕ) (c : Code) (locals : List (Option Value)) (answers : List Answer) (k : Configuration)
-    → g.labels ≡ [] → g.catches ≡ [] → IsBody g params c → AreLocals g params locals → Runs g (begun g c locals) answers k → All IsSound g.«module».types
+    → g.labels ≡ [] → g.catches ≡ [] → IsBody g params c → AreLocals g params locals → Runs g (begun g c locals) answers k
+    → All IsSound g.«module».types
     → (a : Answer) × (reduce g k a).answered
 
 -- An operator whose rows are those of the table of instruction types, which has a type for it: on values of the types that it

@@ -207,7 +207,8 @@ module _ (g : Context) (a : Answer) (k : Configuration) where
 
   -- Each row that takes the values on top takes so many, and gives what the answer's values fit.
   abbrev pub FitsEachRow : Op → Type 0
-  FitsEachRow o = (popped pushed : List Operand) → TakesValues g k o popped pushed → (length popped ≡ a.taken) × AllFit a.values (reverse pushed)
+  FitsEachRow o = (popped pushed : List Operand) → TakesValues g k o popped pushed → (length popped ≡ a.taken)
+      × AllFit a.values (reverse pushed)
 
   -- If what comes next is not reached, a row may give anything, and no values fit that.
   abbrev pub runs_by_rows : Way → Op → Code → Reduction
@@ -236,7 +237,8 @@ module _ (g : Context) (a : Answer) (k : Configuration) where
 
   abbrev pub open_if : Op → Signature → Code → List Value → Code → Reduction
   open_if o b body [] more = no_rule
-  open_if o b body (c ∷ ws) more = by_itself (Fits c i32_type × AreOnTop b.params ws) (within frames.If o b body (either_part a.condition body) ws more)
+  open_if o b body (c ∷ ws) more = by_itself (Fits c i32_type × AreOnTop b.params ws)
+      (within frames.If o b body (either_part a.condition body) ws more)
 
   abbrev pub opens : FrameKind → Option Signature → Op → Code → Code → Reduction
   opens j None o body more = no_rule
@@ -304,9 +306,11 @@ module _ (g : Context) (a : Answer) (k : Configuration) where
   operate_control (control.BrTable t) more = let n = get_or t.targets a.index t.default in branch_by n (label_at n) vs
   operate_control control.Return more = by_itself (AreOnTop g.results vs) (returned (front (stack g.results) vs))
   operate_control (control.Call x) more = call (function_type (slice_get g.«module».functions x)) more
-  operate_control (control.CallIndirect y x) more = call_indirect (slice_get g.«module».tables x) (function_type (slice_get g.«module».types y)) more
+  operate_control (control.CallIndirect y x) more = call_indirect (slice_get g.«module».tables x)
+      (function_type (slice_get g.«module».types y)) more
   operate_control (control.ReturnCall x) more = return_call (function_type (slice_get g.«module».functions x))
-  operate_control (control.ReturnCallIndirect y x) more = return_call_indirect (slice_get g.«module».tables x) (function_type (slice_get g.«module».types y)) vs
+  operate_control (control.ReturnCallIndirect y x) more = return_call_indirect (slice_get g.«module».tables x)
+      (function_type (slice_get g.«module».types y)) vs
   operate_control o more = by_rows (op.Control o) more
 
   -- ---- parametric instructions (execution, parametric instructions)

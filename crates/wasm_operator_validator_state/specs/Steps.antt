@@ -97,7 +97,8 @@ IsBare (o ∷ outer) = o.operands ≡ []
 -- the innermost frame was left, and is the one that was given; what was set in it is not set any more
 abbrev pub LeavesTo : List Open → State → OpenFrame → State → Type 0
 LeavesTo [] σ f τ = ⊥
-LeavesTo (o ∷ outer) σ f τ = (o.operands ≡ []) × (f.kind ≡ o.kind) × (f.block_type ≡ o.block) × (τ ≡ record σ { opens = outer; inits = o.before })
+LeavesTo (o ∷ outer) σ f τ = (o.operands ≡ []) × (f.kind ≡ o.kind) × (f.block_type ≡ o.block)
+    × (τ ≡ record σ { opens = outer; inits = o.before })
 
 abbrev pub Leaves : State → OpenFrame → State → Type 0
 Leaves σ f τ = LeavesTo σ.opens σ f τ

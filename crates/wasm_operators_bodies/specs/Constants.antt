@@ -52,7 +52,8 @@ PassesTo s true t = (os : List Op) × (m : Standing) × (o : Op) × Runs s os m 
 -- why no constant expression is read: an operator is refused before the first `end`, for memory only where it takes some; or a frame
 -- is open behind it, which is refused there
 abbrev pub StopsConstant : Standing → ErrorValue → Type 0
-StopsConstant s e = ((t : Standing) × PassesTo s false t × Refuses t e × ((WantsMemory t → ⊥) → IsNotMemory e.kind)) ⊎ ((t : Standing) × PassesTo s true t × (t.frames ≡ [] → ⊥) × (e.kind ≡ Other) × (e.offset ≡ t.bytes.place))
+StopsConstant s e = ((t : Standing) × PassesTo s false t × Refuses t e × ((WantsMemory t → ⊥) → IsNotMemory e.kind))
+    ⊎ ((t : Standing) × PassesTo s true t × (t.frames ≡ [] → ⊥) × (e.kind ≡ Other) × (e.offset ≡ t.bytes.place))
 
 -- two expressions of the same bytes, wherever they stand and whatever the settings of their readers are
 abbrev pub same_bytes : State → State → Bool

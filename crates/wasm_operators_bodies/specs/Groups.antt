@@ -49,7 +49,8 @@ ReadsGroups s (g ∷ gs) t = (m : LocalsLeft) × ReadsGroup s g m × ReadsGroups
 abbrev pub NextGroup : {X : Type 0} → (X → LocalGroup) → LocalsLeft → Bool → Option (Result X ErrorValue) → LocalsLeft → Bool → Type 0
 NextGroup view s failed None t after = ((failed ≡ true) ⊎ (s.groups ≡ 0)) × (t ≡ s) × (after ≡ failed)
 NextGroup view s failed (Some (Ok x)) t after = (failed ≡ false) × (after ≡ false) × ReadsGroup s (view x) t
-NextGroup view s failed (Some (Err e)) t after = (failed ≡ false) × (after ≡ true) × (0 < s.groups) × Fails e (group_within s.room s.bytes) × (t ≡ s) × IsNotMemory e.kind
+NextGroup view s failed (Some (Err e)) t after = (failed ≡ false) × (after ≡ true) × (0 < s.groups) × Fails e (group_within s.room s.bytes)
+    × (t ≡ s) × IsNotMemory e.kind
 
 -- no more items come than this
 abbrev pub groups_left : Bool → LocalsLeft → ℕ

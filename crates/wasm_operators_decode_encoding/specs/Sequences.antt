@@ -14,7 +14,8 @@ immediates settings (k ∷ ks) = immediate settings k >>= λ i. (immediates sett
 -- these immediates, one after the other
 abbrev pub SpelledImmediates : Settings → Grammar (List Immediate)
 SpelledImmediates settings [] text = text ≡ []
-SpelledImmediates settings (i ∷ is) text = (front : List ℕ) × (back : List ℕ) × SpelledImmediate settings i front × SpelledImmediates settings is back × (text ≡ front ++ back)
+SpelledImmediates settings (i ∷ is) text = (front : List ℕ) × (back : List ℕ) × SpelledImmediate settings i front
+    × SpelledImmediates settings is back × (text ≡ front ++ back)
 
 -- immediates of these kinds, and their bytes
 pub record OfKinds (settings : Settings) (ks : List Kind) (is : List Immediate) (text : List ℕ) : Type 0 where

@@ -58,7 +58,8 @@ immediate settings (kind.IndexOrZero space) = read_as (index_or_zero (may_index 
 immediate settings kind.Label = read_as u32 Label
 immediate settings kind.Block = read_as block_type Block
 immediate settings kind.BranchTable = read_as (labels settings) BranchTable
-immediate settings (kind.MemoryArgument access natural) = read_as (memory_argument settings.features access natural) (MemoryArgument access natural)
+immediate settings (kind.MemoryArgument access natural) = read_as (memory_argument settings.features access natural)
+    (MemoryArgument access natural)
 immediate settings kind.MemoryOrdering = read_as (ordering_by 0x01) MemoryOrdering
 immediate settings kind.Heap = read_as heap_type Heap
 immediate settings kind.CastBranch = read_as cast_branch of_branch

@@ -50,11 +50,13 @@ lacks false allowed = false
 
 -- these flags, if what they ask for is allowed
 abbrev pub allowed : Bool → Bool → ℕ → Flags → Decoder Flags
-allowed order memory place f = if lacks f.has_ordering order then refuse_at Other place else (if lacks f.has_memory memory then refuse_at Other place else pure f)
+allowed order memory place f = if lacks f.has_ordering order then refuse_at Other place else
+    (if lacks f.has_memory memory then refuse_at Other place else pure f)
 
 -- the flags of a number, which is refused at this offset where it has no flags or they are not allowed
 abbrev pub flags_from : Bool → Bool → ℕ → ℕ → Decoder Flags
-flags_from order memory place n = if nat_lt n 128 then (if n / 16 % 2 == 0 then allowed order memory place (flags_in n) else refuse_at Other place) else refuse_at Other place
+flags_from order memory place n = if nat_lt n 128 then
+    (if n / 16 % 2 == 0 then allowed order memory place (flags_in n) else refuse_at Other place) else refuse_at Other place
 
 -- flags, where an ordering and a memory may be named or not; else they are refused at their offset
 unfoldable pub flags : Bool → Bool → Decoder Flags
@@ -92,7 +94,8 @@ after_flags features access natural f =
 
 -- the argument of such an access with this exponent of its natural alignment
 unfoldable pub memory_argument : ℕ → AccessOrdering → ℕ → Decoder MemArg
-memory_argument features access natural = flags (may_order features access) (has MultiMemory features) >>= after_flags features access natural
+memory_argument features access natural = flags (may_order features access)
+    (has MultiMemory features) >>= after_flags features access natural
 
 -- ---- grammars
 

@@ -8,7 +8,8 @@ use Rattle.wasm_operators_expression.specs.Code.{Code, walk, IsExpression}
 -- these operators, one after the other
 abbrev pub SpelledOperators : Settings → List Op → List ℕ → Type 0
 SpelledOperators settings [] text = text ≡ []
-SpelledOperators settings (o ∷ os) text = (front : List ℕ) × (back : List ℕ) × SpelledOperator settings o front × SpelledOperators settings os back × (text ≡ front ++ back)
+SpelledOperators settings (o ∷ os) text = (front : List ℕ) × (back : List ℕ) × SpelledOperator settings o front
+    × SpelledOperators settings os back × (text ≡ front ++ back)
 
 -- an expression's tree, and the bytes of its walk
 pub record SpelledExpression (settings : Settings) (c : Code) (text : List ℕ) : Type 0 where

@@ -76,7 +76,8 @@ Runs s (o ∷ os) t = (m : Standing) × Reads s o m × Runs m os t
 -- this is why nothing more of an expression is read: bytes are left, and an operator is refused; or none is left while a frame is
 -- open, which is refused at their end
 abbrev pub Stops : Standing → ErrorValue → Type 0
-Stops s e = ((s.bytes.rest ≡ [] → ⊥) × Refuses s e) ⊎ ((s.bytes.rest ≡ []) × (s.frames ≡ [] → ⊥) × (e.kind ≡ Other) × (e.offset ≡ s.bytes.place))
+Stops s e = ((s.bytes.rest ≡ [] → ⊥) × Refuses s e)
+    ⊎ ((s.bytes.rest ≡ []) × (s.frames ≡ [] → ⊥) × (e.kind ≡ Other) × (e.offset ≡ s.bytes.place))
 
 -- it reads some operators, and stops behind them
 abbrev pub StopsAfter : Standing → ErrorValue → Type 0

@@ -34,7 +34,8 @@ abbrev pub RefusesPlain : Standing → ErrorValue → Type 0
 RefusesPlain s e = Refuses s e ⊎ RefusesVector s e
 
 -- an operator of this role, which is not on vectors, is read from one state to the other, and the visitor is told of it
-pub record Tells {V A : Type 0} (visits : V → Op → A → V → Type 0) (role : Role) (s : State) (v : V) (answer : A) (t : State) (w : V) : Type 0 where
+pub record Tells {V A : Type 0} (visits : V → Op → A → V → Type 0) (role : Role) (s : State) (v : V) (answer : A) (t : State)
+    (w : V) : Type 0 where
   pub op : Op
   pub canonical : IsTrue (is_canonical op)
   pub read : operator s.settings s ≡ Done (coded_of op) t

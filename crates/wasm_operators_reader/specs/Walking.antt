@@ -24,7 +24,8 @@ WalksTo visits answer s v t w = (os : List Op) × Runs s os t × HasNoVectors os
 
 -- the same, and behind them one more operator that the visitor answers otherwise
 abbrev pub WalksUntil : {V A : Type 0} → (V → Op → A → V → Type 0) → A → Standing → V → A → V → Type 0
-WalksUntil {V} visits answer s v last w = (m : Standing) × (n : V) × WalksTo visits answer s v m n × (o : Op) × (t : Standing) × Reads m o t × (is_simd o ≡ false) × visits n o last w
+WalksUntil {V} visits answer s v last w = (m : Standing) × (n : V) × WalksTo visits answer s v m n × (o : Op) × (t : Standing) × Reads m o t
+    × (is_simd o ≡ false) × visits n o last w
 
 -- the same, where that operator begins at this offset
 abbrev pub WalksUntilAt : {V A : Type 0} → (V → Op → A → V → Type 0) → A → Standing → V → A → V → ℕ → Type 0
@@ -39,4 +40,5 @@ WalksUntilTo {V} visits answer s v last t w place =
 -- why a walk without vectors goes no further: bytes are left, and no operator is read, or one on vectors, for memory only where the
 -- operator takes some; or none is left while a frame is open, which is refused at their end
 abbrev pub StopsPlain : Standing → ErrorValue → Type 0
-StopsPlain s e = ((s.bytes.rest ≡ [] → ⊥) × RefusesPlain s e × ((WantsMemory s → ⊥) → IsNotMemory e.kind)) ⊎ ((s.bytes.rest ≡ []) × (s.frames ≡ [] → ⊥) × (e.kind ≡ Other) × (e.offset ≡ s.bytes.place))
+StopsPlain s e = ((s.bytes.rest ≡ [] → ⊥) × RefusesPlain s e × ((WantsMemory s → ⊥) → IsNotMemory e.kind))
+    ⊎ ((s.bytes.rest ≡ []) × (s.frames ≡ [] → ⊥) × (e.kind ≡ Other) × (e.offset ≡ s.bytes.place))

@@ -268,4 +268,5 @@ simd_numeric_info simd_numeric.F64x2RelaxedMin = row RelaxedSimd (codes "f64x2.r
 simd_numeric_info simd_numeric.F64x2RelaxedMax = row RelaxedSimd (codes "f64x2.relaxed_max") (Some 0xfd) 0x110
 simd_numeric_info simd_numeric.I16x8RelaxedQ15mulrS = row RelaxedSimd (codes "i16x8.relaxed_q15mulr_s") (Some 0xfd) 0x111
 simd_numeric_info simd_numeric.I16x8RelaxedDotI8x16I7x16S = row RelaxedSimd (codes "i16x8.relaxed_dot_i8x16_i7x16_s") (Some 0xfd) 0x112
-simd_numeric_info simd_numeric.I32x4RelaxedDotI8x16I7x16AddS = row RelaxedSimd (codes "i32x4.relaxed_dot_i8x16_i7x16_add_s") (Some 0xfd) 0x113
+simd_numeric_info simd_numeric.I32x4RelaxedDotI8x16I7x16AddS = row RelaxedSimd (codes "i32x4.relaxed_dot_i8x16_i7x16_add_s")
+    (Some 0xfd) 0x113

@@ -69,7 +69,8 @@ SpelledEntry = IsSized IsBytes
 abbrev pub SpelledPart : Settings → Grammar Part
 SpelledPart z (custom name content) text = (sized : List ℕ) × (text ≡ custom_id ∷ sized) × IsSized (SpelledNamed z) (name, content) sized
 SpelledPart z (code entries) text = (sized : List ℕ) × (text ≡ code_id ∷ sized) × IsSized (IsListed SpelledEntry) entries sized
-SpelledPart z (section id contents) text = (id ≡ custom_id → ⊥) × (id ≡ code_id → ⊥) × ((sized : List ℕ) × (text ≡ id ∷ sized) × IsSized IsBytes contents sized)
+SpelledPart z (section id contents) text = (id ≡ custom_id → ⊥) × (id ≡ code_id → ⊥)
+    × ((sized : List ℕ) × (text ≡ id ∷ sized) × IsSized IsBytes contents sized)
 
 -- ---- modules
 

@@ -33,7 +33,8 @@ with_offset v d z b x c = (x.0 ≡ b.place) × (d z b ≡ Done (v x.1) c)
 
 -- A step of an iterator whose items d reads: walk says where it stands, R which items are read, and told what else a step tells. It is
 -- what `next_gives` says of the iterators here.
-abbrev pub Steps : {X A S : Type 0} → (Settings → Decoder A) → (S → Walk) → (Option (Result X ErrorValue) → Type 0) → (Settings → State → X → State → Type 0) → S
+abbrev pub Steps : {X A S : Type 0} → (Settings → Decoder A) → (S → Walk) → (Option (Result X ErrorValue) → Type 0)
+    → (Settings → State → X → State → Type 0) → S
     → Option (Result X ErrorValue) → S → Type 0
 Steps d walk told R s r t = NextIn (R (walk s).reader.settings) (λ b e. Fails e (d (walk s).reader.settings b)) (walk s) r (walk t) × told r × ((walk t).reader.settings ≡ (walk s).reader.settings)
 

@@ -22,7 +22,8 @@ IsTrailing w e = (w.left ≡ 0) × (0 < length w.reader.rest) × (e.kind ≡ Oth
 
 -- What comes next, where `reads` says which items are read and `refuses` which are refused: an item as long as one is left, then
 -- nothing if no byte is left. A byte that is left there is refused, and nothing comes behind an error.
-abbrev pub NextIn : {X : Type 0} → (State → X → State → Type 0) → (State → ErrorValue → Type 0) → Walk → Option (Result X ErrorValue) → Walk → Type 0
+abbrev pub NextIn : {X : Type 0} → (State → X → State → Type 0) → (State → ErrorValue → Type 0) → Walk → Option (Result X ErrorValue) → Walk
+    → Type 0
 NextIn reads refuses w None v = ((w.over ≡ true) ⊎ ((w.left ≡ 0) × (w.reader.rest ≡ []))) × (v.over ≡ true)
 NextIn reads refuses w (Some (Ok x)) v = (w.over ≡ false) × (v.over ≡ false) × (w.left ≡ v.left + 1) × reads w.reader x v.reader
 NextIn reads refuses w (Some (Err e)) v = (w.over ≡ false) × (v.over ≡ true) × (IsTrailing w e ⊎ ((0 < w.left) × refuses w.reader e))

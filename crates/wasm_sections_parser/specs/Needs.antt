@@ -44,7 +44,8 @@ least_within m (suc k) low high unit room =
 
 -- where these bytes of a size are there, and so many of room behind them; n elsewhere
 abbrev pub needed_within : Measured → ℕ → List ℕ → ℕ → ℕ
-needed_within m room size n = if is_cut size then least_within m (4 - length size) (low_of size) (low_of size) (128 ^ length size) room else n
+needed_within m room size n = if is_cut size then least_within m (4 - length size) (low_of size) (low_of size)
+    (128 ^ length size) room else n
 
 -- ---- where a parser stands
 

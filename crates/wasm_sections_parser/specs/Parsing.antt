@@ -66,8 +66,10 @@ pub record IsNext (p : Parser) (text : List ℕ) (n : ℕ) (f : Frame) (q : Pars
 -- An id alone tells nothing, so two bytes are needed.
 abbrev pub Ends : Parser → Bool → Result Chunk ErrorValue → Parser → Type 0
 Ends p eof (Ok (NeedMoreData n)) q = (eof ≡ false) × (n ≡ 2) × (q ≡ p)
-Ends p eof (Ok (Parsed n f)) q = (eof ≡ true) × (counts_agree p.progress ≡ true) × (n ≡ 0) × (f ≡ frames.End p.offset) × (q ≡ staged p stages.Ended)
-Ends p eof (Err e) q = (eof ≡ true) × (counts_agree p.progress ≡ false) × (e.kind ≡ Other) × (e.offset ≡ p.offset) × (q ≡ staged p stages.Failed)
+Ends p eof (Ok (Parsed n f)) q = (eof ≡ true) × (counts_agree p.progress ≡ true) × (n ≡ 0) × (f ≡ frames.End p.offset)
+    × (q ≡ staged p stages.Ended)
+Ends p eof (Err e) q = (eof ≡ true) × (counts_agree p.progress ≡ false) × (e.kind ≡ Other) × (e.offset ≡ p.offset)
+    × (q ≡ staged p stages.Failed)
 
 -- bytes are missing, and so many more can bring a frame or a refusal
 abbrev pub Lacks : Parser → List ℕ → ℕ → Type 0
@@ -78,7 +80,8 @@ Lacks p text n = (place : ℕ) × (lacking : ℕ) × (comes p text ≡ Short pla
 abbrev pub Comes : Parser → List ℕ → Bool → Result Chunk ErrorValue → Parser → Type 0
 Comes p text eof (Ok (NeedMoreData n)) q = (eof ≡ false) × Lacks p text n × (q ≡ p)
 Comes p text eof (Ok (Parsed n f)) q = IsNext p text n f q
-Comes p text eof (Err e) q = IsNotMemory e.kind × Fails e (comes p text) × ((eof ≡ false) → hint_of e.kind ≡ None) × (q ≡ staged p stages.Failed)
+Comes p text eof (Err e) q = IsNotMemory e.kind × Fails e (comes p text) × ((eof ≡ false) → hint_of e.kind ≡ None)
+    × (q ≡ staged p stages.Failed)
 
 -- what a parser answers behind the end and behind a refusal
 abbrev pub IsOver : Parser → Result Chunk ErrorValue → Parser → Type 0
@@ -92,4 +95,5 @@ one_of false x y = y
 
 -- what a call answers to these bytes, behind which none follow where eof says so
 abbrev pub Parses : Parser → List ℕ → Bool → Result Chunk ErrorValue → Parser → Type 0
-Parses p text eof result q = one_of (is_over p.progress) (IsOver p result q) (one_of (at_end p text) (Ends p eof result q) (Comes p text eof result q))
+Parses p text eof result q = one_of (is_over p.progress) (IsOver p result q)
+    (one_of (at_end p text) (Ends p eof result q) (Comes p text eof result q))

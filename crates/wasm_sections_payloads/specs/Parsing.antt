@@ -57,7 +57,8 @@ pub record CalledPayload (p : Parser) (text : List ℕ) (answer : Result Chunk E
 -- that asks for more bytes leaves a parser as it was, so between these there may be any number of such.
 abbrev pub PayloadCalls : Parser → List ℕ → List Payload → Parser → List ℕ → Type 0
 PayloadCalls p text [] q rest = (p ≡ q) × (text ≡ rest)
-PayloadCalls p text (x ∷ xs) q rest = (n : ℕ) × (r : Parser) × CalledPayload p text (Ok (Parsed n x)) r × PayloadCalls r (drop n text) xs q rest
+PayloadCalls p text (x ∷ xs) q rest = (n : ℕ) × (r : Parser) × CalledPayload p text (Ok (Parsed n x)) r
+    × PayloadCalls r (drop n text) xs q rest
 
 -- whether a payload is the end
 abbrev pub is_end_payload : Payload → Bool

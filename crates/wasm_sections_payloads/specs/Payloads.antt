@@ -58,7 +58,8 @@ IsSectionOf id b (payloads.ElementSection s) = (id ≡ 9) × Counts b s.count s.
 IsSectionOf id b (payloads.DataSection s) = (id ≡ 11) × Counts b s.count s.reader
 IsSectionOf id b (payloads.DataCountSection n r) = (id ≡ 12) × (only_number b ≡ Done n b) × (r.start ≡ b.start) × (r.end ≡ end_of b)
 IsSectionOf id b (payloads.TagSection s) = (id ≡ 13) × Counts b s.count s.reader
-IsSectionOf id b (payloads.UnknownSection i c r) = (i ≡ id) × (is_unknown id ≡ true) × (c.now ≡ b.rest) × (r.start ≡ b.start) × (r.end ≡ end_of b)
+IsSectionOf id b (payloads.UnknownSection i c r) = (i ≡ id) × (is_unknown id ≡ true) × (c.now ≡ b.rest) × (r.start ≡ b.start)
+    × (r.end ≡ end_of b)
 IsSectionOf id b (payloads.Version n e r) = ⊥
 IsSectionOf id b (payloads.CodeSectionStart n r k) = ⊥
 IsSectionOf id b (payloads.CodeSectionEntry body) = ⊥

@@ -7,7 +7,8 @@ use Rattle.wasm_types_decoding.specs.Decoder.{Decoder, Grammar, ◌>>=◌, pure,
 --      | n:byte m:u(N-7) => 2^7 * m + (n - 2^7)        if n >= 2^7 and N > 7
 pub data IsUnsigned : ℕ → ℕ → List ℕ → Type 0 where
   last : (N v n : ℕ) → n < 2 ^ 7 → n < 2 ^ N → v ≡ n → IsUnsigned N v (n ∷ [])
-  more : (N v n m : ℕ) (text : List ℕ) → 2 ^ 7 ≤ n → 7 < N → IsUnsigned (N - 7) m text → v ≡ 2 ^ 7 * m + (n - 2 ^ 7) → IsUnsigned N v (n ∷ text)
+  more : (N v n m : ℕ) (text : List ℕ) → 2 ^ 7 ≤ n → 7 < N → IsUnsigned (N - 7) m text → v ≡ 2 ^ 7 * m + (n - 2 ^ 7)
+      → IsUnsigned N v (n ∷ text)
 
 -- a number of 7 * k + r bits, in at most k + 1 bytes
 unfoldable pub unsigned : ℕ → ℕ → Decoder ℕ
@@ -29,7 +30,8 @@ u64 = unsigned 9 1
 pub data IsSigned : ℕ → ℤ → List ℕ → Type 0 where
   nonnegative : (N : ℕ) (v : ℤ) (n : ℕ) → n < 2 ^ 6 → n < 2 ^ (N - 1) → v ≡ pos n → IsSigned N v (n ∷ [])
   negative : (N : ℕ) (v : ℤ) (n : ℕ) → 2 ^ 6 ≤ n → n < 2 ^ 7 → 2 ^ 7 - 2 ^ (N - 1) ≤ n → v ≡ pos n -ℤ pos (2 ^ 7) → IsSigned N v (n ∷ [])
-  longer : (N : ℕ) (v : ℤ) (n : ℕ) (m : ℤ) (text : List ℕ) → 2 ^ 7 ≤ n → 7 < N → IsSigned (N - 7) m text → v ≡ pos (2 ^ 7) *ℤ m +ℤ pos (n - 2 ^ 7) → IsSigned N v (n ∷ text)
+  longer : (N : ℕ) (v : ℤ) (n : ℕ) (m : ℤ) (text : List ℕ) → 2 ^ 7 ≤ n → 7 < N → IsSigned (N - 7) m text
+      → v ≡ pos (2 ^ 7) *ℤ m +ℤ pos (n - 2 ^ 7) → IsSigned N v (n ∷ text)
 
 -- the number that seven bits are, of which the highest is the sign
 abbrev pub seven_bits : ℕ → ℤ

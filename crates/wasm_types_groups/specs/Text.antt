@@ -24,7 +24,8 @@ prefix_text word (Some i) = codes "(" ++ word ++ codes " " ++ index_text i ++ co
 
 -- a type with what it describes and its descriptor
 abbrev pub described_text : CompositeType → List ℕ
-described_text t = prefix_text (codes "describes") t.describes_idx ++ prefix_text (codes "descriptor") t.descriptor_idx ++ inner_text t.inner
+described_text t = prefix_text (codes "describes") t.describes_idx ++ prefix_text
+    (codes "descriptor") t.descriptor_idx ++ inner_text t.inner
 
 -- a shared type (true) in parentheses of its own
 abbrev pub shared_text : Bool → List ℕ → List ℕ

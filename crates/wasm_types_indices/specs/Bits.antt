@@ -8,7 +8,8 @@ use Rattle.wasm_types_indices.specs.Indices.{number_of, kind_of}
 
 -- the index that 22 bits hold
 abbrev pub unpacked : ℕ → UnpackedIndex
-unpacked bits = if nat_lt bits 0x10_0000 then Module bits else if nat_lt bits 0x20_0000 then RecGroup (bits - 0x10_0000) else Id (record { 0 = bits - 0x20_0000 })
+unpacked bits = if nat_lt bits 0x10_0000 then Module bits else if nat_lt bits 0x20_0000 then RecGroup (bits - 0x10_0000) else Id
+    (record { 0 = bits - 0x20_0000 })
 
 -- the bits of an index
 abbrev pub packed : UnpackedIndex → ℕ

@@ -56,7 +56,8 @@ bits_of r = 0x80_0000 * class_of r.heap + 0x40_0000 * bit r.nullable + low_bits_
 
 -- the heap type that 25 bits hold
 abbrev pub heap_of_bits : ℕ → HeapType
-heap_of_bits bits = if nat_lt bits 0x100_0000 then Abstract (nat_lt 0xf_ffff (bits % 0x40_0000)) (type_of_code (bits % 0x10_0000)) else if nat_lt bits
+heap_of_bits bits = if nat_lt bits 0x100_0000 then Abstract (nat_lt 0xf_ffff (bits % 0x40_0000))
+    (type_of_code (bits % 0x10_0000)) else if nat_lt bits
     0x180_0000 then Concrete (unpacked (bits % 0x40_0000)) else Exact (unpacked (bits % 0x40_0000))
 
 -- the reference that they hold

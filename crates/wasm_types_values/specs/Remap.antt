@@ -24,7 +24,8 @@ abbrev pub IsWalked : {R E U : Type 0} → (R → Result R E → Type 0) → Res
 IsWalked answers result before after = MatchResult result (λ u. AreAnswered answers before after) (λ e. IsCutShort answers e before after)
 
 -- the shape stays, and the indices are answered in order, up to the first that is refused
-pub record Remapped {T S R E U : Type 0} (shape : T → S) (indices : T → List R) (answers : R → Result R E → Type 0) (result : Result U E) (before after : T) : Type 0 where
+pub record Remapped {T S R E U : Type 0} (shape : T → S) (indices : T → List R) (answers : R → Result R E → Type 0) (result : Result U E)
+    (before after : T) : Type 0 where
   pub same : shape after ≡ shape before
   pub walked : IsWalked answers result (indices before) (indices after)
 

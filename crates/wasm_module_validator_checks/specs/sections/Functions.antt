@@ -12,4 +12,5 @@ HasFunction m x = (t : TypeTree) × (b : Signature) × (slice_get m.«module».f
 
 -- it has this one
 abbrev pub IsFunctionOf : Meaning → ℕ → FuncType → Type 0
-IsFunctionOf m x f = (t : TypeTree) × (slice_get m.«module».functions x ≡ Some t) × IsFunctionType t (record { params = types_in m f.params; results = types_in m f.results })
+IsFunctionOf m x f = (t : TypeTree) × (slice_get m.«module».functions x ≡ Some t)
+    × IsFunctionType t (record { params = types_in m f.params; results = types_in m f.results })

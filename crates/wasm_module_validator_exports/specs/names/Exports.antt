@@ -58,7 +58,8 @@ IsFree slots names p = (x : ℕ) × (slice_get slots p ≡ Some x) × (slice_get
 abbrev pub HasMet : List ℕ → List (List ℕ) → List ℕ → Met → Type 0
 HasMet slots names n (met.Free p i) = (p ≡ slot_of (number_of n) (length slots)) × (i ≡ length names) × IsFree slots names p
 HasMet slots names n met.Same = stands_at n names (in_slot slots n) ≡ true
-HasMet slots names n met.Other = (stands_at n names (in_slot slots n) ≡ false) × (IsFree slots names (slot_of (number_of n) (length slots)) → ⊥)
+HasMet slots names n met.Other = (stands_at n names (in_slot slots n) ≡ false)
+    × (IsFree slots names (slot_of (number_of n) (length slots)) → ⊥)
 
 -- an index in a slot, and in all others what was there
 abbrev pub IsPut : ℕ → ℕ → List ℕ → List ℕ → Type 0
@@ -67,7 +68,8 @@ IsPut p x old new = (length new ≡ length old) × ((q : ℕ) → slice_get new 
 module _ {Y : Type 0} where
   -- a name more in the set, where it was new
   abbrev pub HasNoted : List ℕ → BTreeSet (String Y) → BTreeSet (String Y) → Tried → Type 0
-  HasNoted n old new tried.Added = (contains_text old n ≡ false) × ((q : List ℕ) → contains_text new q ≡ cond (bytes_eq n q) true (contains_text old q))
+  HasNoted n old new tried.Added = (contains_text old n ≡ false)
+      × ((q : List ℕ) → contains_text new q ≡ cond (bytes_eq n q) true (contains_text old q))
   HasNoted n old new tried.Taken = (contains_text old n ≡ true) × (new.keys ≡ old.keys)
   HasNoted n old new tried.NoMemory = new.keys ≡ old.keys
 

@@ -60,4 +60,5 @@ pub record AddsGroup (old new : List Group) (before after : List CoreTypeId) (g 
 
 -- the types of the group of a number are valid, by their ids
 abbrev pub AreGroupTypesValid : Settings → List Group → ℕ → Type 0
-AreGroupTypesValid z groups k = (first end : ℕ) → HasIds groups k first end → AreTypesValid groups z.features z.limits.subtyping_depth first (end - first)
+AreGroupTypesValid z groups k = (first end : ℕ) → HasIds groups k first end
+    → AreTypesValid groups z.features z.limits.subtyping_depth first (end - first)

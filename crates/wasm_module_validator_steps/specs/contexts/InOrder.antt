@@ -109,7 +109,8 @@ IsTagInTurn z m before x = IsValidTagType z (context_so_far (tags_read m before)
 
 -- the value of a global sees all globals before it
 abbrev pub IsGlobalInTurn : Settings → ModuleTree → List (GlobalTree Code) → GlobalTree Code → Type 0
-IsGlobalInTurn z m before x = IsValidGlobal z (context_so_far (globals_read m before)) (imported_globals m) (length (context_so_far (globals_read m before)).globals) x
+IsGlobalInTurn z m before x = IsValidGlobal z (context_so_far (globals_read m before)) (imported_globals m)
+    (length (context_so_far (globals_read m before)).globals) x
 
 -- no export before it has its name
 abbrev pub IsExportInTurn : Settings → ModuleTree → List ExportTree → ExportTree → Type 0

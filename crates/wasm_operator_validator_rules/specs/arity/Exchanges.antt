@@ -60,11 +60,14 @@ pub record IsShortest (g : Context) (set : Initialised) (o : Op) (n c : ℕ) : T
 -- turned, with its results and with what its next part begins with; where it is closed, with its results.
 pub data Exchanges (g : Context) (set : Initialised) : List Standing → Op → ℕ → ℕ → Type 0 where
   by_row : {fs : List Standing} {o : Op} {n c : ℕ} → IsShortest g set o n c → Exchanges g set fs o n c
-  opened : {fs : List Standing} {o : Op} (k : FrameKind) (b : Signature) → OpensFrame g o k b → Exchanges g set fs o (length (entry_of k b)) (length b.params)
+  opened : {fs : List Standing} {o : Op} (k : FrameKind) (b : Signature) → OpensFrame g o k b
+      → Exchanges g set fs o (length (entry_of k b)) (length b.params)
   turned : {fs : List Standing} {o : Op} (f : Standing) (ts : List ValueType) → Turns g f.block o ts
       → Exchanges g set (f ∷ fs) o (length f.block.results) (length ts)
-  closed : {fs : List Standing} {o : Op} (f : Standing) → EndsAt g o → Exchanges g set (f ∷ fs) o (length f.block.results) (length f.block.results)
+  closed : {fs : List Standing} {o : Op} (f : Standing) → EndsAt g o
+      → Exchanges g set (f ∷ fs) o (length f.block.results) (length f.block.results)
 
 -- where the rules let an operator take and give so many, the table has these numbers
 abbrev pub CountsAreExact : Type 0
-CountsAreExact = (k : Known) (g : Context) (fs : List Standing) (set : Initialised) (o : Op) (n c : ℕ) → IsAround k g fs → Exchanges g set fs o n c → counts_of k o ≡ Some (n, c)
+CountsAreExact = (k : Known) (g : Context) (fs : List Standing) (set : Initialised) (o : Op) (n c : ℕ) → IsAround k g fs
+    → Exchanges g set fs o n c → counts_of k o ≡ Some (n, c)

@@ -46,9 +46,12 @@ gc_info gc.I31GetU = row Gc (codes "i31.get_u") (Some 0xfb) 0x1e
 -- of descriptors (the proposal on custom descriptors)
 abbrev pub descriptor_info : DescriptorOperator → Info
 descriptor_info (descriptor.StructNewDesc struct_type_index) = row CustomDescriptors (codes "struct.new_desc") (Some 0xfb) 0x20
-descriptor_info (descriptor.StructNewDefaultDesc struct_type_index) = row CustomDescriptors (codes "struct.new_default_desc") (Some 0xfb) 0x21
+descriptor_info (descriptor.StructNewDefaultDesc struct_type_index) = row CustomDescriptors (codes "struct.new_default_desc")
+    (Some 0xfb) 0x21
 descriptor_info (descriptor.RefGetDesc type_index) = row CustomDescriptors (codes "ref.get_desc") (Some 0xfb) 0x22
 descriptor_info (descriptor.RefCastDescEqNonNull hty) = row CustomDescriptors (codes "ref.cast_desc_eq") (Some 0xfb) 0x23
 descriptor_info (descriptor.RefCastDescEqNullable hty) = row CustomDescriptors (codes "ref.cast_desc_eq") (Some 0xfb) 0x24
-descriptor_info (descriptor.BrOnCastDescEq relative_depth from_ref_type to_ref_type) = row CustomDescriptors (codes "br_on_cast_desc_eq") (Some 0xfb) 0x25
-descriptor_info (descriptor.BrOnCastDescEqFail relative_depth from_ref_type to_ref_type) = row CustomDescriptors (codes "br_on_cast_desc_eq_fail") (Some 0xfb) 0x26
+descriptor_info (descriptor.BrOnCastDescEq relative_depth from_ref_type to_ref_type) = row CustomDescriptors (codes "br_on_cast_desc_eq")
+    (Some 0xfb) 0x25
+descriptor_info (descriptor.BrOnCastDescEqFail relative_depth from_ref_type to_ref_type) = row CustomDescriptors
+    (codes "br_on_cast_desc_eq_fail") (Some 0xfb) 0x26

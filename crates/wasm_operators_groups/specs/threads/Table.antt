@@ -87,32 +87,52 @@ shared_info (shared.GlobalAtomicRmwSub ordering global_index) = row SharedEveryt
 shared_info (shared.GlobalAtomicRmwAnd ordering global_index) = row SharedEverythingThreads (codes "global.atomic.rmw.and") (Some 0xfe) 0x53
 shared_info (shared.GlobalAtomicRmwOr ordering global_index) = row SharedEverythingThreads (codes "global.atomic.rmw.or") (Some 0xfe) 0x54
 shared_info (shared.GlobalAtomicRmwXor ordering global_index) = row SharedEverythingThreads (codes "global.atomic.rmw.xor") (Some 0xfe) 0x55
-shared_info (shared.GlobalAtomicRmwXchg ordering global_index) = row SharedEverythingThreads (codes "global.atomic.rmw.xchg") (Some 0xfe) 0x56
-shared_info (shared.GlobalAtomicRmwCmpxchg ordering global_index) = row SharedEverythingThreads (codes "global.atomic.rmw.cmpxchg") (Some 0xfe) 0x57
+shared_info (shared.GlobalAtomicRmwXchg ordering global_index) = row SharedEverythingThreads (codes "global.atomic.rmw.xchg")
+    (Some 0xfe) 0x56
+shared_info (shared.GlobalAtomicRmwCmpxchg ordering global_index) = row SharedEverythingThreads (codes "global.atomic.rmw.cmpxchg")
+    (Some 0xfe) 0x57
 shared_info (shared.TableAtomicGet ordering table_index) = row SharedEverythingThreads (codes "table.atomic.get") (Some 0xfe) 0x58
 shared_info (shared.TableAtomicSet ordering table_index) = row SharedEverythingThreads (codes "table.atomic.set") (Some 0xfe) 0x59
 shared_info (shared.TableAtomicRmwXchg ordering table_index) = row SharedEverythingThreads (codes "table.atomic.rmw.xchg") (Some 0xfe) 0x5a
-shared_info (shared.TableAtomicRmwCmpxchg ordering table_index) = row SharedEverythingThreads (codes "table.atomic.rmw.cmpxchg") (Some 0xfe) 0x5b
-shared_info (shared.StructAtomicGet ordering struct_type_index field_index) = row SharedEverythingThreads (codes "struct.atomic.get") (Some 0xfe) 0x5c
-shared_info (shared.StructAtomicGetS ordering struct_type_index field_index) = row SharedEverythingThreads (codes "struct.atomic.get_s") (Some 0xfe) 0x5d
-shared_info (shared.StructAtomicGetU ordering struct_type_index field_index) = row SharedEverythingThreads (codes "struct.atomic.get_u") (Some 0xfe) 0x5e
-shared_info (shared.StructAtomicSet ordering struct_type_index field_index) = row SharedEverythingThreads (codes "struct.atomic.set") (Some 0xfe) 0x5f
-shared_info (shared.StructAtomicRmwAdd ordering struct_type_index field_index) = row SharedEverythingThreads (codes "struct.atomic.rmw.add") (Some 0xfe) 0x60
-shared_info (shared.StructAtomicRmwSub ordering struct_type_index field_index) = row SharedEverythingThreads (codes "struct.atomic.rmw.sub") (Some 0xfe) 0x61
-shared_info (shared.StructAtomicRmwAnd ordering struct_type_index field_index) = row SharedEverythingThreads (codes "struct.atomic.rmw.and") (Some 0xfe) 0x62
-shared_info (shared.StructAtomicRmwOr ordering struct_type_index field_index) = row SharedEverythingThreads (codes "struct.atomic.rmw.or") (Some 0xfe) 0x63
-shared_info (shared.StructAtomicRmwXor ordering struct_type_index field_index) = row SharedEverythingThreads (codes "struct.atomic.rmw.xor") (Some 0xfe) 0x64
-shared_info (shared.StructAtomicRmwXchg ordering struct_type_index field_index) = row SharedEverythingThreads (codes "struct.atomic.rmw.xchg") (Some 0xfe) 0x65
-shared_info (shared.StructAtomicRmwCmpxchg ordering struct_type_index field_index) = row SharedEverythingThreads (codes "struct.atomic.rmw.cmpxchg") (Some 0xfe) 0x66
+shared_info (shared.TableAtomicRmwCmpxchg ordering table_index) = row SharedEverythingThreads (codes "table.atomic.rmw.cmpxchg")
+    (Some 0xfe) 0x5b
+shared_info (shared.StructAtomicGet ordering struct_type_index field_index) = row SharedEverythingThreads (codes "struct.atomic.get")
+    (Some 0xfe) 0x5c
+shared_info (shared.StructAtomicGetS ordering struct_type_index field_index) = row SharedEverythingThreads (codes "struct.atomic.get_s")
+    (Some 0xfe) 0x5d
+shared_info (shared.StructAtomicGetU ordering struct_type_index field_index) = row SharedEverythingThreads (codes "struct.atomic.get_u")
+    (Some 0xfe) 0x5e
+shared_info (shared.StructAtomicSet ordering struct_type_index field_index) = row SharedEverythingThreads (codes "struct.atomic.set")
+    (Some 0xfe) 0x5f
+shared_info (shared.StructAtomicRmwAdd ordering struct_type_index field_index) = row SharedEverythingThreads (codes "struct.atomic.rmw.add")
+    (Some 0xfe) 0x60
+shared_info (shared.StructAtomicRmwSub ordering struct_type_index field_index) = row SharedEverythingThreads (codes "struct.atomic.rmw.sub")
+    (Some 0xfe) 0x61
+shared_info (shared.StructAtomicRmwAnd ordering struct_type_index field_index) = row SharedEverythingThreads (codes "struct.atomic.rmw.and")
+    (Some 0xfe) 0x62
+shared_info (shared.StructAtomicRmwOr ordering struct_type_index field_index) = row SharedEverythingThreads (codes "struct.atomic.rmw.or")
+    (Some 0xfe) 0x63
+shared_info (shared.StructAtomicRmwXor ordering struct_type_index field_index) = row SharedEverythingThreads (codes "struct.atomic.rmw.xor")
+    (Some 0xfe) 0x64
+shared_info (shared.StructAtomicRmwXchg ordering struct_type_index field_index) = row SharedEverythingThreads
+    (codes "struct.atomic.rmw.xchg") (Some 0xfe) 0x65
+shared_info (shared.StructAtomicRmwCmpxchg ordering struct_type_index field_index) = row SharedEverythingThreads
+    (codes "struct.atomic.rmw.cmpxchg") (Some 0xfe) 0x66
 shared_info (shared.ArrayAtomicGet ordering array_type_index) = row SharedEverythingThreads (codes "array.atomic.get") (Some 0xfe) 0x67
 shared_info (shared.ArrayAtomicGetS ordering array_type_index) = row SharedEverythingThreads (codes "array.atomic.get_s") (Some 0xfe) 0x68
 shared_info (shared.ArrayAtomicGetU ordering array_type_index) = row SharedEverythingThreads (codes "array.atomic.get_u") (Some 0xfe) 0x69
 shared_info (shared.ArrayAtomicSet ordering array_type_index) = row SharedEverythingThreads (codes "array.atomic.set") (Some 0xfe) 0x6a
-shared_info (shared.ArrayAtomicRmwAdd ordering array_type_index) = row SharedEverythingThreads (codes "array.atomic.rmw.add") (Some 0xfe) 0x6b
-shared_info (shared.ArrayAtomicRmwSub ordering array_type_index) = row SharedEverythingThreads (codes "array.atomic.rmw.sub") (Some 0xfe) 0x6c
-shared_info (shared.ArrayAtomicRmwAnd ordering array_type_index) = row SharedEverythingThreads (codes "array.atomic.rmw.and") (Some 0xfe) 0x6d
+shared_info (shared.ArrayAtomicRmwAdd ordering array_type_index) = row SharedEverythingThreads (codes "array.atomic.rmw.add")
+    (Some 0xfe) 0x6b
+shared_info (shared.ArrayAtomicRmwSub ordering array_type_index) = row SharedEverythingThreads (codes "array.atomic.rmw.sub")
+    (Some 0xfe) 0x6c
+shared_info (shared.ArrayAtomicRmwAnd ordering array_type_index) = row SharedEverythingThreads (codes "array.atomic.rmw.and")
+    (Some 0xfe) 0x6d
 shared_info (shared.ArrayAtomicRmwOr ordering array_type_index) = row SharedEverythingThreads (codes "array.atomic.rmw.or") (Some 0xfe) 0x6e
-shared_info (shared.ArrayAtomicRmwXor ordering array_type_index) = row SharedEverythingThreads (codes "array.atomic.rmw.xor") (Some 0xfe) 0x6f
-shared_info (shared.ArrayAtomicRmwXchg ordering array_type_index) = row SharedEverythingThreads (codes "array.atomic.rmw.xchg") (Some 0xfe) 0x70
-shared_info (shared.ArrayAtomicRmwCmpxchg ordering array_type_index) = row SharedEverythingThreads (codes "array.atomic.rmw.cmpxchg") (Some 0xfe) 0x71
+shared_info (shared.ArrayAtomicRmwXor ordering array_type_index) = row SharedEverythingThreads (codes "array.atomic.rmw.xor")
+    (Some 0xfe) 0x6f
+shared_info (shared.ArrayAtomicRmwXchg ordering array_type_index) = row SharedEverythingThreads (codes "array.atomic.rmw.xchg")
+    (Some 0xfe) 0x70
+shared_info (shared.ArrayAtomicRmwCmpxchg ordering array_type_index) = row SharedEverythingThreads (codes "array.atomic.rmw.cmpxchg")
+    (Some 0xfe) 0x71
 shared_info shared.RefI31Shared = row SharedEverythingThreads (codes "ref.i31_shared") (Some 0xfe) 0x72

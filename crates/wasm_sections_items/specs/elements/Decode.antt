@@ -41,7 +41,8 @@ expressions_by e n m = type_by n >>= λ r. listed e >>= λ xs. pure (element_of 
 
 -- what follows a flag; a flag above 7 is refused at its last byte
 abbrev pub flag_after : {C : Type 0} → Decoder C → ℕ → Decoder (ElementTree C)
-flag_after e f = if nat_lt 7 f then refuse Other 1 else (if nat_lt f 4 then (mode_by e f >>= functions_by f) else (mode_by e (f - 4) >>= expressions_by e (f - 4)))
+flag_after e f = if nat_lt 7 f then refuse Other 1 else
+    (if nat_lt f 4 then (mode_by e f >>= functions_by f) else (mode_by e (f - 4) >>= expressions_by e (f - 4)))
 
 -- an element segment
 unfoldable pub element : {C : Type 0} → Decoder C → Decoder (ElementTree C)

@@ -47,7 +47,8 @@ tree_of v d x = if has_whole d x.items then Some (record { mode = mode_of v x.ki
 
 -- whatever a walk over n items from here gives until it ends, it is these and no error, out of memory aside
 abbrev pub GivesAll : {A : Type 0} → Decoder A → ℕ → State → List A → Type 0
-GivesAll {A} d n s xs = (items : List (Result A ErrorValue)) → Drains (plainly d) (fresh n s) items → NeverLacksMemory items → items ≡ map ok xs
+GivesAll {A} d n s xs = (items : List (Result A ErrorValue)) → Drains (plainly d) (fresh n s) items → NeverLacksMemory items
+    → items ≡ map ok xs
 
 -- walks over the readers of a segment give its elements
 abbrev pub GivesItems : {E C : Type 0} → (Settings → Decoder C) → ElementItemsOf E → ElementItems C → Type 0

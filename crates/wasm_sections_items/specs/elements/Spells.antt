@@ -68,8 +68,10 @@ SpelledType (suc n) r text = SpelledReference r text
 
 -- the kind or the type, and the elements
 abbrev pub SpelledItems : {C : Type 0} → Grammar C → ℕ → ElementItems C → List ℕ → Type 0
-SpelledItems g n (functions ys) text = (kind : List ℕ) × (items : List ℕ) × SpelledKind n kind × IsListed (IsUnsigned 32) ys items × (text ≡ kind ++ items)
-SpelledItems g n (expressions r xs) text = (type_text : List ℕ) × (items : List ℕ) × SpelledType n r type_text × IsListed g xs items × (text ≡ type_text ++ items)
+SpelledItems g n (functions ys) text = (kind : List ℕ) × (items : List ℕ) × SpelledKind n kind × IsListed (IsUnsigned 32) ys items
+    × (text ≡ kind ++ items)
+SpelledItems g n (expressions r xs) text = (type_text : List ℕ) × (items : List ℕ) × SpelledType n r type_text × IsListed g xs items
+    × (text ≡ type_text ++ items)
 
 -- elem ::= 0:u32 e:expr y*:list(funcidx)               => references to y*, active in table 0 at e
 --       |  1:u32 elemkind y*:list(funcidx)             => references to y*, passive

@@ -14,7 +14,8 @@ use Rattle.wasm_sections_items.specs.imports.Spells.{ImportTree, ExportTree}
 
 -- the kinds by their bytes
 abbrev pub kinds : List (ℕ × Decoder ExternalKind)
-kinds = (0x00, pure kind.Func) ∷ (0x01, pure kind.Table) ∷ (0x02, pure kind.Memory) ∷ (0x03, pure kind.Global) ∷ (0x04, pure kind.Tag) ∷ (0x20, pure kind.FuncExact) ∷ []
+kinds = (0x00, pure kind.Func) ∷ (0x01, pure kind.Table) ∷ (0x02, pure kind.Memory) ∷ (0x03, pure kind.Global) ∷ (0x04, pure kind.Tag) ∷
+    (0x20, pure kind.FuncExact) ∷ []
 
 -- one of these bytes
 unfoldable pub external_kind : Decoder ExternalKind

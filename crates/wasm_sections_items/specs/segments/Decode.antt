@@ -31,7 +31,8 @@ placed_in e m = e >>= λ x. content (active m x)
 
 -- what follows a flag; another flag is refused where the segment begins
 abbrev pub after_flag : {C : Type 0} → Decoder C → ℕ → ℕ → Decoder (DataTree C)
-after_flag e place f = if f == 1 then content passive else (if f == 0 then placed_in e 0 else (if f == 2 then (u32 >>= placed_in e) else refuse_at Other place))
+after_flag e place f = if f == 1 then content passive else
+    (if f == 0 then placed_in e 0 else (if f == 2 then (u32 >>= placed_in e) else refuse_at Other place))
 
 -- a flag, and what follows it
 unfoldable pub data_segment : {C : Type 0} → Decoder C → Decoder (DataTree C)
