@@ -9,6 +9,7 @@ pub mod Methods
 pub mod Types
 pub mod Done
 pub mod Refusing
+pub mod Short
 -- Laws: that they hold.
 pub mod AddedLaws
 pub mod ItemLaws
@@ -20,3 +21,4 @@ pub mod MethodLaws
 pub mod TypeLaws
 pub mod DoneLaws
 pub mod RefusingLaws
+pub mod ShortLaws

@@ -8,6 +8,7 @@ ghost use Rattle.wasm_types.specs.features.declared.WasmFeatures.{WasmFeatures};
 ghost use Rattle.wasm_types.specs.limits.Settings.{Settings};
 ghost use Rattle.wasm_types.specs.limits.declared.Limits.{Limits};
 ghost use Rattle.wasm_types.specs.trees.Trees.{TypeTree};
+ghost use Rattle.wasm_types.specs.trees.Types.{SubtypeOf};
 ghost use Rattle.wasm_sections_limited.specs.declared.section.SectionLimited.{SectionLimited};
 ghost use Rattle.wasm_sections_parser.specs.declared.frame.CustomSectionReader.{CustomSectionReader};
 ghost use Rattle.wasm_operator_validator_stacks.specs.expression.operator.Op.{Op};
@@ -34,6 +35,7 @@ ghost use Rattle.wasm_module_validator_tests.specs.Methods.{Turns, HeadersRead, 
 ghost use Rattle.wasm_module_validator_tests.specs.Refusing.{ItemsRefused};
 ghost use Rattle.wasm_module_validator_tests.specs.Types.{TypesInterned, TypesMatched, TypesValid};
 ghost use Rattle.wasm_module_validator_tests.specs.Done.{LocalsDone, TriesDone, BodiesDone, FunctionsNamed};
+ghost use Rattle.wasm_module_validator_tests.specs.Short.{BetweenRows, AddsRows, ShortDataRows, RoomRows};
 
 /// What the spaces of a module and the context of the rules are with an item more (WebAssembly 3.0, structure, modules, indices; validation,
 /// conventions, contexts).
@@ -131,4 +133,14 @@ pub const fn bodies_are_done()
 #[tactic(auto, using(crate::specs::RefusingLaws::items_refused))]
 pub fn refused_items_are_worked()
     ensures { (z : Settings) (s : Bytes) (x : ElementOf Bytes) (f : SectionLimited ℕ) → ItemsRefused z s x f }
+{}
+
+/// Which bytes are between two offsets, which items their bytes alone tell, and which group a refusal for the total of types is of
+/// (WebAssembly 3.0, binary format and validation, modules).
+#[tactic(auto, using(crate::specs::ShortLaws::between_rows, crate::specs::ShortLaws::adds_rows, crate::specs::ShortLaws::short_data_rows, crate::specs::ShortLaws::room_rows))]
+pub fn short_items_are_worked()
+    ensures between { BetweenRows }
+    ensures adds { (l : Limits) → AddsRows l }
+    ensures segments { ShortDataRows }
+    ensures room { (t : SubtypeOf ℕ) → RoomRows t }
 {}
