@@ -6,7 +6,8 @@
  * many there are, and in each row the names, the kind and the index that the module has, in its order; of any other bytes, that the names of
  * all rows that were written lie in the bytes, unless the answer is DURSKEYL_NO_MODULE. All calls end on all bytes, read only
  * what they are given, and write only the fault or the rows. No call depends on an earlier one, keeps anything, or leaves anything to free.
- * NOT PROVED: which of several faults is told, its kind, offset and text; time, memory and stack; this header; the C library.
+ * NOT PROVED: which of several faults is told, its kind, offset and text; time, memory and stack; this header; the kit's
+ *   functions of memory; the C library.
  *
  * THE CALLER PROMISES, and nothing checks it:
  *   - settings and fault are not null, and aligned; bytes may be null only with length 0; length is at most PTRDIFF_MAX, and so many

@@ -1,6 +1,6 @@
 //! A validator of WebAssembly modules.
 //!
-//! [`validate`] judges all the bytes of one module, and so does a [`Validator`]. Both promise Ok exactly where the bytes spell a module
+//! [`validate`] judges all the bytes of one module, and so does a [`Validator`]. Both promise Ok exactly if the bytes spell a module
 //! that is valid by the rules of `wasm_module_validator_rules`, under the features that are allowed and the limits that hold, out of memory
 //! aside (`specs/Accepts.antt`). A module is read section by section, and its bodies are judged behind the last.
 //!

@@ -34,7 +34,7 @@ impl Types {
         look_up(self.id, self.module.state(), self.module.types())
     }
 
-    // Two ids of its list are the same exactly where their types are, if types are kept in canonical form. It does nothing.
+    // Two ids of its list are the same exactly if their types are, if types are kept in canonical form. It does nothing.
     pub(crate) fn tell_ids(&self)
         ensures { AreToldUnder self.now.kept.items.spaces.settings self.now.kept.groups self.now.kept.groups }
     {

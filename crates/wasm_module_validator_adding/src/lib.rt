@@ -1,7 +1,7 @@
 //! The items of a section, checked and added one by one to what was read before them (WebAssembly 3.0, validation, modules).
 //!
 //! A state that stands for what was read implements [`AddItem`] for each kind of item, and [`add_items`] reads a section and adds each
-//! item. It succeeds exactly where the contents spell as many items as are counted and no byte behind them, and each may be added
+//! item. It succeeds exactly if the contents spell as many items as are counted and no byte behind them, and each may be added
 //! behind those before it (`specs/Adding.antt`), out of memory aside.
 //!
 //! [`AddLent`] and [`add_lent_items`] are the same of items that are lent, and need not be moved: the prover does not cover a function that

@@ -4,7 +4,7 @@ ghost use Rattle.wasm_module_validator_canonical.specs.laws.Statements.{AllowedI
 ghost use Rattle.wasm_module_validator_canonical.specs.laws.Statements.{GroupsReadHaveModuleIndices, ReadGroupsHaveModuleIndices};
 ghost use Rattle.wasm_module_validator_canonical.specs.Worked.{CanonicalWorked};
 
-/// A group as a module writes it has allowed indices exactly where it is well referenced by the rules of valid groups. Its
+/// A group as a module writes it has allowed indices exactly if it is well referenced by the rules of valid groups. Its
 /// canonical form then is formed, and stands for the types that the group stands for behind those of its module.
 pub fn canonical_forms_unfold()
     ensures allowed { AllowedIsWellReferenced }

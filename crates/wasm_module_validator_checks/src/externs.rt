@@ -1,6 +1,6 @@
 //! The types of tables, memories, globals and tags checked by the rules (WebAssembly 3.0, validation, types).
 //!
-//! Each check is Ok exactly where the rule of modules holds of the type under the settings, and leaves types that are named by
+//! Each check is Ok exactly if the rule of modules holds of the type under the settings, and leaves types that are named by
 //! their ids in place of those that the module writes; `specs/Refusals.antt` says of which kind each refusal is. Types of
 //! functions and references are looked up through `WasmModuleResources`. Nothing here takes memory.
 

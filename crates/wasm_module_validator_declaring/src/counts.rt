@@ -1,6 +1,6 @@
 //! Where sections begin: how many items they may bring (WebAssembly 3.0, appendix, implementation limitations).
 //!
-//! Each call is Ok exactly where a section of so many items fits behind the tree that was read, out of memory aside, where nothing was read
+//! Each call is Ok exactly if a section of so many items fits behind the tree that was read, out of memory aside, where nothing was read
 //! of the section or behind it. A refusal is of kind `Other`, at `offset`.
 
 ghost use Rattle.std.specs.Prelude.{◌≡◌, IfErr, List};

@@ -1,7 +1,7 @@
 //! Items without constants, checked and added while the state of a module stands for the tree of what was read (WebAssembly 3.0,
 //! validation, modules).
 //!
-//! Each call is Ok exactly where the rules allow the item behind the tree that was read, out of memory aside, whichever tree that is that
+//! Each call is Ok exactly if the rules allow the item behind the tree that was read, out of memory aside, whichever tree that is that
 //! the state stands for; then the state stands for each tree with the item more. A refusal leaves the state as it was. What a state
 //! stands for says `Standing.antt` of `wasm_module_validator_standing`. Items with constants are added above.
 #![tactic(auto)]

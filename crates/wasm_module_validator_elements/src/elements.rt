@@ -66,7 +66,7 @@ fn check_item_type<'a, R: WasmModuleResources>(
     }
 }
 
-/// Checks an element segment, and gives the type of its elements, over ids: Ok exactly where it is valid in the module so far, of
+/// Checks an element segment, and gives the type of its elements, over ids: Ok exactly if it is valid in the module so far, of
 /// whose globals the first so many are imported, out of memory aside (WebAssembly 3.0, validation, modules, element segments). The
 /// functions that the segment refers to stand behind the other `names` then, in their order. The memory of `allocs` is used.
 ///

@@ -1,6 +1,6 @@
 //! Element segments checked by the rules (WebAssembly 3.0, validation, modules, element segments).
 //!
-//! The check is Ok exactly where the bytes of the segment's expressions spell code with which the segment is valid, in the module so
+//! The check is Ok exactly if the bytes of the segment's expressions spell code with which the segment is valid, in the module so
 //! far, out of memory aside (`specs/Judged.antt`); `specs/Refusals.antt` says why a segment is refused, and where. It names the
 //! functions that the segment refers to on the way (`specs/Naming.antt`): code of the module may refer to these. Expressions are read
 //! by the features and limits that the module is judged by. A constant may refer to the functions that the module says are

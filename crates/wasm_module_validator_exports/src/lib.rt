@@ -1,6 +1,6 @@
 //! Imports and exports checked by the rules (WebAssembly 3.0, validation, modules, imports and exports).
 //!
-//! Each check is Ok exactly where the rule of modules holds under the settings. The sizes of their types are added one by one, as
+//! Each check is Ok exactly if the rule of modules holds under the settings. The sizes of their types are added one by one, as
 //! the rule adds them.
 //!
 //! [`names`] keeps them by their names.

@@ -1,4 +1,4 @@
-//! A module is accepted exactly where its frames are judged one after the other, and its bodies are valid (WebAssembly 3.0, binary format
+//! A module is accepted exactly if its frames are judged one after the other, and its bodies are valid (WebAssembly 3.0, binary format
 //! and validation, modules).
 //!
 //! What a parser gives of a module are its frames (`IsModule`); what a validator does with each is `JudgesShape`. Here both are held

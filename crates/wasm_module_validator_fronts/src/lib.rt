@@ -7,7 +7,7 @@
 //! its frames are judged (`wasm_module_validator_steps`): each frame behind those before it, and nothing is refused. `specs/Walks.antt`
 //! defines where a walk stands. There is no code here: each law is the contract of a function that does nothing.
 //!
-//! [`framed`] says that a module is accepted exactly where all its frames are judged so, and its bodies are valid.
+//! [`framed`] says that a module is accepted exactly if all its frames are judged so, and its bodies are valid.
 #![tactic(auto)]
 
 pub mod framed;

@@ -1,7 +1,7 @@
 //! The validator of one function's body, in its module (WebAssembly 3.0, validation, modules, functions and locals).
 //!
 //! A [`FuncToValidate`] says which function is to be judged, and [`FuncToValidate::into_validator`] makes its [`FuncValidator`]:
-//! [`FuncValidator::validate`] judges a whole [`FunctionBody`]. It is Ok exactly where the bytes spell a valid function of the type,
+//! [`FuncValidator::validate`] judges a whole [`FunctionBody`]. It is Ok exactly if the bytes spell a valid function of the type,
 //! read by the validator's own features and limits, out of memory aside. Or its parts are called one by one, locals first, then operators.
 //! A [`BodyJudge`] judges one body after the other in one memory, and does not say why one is refused. A [`PlainJudge`] of one module does so
 //! faster, and leaves more bodies open.

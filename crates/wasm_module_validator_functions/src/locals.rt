@@ -18,7 +18,7 @@ use wasm_types::{BinaryReader, Error, Result, ValType};
 
 impl<R: WasmModuleResources> FuncValidator<R> {
     /// Reads the locals at the front of a body, and puts them behind those that there are. The reader stands behind them then, where
-    /// the operators begin. It is Ok exactly where the bytes spell locals that the function may have by the validator's own features
+    /// the operators begin. It is Ok exactly if the bytes spell locals that the function may have by the validator's own features
     /// and limits, out of memory aside.
     ///
     /// # Errors

@@ -18,7 +18,7 @@ use wasm_operators_visit_operator::is_simd;
 use wasm_types::Result;
 
 impl<R: WasmModuleResources> FuncValidator<R> {
-    /// Judges the next operator of the body, which stands at `offset`: it is not refused exactly where it may come, out of memory aside,
+    /// Judges the next operator of the body, which stands at `offset`: it is not refused exactly if it may come, out of memory aside,
     /// and then what may follow is what may follow behind it (WebAssembly 3.0, validation, instructions). One on vectors may never
     /// come.
     ///

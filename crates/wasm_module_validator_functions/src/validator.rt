@@ -23,7 +23,7 @@ pub struct FuncValidator<R> {
 }
 
 impl<R: WasmModuleResources> FuncValidator<R> {
-    /// Judges a whole body: its locals, and its operators to the last byte. Of a validator that was just made it is Ok exactly where the
+    /// Judges a whole body: its locals, and its operators to the last byte. Of a validator that was just made it is Ok exactly if the
     /// bytes spell a valid function of the type, out of memory aside. They are read by the validator's own features and limits, whatever
     /// those of the body's reader are (WebAssembly 3.0, validation, modules, functions and locals).
     ///

@@ -74,7 +74,7 @@ pub fn check_data_with(
     judge_data(alloc, segment, state, types, allocs, offset)
 }
 
-/// Checks a data segment, of which the state keeps nothing. Where the state stands for a tree it is Ok exactly where the segment may be
+/// Checks a data segment, of which the state keeps nothing. Where the state stands for a tree it is Ok exactly if the segment may be
 /// added to the tree, out of memory aside, and the state then stands for each tree with the segment more (WebAssembly 3.0, validation,
 /// modules, data segments).
 ///

@@ -88,7 +88,7 @@ fn check_new_element<'a>(
 }
 
 /// Checks an element segment, and adds it; code may then refer to the functions that it names. Where the state stands for a tree it is Ok
-/// exactly where the segment may be added to the tree, out of memory aside, and the state then stands for each tree with the segment
+/// exactly if the segment may be added to the tree, out of memory aside, and the state then stands for each tree with the segment
 /// more (WebAssembly 3.0, validation, modules, element segments).
 ///
 /// # Errors

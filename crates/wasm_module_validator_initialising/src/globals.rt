@@ -129,7 +129,7 @@ fn check_new_global(
 }
 
 /// Checks a global that the module has itself, and adds it; code may then refer to the functions that its value names. Where the state
-/// stands for a tree it is Ok exactly where the global may be added to the tree, out of memory aside, and the state then stands for
+/// stands for a tree it is Ok exactly if the global may be added to the tree, out of memory aside, and the state then stands for
 /// each tree with the global more (WebAssembly 3.0, validation, modules, globals).
 ///
 /// # Errors

@@ -1,7 +1,7 @@
 //! Globals, tables and segments checked over their constants, and added to a module that is being read (WebAssembly 3.0, validation,
 //! modules).
 //!
-//! Where the state stands for the tree of what was read (`wasm_module_validator_standing`), each call is Ok exactly where the item that
+//! Where the state stands for the tree of what was read (`wasm_module_validator_standing`), each call is Ok exactly if the item that
 //! was read may be added to the tree, out of memory aside; the state then stands for every tree with the item more, whichever code its
 //! constants spell. A constant is judged where it stands: it sees the globals that were read, and may refer to each function. A
 //! refusal leaves the state as it was; `specs/Refusals.antt` says why and where it comes. Each call takes the list that the module's

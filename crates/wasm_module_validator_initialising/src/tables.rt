@@ -137,7 +137,7 @@ fn check_new_table(
 }
 
 /// Checks a table that the module has itself, and adds it; code may then refer to the functions that its expression names. Where the state
-/// stands for a tree it is Ok exactly where the table may be added to the tree, out of memory aside, and the state then stands for each
+/// stands for a tree it is Ok exactly if the table may be added to the tree, out of memory aside, and the state then stands for each
 /// tree with the table more (WebAssembly 3.0, validation, modules, tables).
 ///
 /// # Errors

@@ -3,7 +3,7 @@
 //! [`InProgress`] keeps the state of a module and the list of its types. [`InProgress::take_payload`] takes what comes next: a section is
 //! checked item by item, a body is kept with the index of its type. A section of items is taken alike whatever its items are: a
 //! [`SectionItem`] says which section it stands in, how many of it there may be, and how one is added. `specs/Progress.antt` says when what
-//! is kept stands for what was judged: each call is Ok exactly where its frame may come next by the rules, and what is kept then stands
+//! is kept stands for what was judged: each call is Ok exactly if its frame may come next by the rules, and what is kept then stands
 //! for whatever was judged with it.
 //!
 //! Behind a module comes another, over the same list of types ([`InProgress::renew`]); and what was read is given, so that it may be shared

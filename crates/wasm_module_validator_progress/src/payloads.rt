@@ -104,7 +104,7 @@ impl InProgress {
     }
 
     /// Takes the next payload of a module: a section is checked item by item, and a body is kept with the index of its function and of
-    /// its type. Where what is kept stands for what was judged, it is Ok exactly where the frame whose payload this is may come next by
+    /// its type. Where what is kept stands for what was judged, it is Ok exactly if the frame whose payload this is may come next by
     /// the rules, out of memory and the total of types aside; and what is kept then stands for whatever was judged with it.
     ///
     /// # Errors

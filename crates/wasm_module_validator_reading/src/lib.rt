@@ -1,6 +1,6 @@
 //! A whole module, read section by section (WebAssembly 3.0, validation, modules).
 //!
-//! [`read_module`] is Ok exactly where the bytes are a module whose frames are judged one after the other, out of memory and the total of
+//! [`read_module`] is Ok exactly if the bytes are a module whose frames are judged one after the other, out of memory and the total of
 //! types aside; what is kept then stands for whatever was read so (`specs/Reading.antt`). Bodies are kept as bytes.
 #![tactic(auto)]
 

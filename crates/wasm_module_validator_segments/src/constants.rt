@@ -39,7 +39,7 @@ fn is_number(expr: &ConstExpr<'_>, ty: &ValType) -> bool
     }
 }
 
-/// Checks the bytes of an expression, by the settings that the module is judged by: Ok exactly where they spell a constant of this
+/// Checks the bytes of an expression, by the settings that the module is judged by: Ok exactly if they spell a constant of this
 /// type in the module so far, of whose globals the first so many are imported, out of memory aside (WebAssembly 3.0, validation,
 /// instructions, constant expressions). The type is named as the module names it for itself. The memory of `allocs` is used.
 ///

@@ -45,7 +45,7 @@ fn check_bulk(settings: &Settings, offset: u64) -> Result<()>
     )
 }
 
-/// Checks a data segment: Ok exactly where it is valid in the module so far, of whose globals the first so many are imported, out of
+/// Checks a data segment: Ok exactly if it is valid in the module so far, of whose globals the first so many are imported, out of
 /// memory aside (WebAssembly 3.0, validation, modules, data segments). The memory of `allocs` is used.
 ///
 /// # Errors

@@ -18,7 +18,7 @@ use wasm_operator_validator_constants::{
 use wasm_sections_items::segments::GlobalOf;
 use wasm_types::{GlobalType, Result};
 
-/// Checks a global that the module has itself, and gives its type, over ids: Ok exactly where it is valid in the module so far, of
+/// Checks a global that the module has itself, and gives its type, over ids: Ok exactly if it is valid in the module so far, of
 /// whose globals the first so many are imported, out of memory aside (WebAssembly 3.0, validation, modules, globals). Its value sees
 /// the globals that the module has. The memory of `allocs` is used.
 ///

@@ -1,6 +1,6 @@
 //! Items with constant expressions checked by the rules: globals, tables and data segments (WebAssembly 3.0, validation, modules).
 //!
-//! Each check is Ok exactly where the bytes of the item's expressions spell code with which the item is valid, in the module so far,
+//! Each check is Ok exactly if the bytes of the item's expressions spell code with which the item is valid, in the module so far,
 //! out of memory aside (`specs/Judged.antt`); `specs/Refusals.antt` says why an item is refused, and where. Expressions are read by the
 //! features and limits that the module is judged by. A check changes nothing of the module: whoever calls it adds the item afterwards,
 //! by the type that the check gives. A constant may refer to the functions that the module says are referenced. The rules judge it

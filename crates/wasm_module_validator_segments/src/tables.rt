@@ -81,7 +81,7 @@ fn check_init<R: WasmModuleResources>(
     }
 }
 
-/// Checks a table that the module has itself, and gives its type, over ids: Ok exactly where it is valid in the module so far, of
+/// Checks a table that the module has itself, and gives its type, over ids: Ok exactly if it is valid in the module so far, of
 /// whose globals the first so many are imported, out of memory aside (WebAssembly 3.0, validation, modules, tables). Its expression
 /// sees the globals that the module has, which are the imported ones where tables come in turn. The memory of `allocs` is used.
 ///

@@ -104,7 +104,7 @@ pub fn sections_begin()
         → IsBefore s groups i z m → IsReading s groups i z m }
 {}
 
-/// A section of so many items fits the state exactly where it fits the tree.
+/// A section of so many items fits the state exactly if it fits the tree.
 pub fn sections_fit_alike()
     ensures types { (groups : List Group) (s : Items) (z : Settings) (m : ModuleTree) → Stands groups s z m
         → IsUnread section.types m → (n : ℕ)

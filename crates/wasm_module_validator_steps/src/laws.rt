@@ -22,7 +22,7 @@ pub fn sections_have_places()
     ensures others { (id : ℕ) → (place_of id ≡ 0) ⊎ ((id ≡ 10) ⊎ ((s : Section) × (id ≡ number s))) }
 {}
 
-/// Behind a module that is within its limits, a section may begin and its items be added one after the other exactly where the module is
+/// Behind a module that is within its limits, a section may begin and its items be added one after the other exactly if the module is
 /// valid with the whole section, and within its limits.
 pub fn sections_are_added()
     ensures { (z : Settings) (s : Section) (m n : ModuleTree) (xs : List (Item s)) → IsUnread s m
@@ -30,7 +30,7 @@ pub fn sections_are_added()
         → (Fits z s m (length xs) × AddsEach (Adds z s) m xs n) ↔ IsWithItems z s m xs n }
 {}
 
-/// What is read is added item by item exactly where items that it stands for are.
+/// What is read is added item by item exactly if items that it stands for are.
 pub fn items_are_read()
     ensures { (z : Settings) (s : Section) (m n : ModuleTree) (ts : List (ItemRead s))
         → AddsEach (AddsRead z s) m ts n ↔ ((xs : List (Item s)) × AllZip (StandsFor z s) ts xs
@@ -89,7 +89,7 @@ pub fn frames_are_judged()
         (record { last = place s; tree = up_to s m; bodies = p.bodies }) }
 {}
 
-/// A module is valid in order exactly where each section is, each body, and the limits hold; and it is spelled by sections exactly where
+/// A module is valid in order exactly if each section is, each body, and the limits hold; and it is spelled by sections exactly if
 /// each of them is, and each body. Code is no part of any section.
 pub fn modules_are_of_sections()
     ensures valid { (z : Settings) (m : ModuleTree)

@@ -49,8 +49,8 @@ pub fn items_add_to_trees()
         → AddsIn s u t w → v ≡ w }
 {}
 
-/// Behind what was judged, a section whose count was read is judged exactly where its items lead, one by one, from what was read before
-/// to what is read then; and a section that is one number exactly where this is added. Contents that are spelled begin with a count, or
+/// Behind what was judged, a section whose count was read is judged exactly if its items lead, one by one, from what was read before
+/// to what is read then; and a section that is one number exactly if this is added. Contents that are spelled begin with a count, or
 /// are one number. A frame of the id of a section is judged as that section, and one of another id is not.
 pub fn sections_are_judged_by_items()
     ensures items { (z : Settings) (s : Section) → IsOfItems s → (p : SoFar) (b r : State) (n : ℕ) → IsJudged z p

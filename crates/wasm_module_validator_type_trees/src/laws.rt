@@ -10,8 +10,8 @@ pub fn types_stay()
     ensures { TypesStay }
 {}
 
-/// In a list of groups in canonical form, none of which stands twice, two ids have one type exactly where they are one
-/// id; and a group is missing exactly where its tree is.
+/// In a list of groups in canonical form, none of which stands twice, two ids have one type exactly if they are one
+/// id; and a group is missing exactly if its tree is.
 pub fn ids_are_types()
     ensures ids { EqualTypesHaveEqualIds }
     ensures groups { GroupsAreKnownByTrees }

@@ -3,14 +3,14 @@
 //! An [`OperatorValidator`] knows what may lie on the stack of operands at a place in a body, which frames are open, and which
 //! locals hold a value. What it asks of the module, as the type of a global, is a [`WasmModuleResources`]: a trait, so that a module
 //! may be validated while it is still read. [`new_func`] makes the validator of a function, [`OperatorValidator::define_locals`] adds
-//! its locals, and [`validate_expression`] tells it of each operator of the body. It answers `Ok` exactly where the bytes
+//! its locals, and [`validate_expression`] tells it of each operator of the body. It answers `Ok` exactly if the bytes
 //! spell a body that is well typed, out of memory aside (WebAssembly 3.0, validation, instructions); a refusal has the offset of the
 //! operator that may not come.
 //!
 //! ```text
 //! let allocs = OperatorValidatorAllocations::new(alloc);
-//! let mut validator = new_func(type_index, body.start, &features, &module, allocs)?;
-//! validator.define_locals(offset, 2, ValType::I32, &module)?;
+//! let mut validator = new_func(type_index, body.start, &features, limits, &module, allocs)?;
+//! validator.define_locals(limits, offset, 2, ValType::I32, &module)?;
 //! validate_expression(alloc, operators, &mut validator, &module)?;
 //! let allocs = validator.into_allocations();
 //! ```

@@ -1,6 +1,6 @@
 //! Atomic accesses to memories (the proposal on threads).
 //!
-//! Each check decides its operator: it is not refused exactly where the operator may come, out of memory aside, and leaves what may
+//! Each check decides its operator: it is not refused exactly if the operator may come, out of memory aside, and leaves what may
 //! follow (`Checks` of `wasm_operator_validator_state`). Whether the memory is shared makes no difference.
 #![tactic(auto)]
 

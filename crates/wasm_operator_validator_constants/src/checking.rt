@@ -15,7 +15,7 @@ use wasm_operator_validator_walk::{AsRefusal, ValidatingVisitor, ValidatingWalk}
 use wasm_operators_bodies::ConstExpr;
 use wasm_types::{BinaryReader, Result, ValType, WasmFeatures};
 
-/// Checks a constant expression of this type, in a module of whose globals the first so many are imported: Ok exactly where its bytes
+/// Checks a constant expression of this type, in a module of whose globals the first so many are imported: Ok exactly if its bytes
 /// spell one, out of memory aside (WebAssembly 3.0, validation, constant expressions). The type is named as the module names it for
 /// itself, by ids or by its own indices. The globals that the module has are those that the constant sees. The memory of `allocs` is used, and is
 /// given back empty.

@@ -2,7 +2,7 @@
 //! constant expressions).
 //!
 //! [`new_const_expr`] makes a validator that stands where a constant begins. [`is_constant_operator`] is the test of one operator, and a
-//! [`ConstantWalk`] tests each operator before it tells the validator. [`check_const_expr`] judges a whole constant: Ok exactly where
+//! [`ConstantWalk`] tests each operator before it tells the validator. [`check_const_expr`] judges a whole constant: Ok exactly if
 //! its bytes spell one by the rules (`IsConstant` of `wasm_operator_validator_rules`), out of memory aside.
 //! `specs/Tested.antt` says this of any test of operators, `specs/Checked.antt` of constants, and `specs/Operators.antt` why an operator
 //! is refused.

@@ -1,7 +1,7 @@
 //! Loads and stores, memories and data segments, tables and element segments, references, variables, and operands of any type: `drop` and
 //! the three forms of `select`.
 //!
-//! Each check decides its operator: it is not refused exactly where the operator may come, out of memory aside, and leaves what may
+//! Each check decides its operator: it is not refused exactly if the operator may come, out of memory aside, and leaves what may
 //! follow (`Checks` of `wasm_operator_validator_state`). `specs/Reaching.antt` says which accesses a memory allows, `specs/Choices.antt`
 //! what a choice between two operands gives.
 #![tactic(auto)]

@@ -1,7 +1,7 @@
 //! Checks of the operators on structs, arrays, `i31`, casts and conversions (WebAssembly 3.0, validation, aggregate and reference
 //! instructions, branches on casts).
 //!
-//! Each check decides its operator: it is not refused exactly where the operator may come, out of memory aside, and leaves what may
+//! Each check decides its operator: it is not refused exactly if the operator may come, out of memory aside, and leaves what may
 //! follow (`Checks` of `wasm_operator_validator_state`).
 //!
 //! [`steps`] has what the checks share: the test at the entry, and the exchange of operands by the only row that an operator has.

@@ -1,6 +1,6 @@
 //! The visitor that validates operators, one visit for each.
 //!
-//! Each visit decides its operator: it is not refused exactly where the operator may come, out of memory aside, and leaves what may
+//! Each visit decides its operator: it is not refused exactly if the operator may come, out of memory aside, and leaves what may
 //! follow (`Visits` of `wasm_operator_validator_state`); where it is refused, the validator has failed. A visit answers by a refusal in
 //! few bytes ([`AsRefusal`]), or by an error with a text, at the offset that its caller names ([`AsError`], `specs/Told.antt`).
 #![tactic(auto)]

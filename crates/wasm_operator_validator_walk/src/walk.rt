@@ -265,7 +265,7 @@ impl<'a, 'v, 'r, R: WasmModuleResources> Validating<'a> for NotingWalk<'v, 'r, R
 }
 
 /// Validates the operators of an expression, to the end of the bytes, and asks that every frame of the validator has ended then. It is
-/// Ok exactly where the bytes spell one expression whose operators may come, out of memory aside; behind the locals of a function,
+/// Ok exactly if the bytes spell one expression whose operators may come, out of memory aside; behind the locals of a function,
 /// where they spell its body and that is well typed (`laws::bodies_are_expressions` of `wasm_operator_validator_expression`). What was
 /// given of the body, and what an attempt has saved, stay (WebAssembly 3.0, validation, expressions).
 ///

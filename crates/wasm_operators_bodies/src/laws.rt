@@ -9,7 +9,7 @@ ghost use Rattle.wasm_operators_bodies.specs.Locals.{LocalGroup, SpelledLocals, 
 ghost use Rattle.wasm_operators_bodies.specs.Groups.{LocalsLeft, counted_groups, ReadsGroups};
 ghost use Rattle.wasm_operators_bodies.specs.Constants.{same_bytes};
 
-/// The decoder of locals is lawful, and reads groups exactly where a front of the bytes spells them.
+/// The decoder of locals is lawful, and reads groups exactly if a front of the bytes spells them.
 pub const fn locals_are_lawful()
     ensures lawful { (settings : Settings) → IsLawful (locals settings) }
     ensures exact { (settings : Settings) → Decides (locals settings) (SpelledLocals settings) }

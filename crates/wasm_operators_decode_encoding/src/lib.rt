@@ -29,7 +29,7 @@ pub use wasm_operators_operator::{
 };
 
 /// Opcodes, and immediates one after the other, whatever features are allowed and limits hold: a value and a fault stay whatever bytes
-/// follow, the hint of an end of data is exact, and a value is read exactly where a front of the bytes spells it.
+/// follow, the hint of an end of data is exact, and a value is read exactly if a front of the bytes spells it.
 pub const fn opcodes_and_immediates_are_lawful()
     ensures opcodes { IsLawful opcode }
     ensures opcodes_exact { Decides opcode SpelledOpcode }
@@ -39,14 +39,14 @@ pub const fn opcodes_and_immediates_are_lawful()
 {}
 
 /// Operators, each an opcode with the immediates that belong to it, whatever features are allowed and limits hold: a value and a fault stay
-/// whatever bytes follow, the hint of an end of data is exact, and a value is read exactly where a front of the bytes spells it.
+/// whatever bytes follow, the hint of an end of data is exact, and a value is read exactly if a front of the bytes spells it.
 pub const fn operators_are_lawful()
     ensures lawful { (settings : Settings) → IsLawful (operator settings) }
     ensures exact { (settings : Settings) → Decides (operator settings) (SpelledCoded settings) }
 {}
 
 /// How bytes spell operators. Behind its opcode stand immediates of an operator's own kinds. A canonical operator is spelled
-/// exactly where its opcode and its immediates are; another is never spelled. No two canonical operators share both.
+/// exactly if its opcode and its immediates are; another is never spelled. No two canonical operators share both.
 pub const fn operators_are_spelled()
     ensures kinds { (o : Op) → kinds_at (opcode_of o) ≡ Some (kinds_of o) }
     ensures spelled { (settings : Settings) (o : Op) (text : List ℕ) → SpelledOperator settings o text

@@ -2,7 +2,7 @@
 //! 128 bits by the proposal on wide arithmetic).
 //!
 //! None of these operators carries anything, so a code is all there is to look at: [`numeric_of`] goes by a code of one
-//! byte, [`numeric_prefixed_of`] by one behind `fc`. Each answers an operator exactly where the table of opcodes has
+//! byte, [`numeric_prefixed_of`] by one behind `fc`. Each answers an operator exactly if the table of opcodes has
 //! one with this code. The table stands in `wasm_operators_groups`.
 #![tactic(auto)]
 

@@ -21,7 +21,7 @@ pub const fn expressions_have_one_tree()
         → SpelledExpression settings d text → c ≡ d }
 {}
 
-/// The open frames determine which operator fits: the structural order allows one exactly where there are frames behind it.
+/// The open frames determine which operator fits: the structural order allows one exactly if there are frames behind it.
 /// An operator adds one frame at most, and only where it opens one.
 pub const fn frames_tell_what_fits()
     ensures fits { (o : Op) (k : Kind) (ks : List Kind) → IsTrue (fits o (Some k))
@@ -31,7 +31,7 @@ pub const fn frames_tell_what_fits()
         → (j : Kind) × (role_of o ≡ Opens j) × (js ≡ j ∷ ks) }
 {}
 
-/// Frames are closed operator by operator. Operators close the open frames exactly where the first may stand in the
+/// Frames are closed operator by operator. Operators close the open frames exactly if the first may stand in the
 /// innermost frame and the others close the frames behind it. With a frame open there is a first operator, else there is none.
 pub const fn frames_close_step_by_step()
     ensures step { (o : Op) (k : Kind) (ks : List Kind) (os : List Op)
@@ -40,7 +40,7 @@ pub const fn frames_close_step_by_step()
     ensures ended { (os : List Op) → Closes [] os ↔ (os ≡ []) }
 {}
 
-/// The same of bytes, whatever features are allowed and limits hold. Where the frame of an expression is open, bytes close it exactly where
+/// The same of bytes, whatever features are allowed and limits hold. Where the frame of an expression is open, bytes close it exactly if
 /// they spell an expression. An operator that was read is a step. Where none can be read, the bytes close no frame.
 pub const fn bytes_close_step_by_step()
     ensures whole { (settings : Settings) (text : List ℕ) → BytesClose settings (Block ∷ []) text

@@ -18,7 +18,7 @@ pub const fn conversions_are_inverse()
     ensures bytes { BytesAreKept }
 {}
 
-/// `==` of each other immediate answers true exactly where the trees are equal.
+/// `==` of each other immediate answers true exactly if the trees are equal.
 pub const fn equality_is_of_trees()
     ensures argument { ArgumentEqualityIsIdentity }
     ensures ordering { OrderingEqualityIsIdentity }

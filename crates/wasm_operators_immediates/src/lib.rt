@@ -2,7 +2,7 @@
 //!
 //! Contracts see each as a plain tree: its variants and fields, with a list where the code has borrowed bytes.
 //! `specs/Kinds.antt` has the kinds of immediates, and `specs/Immediates.antt` what an immediate of each kind carries.
-//! Block types, tables of labels, clauses and handlers are read here, exactly where the bytes spell them
+//! Block types, tables of labels, clauses and handlers are read here, exactly if the bytes spell them
 //! (`specs/Blocks.antt`, `specs/Labels.antt`, `specs/Handlers.antt`).
 #![tactic(auto)]
 

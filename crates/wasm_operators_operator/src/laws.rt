@@ -28,7 +28,7 @@ pub const fn codes_tell_operators_apart()
     ensures { CodesTellOperatorsApart }
 {}
 
-/// `==` of operators answers true exactly where the trees are equal: the same variant, and equal in what it carries. Two
+/// `==` of operators answers true exactly if the trees are equal: the same variant, and equal in what it carries. Two
 /// `br_table` are equal where their targets and defaults are, whatever bytes they were read from. So too `==` of each
 /// group.
 pub const fn equal_operators_have_equal_trees()

@@ -1,7 +1,7 @@
 //! Readers of operators in frames, and of expressions (WebAssembly 3.0, binary format, expressions).
 //!
 //! An [`OperatorsReader`] reads one operator after the other and keeps the list of open frames; it refuses an operator
-//! that may not come next. [`read_expression`] reads a whole expression, exactly where all the bytes spell one.
+//! that may not come next. [`read_expression`] reads a whole expression, exactly if all the bytes spell one.
 //! `specs/Standing.antt` defines what is read from where a reader stands and why it refuses, `specs/Iterating.antt`
 //! what the iterators give, and `specs/Visiting.antt` what a visitor is told. The visits themselves are not named here: whoever reads
 //! operators would pass on all of them (`wasm_operators_visiting` has what visits).

@@ -2,7 +2,7 @@
 //!
 //! By [`ReadToVisitor`] and [`ReadToSimdVisitor`] one operator is read and visited, where the visitor knows which frames are open
 //! (`FrameStack`); by [`VisitNext`] and [`VisitNextSimd`] a reader of operators does the same. [`visit_expression`] visits the operators
-//! of an expression, exactly where all the bytes spell one without vectors. They stand on what `wasm_operators_walking` reads, and
+//! of an expression, exactly if all the bytes spell one without vectors. They stand on what `wasm_operators_walking` reads, and
 //! pass it on.
 #![tactic(auto)]
 

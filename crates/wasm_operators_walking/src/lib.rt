@@ -2,7 +2,7 @@
 //!
 //! [`ReadOperators`] looks at one operator where the innermost open frame is known; what keeps frames tells it (`FrameStack`).
 //! [`tell_expression_with_offset`] tells whoever can be told of any operator (`TellOperator`), and of several at once (`TellPlain`),
-//! exactly where all the bytes spell an expression without vectors. [`tells_whole`] does the same, and does not say why it could not.
+//! exactly if all the bytes spell an expression without vectors. [`tells_whole`] does the same, and does not say why it could not.
 //! `specs/InFrame.antt` defines what is read in a frame and why it is refused, and `Walking` of `wasm_operators_reader` what a visitor is
 //! told on the way. No visit is named here: what visits stands in `wasm_operators_visiting`.
 #![tactic(auto)]

@@ -8,7 +8,7 @@ ghost use Rattle.wasm_sections_frames.specs.Decode.{header, part};
 ghost use Rattle.wasm_sections_frames.specs.Worked.{HeaderRows, PartRows, OrderRows, CountRows, OuterRows};
 
 /// A header and a section: a value and a fault stay whatever bytes follow, an end of data needs exactly as many bytes as
-/// are missing, and a value is read exactly where a front of the bytes spells it.
+/// are missing, and a value is read exactly if a front of the bytes spells it.
 pub const fn frames_are_lawful()
     ensures headers { IsLawful header × Decides header SpelledHeader }
     ensures sections { (z : Settings) → IsLawful (part z) × Decides (part z) (SpelledPart z) }

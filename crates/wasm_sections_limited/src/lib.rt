@@ -2,7 +2,7 @@
 //!
 //! A [`SectionLimited`] reads the count at once and its items one by one, plainly or each with its offset. Behind the last
 //! item no byte may be left. `specs/Walking.antt` says what comes next where a walk stands; `laws` promises that a walk
-//! ends without an error exactly where the contents spell the items. The function types of a type section come by themselves
+//! ends without an error exactly if the contents spell the items. The function types of a type section come by themselves
 //! too (`specs/Functions.antt`).
 #![tactic(auto)]
 

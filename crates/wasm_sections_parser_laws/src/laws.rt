@@ -15,7 +15,7 @@ ghost use Rattle.wasm_sections_parser_laws.specs.calls.Calls.{shapes_of, stands,
 ghost use Rattle.wasm_sections_parser_laws.specs.Modules.{IsModule, IsFront, IsStart};
 ghost use Rattle.wasm_sections_parser_laws.specs.Worked.{RunRows, CutRows};
 
-/// The frames of a module are those of its spelling: bytes have frames exactly where they are the frames of a module.
+/// The frames of a module are those of its spelling: bytes have frames exactly if they are the frames of a module.
 pub const fn frames_are_of_modules()
     ensures spelled { (z : Settings) (m : Outer) (text : List ℕ) (xs : List Shape) → Frames z m text xs
         → SpelledOuter z m text }

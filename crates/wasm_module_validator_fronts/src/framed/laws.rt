@@ -33,7 +33,7 @@ pub fn valid_modules_are_judged()
         × AllZip (SpelledFunction z) m.code q.bodies) }
 {}
 
-/// Bytes that are accepted are those of a module, and a module has one list of frames. It is accepted exactly where these are judged one
+/// Bytes that are accepted are those of a module, and a module has one list of frames. It is accepted exactly if these are judged one
 /// after the other and the bytes of each body spell a valid function of its type. Of a module there are as many bodies as functions.
 pub fn accepted_modules_are_judged()
     ensures framed { (z : Settings) (text : List ℕ) → AcceptsUnder z text → (xs : List Shape) × IsModule z text xs }

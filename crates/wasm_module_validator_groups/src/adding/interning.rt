@@ -57,7 +57,7 @@ fn check_added<M: InternRecGroup>(
 /// Adds a group of types to a module. Where the features ask for canonical forms, a group that the list has already keeps its
 /// ids and changes no list; any other is added to the list, and each of its types is checked.
 ///
-/// The group is accepted exactly where it is valid behind the types of the module, and the list has room for as many types,
+/// The group is accepted exactly if it is valid behind the types of the module, and the list has room for as many types,
 /// new or known. The ids of the module then stand for the types that it had and those of the group.
 ///
 /// # Errors

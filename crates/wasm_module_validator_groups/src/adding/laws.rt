@@ -3,7 +3,7 @@
 ghost use Rattle.wasm_module_validator_groups.specs.adding.Modules.{GroupsAreAddedOneByOne, NothingIsChecked};
 ghost use Rattle.wasm_module_validator_groups.specs.adding.Worked.{AddingWorked};
 
-/// A run of groups is valid, by the rules of whole modules, exactly where each of them is as it is added: so a module to which
+/// A run of groups is valid, by the rules of whole modules, exactly if each of them is as it is added: so a module to which
 /// groups were added one after the other holds the types of a valid run.
 pub fn groups_are_added_one_by_one()
     ensures { GroupsAreAddedOneByOne }

@@ -183,7 +183,7 @@ pub fn functions_are_referred_to()
         → IsReferredAs t (record m { element_segments = m.element_segments ++ x ∷ [] }) }
 {}
 
-/// A body is valid in the context of a module that is being read exactly where it is valid in that of the tree.
+/// A body is valid in the context of a module that is being read exactly if it is valid in that of the tree.
 pub fn bodies_are_judged_alike()
     ensures { (groups : List Group) (s : Spaces) (m : ModuleTree) → IsReadAs groups s m → IsReferredAs s m
         → (z : Settings) (x : ℕ) (f : Body) → HasValidBody z (context_of groups s) x f

@@ -74,7 +74,7 @@ pub fn bodies_look_at()
         → (z : Settings) (x : ℕ) (f : Function) → HasValidBody z g x f → HasValidBody z h x f }
 {}
 
-/// A module is valid exactly where each of its items is valid in the context of the items before it. There a constant may refer to
+/// A module is valid exactly if each of its items is valid in the context of the items before it. There a constant may refer to
 /// each function.
 pub fn modules_are_judged_in_order()
     ensures exact { (z : Settings) (m : ModuleTree) → IsValid z m ↔ IsValidInOrder z m }

@@ -12,7 +12,7 @@ ghost use Rattle.wasm_sections_items.specs.elements.Worked.{ElementRows};
 use wasm_types::FromReader;
 
 /// Whatever constant expressions are read from bytes: a value and a fault stay whatever bytes follow, an end of data needs
-/// exactly as many bytes as are missing, and a segment is read exactly where a front of the bytes spells it.
+/// exactly as many bytes as are missing, and a segment is read exactly if a front of the bytes spells it.
 pub fn elements_are_lawful<'a, E: FromReader<'a>>()
     ensures { (z : Settings) → IsLawful (element (E.decoder z))
         × Decides (element (E.decoder z)) (SpelledElement (E.grammar z)) }

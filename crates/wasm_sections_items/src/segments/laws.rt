@@ -10,7 +10,7 @@ ghost use Rattle.wasm_sections_items.specs.segments.Worked.{GlobalRows, DataRows
 use wasm_types::FromReader;
 
 /// Whatever constant expressions are read from bytes: a value and a fault stay whatever bytes follow, an end of data needs
-/// exactly as many bytes as are missing, and a value is read exactly where a front of the bytes spells one.
+/// exactly as many bytes as are missing, and a value is read exactly if a front of the bytes spells one.
 pub fn items_are_lawful<'a, E: FromReader<'a>>()
     ensures globals { (z : Settings) → IsLawful (global (E.decoder z))
         × Decides (global (E.decoder z)) (SpelledGlobalItem (E.grammar z)) }
