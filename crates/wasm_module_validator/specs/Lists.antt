@@ -18,7 +18,9 @@ use Rattle.wasm_module_validator.specs.declared.lists.Verdict.TheVariants.{Accep
 use Rattle.wasm_module_validator.specs.declared.validator.State.{State}
 use Rattle.wasm_module_validator.specs.declared.validator.State.TheVariants.{Unparsed, Ended, Failed}
 use Rattle.wasm_module_validator.specs.declared.validator.Validator.{Validator}
+use Rattle.wasm_module_validator_runs.specs.Soundness.{RunsSoundly}
 use Rattle.wasm_module_validator.specs.Accepts.{IsShown}
+use Rattle.wasm_module_validator.specs.Methods.{can_reset}
 use Rattle.wasm_module_validator.specs.Shown.{Learned}
 use Rattle.wasm_module_validator.specs.States.{held_by}
 
@@ -34,10 +36,10 @@ abbrev pub IsValidOutsideBodies : Settings → List ℕ → Type 0
 IsValidOutsideBodies z bytes = (q : SoFar) × IsReadAs z bytes q
 
 -- The verdict on these bytes, of the validator with this id, whose list of types has these groups: they are accepted, and what is known of
--- the module is shown; or a function alone is refused; or the module is not valid outside its bodies either, or one of its groups would
+-- the module is shown, and it runs soundly; or a function alone is refused; or the module is not valid outside its bodies either, or one of its groups would
 -- have passed the total of types behind these groups.
 abbrev pub IsVerdict : Settings → ValidatorId → List Group → List ℕ → Verdict → Type 0
-IsVerdict z id held bytes (Accepted types) = AcceptsUnder z bytes × IsShown z bytes types × (types.id ≡ id)
+IsVerdict z id held bytes (Accepted types) = AcceptsUnder z bytes × IsShown z bytes types × (types.id ≡ id) × RunsSoundly z bytes
 IsVerdict z id held bytes (Refused error true) = (AcceptsUnder z bytes → ⊥) × IsNotMemory error.kind × IsValidOutsideBodies z bytes
 IsVerdict z id held bytes (Refused error false) = IsNotMemory error.kind
     × (IsPastTotal held (no_items z) (HasGroupIn z bytes) error ⊎ (IsValidOutsideBodies z bytes → ⊥))
@@ -72,6 +74,12 @@ abbrev pub state_after : List Verdict → State
 state_after [] = Unparsed
 state_after (v ∷ []) = state_behind v
 state_after (v ∷ (w ∷ vs)) = state_after (w ∷ vs)
+
+-- Where another module may come after these verdicts, the list has the groups that it had, and those of each module that was accepted, so
+-- that their ids still name the same types.
+abbrev pub KeepsAll : Validator → List Verdict → Validator → Type 0
+KeepsAll v vs w = can_reset w.state ≡ true
+    → IsGrown (held_by v) (held_by w) × ((t : Learned) → Contains vs (Accepted t) → IsGrown t.kept.groups (held_by w))
 
 -- ---- ids
 

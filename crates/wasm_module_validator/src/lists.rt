@@ -6,7 +6,7 @@ ghost use Rattle.wasm_types.specs.reader.Reading.{IsNotMemory};
 ghost use Rattle.wasm_sections_parser.specs.Parsing.{one_of};
 ghost use Rattle.wasm_module_validator.specs.declared.validator.State.TheVariants as states;
 ghost use Rattle.wasm_module_validator.specs.Methods.{can_reset};
-ghost use Rattle.wasm_module_validator.specs.Lists.{texts, IsVerdict, AreVerdicts, goes_on, state_behind, state_after, ShareIds, LeavesGroups};
+ghost use Rattle.wasm_module_validator.specs.Lists.{texts, IsVerdict, AreVerdicts, goes_on, state_behind, state_after, KeepsAll, ShareIds, LeavesGroups};
 ghost use Rattle.wasm_module_validator.specs.States.{held_by};
 
 use crate::types::Types;
@@ -45,7 +45,8 @@ impl Validator {
     ///
     /// What is said of a module does not depend on those before it, except that the list of types has 2^20 types at most: a module may be
     /// refused because it has no room behind the types of those before it (`validate_all`). Where types are kept in canonical form, an id of
-    /// one module that was accepted and an id of another are the same exactly if their types are.
+    /// one module that was accepted and an id of another are the same exactly if their types are. The list keeps the types of all that were
+    /// accepted, as long as a further module may come. An accepted module runs soundly, as with `validate_all`.
     ///
     /// # Errors
     ///
@@ -55,6 +56,7 @@ impl Validator {
         ensures verdicts { IfOk result (λ vs. AreVerdicts self.old.settings self.old.id (held_by self.old)
             (texts inputs.now) vs.items) }
         ensures ids { IfOk result (λ vs. ShareIds self.old.settings vs.items) }
+        ensures kept { IfOk result (λ vs. KeepsAll self.old vs.items self.new) }
         ensures state { IfOk result (λ vs. self.new.state ≡ state_after vs.items) }
         ensures memory { IfErr result (λ e. (e.kind ≡ kinds.OutOfMemory) × (self.new.state ≡ states.Failed)) }
         ensures others { self.new ≡ record self.old { state = self.new.state; reached = self.new.reached } }

@@ -1,11 +1,12 @@
 //! A module that is validated frame by frame, as a parser gives its payloads.
 
-ghost use Rattle.std.specs.Prelude.{◌≡◌, is_some, option_map, true};
+ghost use Rattle.std.specs.Prelude.{◌≡◌, IfOk, is_some, option_map, true};
 ghost use Rattle.wasm_types.specs.error.declared.error.ErrorKind.TheVariants as kinds;
 ghost use Rattle.wasm_sections_payloads.specs.declared.payload.Payload.TheVariants as payloads;
 ghost use Rattle.wasm_operator_validator_stacks.specs.state.Refusals.{refused_by};
 ghost use Rattle.wasm_module_validator_sharing.specs.Sharing.{IsWhole, renewed_behind};
 ghost use Rattle.wasm_module_validator.specs.declared.validator.State.TheVariants as states;
+ghost use Rattle.wasm_module_validator.specs.Lists.{AreToldUnder};
 ghost use Rattle.wasm_module_validator.specs.Shown.{shown};
 ghost use Rattle.wasm_module_validator.specs.Methods.{failure, refusal, can_reset, types_so_far, ReadsHeader, Takes, TakesData, BeginsCode, TakesBody, RefusesUnknown, Ends};
 
@@ -125,7 +126,7 @@ impl Validator {
             State::Module => return Err(late_header(range.start)),
             State::Ended => return Err(late_header(range.start)),
         }
-        match check_header(num, encoding, range.start) {
+        match check_header(&self.settings.features(), num, encoding, range.start) {
             Ok(()) => (),
             Err(error) => {
                 self.state = State::Failed;
@@ -346,13 +347,15 @@ impl Validator {
         Err(malformed_section(id, range.start))
     }
 
-    /// Ends the module, at this offset, and gives what is known of it. It is not asked whether each function had its body.
+    /// Ends the module, at this offset, and gives what is known of it. It is not asked whether each function had its body. If types are kept in
+    /// canonical form, two ids of the list are the same exactly if their types are.
     ///
     /// # Errors
     ///
     /// No header came, or the module has ended. The validator has ended then. Or there is no memory, and it has failed.
     pub fn end(&mut self, offset: u64) -> Result<Types>
-        ensures { Ends self.old result self.new }
+        ensures ends { Ends self.old result self.new }
+        ensures told { IfOk result (λ t. AreToldUnder t.kept.items.spaces.settings t.kept.groups t.kept.groups) }
     {
         match self.state {
             State::Module => (),
@@ -366,10 +369,12 @@ impl Validator {
         match self.reached.finish() {
             Ok(module) => {
                 self.state = State::Ended;
-                Ok(Types {
+                let types = Types {
                     id: self.id,
                     module,
-                })
+                };
+                types.tell_ids();
+                Ok(types)
             }
             Err(error) => {
                 self.state = State::Failed;

@@ -8,6 +8,7 @@ ghost use Rattle.wasm_module_validator_runs.specs.Soundness.{RunsSoundly};
 ghost use Rattle.wasm_module_validator_sharing.specs.Sharing.{nothing_reached};
 ghost use Rattle.wasm_module_validator.specs.declared.validator.State.TheVariants as states;
 ghost use Rattle.wasm_module_validator.specs.Accepts.{Accepts, IsShown, default_settings};
+ghost use Rattle.wasm_module_validator.specs.Lists.{AreToldUnder};
 ghost use Rattle.wasm_module_validator.specs.States.{IsLeft, Keeps, Leaves, TellsBehind, held_by};
 
 use crate::types::Types;
@@ -124,7 +125,8 @@ impl Validator {
     ///
     /// The module's types go into the validator's list, where those of modules before it stay (`reset`). The list has 2^20 types at most, so
     /// a module may be refused behind others that is accepted by itself: the error of that, of kind `Other`, says `too many core types`. A
-    /// list with no types has room for each module that is within the limit of types.
+    /// list with no types has room for each module that is within the limit of types. If the list keeps types in canonical form, two of its
+    /// ids are the same exactly if their types are.
     pub fn validate_all(&mut self, bytes: &[u8]) -> Result<Types>
         requires { self.old.state ≡ states.Unparsed }
         ensures verdict { TellsBehind self.old result bytes.now }
@@ -133,6 +135,7 @@ impl Validator {
         ensures sound { IfOk result (λ _. RunsSoundly self.old.settings bytes.now) }
         ensures shown { IfOk result (IsShown self.old.settings bytes.now) }
         ensures id { IfOk result (λ t. t.id ≡ self.old.id) }
+        ensures told { IfOk result (λ t. AreToldUnder self.old.settings t.kept.groups t.kept.groups) }
         ensures state { Leaves (held_by self.old) self.old.settings bytes.now result self.new.state }
         ensures others { self.new ≡ record self.old { state = self.new.state; reached = self.new.reached } }
         ensures types { IfOk result (λ t. t.kept.groups ≡ self.new.reached.progress.kept.groups) }
@@ -154,10 +157,12 @@ impl Validator {
         match self.reached.finish() {
             Ok(module) => {
                 self.state = State::Ended;
-                Ok(Types {
+                let types = Types {
                     id: self.id,
                     module,
-                })
+                };
+                types.tell_ids();
+                Ok(types)
             }
             Err(error) => Err(error),
         }
@@ -185,6 +190,7 @@ pub fn validate(alloc: Global, id: ValidatorId, bytes: &[u8]) -> Result<Types>
     ensures sound { IfOk result (λ _. RunsSoundly default_settings bytes.now) }
     ensures shown { IfOk result (IsShown default_settings bytes.now) }
     ensures id { IfOk result (λ t. t.id ≡ id) }
+    ensures told { IfOk result (λ t. AreToldUnder default_settings t.kept.groups t.kept.groups) }
 {
     Validator::new(alloc, id).validate_all(bytes)
 }

@@ -25,14 +25,20 @@ use wasm_types::{Error, Result, WasmFeatures};
 ///
 /// # Errors
 ///
-/// It is a component, for the lack of a feature; or a module of another version, of kind `Other`: at `offset`.
-pub fn check_header(num: u16, encoding: Encoding, offset: u64) -> Result<()>
+/// It is a component, for the lack of the feature, or of kind `Other` if these features have it; or a module of another version, of kind
+/// `Other`: at `offset`.
+pub fn check_header(
+    features: &WasmFeatures,
+    num: u16,
+    encoding: Encoding,
+    offset: u64,
+) -> Result<()>
     ensures answer { Tells result ((num ≡ 1) × (layer_of encoding ≡ 0)) }
     ensures refused { IfErr result (λ e. IsNotMemory e.kind × (e.offset ≡ offset)) }
 {
     match encoding {
         Encoding::Module => (),
-        Encoding::Component => return Err(component(offset)),
+        Encoding::Component => return Err(component(features, offset)),
     }
     if num != 1 {
         return Err(unknown_version(num, offset));
@@ -42,9 +48,15 @@ pub fn check_header(num: u16, encoding: Encoding, offset: u64) -> Result<()>
 
 // The refusal of a component.
 #[cold]
-fn component(offset: u64) -> Error
+fn component(features: &WasmFeatures, offset: u64) -> Error
     ensures { IsNotMemory result.kind × (result.offset ≡ offset) }
 {
+    if features.component_model() {
+        return Error::new(
+            "component model validation support disabled at compile time",
+            offset,
+        );
+    }
     Error::missing_feature(
         WasmFeatures::COMPONENT_MODEL,
         "encoded as a component but the WebAssembly component model feature is not enabled",
@@ -130,7 +142,7 @@ impl InProgress {
                 num,
                 encoding,
                 range,
-            } => check_header(num, encoding, range.start),
+            } => check_header(&self.features(), num, encoding, range.start),
             Payload::TypeSection(section) => self.take_section(section),
             Payload::ImportSection(section) => self.take_imports(section),
             Payload::FunctionSection(section) => self.take_section(section),

@@ -46,6 +46,7 @@ pub use wasm_operator_validator_soundness::accepted::accepted_bodies_are_sound;
 pub use wasm_operator_validator_state::attempts::{
     RollbackLog, RollbackLogAllocations, Transaction, ty_to_str,
 };
+pub use wasm_operator_validator_state::{check_ref_type_features, check_value_type_features};
 pub use wasm_operator_validator_visits::{
     AnswerAs, AsError, AsRefusal, ValidatingVisitor, WasmProposalValidator,
 };

@@ -34,12 +34,13 @@ pub fn check_value_type_features(features: &WasmFeatures, ty: &ValType, offset: 
             "SIMD support is not enabled",
             offset,
         ),
-        ValType::Ref(ty) => check_reference(features, ty, offset),
+        ValType::Ref(ty) => check_ref_type_features(features, ty, offset),
     }
 }
 
+/// Whether these features allow a reference type, whatever it leads to (WebAssembly 3.0, appendix, history).
 #[tactic(auto, unfolding(crate::specs::Answers::has))]
-fn check_reference(features: &WasmFeatures, ty: &RefType, offset: u64) -> Result<()>
+pub fn check_ref_type_features(features: &WasmFeatures, ty: &RefType, offset: u64) -> Result<()>
     ensures answer { Tells result (Has features.now.0 ReferenceTypes
         × HeapIsAllowed features.now.0 ty.now.nullable (heap_of ty.now.heap)) }
     ensures missing { IfErr result (λ e. IsMissing features.now.0 e.kind) }

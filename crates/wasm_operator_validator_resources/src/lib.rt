@@ -9,7 +9,7 @@ mod gates;
 pub mod laws;
 mod resources;
 
-pub use gates::check_value_type_features;
+pub use gates::{check_ref_type_features, check_value_type_features};
 pub use resources::WasmModuleResources;
 pub use wasm_operator_validator_rules::{
     BlockType, BrTable, BrTableTargets, BulkOperator, ConstOperator, FrameKind, MemArg,

@@ -15,7 +15,7 @@ use Rattle.wasm_operator_validator_runs.specs.States.{Activation, State, Answer}
 use Rattle.wasm_operator_validator_runs.specs.States.{Outcome, next, returned, trapped, thrown, stuck, Move}
 use Rattle.wasm_operator_validator_runs.specs.Machine.{label_at, here}
 use Rattle.wasm_operator_validator_runs.specs.Machine.{operate, end, execute}
-use Rattle.wasm_operator_validator_runs.specs.Soundness.{HasValidBody, IsValidProgram, step, Runs, EndsWell, IsNeverStuck, ProgramsAreSound, StepsAreSound, StartsAreValid, evaluated, ConstantsAreSound, AncestorsAreSound}
+use Rattle.wasm_operator_validator_runs.specs.Soundness.{HasValidBody, IsValidProgram, step, Runs, EndsWell, IsNeverStuck, ProgramsAreSound, StepsAreSound, StartsAreValid, evaluated, ConstantsAreValid, ConstantsAreSound, AncestorsAreSound}
 use Rattle.wasm_operator_validator_runs.proofs.Fitting.{all_below}
 use Rattle.wasm_operator_validator_runs.specs.ValidStates.{AreSet, Around, around_of}
 use Rattle.wasm_operator_validator_runs.proofs.Invariant.{some_same}
@@ -163,8 +163,8 @@ steps_sound p results s a v i given = (step_okay p results s a v i).okay given
 
 -- ---- constants
 
-pub constants_sound : ConstantsAreSound
-constants_sound p u c v b = run_sound p (u ∷ []) (evaluated u c) v (
+pub constants_valid : ConstantsAreValid
+constants_valid p u c v b = (
   record {
     locals = tt;
     results = λ us x. x;
@@ -187,6 +187,9 @@ constants_sound p u c v b = run_sound p (u ∷ []) (evaluated u c) v (
   },
   λ us x. x,
 )
+
+pub constants_sound : ConstantsAreSound
+constants_sound p u c v b = run_sound p (u ∷ []) (evaluated u c) v (constants_valid p u c v b)
 
 -- ---- ancestors
 

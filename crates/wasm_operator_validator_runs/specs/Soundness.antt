@@ -125,6 +125,12 @@ StartsAreValid = (p : Program) (s : State) (results : List ValueType) → IsVali
 abbrev pub evaluated : ValueType → Code → State
 evaluated t c = begun_with [] (t ∷ []) false [] (t ∷ []) c ∷ []
 
+-- Typed as a constant, it is a state in which all fits, so that each of its steps is as any other (`StepsAreSound`).
+abbrev pub ConstantsAreValid : Type 0
+ConstantsAreValid = (p : Program) (v : ValueType) (c : Code) → IsValidProgram p
+    → IsBody (constant_context p.bits p.«module» v) 0 c
+    → IsValidState p (v ∷ []) (evaluated v c)
+
 -- Typed as a constant, it is never stuck, and the value that it gives is of that type.
 abbrev pub ConstantsAreSound : Type 0
 ConstantsAreSound = (p : Program) (v : ValueType) (c : Code) → IsValidProgram p

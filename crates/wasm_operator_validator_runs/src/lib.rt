@@ -7,7 +7,7 @@
 
 mod worked;
 
-ghost use Rattle.wasm_operator_validator_runs.specs.Soundness.{AncestorsAreSound, ConstantsAreSound, ProgramsAreSound, StartsAreValid, StepsAreSound};
+ghost use Rattle.wasm_operator_validator_runs.specs.Soundness.{AncestorsAreSound, ConstantsAreSound, ConstantsAreValid, ProgramsAreSound, StartsAreValid, StepsAreSound};
 
 pub use worked::{caught_is_worked, runs_are_worked, stuck_states_are_worked, sums_are_worked};
 
@@ -24,9 +24,10 @@ pub fn steps_are_sound()
     ensures starts { StartsAreValid }
 {}
 
-/// The value of a constant fits the type that it is typed with.
+/// A constant is in such a state too, so each of its steps has what it needs; and its value fits the type that it is typed with.
 pub fn constants_are_sound()
-    ensures { ConstantsAreSound }
+    ensures steps { ConstantsAreValid }
+    ensures values { ConstantsAreSound }
 {}
 
 /// A value made with a type may be used through each type that is declared above it.

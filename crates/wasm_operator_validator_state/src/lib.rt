@@ -23,5 +23,6 @@ pub use refusal::{Reason, Refusal, Space};
 pub use type_names::ty_to_str;
 pub use wasm_operator_validator_resources::{
     BlockType, BrTable, BrTableTargets, BulkOperator, ConstOperator, FrameKind, MemArg,
-    MemArgTarget, MemoryOperator, Proposal, WasmModuleResources, check_value_type_features,
+    MemArgTarget, MemoryOperator, Proposal, WasmModuleResources, check_ref_type_features,
+    check_value_type_features,
 };

@@ -22,7 +22,7 @@ use Rattle.wasm_module_validator.specs.declared.lists.Verdict.TheVariants.{Accep
 use Rattle.wasm_module_validator.specs.declared.validator.State.{State}
 use Rattle.wasm_module_validator.specs.declared.validator.State.TheVariants.{Unparsed, Ended, Failed}
 use Rattle.wasm_module_validator.specs.declared.validator.Validator.{Validator}
-use Rattle.wasm_module_validator.specs.Lists.{IsValidOutsideBodies, IsVerdict, goes_on, IsHeldBehind, AreVerdicts, state_behind, state_after, AreTold, AreToldUnder, ShareIds, LeavesGroups}
+use Rattle.wasm_module_validator.specs.Lists.{IsValidOutsideBodies, IsVerdict, goes_on, IsHeldBehind, AreVerdicts, state_behind, state_after, AreTold, AreToldUnder, KeepsAll, ShareIds, LeavesGroups}
 use Rattle.wasm_module_validator.specs.Methods.{can_reset}
 use Rattle.wasm_module_validator.specs.Shown.{Learned}
 use Rattle.wasm_module_validator.specs.States.{Keeps, KeepsWhere, Leaves, held_by}
@@ -224,6 +224,17 @@ module _ (v w : Validator) (vs : List Verdict) (ids : ShareIds v.settings vs) (k
 
 -- ---- all of them
 
+-- the list grows over a verdict that another may follow
+grown_over : (held next : List Group) (d : Verdict) → IsHeldBehind held d next → IsGrown held next
+grown_over held next (Accepted t) h = h.0
+grown_over held next (Refused e b) h = h
+
+-- none may follow one that was refused before its end
+stops_there : (d : Verdict) → goes_on d ≡ false → can_reset (state_behind d) ≡ true → ⊥
+stops_there (Accepted t) off on = cc
+stops_there (Refused e true) off on = cc
+stops_there (Refused e false) off on = cc
+
 module _ (v : Validator) (xs : List (List ℕ)) where
   -- the first i inputs have these verdicts, behind which the validator is so
   pub record Stands (i : ℕ) (w : Validator) (vs : List Verdict) : Type 0 where
@@ -233,6 +244,10 @@ module _ (v : Validator) (xs : List (List ℕ)) where
     pub verdicts : Goes v.settings v.id (held_by v) xs i (held_by w) vs
     pub ids : ShareIds v.settings vs
     pub known : (t : Learned) → Contains vs (Accepted t) → IsGrown t.kept.groups (held_by w)
+    pub grown : IsGrown (held_by v) (held_by w)
+
+  pub keeps_all : (i : ℕ) (w : Validator) (vs : List Verdict) → Stands i w vs → KeepsAll v vs w
+  keeps_all i w vs s on = (s.grown, s.known)
 
   pub stands_first : v.state ≡ Unparsed → Stands zero v []
   stands_first is = record {
@@ -242,6 +257,7 @@ module _ (v : Validator) (xs : List (List ℕ)) where
     verdicts = goes_first v.settings v.id (held_by v) xs;
     ids = λ t u (i, l, at) d. absurd (omega (arith, l));
     known = λ t (i, l, at). absurd (omega (arith, l));
+    grown = ([], refl);
   }
 
   module _ (i : ℕ) (w u : Validator) (vs : List Verdict) (x : List ℕ) (d : Verdict) (s : Stands i w vs) (at : slice_get xs i ≡ Some x)
@@ -275,4 +291,9 @@ module _ (v : Validator) (xs : List (List ℕ)) where
       verdicts = goes_further v.settings v.id (held_by v) xs i (held_by w) (held_by u) vs x d s.verdicts at verdict on (held_behind d left on);
       ids = ids_are;
       known = known_further v w vs s.ids s.known same_settings_as d u left on;
+      grown = grown_further (held_by v) (held_by w) (held_by u) s.grown (grown_over (held_by w) (held_by u) d (held_behind d left on));
     }
+
+    -- after the last there is no other
+    pub keeps_to_last : u.state ≡ state_behind d → goes_on d ≡ false → KeepsAll v (vs ++ d ∷ []) u
+    keeps_to_last st off on = absurd (stops_there d off (subst (λ (t : State). can_reset t ≡ true) st on))

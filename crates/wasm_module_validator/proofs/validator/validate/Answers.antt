@@ -4,6 +4,7 @@ use Rattle.wasm_types.specs.error.Denials.{Tells}
 use Rattle.wasm_types.specs.limits.Settings.{Settings}
 use Rattle.wasm_module_validator_sharing.specs.reading.progress.standing.steps.contexts.rules.Accepts.{AcceptsUnder}
 use Rattle.wasm_module_validator_runs.specs.Soundness.{RunsSoundly}
+use Rattle.wasm_module_validator.specs.Lists.{AreToldUnder}
 use Rattle.wasm_module_validator.proofs.validator.validate.Goals as goal
 
 pub returns-clause-verdict : goal.returns-clause-verdict
@@ -16,3 +17,7 @@ returns-clause-id c = rw c.new.ensures.id at c.validate_all.ensures.id
 pub returns-clause-sound : goal.returns-clause-sound
 returns-clause-sound c =
     subst (λ (z : Settings). IfOk c.validate_all.result (λ _. RunsSoundly z c.args.bytes.now)) c.new.ensures.settings c.validate_all.ensures.sound
+
+pub returns-clause-told : goal.returns-clause-told
+returns-clause-told c =
+    subst (λ (z : Settings). IfOk c.validate_all.result (λ t. AreToldUnder z t.kept.groups t.kept.groups)) c.new.ensures.settings c.validate_all.ensures.told

@@ -4,17 +4,17 @@ use Rattle.wasm_module_validator.specs.declared.validator.State.TheVariants.{End
 use Rattle.wasm_module_validator.specs.Methods.{EndsFrom}
 use Rattle.wasm_module_validator.proofs.validator.Validator.end.Goals as goal
 
-pub returns-in-Failed : goal.returns-in-Failed
-returns-in-Failed c =
+pub returns-in-Failed-clause-ends : goal.returns-in-Failed-clause-ends
+returns-in-Failed-clause-ends c =
     let v = c.args.self.now in
     subst (λ (s : State). EndsFrom s v (Err c.failed_before.result) v) (sym c.in-Failed.is) (ap Some c.failed_before.ensures, refl)
 
-pub returns-in-Unparsed : goal.returns-in-Unparsed
-returns-in-Unparsed c =
+pub returns-in-Unparsed-clause-ends : goal.returns-in-Unparsed-clause-ends
+returns-in-Unparsed-clause-ends c =
     let v = c.args.self.now in
     subst (λ (s : State). EndsFrom s v (Err c.early_end.result) (record v { state = Ended })) (sym c.in-Unparsed.is) (ap Some c.early_end.ensures, refl)
 
-pub returns-in-Ended : goal.returns-in-Ended
-returns-in-Ended c =
+pub returns-in-Ended-clause-ends : goal.returns-in-Ended-clause-ends
+returns-in-Ended-clause-ends c =
     let v = c.args.self.now in
     subst (λ (s : State). EndsFrom s v (Err c.late_end.result) v) (sym c.in-Ended.is) (ap Some c.late_end.ensures, refl)

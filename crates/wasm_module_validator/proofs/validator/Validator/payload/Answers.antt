@@ -89,4 +89,4 @@ returns-in-CodeSectionEntry c =
     (c.code_section_entry-answer.result, c.hand_out.ensures, c.code_section_entry-answer.ensures)
 
 pub returns-in-End : goal.returns-in-End
-returns-in-End c = subst (λ (x : Payload). TakesPayload x c.args.self.now c.finish.result c.end.new.self) (sym c.in-End.is) (c.end.result, c.finish.ensures, c.end.ensures)
+returns-in-End c = subst (λ (x : Payload). TakesPayload x c.args.self.now c.finish.result c.end.new.self) (sym c.in-End.is) (c.end.result, c.finish.ensures, c.end.ensures.ends)

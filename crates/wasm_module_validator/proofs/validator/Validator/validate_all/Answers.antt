@@ -12,6 +12,7 @@ use Rattle.wasm_module_validator_sharing.specs.reading.progress.Progress.{Kept, 
 use Rattle.wasm_module_validator_sharing.specs.reading.judging.Bodies.{AreBodies}
 use Rattle.wasm_module_validator_sharing.specs.reading.Reading.{IsReadAs}
 use Rattle.wasm_module_validator.specs.Accepts.{IsShown}
+use Rattle.wasm_module_validator.specs.Lists.{AreToldUnder}
 use Rattle.wasm_module_validator.specs.States.{IsLeft, held_by}
 use Rattle.wasm_module_validator.specs.laws.Verdict.{accepted_is_read, alone_told, left_behind, tells_accepted, stands_for_module}
 use Rattle.wasm_module_validator_runs.proofs.Validity.{accepted_sound}
@@ -72,3 +73,8 @@ returns-in-Err-judge-clause-state c =
     left_behind (Unit {0}) (held_by c.args.self.now) z c.args.bytes.now c.in-Err-judge.error c.state_after-self.result
     (subst (λ k. IsLeft k c.state_after-self.result) c.kind.ensures c.state_after-self.ensures) c.in-Ok.ensures.answer
     (subst (λ answer. Tells answer (AcceptsUnder z c.args.bytes.now)) c.in-Err-judge.is told)
+
+pub returns-in-Ok-finish-clause-told : goal.returns-in-Ok-finish-clause-told
+returns-in-Ok-finish-clause-told c =
+    let k : Kept = c.in-Ok-finish.«module».value in
+    subst (λ (z : Settings). AreToldUnder z k.groups k.groups) (returns-in-Ok-finish-clause-shown c).2.settings c.tell_ids.ensures

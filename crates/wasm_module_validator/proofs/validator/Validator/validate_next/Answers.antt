@@ -16,7 +16,7 @@ use Rattle.wasm_module_validator.proofs.validator.Validator.validate_next.Goals 
 pub returns-in-Ok-clause-verdict : goal.returns-in-Ok-clause-verdict
 returns-in-Ok-clause-verdict c =
     subst (λ (u : Validator). IsVerdict u.settings u.id (held_by c.args.self.now) c.args.bytes.now (Accepted c.in-Ok.types)) c.reset.ensures
-    (c.in-Ok.ensures.verdict, c.in-Ok.ensures.shown, c.in-Ok.ensures.id)
+    (c.in-Ok.ensures.verdict, c.in-Ok.ensures.shown, c.in-Ok.ensures.id, c.in-Ok.ensures.sound)
 
 pub returns-else-is_memory-clause-verdict : goal.returns-else-is_memory-clause-verdict
 returns-else-is_memory-clause-verdict c =
