@@ -14,18 +14,18 @@ import sys
 
 # the list's group, with fields or without or both (None) => the file, the group's constructor of `Op`, its enum, its crate and module
 GROUPS = {
-    ("control", None): ("Control", "Control", "ControlOperator", "control", "control"),
+    ("control", None): ("Control", "Control", "ControlOperator", "groups", "control"),
     ("parametric", None): ("Control", "Parametric", "", "", ""),
     ("exceptions", None): ("Control", "Exception", "", "", ""),
     ("stacks", None): ("Control", "Continuation", "", "", ""),
-    ("memory", None): ("Memory", "Memory", "MemoryOperator", "memory", "memory"),
-    ("numbers", True): ("Memory", "Const", "ConstOperator", "memory", "constant"),
-    ("bulk", None): ("Memory", "Bulk", "BulkOperator", "memory", "bulk"),
-    ("numbers", False): ("Numbers", "Numeric", "NumericOperator", "numbers", "numeric"),
-    ("gc", None): ("Gc", "Gc", "GcOperator", "gc", "gc"),
-    ("descriptors", None): ("Gc", "Descriptor", "DescriptorOperator", "gc", "gc"),
-    ("threads", None): ("Threads", "Atomic", "AtomicOperator", "threads", "atomic"),
-    ("shared", None): ("Threads", "Shared", "SharedOperator", "threads", "atomic"),
+    ("memory", None): ("Memory", "Memory", "MemoryOperator", "groups", "memory"),
+    ("numbers", True): ("Memory", "Const", "ConstOperator", "groups", "constant"),
+    ("bulk", None): ("Memory", "Bulk", "BulkOperator", "groups", "bulk"),
+    ("numbers", False): ("Numbers", "Numeric", "NumericOperator", "groups", "numeric"),
+    ("gc", None): ("Gc", "Gc", "GcOperator", "groups", "gc"),
+    ("descriptors", None): ("Gc", "Descriptor", "DescriptorOperator", "groups", "gc"),
+    ("threads", None): ("Threads", "Atomic", "AtomicOperator", "groups", "atomic"),
+    ("shared", None): ("Threads", "Shared", "SharedOperator", "groups", "atomic"),
     ("simd", True): ("Vectors", "Simd", "SimdOperator", "vectors", "vector"),
     ("simd", False): ("VectorNumbers", "SimdNumeric", "SimdNumericOperator", "vectors", "vector_numeric"),
 }
@@ -63,6 +63,17 @@ LANES = {"i8x16": 16, "i16x8": 8, "i32x4": 4, "i64x2": 2, "f32x4": 4, "f64x2": 2
 
 def camel(name):
     return "".join(part.capitalize() for part in name.split("_"))
+
+
+def uses(module, names):
+    """Lines that use these names of a module, each of at most 190 columns; none if there are no names."""
+    lines = []
+    for name in names:
+        if lines and len(f"use {module}.{{{', '.join([*lines[-1], name])}}}") <= 190:
+            lines[-1].append(name)
+        else:
+            lines.append([name])
+    return "".join(f"use {module}.{{{', '.join(it)}}}\n" for it in lines)
 
 
 def access_of(row):
@@ -122,7 +133,7 @@ def text_of(file, groups):
         _, constructor, enum, crate, module = GROUPS[key]
         alias = alias_of(constructor)
         if crate:
-            aliases += f"use Rattle.wasm_operators_{crate}.specs.declared.{module}.{enum}.TheVariants as {alias}\n"
+            aliases += f"use Rattle.wasm_operators_operator.specs.{crate}.declared.{module}.{enum}.TheVariants as {alias}\n"
         rows = [row_of(row, constructor, alias if crate else "op") for row in groups[key]]
         body += f"\nabbrev pub {alias}_rows : Carried → List Listed\n{alias}_rows c =\n    " + " ∷\n    ".join(rows) + " ∷ []\n"
     unnamed = re.sub(r'"[^"]*"|\w+\.\w+', "", body)
@@ -130,8 +141,8 @@ def text_of(file, groups):
     prelude = ["List", "[]", "◌∷◌", "codes", *(it for it in ("Some", "None") if re.search(rf"\b{it}\b", unnamed))]
     text = f"-- Operators {TITLES[file]}, as the list has them (written by docs/operators/make_list_rows.py).\n"
     text += f"use Rattle.std.specs.Prelude.{{{', '.join(prelude)}}}\n"
-    text += "use Rattle.wasm_operators_info.specs.declared.proposal.Proposal.TheVariants as proposal\n"
-    text += f"use Rattle.wasm_operators_immediates.specs.Kinds.{{{', '.join(kinds)}}}\n" if kinds else ""
+    text += "use Rattle.wasm_operators_operator.specs.info.declared.proposal.Proposal.TheVariants as proposal\n"
+    text += uses("Rattle.wasm_operators_operator.specs.immediates.Kinds", kinds)
     text += aliases + "use Rattle.wasm_operators_operator.specs.Op as op\n"
     return text + "use Rattle.wasm_operators_tests.specs.list.Listed.{Carried, Listed, listed}\n" + body
 
@@ -175,8 +186,8 @@ def carried_text(groups):
     spaces = [it for it in found if KINDS.index(it) > KINDS.index("ZeroByte")]
     text = "-- What each operator carries behind its opcode, in the order of the bytes, as the list has it (written by\n"
     text += "-- docs/operators/make_list_rows.py).\nuse Rattle.std.specs.Prelude.{List, [], ◌∷◌}\n"
-    text += f"use Rattle.wasm_operators_operator.specs.immediates.Kinds.{{{', '.join(spaces)}}}\n"
-    text += f"use Rattle.wasm_operators_operator.specs.immediates.Immediates.{{{', '.join(it for it in found if it not in spaces)}}}\n"
+    text += uses("Rattle.wasm_operators_operator.specs.immediates.Kinds", spaces)
+    text += uses("Rattle.wasm_operators_operator.specs.immediates.Immediates", [it for it in found if it not in spaces])
     text += aliases + "use Rattle.wasm_operators_operator.specs.Op as op\n"
     return text + "use Rattle.wasm_operators_tests.specs.list.Listed.{Carried, Carries, carries, to_non_null, to_null}\n" + body
 

@@ -27,7 +27,8 @@ pub struct DurskeylFault {
 
 /// The number of an error's kind, and what it carries.
 fn number(kind: ErrorKind) -> (u32, u64)
-    ensures { result.0 ≡ number_of kind }
+    ensures kind { result.0 ≡ number_of kind }
+    ensures few { result.0 ≤ 5 }
 {
     match kind {
         ErrorKind::EndOfData { needed_hint } => (1, needed_hint as u64),

@@ -1,6 +1,6 @@
 //! The verdict on whole bytes.
 
-ghost use Rattle.std.specs.Prelude.{◌≡◌};
+ghost use Rattle.std.specs.Prelude.{◌≡◌, ◌≤◌};
 ghost use Rattle.wasm_types.specs.error.Denials.{Tells};
 ghost use Rattle.wasm_types.specs.limits.Limits.{IsWithinCeilings};
 ghost use Rattle.wasm_module_validator_rules.specs.Accepts.{AcceptsUnder};
@@ -46,6 +46,7 @@ pub extern "C" fn durskeyl_validate(
     fault: &mut DurskeylFault,
 ) -> u32
     ensures verdict { Told result settings.now bytes.now }
+    ensures few { result ≤ 6 }
     ensures kind { fault.new.kind ≡ result }
     ensures text { IsEnded fault.new }
 {

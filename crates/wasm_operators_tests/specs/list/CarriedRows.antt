@@ -2,7 +2,8 @@
 -- docs/operators/make_list_rows.py).
 use Rattle.std.specs.Prelude.{List, [], ◌∷◌}
 use Rattle.wasm_operators_operator.specs.immediates.Kinds.{Types, Functions, Tables, Memories, Globals, Locals, Tags, Elements, DataSegments, Fields, Plain, Atomic, ReadModifyWrite}
-use Rattle.wasm_operators_operator.specs.immediates.Immediates.{Index, IndexOrZero, Label, Block, BranchTable, MemoryArgument, MemoryOrdering, Heap, CastBranch, ValueTypes, I32Constant, I64Constant, F32Constant, F64Constant, V128Constant, Lane, Lanes, Count, TryTable, Handlers, ZeroByte}
+use Rattle.wasm_operators_operator.specs.immediates.Immediates.{Index, IndexOrZero, Label, Block, BranchTable, MemoryArgument, MemoryOrdering, Heap, CastBranch, ValueTypes, I32Constant}
+use Rattle.wasm_operators_operator.specs.immediates.Immediates.{I64Constant, F32Constant, F64Constant, V128Constant, Lane, Lanes, Count, TryTable, Handlers, ZeroByte}
 use Rattle.wasm_operators_operator.specs.groups.declared.control.ControlOperator.TheVariants as control
 use Rattle.wasm_operators_operator.specs.groups.declared.memory.MemoryOperator.TheVariants as memory
 use Rattle.wasm_operators_operator.specs.groups.declared.constant.ConstOperator.TheVariants as const

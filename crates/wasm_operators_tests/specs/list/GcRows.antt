@@ -50,5 +50,4 @@ descriptor_rows c =
     listed (op.Descriptor (descriptor.RefCastDescEqNonNull c.heap)) proposal.CustomDescriptors (codes "ref.cast_desc_eq") (Some 0xfb) 0x23 (Heap ∷ []) ∷
     listed (op.Descriptor (descriptor.RefCastDescEqNullable c.heap)) proposal.CustomDescriptors (codes "ref.cast_desc_eq") (Some 0xfb) 0x24 (Heap ∷ []) ∷
     listed (op.Descriptor (descriptor.BrOnCastDescEq c.number c.reference c.reference)) proposal.CustomDescriptors (codes "br_on_cast_desc_eq") (Some 0xfb) 0x25 (CastBranch ∷ []) ∷
-    listed (op.Descriptor (descriptor.BrOnCastDescEqFail c.number c.reference c.reference)) proposal.CustomDescriptors
-    (codes "br_on_cast_desc_eq_fail") (Some 0xfb) 0x26 (CastBranch ∷ []) ∷ []
+    listed (op.Descriptor (descriptor.BrOnCastDescEqFail c.number c.reference c.reference)) proposal.CustomDescriptors (codes "br_on_cast_desc_eq_fail") (Some 0xfb) 0x26 (CastBranch ∷ []) ∷ []

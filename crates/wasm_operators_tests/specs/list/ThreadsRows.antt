@@ -79,74 +79,39 @@ atomic_rows c =
 
 abbrev pub shared_rows : Carried → List Listed
 shared_rows c =
-    listed (op.Shared (shared.GlobalAtomicGet c.ordering c.number)) proposal.SharedEverythingThreads (codes "global.atomic.get") (Some 0xfe) 0x4f
-    (MemoryOrdering ∷ Index Globals ∷ []) ∷
-    listed (op.Shared (shared.GlobalAtomicSet c.ordering c.number)) proposal.SharedEverythingThreads (codes "global.atomic.set") (Some 0xfe) 0x50
-    (MemoryOrdering ∷ Index Globals ∷ []) ∷
-    listed (op.Shared (shared.GlobalAtomicRmwAdd c.ordering c.number)) proposal.SharedEverythingThreads (codes "global.atomic.rmw.add") (Some 0xfe)
-    0x51 (MemoryOrdering ∷ Index Globals ∷ []) ∷
-    listed (op.Shared (shared.GlobalAtomicRmwSub c.ordering c.number)) proposal.SharedEverythingThreads (codes "global.atomic.rmw.sub") (Some 0xfe)
-    0x52 (MemoryOrdering ∷ Index Globals ∷ []) ∷
-    listed (op.Shared (shared.GlobalAtomicRmwAnd c.ordering c.number)) proposal.SharedEverythingThreads (codes "global.atomic.rmw.and") (Some 0xfe)
-    0x53 (MemoryOrdering ∷ Index Globals ∷ []) ∷
-    listed (op.Shared (shared.GlobalAtomicRmwOr c.ordering c.number)) proposal.SharedEverythingThreads (codes "global.atomic.rmw.or") (Some 0xfe) 0x54
-    (MemoryOrdering ∷ Index Globals ∷ []) ∷
-    listed (op.Shared (shared.GlobalAtomicRmwXor c.ordering c.number)) proposal.SharedEverythingThreads (codes "global.atomic.rmw.xor") (Some 0xfe)
-    0x55 (MemoryOrdering ∷ Index Globals ∷ []) ∷
-    listed (op.Shared (shared.GlobalAtomicRmwXchg c.ordering c.number)) proposal.SharedEverythingThreads (codes "global.atomic.rmw.xchg") (Some 0xfe)
-    0x56 (MemoryOrdering ∷ Index Globals ∷ []) ∷
-    listed (op.Shared (shared.GlobalAtomicRmwCmpxchg c.ordering c.number)) proposal.SharedEverythingThreads (codes "global.atomic.rmw.cmpxchg")
-    (Some 0xfe) 0x57 (MemoryOrdering ∷ Index Globals ∷ []) ∷
-    listed (op.Shared (shared.TableAtomicGet c.ordering c.number)) proposal.SharedEverythingThreads (codes "table.atomic.get") (Some 0xfe) 0x58
-    (MemoryOrdering ∷ Index Tables ∷ []) ∷
-    listed (op.Shared (shared.TableAtomicSet c.ordering c.number)) proposal.SharedEverythingThreads (codes "table.atomic.set") (Some 0xfe) 0x59
-    (MemoryOrdering ∷ Index Tables ∷ []) ∷
-    listed (op.Shared (shared.TableAtomicRmwXchg c.ordering c.number)) proposal.SharedEverythingThreads (codes "table.atomic.rmw.xchg") (Some 0xfe)
-    0x5a (MemoryOrdering ∷ Index Tables ∷ []) ∷
-    listed (op.Shared (shared.TableAtomicRmwCmpxchg c.ordering c.number)) proposal.SharedEverythingThreads (codes "table.atomic.rmw.cmpxchg")
-    (Some 0xfe) 0x5b (MemoryOrdering ∷ Index Tables ∷ []) ∷
-    listed (op.Shared (shared.StructAtomicGet c.ordering c.number c.number)) proposal.SharedEverythingThreads (codes "struct.atomic.get") (Some 0xfe)
-    0x5c (MemoryOrdering ∷ Index Types ∷ Index Fields ∷ []) ∷
-    listed (op.Shared (shared.StructAtomicGetS c.ordering c.number c.number)) proposal.SharedEverythingThreads (codes "struct.atomic.get_s")
-    (Some 0xfe) 0x5d (MemoryOrdering ∷ Index Types ∷ Index Fields ∷ []) ∷
-    listed (op.Shared (shared.StructAtomicGetU c.ordering c.number c.number)) proposal.SharedEverythingThreads (codes "struct.atomic.get_u")
-    (Some 0xfe) 0x5e (MemoryOrdering ∷ Index Types ∷ Index Fields ∷ []) ∷
-    listed (op.Shared (shared.StructAtomicSet c.ordering c.number c.number)) proposal.SharedEverythingThreads (codes "struct.atomic.set") (Some 0xfe)
-    0x5f (MemoryOrdering ∷ Index Types ∷ Index Fields ∷ []) ∷
-    listed (op.Shared (shared.StructAtomicRmwAdd c.ordering c.number c.number)) proposal.SharedEverythingThreads (codes "struct.atomic.rmw.add")
-    (Some 0xfe) 0x60 (MemoryOrdering ∷ Index Types ∷ Index Fields ∷ []) ∷
-    listed (op.Shared (shared.StructAtomicRmwSub c.ordering c.number c.number)) proposal.SharedEverythingThreads (codes "struct.atomic.rmw.sub")
-    (Some 0xfe) 0x61 (MemoryOrdering ∷ Index Types ∷ Index Fields ∷ []) ∷
-    listed (op.Shared (shared.StructAtomicRmwAnd c.ordering c.number c.number)) proposal.SharedEverythingThreads (codes "struct.atomic.rmw.and")
-    (Some 0xfe) 0x62 (MemoryOrdering ∷ Index Types ∷ Index Fields ∷ []) ∷
-    listed (op.Shared (shared.StructAtomicRmwOr c.ordering c.number c.number)) proposal.SharedEverythingThreads (codes "struct.atomic.rmw.or")
-    (Some 0xfe) 0x63 (MemoryOrdering ∷ Index Types ∷ Index Fields ∷ []) ∷
-    listed (op.Shared (shared.StructAtomicRmwXor c.ordering c.number c.number)) proposal.SharedEverythingThreads (codes "struct.atomic.rmw.xor")
-    (Some 0xfe) 0x64 (MemoryOrdering ∷ Index Types ∷ Index Fields ∷ []) ∷
-    listed (op.Shared (shared.StructAtomicRmwXchg c.ordering c.number c.number)) proposal.SharedEverythingThreads (codes "struct.atomic.rmw.xchg")
-    (Some 0xfe) 0x65 (MemoryOrdering ∷ Index Types ∷ Index Fields ∷ []) ∷
-    listed (op.Shared (shared.StructAtomicRmwCmpxchg c.ordering c.number c.number)) proposal.SharedEverythingThreads
-    (codes "struct.atomic.rmw.cmpxchg") (Some 0xfe) 0x66 (MemoryOrdering ∷ Index Types ∷ Index Fields ∷ []) ∷
-    listed (op.Shared (shared.ArrayAtomicGet c.ordering c.number)) proposal.SharedEverythingThreads (codes "array.atomic.get") (Some 0xfe) 0x67
-    (MemoryOrdering ∷ Index Types ∷ []) ∷
-    listed (op.Shared (shared.ArrayAtomicGetS c.ordering c.number)) proposal.SharedEverythingThreads (codes "array.atomic.get_s") (Some 0xfe) 0x68
-    (MemoryOrdering ∷ Index Types ∷ []) ∷
-    listed (op.Shared (shared.ArrayAtomicGetU c.ordering c.number)) proposal.SharedEverythingThreads (codes "array.atomic.get_u") (Some 0xfe) 0x69
-    (MemoryOrdering ∷ Index Types ∷ []) ∷
-    listed (op.Shared (shared.ArrayAtomicSet c.ordering c.number)) proposal.SharedEverythingThreads (codes "array.atomic.set") (Some 0xfe) 0x6a
-    (MemoryOrdering ∷ Index Types ∷ []) ∷
-    listed (op.Shared (shared.ArrayAtomicRmwAdd c.ordering c.number)) proposal.SharedEverythingThreads (codes "array.atomic.rmw.add") (Some 0xfe) 0x6b
-    (MemoryOrdering ∷ Index Types ∷ []) ∷
-    listed (op.Shared (shared.ArrayAtomicRmwSub c.ordering c.number)) proposal.SharedEverythingThreads (codes "array.atomic.rmw.sub") (Some 0xfe) 0x6c
-    (MemoryOrdering ∷ Index Types ∷ []) ∷
-    listed (op.Shared (shared.ArrayAtomicRmwAnd c.ordering c.number)) proposal.SharedEverythingThreads (codes "array.atomic.rmw.and") (Some 0xfe) 0x6d
-    (MemoryOrdering ∷ Index Types ∷ []) ∷
-    listed (op.Shared (shared.ArrayAtomicRmwOr c.ordering c.number)) proposal.SharedEverythingThreads (codes "array.atomic.rmw.or") (Some 0xfe) 0x6e
-    (MemoryOrdering ∷ Index Types ∷ []) ∷
-    listed (op.Shared (shared.ArrayAtomicRmwXor c.ordering c.number)) proposal.SharedEverythingThreads (codes "array.atomic.rmw.xor") (Some 0xfe) 0x6f
-    (MemoryOrdering ∷ Index Types ∷ []) ∷
-    listed (op.Shared (shared.ArrayAtomicRmwXchg c.ordering c.number)) proposal.SharedEverythingThreads (codes "array.atomic.rmw.xchg") (Some 0xfe)
-    0x70 (MemoryOrdering ∷ Index Types ∷ []) ∷
-    listed (op.Shared (shared.ArrayAtomicRmwCmpxchg c.ordering c.number)) proposal.SharedEverythingThreads (codes "array.atomic.rmw.cmpxchg")
-    (Some 0xfe) 0x71 (MemoryOrdering ∷ Index Types ∷ []) ∷
+    listed (op.Shared (shared.GlobalAtomicGet c.ordering c.number)) proposal.SharedEverythingThreads (codes "global.atomic.get") (Some 0xfe) 0x4f (MemoryOrdering ∷ Index Globals ∷ []) ∷
+    listed (op.Shared (shared.GlobalAtomicSet c.ordering c.number)) proposal.SharedEverythingThreads (codes "global.atomic.set") (Some 0xfe) 0x50 (MemoryOrdering ∷ Index Globals ∷ []) ∷
+    listed (op.Shared (shared.GlobalAtomicRmwAdd c.ordering c.number)) proposal.SharedEverythingThreads (codes "global.atomic.rmw.add") (Some 0xfe) 0x51 (MemoryOrdering ∷ Index Globals ∷ []) ∷
+    listed (op.Shared (shared.GlobalAtomicRmwSub c.ordering c.number)) proposal.SharedEverythingThreads (codes "global.atomic.rmw.sub") (Some 0xfe) 0x52 (MemoryOrdering ∷ Index Globals ∷ []) ∷
+    listed (op.Shared (shared.GlobalAtomicRmwAnd c.ordering c.number)) proposal.SharedEverythingThreads (codes "global.atomic.rmw.and") (Some 0xfe) 0x53 (MemoryOrdering ∷ Index Globals ∷ []) ∷
+    listed (op.Shared (shared.GlobalAtomicRmwOr c.ordering c.number)) proposal.SharedEverythingThreads (codes "global.atomic.rmw.or") (Some 0xfe) 0x54 (MemoryOrdering ∷ Index Globals ∷ []) ∷
+    listed (op.Shared (shared.GlobalAtomicRmwXor c.ordering c.number)) proposal.SharedEverythingThreads (codes "global.atomic.rmw.xor") (Some 0xfe) 0x55 (MemoryOrdering ∷ Index Globals ∷ []) ∷
+    listed (op.Shared (shared.GlobalAtomicRmwXchg c.ordering c.number)) proposal.SharedEverythingThreads (codes "global.atomic.rmw.xchg") (Some 0xfe) 0x56 (MemoryOrdering ∷ Index Globals ∷ []) ∷
+    listed (op.Shared (shared.GlobalAtomicRmwCmpxchg c.ordering c.number)) proposal.SharedEverythingThreads (codes "global.atomic.rmw.cmpxchg") (Some 0xfe) 0x57 (MemoryOrdering ∷ Index Globals ∷ []) ∷
+    listed (op.Shared (shared.TableAtomicGet c.ordering c.number)) proposal.SharedEverythingThreads (codes "table.atomic.get") (Some 0xfe) 0x58 (MemoryOrdering ∷ Index Tables ∷ []) ∷
+    listed (op.Shared (shared.TableAtomicSet c.ordering c.number)) proposal.SharedEverythingThreads (codes "table.atomic.set") (Some 0xfe) 0x59 (MemoryOrdering ∷ Index Tables ∷ []) ∷
+    listed (op.Shared (shared.TableAtomicRmwXchg c.ordering c.number)) proposal.SharedEverythingThreads (codes "table.atomic.rmw.xchg") (Some 0xfe) 0x5a (MemoryOrdering ∷ Index Tables ∷ []) ∷
+    listed (op.Shared (shared.TableAtomicRmwCmpxchg c.ordering c.number)) proposal.SharedEverythingThreads (codes "table.atomic.rmw.cmpxchg") (Some 0xfe) 0x5b (MemoryOrdering ∷ Index Tables ∷ []) ∷
+    listed (op.Shared (shared.StructAtomicGet c.ordering c.number c.number)) proposal.SharedEverythingThreads (codes "struct.atomic.get") (Some 0xfe) 0x5c (MemoryOrdering ∷ Index Types ∷ Index Fields ∷ []) ∷
+    listed (op.Shared (shared.StructAtomicGetS c.ordering c.number c.number)) proposal.SharedEverythingThreads (codes "struct.atomic.get_s") (Some 0xfe) 0x5d (MemoryOrdering ∷ Index Types ∷ Index Fields ∷ []) ∷
+    listed (op.Shared (shared.StructAtomicGetU c.ordering c.number c.number)) proposal.SharedEverythingThreads (codes "struct.atomic.get_u") (Some 0xfe) 0x5e (MemoryOrdering ∷ Index Types ∷ Index Fields ∷ []) ∷
+    listed (op.Shared (shared.StructAtomicSet c.ordering c.number c.number)) proposal.SharedEverythingThreads (codes "struct.atomic.set") (Some 0xfe) 0x5f (MemoryOrdering ∷ Index Types ∷ Index Fields ∷ []) ∷
+    listed (op.Shared (shared.StructAtomicRmwAdd c.ordering c.number c.number)) proposal.SharedEverythingThreads (codes "struct.atomic.rmw.add") (Some 0xfe) 0x60 (MemoryOrdering ∷ Index Types ∷ Index Fields ∷ []) ∷
+    listed (op.Shared (shared.StructAtomicRmwSub c.ordering c.number c.number)) proposal.SharedEverythingThreads (codes "struct.atomic.rmw.sub") (Some 0xfe) 0x61 (MemoryOrdering ∷ Index Types ∷ Index Fields ∷ []) ∷
+    listed (op.Shared (shared.StructAtomicRmwAnd c.ordering c.number c.number)) proposal.SharedEverythingThreads (codes "struct.atomic.rmw.and") (Some 0xfe) 0x62 (MemoryOrdering ∷ Index Types ∷ Index Fields ∷ []) ∷
+    listed (op.Shared (shared.StructAtomicRmwOr c.ordering c.number c.number)) proposal.SharedEverythingThreads (codes "struct.atomic.rmw.or") (Some 0xfe) 0x63 (MemoryOrdering ∷ Index Types ∷ Index Fields ∷ []) ∷
+    listed (op.Shared (shared.StructAtomicRmwXor c.ordering c.number c.number)) proposal.SharedEverythingThreads (codes "struct.atomic.rmw.xor") (Some 0xfe) 0x64 (MemoryOrdering ∷ Index Types ∷ Index Fields ∷ []) ∷
+    listed (op.Shared (shared.StructAtomicRmwXchg c.ordering c.number c.number)) proposal.SharedEverythingThreads (codes "struct.atomic.rmw.xchg") (Some 0xfe) 0x65 (MemoryOrdering ∷ Index Types ∷ Index Fields ∷ []) ∷
+    listed (op.Shared (shared.StructAtomicRmwCmpxchg c.ordering c.number c.number)) proposal.SharedEverythingThreads (codes "struct.atomic.rmw.cmpxchg") (Some 0xfe) 0x66 (MemoryOrdering ∷ Index Types ∷ Index Fields ∷ []) ∷
+    listed (op.Shared (shared.ArrayAtomicGet c.ordering c.number)) proposal.SharedEverythingThreads (codes "array.atomic.get") (Some 0xfe) 0x67 (MemoryOrdering ∷ Index Types ∷ []) ∷
+    listed (op.Shared (shared.ArrayAtomicGetS c.ordering c.number)) proposal.SharedEverythingThreads (codes "array.atomic.get_s") (Some 0xfe) 0x68 (MemoryOrdering ∷ Index Types ∷ []) ∷
+    listed (op.Shared (shared.ArrayAtomicGetU c.ordering c.number)) proposal.SharedEverythingThreads (codes "array.atomic.get_u") (Some 0xfe) 0x69 (MemoryOrdering ∷ Index Types ∷ []) ∷
+    listed (op.Shared (shared.ArrayAtomicSet c.ordering c.number)) proposal.SharedEverythingThreads (codes "array.atomic.set") (Some 0xfe) 0x6a (MemoryOrdering ∷ Index Types ∷ []) ∷
+    listed (op.Shared (shared.ArrayAtomicRmwAdd c.ordering c.number)) proposal.SharedEverythingThreads (codes "array.atomic.rmw.add") (Some 0xfe) 0x6b (MemoryOrdering ∷ Index Types ∷ []) ∷
+    listed (op.Shared (shared.ArrayAtomicRmwSub c.ordering c.number)) proposal.SharedEverythingThreads (codes "array.atomic.rmw.sub") (Some 0xfe) 0x6c (MemoryOrdering ∷ Index Types ∷ []) ∷
+    listed (op.Shared (shared.ArrayAtomicRmwAnd c.ordering c.number)) proposal.SharedEverythingThreads (codes "array.atomic.rmw.and") (Some 0xfe) 0x6d (MemoryOrdering ∷ Index Types ∷ []) ∷
+    listed (op.Shared (shared.ArrayAtomicRmwOr c.ordering c.number)) proposal.SharedEverythingThreads (codes "array.atomic.rmw.or") (Some 0xfe) 0x6e (MemoryOrdering ∷ Index Types ∷ []) ∷
+    listed (op.Shared (shared.ArrayAtomicRmwXor c.ordering c.number)) proposal.SharedEverythingThreads (codes "array.atomic.rmw.xor") (Some 0xfe) 0x6f (MemoryOrdering ∷ Index Types ∷ []) ∷
+    listed (op.Shared (shared.ArrayAtomicRmwXchg c.ordering c.number)) proposal.SharedEverythingThreads (codes "array.atomic.rmw.xchg") (Some 0xfe) 0x70 (MemoryOrdering ∷ Index Types ∷ []) ∷
+    listed (op.Shared (shared.ArrayAtomicRmwCmpxchg c.ordering c.number)) proposal.SharedEverythingThreads (codes "array.atomic.rmw.cmpxchg") (Some 0xfe) 0x71 (MemoryOrdering ∷ Index Types ∷ []) ∷
     listed (op.Shared shared.RefI31Shared) proposal.SharedEverythingThreads (codes "ref.i31_shared") (Some 0xfe) 0x72 [] ∷ []
