@@ -1,5 +1,5 @@
 -- What a validator answers to modules that are validated one after the other (WebAssembly 3.0, binary format and validation, modules).
-use Rattle.std.specs.Prelude.{◌≡◌, ◌↔◌, ◌⊎◌, ◌<◌, ℕ, Bool, true, false, IsTrue, List, [], ◌∷◌, map, Contains}
+use Rattle.std.specs.Prelude.{◌≡◌, ◌↔◌, ◌⊎◌, ◌<◌, ◌≤◌, ◌+◌, ℕ, length, Bool, true, false, IsTrue, List, [], ◌∷◌, map, Contains}
 use Rattle.std.specs.Borrow.{Bor}
 use Rattle.wasm_types.specs.limits.Settings.{Settings}
 use Rattle.wasm_types.specs.features.Features.{needs_canonical_types}
@@ -12,6 +12,7 @@ use Rattle.wasm_module_validator_sharing.specs.reading.progress.standing.Standin
 use Rattle.wasm_module_validator_sharing.specs.reading.progress.standing.items.Items.{no_items}
 use Rattle.wasm_module_validator_sharing.specs.reading.progress.standing.steps.Steps.{SoFar}
 use Rattle.wasm_module_validator_sharing.specs.reading.progress.standing.steps.contexts.rules.Accepts.{AcceptsUnder}
+use Rattle.wasm_module_validator_sharing.specs.reading.progress.standing.steps.contexts.rules.Spaces.{types_behind}
 use Rattle.wasm_module_validator_sharing.specs.reading.progress.standing.type_trees.Groups.{Group, count, tree_of}
 use Rattle.wasm_module_validator.specs.declared.lists.Verdict.{Verdict}
 use Rattle.wasm_module_validator.specs.declared.lists.Verdict.TheVariants.{Accepted, Refused}
@@ -51,10 +52,15 @@ abbrev pub goes_on : Verdict → Bool
 goes_on (Accepted types) = true
 goes_on (Refused error ended) = ended
 
--- What a verdict makes of the list of types: further groups may stand in it, and it is that of the module which was accepted.
-abbrev pub IsHeldBehind : List Group → Verdict → List Group → Type 0
-IsHeldBehind held (Accepted types) next = IsGrown held next × (types.kept.groups ≡ next)
-IsHeldBehind held (Refused error ended) next = IsGrown held next
+-- the list has taken no more types than these bytes have
+abbrev pub TakesNoMore : Settings → List Group → List ℕ → List Group → Type 0
+TakesNoMore z held bytes next = (q : SoFar) → IsReadAs z bytes q → count next ≤ count held + length (types_behind [] q.tree.types)
+
+-- What a verdict on these bytes makes of the list of types: it has taken further groups, of no more types than the bytes have, and it is that
+-- of the module which was accepted.
+abbrev pub IsHeldBehind : Settings → List Group → List ℕ → Verdict → List Group → Type 0
+IsHeldBehind z held bytes (Accepted types) next = IsGrown held next × (types.kept.groups ≡ next) × TakesNoMore z held bytes next
+IsHeldBehind z held bytes (Refused error ended) next = IsGrown held next × TakesNoMore z held bytes next
 
 -- One verdict for each input, through the first that is refused before its end, of a validator whose list of types begins with these groups.
 abbrev pub AreVerdicts : Settings → ValidatorId → List Group → List (List ℕ) → List Verdict → Type 0
@@ -62,7 +68,7 @@ AreVerdicts z id held [] [] = Unit {0}
 AreVerdicts z id held [] (v ∷ vs) = ⊥
 AreVerdicts z id held (x ∷ xs) [] = ⊥
 AreVerdicts z id held (x ∷ xs) (v ∷ vs) =
-    IsVerdict z id held x v × one_of (goes_on v) ((next : List Group) × IsHeldBehind held v next × AreVerdicts z id next xs vs) (vs ≡ [])
+    IsVerdict z id held x v × one_of (goes_on v) ((next : List Group) × IsHeldBehind z held x v next × AreVerdicts z id next xs vs) (vs ≡ [])
 
 -- how far a validator is behind a verdict, and behind some
 abbrev pub state_behind : Verdict → State
@@ -96,7 +102,8 @@ abbrev pub ShareIds : Settings → List Verdict → Type 0
 ShareIds z vs = (t u : Learned) → Contains vs (Accepted t) → Contains vs (Accepted u) → AreToldUnder z t.kept.groups u.kept.groups
 
 -- what a verdict leaves of the list of types, which tells apart what it holds where types are kept in canonical form
-abbrev pub LeavesGroups : Validator → Verdict → Validator → Type 0
-LeavesGroups v (Accepted t) w = IsHeldBehind (held_by v) (Accepted t) (held_by w) × AreToldUnder v.settings t.kept.groups t.kept.groups
-LeavesGroups v (Refused error true) w = IsHeldBehind (held_by v) (Refused error true) (held_by w)
-LeavesGroups v (Refused error false) w = Unit {0}
+abbrev pub LeavesGroups : Validator → List ℕ → Verdict → Validator → Type 0
+LeavesGroups v bytes (Accepted t) w = IsHeldBehind v.settings (held_by v) bytes (Accepted t) (held_by w)
+    × AreToldUnder v.settings t.kept.groups t.kept.groups
+LeavesGroups v bytes (Refused error true) w = IsHeldBehind v.settings (held_by v) bytes (Refused error true) (held_by w)
+LeavesGroups v bytes (Refused error false) w = Unit {0}

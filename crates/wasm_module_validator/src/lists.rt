@@ -87,7 +87,7 @@ impl Validator {
     fn validate_next(&mut self, bytes: &[u8]) -> Result<Verdict>
         requires { can_reset self.old.state ≡ true }
         ensures verdict { IfOk result (IsVerdict self.old.settings self.old.id (held_by self.old) bytes.now) }
-        ensures groups { IfOk result (λ v. LeavesGroups self.old v self.new) }
+        ensures groups { IfOk result (λ v. LeavesGroups self.old bytes.now v self.new) }
         ensures state { IfOk result (λ v. self.new.state ≡ state_behind v) }
         ensures memory { IfErr result (λ e. (e.kind ≡ kinds.OutOfMemory) × (self.new.state ≡ states.Failed)) }
         ensures others { self.new ≡ record self.old { state = self.new.state; reached = self.new.reached } }

@@ -8,7 +8,7 @@ ghost use Rattle.wasm_module_validator_runs.specs.Soundness.{RunsSoundly};
 ghost use Rattle.wasm_module_validator_sharing.specs.Sharing.{nothing_reached};
 ghost use Rattle.wasm_module_validator.specs.declared.validator.State.TheVariants as states;
 ghost use Rattle.wasm_module_validator.specs.Accepts.{Accepts, IsShown, default_settings};
-ghost use Rattle.wasm_module_validator.specs.Lists.{AreToldUnder};
+ghost use Rattle.wasm_module_validator.specs.Lists.{AreToldUnder, TakesNoMore};
 ghost use Rattle.wasm_module_validator.specs.States.{IsLeft, Keeps, Leaves, TellsBehind, held_by};
 
 use crate::types::Types;
@@ -140,6 +140,8 @@ impl Validator {
         ensures others { self.new ≡ record self.old { state = self.new.state; reached = self.new.reached } }
         ensures types { IfOk result (λ t. t.kept.groups ≡ self.new.reached.progress.kept.groups) }
         ensures kept { Keeps self.old self.new }
+        ensures few { self.new.state ≡ states.Ended → TakesNoMore self.old.settings (held_by self.old) bytes.now
+            self.new.reached.progress.kept.groups }
     {
         let _limits = self.settings.limits();
         self.state = State::Failed;

@@ -77,15 +77,22 @@ UnlessFull Full (Err e) P = Full e ⊎ P
 
 -- ---- which item of a section has no room
 
--- An item is read in a section of so many, whose first begins here, after some that were read before it.
-pub record IsItemOf {T V A : Type 0} (view : T → V) (item : T → A) (d : Settings → Decoder V) (n : ℕ) (s : State) (x : A) : Type 0 where
-  pub front : List A
+-- An item is read in a section of so many, whose first begins here, after these.
+pub record IsItemOf {T V A : Type 0} (view : T → V) (item : T → A) (d : Settings → Decoder V) (n : ℕ) (s : State) (front : List A)
+    (x : A) : Type 0 where
   pub here : State
   pub there : State
   pub read : AddsEach (IsRead view item (d s.settings)) s front here
   pub fewer : length front < n
   pub is : IsRead view item (d s.settings) here x there
 
--- one of these items is refused with this, since it has no room
-abbrev pub IsFullFor : {A : Type 0} → (A → Type 0) → (A → ErrorValue → Type 0) → ErrorValue → Type 0
-IsFullFor {A} Is Full e = (x : A) × Is x × Full x e
+-- An item is refused with this. Those before it were added, which leads to a state that has no room for it.
+pub record IsFullFor {A M S : Type 0} (Is : List A → A → Type 0) (adds : M → A → M → Type 0) (reads : S → M → Type 0) (grows : S → S → Type 0)
+    (Full : S → A → ErrorValue → Type 0) (first : S) (e : ErrorValue) : Type 0 where
+  pub front : List A
+  pub item : A
+  pub is : Is front item
+  pub state : S
+  pub grown : grows first state
+  pub some : (m : M) → reads first m → (k : M) × AddsEach adds m front k × reads state k
+  pub full : Full state item e

@@ -283,20 +283,23 @@ module _ {T V A M : Type 0} (view : T → V) (of : T → A) (alike : (x y : T) �
         (λ all. let a = l.to all.0 all.1 in not_read w a.0 all.0 refused.0 a.2)
 
     -- the item that was read last is one of the section
-    pub is_item : (w v : Walk) (u : S) (x : ℕ × T) → b.settings ≡ z → Standing w u → Step w (Some (Ok x)) v → IsItemOf view of d n b (of x.1)
+    pub is_item : (w v : Walk) (u : S) (x : ℕ × T) → b.settings ≡ z → (h : Standing w u) → Step w (Some (Ok x)) v → IsItemOf view of d n b h.front (of x.1)
     is_item w v u x same h step = go (is_read w v x h.settings step)
       where
-        go : Reads w x v → IsItemOf view of d n b (of x.1)
+        go : Reads w x v → IsItemOf view of d n b h.front (of x.1)
         go (o, q, left, (place, read)) =
             let counts = h.counted in
             record {
-              front = h.front;
               here = w.reader;
               there = v.reader;
               read = subst (λ (y : Settings). AddsEach (IsRead view of (d y)) b h.front w.reader) (sym same) h.read;
               fewer = omega (arith, left, counts);
               is = subst (λ (y : Settings). IsRead view of (d y) w.reader (of x.1) v.reader) (sym same) (x.1, refl, read);
             }
+
+    -- what was added leads to what the state stands for
+    pub leads_here : (w : Walk) (u : S) (h : Standing w u) (m : M) → reads s m → (k : M) × AddsEach adds m h.front k × reads u k
+    leads_here w u h m first = let l = h.leads m first in (l.some.0, l.some.1, l.stands l.some.0 l.some.1)
 
     -- ---- why it stops
 

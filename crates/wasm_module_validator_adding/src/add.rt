@@ -66,9 +66,6 @@ pub trait AddItem<'a, T: FromReader<'a>> {
 
     /// And over what lies between.
     ghost grows_further: { (r s t : Self) → grows r s → grows s t → grows r t };
-
-    /// What is full for an item with items more is so because of what it was before.
-    ghost full_before: { (r s : Self) (x : Item) (e : ErrorValue) → grows r s → full s x e → full r x e };
 }
 
 /// Adds the items at the front of these bytes that the bytes alone tell, at most so many: how many are left, and where those end.
@@ -122,7 +119,8 @@ pub fn add_items<'a, T: FromReader<'a>, S: AddItem<'a, T>>(
     section: SectionLimited<'a, T>,
 ) -> Result<()>
     ensures answer { UnlessFull
-        (IsFullFor (IsItemOf T.view S.of T.decoder section.entry.count section.entry.reader) (S.full state.old)) result
+        (IsFullFor (IsItemOf T.view S.of T.decoder section.entry.count section.entry.reader) S.adds S.reads S.grows S.full
+        state.old) result
         ((m : S.Tree) → S.reads state.old m → Tells result ((t : S.Tree)
         × AreAdded (Spelled T.view S.of (T.grammar section.entry.reader.settings)) S.adds section.entry.count
         section.entry.reader.rest m t)) }
@@ -131,7 +129,8 @@ pub fn add_items<'a, T: FromReader<'a>, S: AddItem<'a, T>>(
         section.entry.reader.rest m t
         → S.reads state.new t) }
     ensures refused { UnlessFull
-        (IsFullFor (IsItemOf T.view S.of T.decoder section.entry.count section.entry.reader) (S.full state.old)) result
+        (IsFullFor (IsItemOf T.view S.of T.decoder section.entry.count section.entry.reader) S.adds S.reads S.grows S.full
+        state.old) result
         ((m : S.Tree) → S.reads state.old m
         → IfErr result (StopsAdding T.view S.of (T.decoder section.entry.reader.settings) S.adds S.refuses
         section.entry.count

@@ -52,8 +52,6 @@ impl<'a> AddItem<'a, u32> for Total {
     ghost grows_by_nothing = { λ s. refl };
 
     ghost grows_further = { λ r s t a b. a ∙ b };
-
-    ghost full_before = { λ r s x e a b. b };
 }
 
 impl<'a> AddLent<'a, u32> for Total {

@@ -14,18 +14,24 @@ use Rattle.wasm_module_validator_standing.specs.items.Items.{Items}
 abbrev pub IsSizeOf : Written → ℕ → Type 0
 IsSizeOf g n = n ≡ length g.types
 
+-- after so many types this group of so many comes next
+abbrev pub HasGroupNext : Items → Written → ℕ → ℕ → Type 0
+HasGroupNext s g before own = (before ≡ length s.spaces.types) × IsSizeOf g own
+
 -- A group was refused since the types that the list held and its own are more than a list has. The list had these groups before, and the
--- module these types; and with those that came since, the module has no more than its limit. The group is one of those that are told of:
--- `Has` says of a number whether one of them has so many types.
-pub record IsPastTotal (groups : List Group) (s : Items) (Has : ℕ → Type 0) (e : ErrorValue) : Type 0 where
+-- module these types; since then the list took no more types than the module has, which come before the group. `Has` tells of the
+-- module whether after so many types it has a group of so many.
+pub record IsPastTotal (groups : List Group) (s : Items) (Has : ℕ → ℕ → Type 0) (e : ErrorValue) : Type 0 where
   pub kind : e.kind ≡ Other
   pub text : e.message ≡ codes "implementation limit: too many core types"
   pub held : ℕ
+  pub before : ℕ
   pub own : ℕ
-  pub has : Has own
+  pub has : Has before own
   pub past : max_types < held + own
-  pub few : held + own + length s.spaces.types ≤ count groups + s.spaces.settings.limits.types
+  pub few : held + length s.spaces.types ≤ count groups + before
+  pub within : before + own ≤ s.spaces.settings.limits.types
 
 -- Ok exactly where the fact holds, unless memory ran out; or the total was passed.
-abbrev pub TellsWithinTotal : {X : Type 0} → List Group → Items → (ℕ → Type 0) → Result X ErrorValue → Type 0 → Type 0
+abbrev pub TellsWithinTotal : {X : Type 0} → List Group → Items → (ℕ → ℕ → Type 0) → Result X ErrorValue → Type 0 → Type 0
 TellsWithinTotal groups s Has result P = UnlessFull (IsPastTotal groups s Has) result (Tells result P)

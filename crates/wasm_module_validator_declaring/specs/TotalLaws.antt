@@ -16,41 +16,80 @@ use Rattle.wasm_module_validator_standing.specs.laws.Growing.{most_types}
 use Rattle.wasm_module_validator_declaring.specs.Total.{IsPastTotal, TellsWithinTotal}
 
 -- what was read since counts
-pub past_before : (old new : List Group) (s t : Items) (Has : ℕ → Type 0) (e : ErrorValue) → GrowsWith old s.spaces new t.spaces
+pub past_before : (old new : List Group) (s t : Items) (Has : ℕ → ℕ → Type 0) (e : ErrorValue) → GrowsWith old s.spaces new t.spaces
     → t.spaces.settings ≡ s.spaces.settings → IsPastTotal new t Has e → IsPastTotal old s Has e
 past_before old new s t Has e grown same p =
     let few = p.few in
+    let within = p.within in
     let limit : t.spaces.settings.limits.types ≡ s.spaces.settings.limits.types = ap (λ (z : Settings). z.limits.types) same in
     let more = grown.1 in
-    record { kind = p.kind; text = p.text; held = p.held; own = p.own; has = p.has; past = p.past; few = omega (arith, few, limit, more) }
+    record {
+      kind = p.kind;
+      text = p.text;
+      held = p.held;
+      before = p.before;
+      own = p.own;
+      has = p.has;
+      past = p.past;
+      few = omega (arith, few, more);
+      within = omega (arith, within, limit);
+    }
 
 -- so it is of a group that is told of in other words
-pub past_by : (groups : List Group) (s : Items) (Has As : ℕ → Type 0) (e : ErrorValue) → ((n : ℕ) → Has n → As n) → IsPastTotal groups s Has e
-    → IsPastTotal groups s As e
-past_by groups s Has As e to p =
-    record { kind = p.kind; text = p.text; held = p.held; own = p.own; has = to p.own p.has; past = p.past; few = p.few }
+pub past_by : (groups : List Group) (s : Items) (Has As : ℕ → ℕ → Type 0) (e : ErrorValue) → ((b n : ℕ) → Has b n → As b n)
+    → IsPastTotal groups s Has e → IsPastTotal groups s As e
+past_by groups s Has As e to p = record {
+  kind = p.kind;
+  text = p.text;
+  held = p.held;
+  before = p.before;
+  own = p.own;
+  has = to p.before p.own p.has;
+  past = p.past;
+  few = p.few;
+  within = p.within;
+}
 
 -- over a list with no types it is not passed
-pub none_past : (z : Settings) → IsWithinCeilings z.limits → (Has : ℕ → Type 0) (e : ErrorValue) → IsPastTotal [] (no_items z) Has e → ⊥
+pub none_past : (z : Settings) → IsWithinCeilings z.limits → (Has : ℕ → ℕ → Type 0) (e : ErrorValue) → IsPastTotal [] (no_items z) Has e → ⊥
 unfolding type_count
-none_past z w Has e p = let most = most_types z w in let past = p.past in let few = p.few in omega (arith, most, past, few)
+none_past z w Has e p =
+    let most = most_types z w in
+    let past = p.past in
+    let few = p.few in
+    let within = p.within in
+    omega (arith, most, past, few, within)
 
-pub within_total : {X : Type 0} (z : Settings) → IsWithinCeilings z.limits → (Has : ℕ → Type 0) (r : Result X ErrorValue) (P : Type 0)
+pub within_total : {X : Type 0} (z : Settings) → IsWithinCeilings z.limits → (Has : ℕ → ℕ → Type 0) (r : Result X ErrorValue) (P : Type 0)
     → TellsWithinTotal [] (no_items z) Has r P → Tells r P
 within_total z w Has r P h = never_full (IsPastTotal [] (no_items z) Has) (none_past z w Has) r (Tells r P) h
 
 -- ---- worked rows
 
-pub full_is_past : (groups : List Group) (z : Settings) (Has : ℕ → Type 0) → Has 1 → count groups ≡ max_types → 1 ≤ z.limits.types
+pub full_is_past : (groups : List Group) (z : Settings) (Has : ℕ → ℕ → Type 0) → Has 0 1 → count groups ≡ max_types → 1 ≤ z.limits.types
     → IsPastTotal groups (no_items z) Has (record { kind = Other; offset = 7; message = codes "implementation limit: too many core types" })
-full_is_past groups z Has one full some =
-    record { kind = refl; text = refl; held = count groups; own = 1; has = one; past = omega (arith, full); few = omega (arith, some) }
+full_is_past groups z Has one full some = record {
+  kind = refl;
+  text = refl;
+  held = count groups;
+  before = 0;
+  own = 1;
+  has = one;
+  past = omega (arith, full);
+  few = omega arith;
+  within = omega (arith, some);
+}
 
-pub not_without : (groups : List Group) (s : Items) (e : ErrorValue) → IsPastTotal groups s (λ n. ⊥) e → ⊥
-not_without groups s e p = p.has
+pub not_with_room : (groups : List Group) (z : Settings) (Has : ℕ → ℕ → Type 0) (e : ErrorValue) → ((b n : ℕ) → Has b n → count groups + b + n ≤ max_types)
+    → IsPastTotal groups (no_items z) Has e → ⊥
+not_with_room groups z Has e room p =
+    let past = p.past in
+    let few = p.few in
+    let there = room p.before p.own p.has in
+    omega (arith, past, few, there)
 
-pub not_otherwise : (groups : List Group) (s : Items) (Has : ℕ → Type 0) (e : ErrorValue) → e.kind ≡ Failed → IsPastTotal groups s Has e → ⊥
+pub not_otherwise : (groups : List Group) (s : Items) (Has : ℕ → ℕ → Type 0) (e : ErrorValue) → e.kind ≡ Failed → IsPastTotal groups s Has e → ⊥
 not_otherwise groups s Has e k p = let both : Failed ≡ Other = sym k ∙ p.kind in absurd cc
 
-pub not_unsaid : (groups : List Group) (s : Items) (Has : ℕ → Type 0) (e : ErrorValue) → e.message ≡ [] → IsPastTotal groups s Has e → ⊥
+pub not_unsaid : (groups : List Group) (s : Items) (Has : ℕ → ℕ → Type 0) (e : ErrorValue) → e.message ≡ [] → IsPastTotal groups s Has e → ⊥
 not_unsaid groups s Has e m p = let none : 41 ≡ 0 = ap length (sym p.text ∙ m) in omega (arith, none)

@@ -16,7 +16,7 @@ ghost use Rattle.wasm_module_validator_standing.specs.steps.contexts.rules.Synta
 ghost use Rattle.wasm_module_validator_standing.specs.steps.Sections as section;
 ghost use Rattle.wasm_module_validator_standing.specs.steps.Texts.{AddsRead};
 ghost use Rattle.wasm_module_validator_standing.specs.Standing.{AddsItem, GrowsWith, IsReading};
-ghost use Rattle.wasm_module_validator_declaring.specs.Total.{IsPastTotal, IsSizeOf};
+ghost use Rattle.wasm_module_validator_declaring.specs.Total.{HasGroupNext, IsPastTotal};
 
 use wasm_module_validator_standing::ModuleState;
 use wasm_module_validator_types::{MAX_TYPES, TypeList};
@@ -90,7 +90,8 @@ pub fn add_group(
     requires read { IsReadOver types.old.groups state.old.spaces }
     requires within { IsWithinCeilings state.old.spaces.settings.limits }
     requires indices { AreModuleIndices (declared_types rec_group) }
-    ensures answer { UnlessFull (IsPastTotal types.old.groups state.old (IsSizeOf (written_group rec_group))) result
+    ensures answer { UnlessFull (IsPastTotal types.old.groups state.old
+        (HasGroupNext state.old (written_group rec_group))) result
         ((z : Settings) (m : ModuleTree) → IsReading section.types types.old.groups state.old z m
         → groups ≡ length m.types
         → Tells result ((n : ModuleTree) × AddsRead z section.types m (written_group rec_group) n)) }

@@ -1,6 +1,6 @@
 //! Laws of groups as they are read, and of the total of types, each on the contract of a function that does nothing.
 
-ghost use Rattle.std.specs.Prelude.{◌≡◌, ◌≤◌, ℕ, [], List, codes};
+ghost use Rattle.std.specs.Prelude.{◌≡◌, ◌+◌, ◌≤◌, ℕ, [], List, codes};
 ghost use Rattle.wasm_types.specs.decoding.Decoder.{State, Done};
 ghost use Rattle.wasm_types.specs.error.ErrorValue.{ErrorValue};
 ghost use Rattle.wasm_types.specs.error.declared.error.ErrorKind.TheVariants.{Failed, Other};
@@ -25,18 +25,18 @@ pub fn groups_are_read_alike()
         → AreModuleIndices (declared_types g) }
 {}
 
-/// The total of types: over a list that is full a module may pass it with a group of one type, if it has one, and over a list with none no
-/// module may; and no refusal of another kind or text is of it, nor of a module that has no group.
+/// The total of types: over a list that is full a module may pass it with its first group, of one type, and a module whose groups the list
+/// has room for may not, nor any module over a list with none; and no refusal of another kind or text is of it.
 pub fn totals_are_worked()
-    ensures full { (groups : List Interned) (z : Settings) (Has : ℕ → Type 0) → Has 1 → count groups ≡ max_types
-        → 1 ≤ z.limits.types
-        → IsPastTotal groups (no_items z) Has
+    ensures full { (groups : List Interned) (z : Settings) (Has : ℕ → ℕ → Type 0) → Has 0 1 → count groups ≡ max_types
+        → 1 ≤ z.limits.types → IsPastTotal groups (no_items z) Has
         (record { kind = Other; offset = 7; message = codes "implementation limit: too many core types" }) }
-    ensures without { (groups : List Interned) (s : Items) (e : ErrorValue) → IsPastTotal groups s (λ n. ⊥) e → ⊥ }
-    ensures none { (z : Settings) → IsWithinCeilings z.limits → (Has : ℕ → Type 0) (e : ErrorValue)
+    ensures room { (groups : List Interned) (z : Settings) (Has : ℕ → ℕ → Type 0) (e : ErrorValue)
+        → ((b n : ℕ) → Has b n → count groups + b + n ≤ max_types) → IsPastTotal groups (no_items z) Has e → ⊥ }
+    ensures none { (z : Settings) → IsWithinCeilings z.limits → (Has : ℕ → ℕ → Type 0) (e : ErrorValue)
         → IsPastTotal [] (no_items z) Has e → ⊥ }
-    ensures otherwise { (groups : List Interned) (s : Items) (Has : ℕ → Type 0) (e : ErrorValue) → e.kind ≡ Failed
+    ensures otherwise { (groups : List Interned) (s : Items) (Has : ℕ → ℕ → Type 0) (e : ErrorValue) → e.kind ≡ Failed
         → IsPastTotal groups s Has e → ⊥ }
-    ensures unsaid { (groups : List Interned) (s : Items) (Has : ℕ → Type 0) (e : ErrorValue) → e.message ≡ []
+    ensures unsaid { (groups : List Interned) (s : Items) (Has : ℕ → ℕ → Type 0) (e : ErrorValue) → e.message ≡ []
         → IsPastTotal groups s Has e → ⊥ }
 {}

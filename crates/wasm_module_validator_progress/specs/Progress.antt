@@ -5,6 +5,7 @@ use Rattle.wasm_types.specs.error.ErrorValue.{ErrorValue}
 use Rattle.wasm_types.specs.decoding.Decoder.{Grammar}
 use Rattle.wasm_types.specs.groups.DecodeTypes.{rec_group}
 use Rattle.wasm_types.specs.groups.SpellsTypes.{group_value}
+use Rattle.wasm_types.specs.trees.ValidGroup.{Written}
 use Rattle.wasm_types.specs.limits.declared.Limits.{Limits}
 use Rattle.wasm_types.specs.limits.contracts.LimitsPartialEq.TheImpl as limits
 use Rattle.wasm_types.specs.limits.Limits.{IsWithinCeilings}
@@ -16,6 +17,7 @@ use Rattle.wasm_module_validator_types.specs.List.{Types}
 use Rattle.wasm_module_validator_module.specs.Spaces.{Spaces}
 use Rattle.wasm_module_validator_resources.specs.Named.{IsReadOver}
 use Rattle.wasm_module_validator_standing.specs.items.Items.{Items, no_items}
+use Rattle.wasm_module_validator_standing.specs.steps.contexts.rules.Spaces.{types_behind}
 use Rattle.wasm_module_validator_standing.specs.steps.contexts.rules.Syntax.{ModuleTree}
 use Rattle.wasm_module_validator_standing.specs.steps.contexts.rules.Valid.{Each}
 use Rattle.wasm_module_validator_standing.specs.steps.Sections.{Section}
@@ -23,7 +25,7 @@ use Rattle.wasm_module_validator_standing.specs.steps.Sections as section
 use Rattle.wasm_module_validator_standing.specs.steps.Steps.{SoFar, IsJudged}
 use Rattle.wasm_module_validator_standing.specs.steps.Texts.{ItemRead, AddsRead}
 use Rattle.wasm_module_validator_standing.specs.Standing.{IsGrown, Stands, IsReading}
-use Rattle.wasm_module_validator_declaring.specs.Total.{IsPastTotal, IsSizeOf}
+use Rattle.wasm_module_validator_declaring.specs.Total.{HasGroupNext, IsPastTotal, IsSizeOf}
 use Rattle.wasm_module_validator_texts.specs.Kinds.{group_read}
 use Rattle.wasm_module_validator_texts.specs.Sections.{Reading, AddsIn}
 use Rattle.wasm_module_validator_adding.specs.Adding.{AddsShort, IsItemOf, UnlessFull}
@@ -103,32 +105,43 @@ abbrev pub AddsShortIn : {T V : Type 0} (s : Section) → (T → V) → (T → I
 AddsShortIn s view of g groups i j l text from to =
     (count : ℕ) → AddsShort view of g (AddsIn s) (IsRead s) (kept groups i count) (kept groups j count) l text from to
 
--- an item that was read is a group of so many types
-abbrev pub HasTypes : (s : Section) → ItemRead s → ℕ → Type 0
-HasTypes section.types x n = IsSizeOf x n
-HasTypes section.imports x n = ⊥
-HasTypes section.functions x n = ⊥
-HasTypes section.tables x n = ⊥
-HasTypes section.memories x n = ⊥
-HasTypes section.tags x n = ⊥
-HasTypes section.globals x n = ⊥
-HasTypes section.exports x n = ⊥
-HasTypes section.start x n = ⊥
-HasTypes section.element_segments x n = ⊥
-HasTypes section.data_count x n = ⊥
-HasTypes section.data_segments x n = ⊥
-
--- one of these items is
-abbrev pub HasItem : (s : Section) → (ItemRead s → Type 0) → ℕ → Type 0
-HasItem s Is n = (x : ItemRead s) × Is x × HasTypes s x n
+-- after so many types an item that was read is next a group of so many
+abbrev pub HasNext : (s : Section) → Items → ItemRead s → ℕ → ℕ → Type 0
+HasNext section.types items x before own = HasGroupNext items x before own
+HasNext section.imports items x before own = ⊥
+HasNext section.functions items x before own = ⊥
+HasNext section.tables items x before own = ⊥
+HasNext section.memories items x before own = ⊥
+HasNext section.tags items x before own = ⊥
+HasNext section.globals items x before own = ⊥
+HasNext section.exports items x before own = ⊥
+HasNext section.start items x before own = ⊥
+HasNext section.element_segments items x before own = ⊥
+HasNext section.data_count items x before own = ⊥
+HasNext section.data_segments items x before own = ⊥
 
 -- only a group of types is refused because the list is full
-abbrev pub FullIn : Section → List Group → Items → (ℕ → Type 0) → ErrorValue → Type 0
-FullIn s groups items Has e = (s ≡ section.types) × IsPastTotal groups items Has e
+abbrev pub FullIn : (s : Section) → List Group → Items → ItemRead s → ErrorValue → Type 0
+FullIn s groups items x e = (s ≡ section.types) × IsPastTotal groups items (HasNext s items x) e
+
+-- after groups with so many types one of these items is a group of so many
+abbrev pub HasItem : (s : Section) → (List (ItemRead s) → ItemRead s → Type 0) → ℕ → ℕ → Type 0
+HasItem section.types Is before own = (front : List Written) × (x : Written) × Is front x × (before ≡ length (types_behind [] front)) × IsSizeOf x own
+HasItem section.imports Is before own = ⊥
+HasItem section.functions Is before own = ⊥
+HasItem section.tables Is before own = ⊥
+HasItem section.memories Is before own = ⊥
+HasItem section.tags Is before own = ⊥
+HasItem section.globals Is before own = ⊥
+HasItem section.exports Is before own = ⊥
+HasItem section.start Is before own = ⊥
+HasItem section.element_segments Is before own = ⊥
+HasItem section.data_count Is before own = ⊥
+HasItem section.data_segments Is before own = ⊥
 
 -- What is told of an item that was read: whether the tree may have it, unless the list of types is full.
 abbrev pub TellsRead : {X : Type 0} (s : Section) → List Group → Items → ℕ → ItemRead s → Result X ErrorValue → Type 0
-TellsRead s groups items count x result = UnlessFull (FullIn s groups items (HasTypes s x)) result
+TellsRead s groups items count x result = UnlessFull (FullIn s groups items x) result
     ((z : Settings) (m : ModuleTree) → Reads s groups items count z m → Tells result ((n : ModuleTree) × AddsRead z s m x n))
 
 -- ---- frames
@@ -151,11 +164,16 @@ pub record IsAt (z : Settings) (r : Progress) (bs : List Body) (p : SoFar) : Typ
   pub types : map type_of bs ≡ take (length bs) p.tree.functions
   pub read : Each (λ (b : Body). IsReadBy z z.features b.body) bs
 
--- a section of types has a group of so many types
-abbrev pub HasGroup : Payload → ℕ → Type 0
-HasGroup (payloads.TypeSection s) n = HasItem section.types (IsItemOf group_value group_read rec_group s.count s.reader) n
-HasGroup x n = ⊥
+-- a section of types has a group of so many types, after groups that have so many
+abbrev pub HasGroup : Payload → ℕ → ℕ → Type 0
+HasGroup (payloads.TypeSection s) before own = HasItem section.types (IsItemOf group_value group_read rec_group s.count s.reader) before own
+HasGroup x before own = ⊥
 
--- it has one for which the list has no room
-abbrev pub FullBy : Payload → Kept → ErrorValue → Type 0
-FullBy x k e = IsPastTotal k.groups k.items (HasGroup x) e
+-- The list has no room for a group that is one of these: of types that the section has, over whatever was judged before.
+abbrev pub FullWhere : Progress → Section → (ℕ → ℕ → Type 0) → ErrorValue → Type 0
+FullWhere r s Has e = (s ≡ section.types)
+    × ((z : Settings) (p : SoFar) (bodies : List Body) → IsAt z r bodies p → IsPastTotal r.kept.groups r.kept.items Has e)
+
+-- it has none for one of this payload
+abbrev pub FullBy : Payload → Progress → List Body → ErrorValue → Type 0
+FullBy x r bodies e = (z : Settings) (p : SoFar) → IsAt z r bodies p → IsPastTotal r.kept.groups r.kept.items (HasGroup x) e

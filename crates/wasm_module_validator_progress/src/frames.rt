@@ -10,7 +10,7 @@ ghost use Rattle.wasm_module_validator_adding.specs.Adding.{IsItemOf, UnlessFull
 ghost use Rattle.wasm_module_validator_adding.specs.declared.bodies.Body.{Body as TheBody};
 ghost use Rattle.wasm_module_validator_standing.specs.steps.Sections.{code_place};
 ghost use Rattle.wasm_module_validator_standing.specs.steps.Steps.{SoFar, JudgesSection, JudgesBody};
-ghost use Rattle.wasm_module_validator_progress.specs.Progress.{FullIn, Grows, HasItem, IsAt};
+ghost use Rattle.wasm_module_validator_progress.specs.Progress.{FullWhere, Grows, HasItem, IsAt};
 
 use crate::{Body, InProgress, SectionItem};
 use wasm_module_validator_adding::add_items;
@@ -108,7 +108,7 @@ impl InProgress {
         &mut self,
         section: SectionLimited<'a, T>,
     ) -> Result<()>
-        ensures answer { UnlessFull (FullIn T.section self.old.kept.groups self.old.kept.items (HasItem T.section
+        ensures answer { UnlessFull (FullWhere self.old T.section (HasItem T.section
             (IsItemOf T.FromReader.view T.of T.FromReader.decoder section.entry.count section.entry.reader))) result
             ((z : Settings) (p : SoFar) (bodies : List TheBody) (b : State) → IsAt z self.old bodies p → b.settings ≡ z
             → Counts b section.entry.count section.entry.reader

@@ -15,8 +15,8 @@ ghost use Rattle.wasm_module_validator_standing.specs.steps.Texts.{ItemRead, Add
 ghost use Rattle.wasm_module_validator_standing.specs.Standing.{GrowsWith, Stands};
 ghost use Rattle.wasm_module_validator_texts.specs.Sections.{Reading, AddsIn, RefusesIn, MayBegin};
 ghost use Rattle.wasm_module_validator_texts.specs.Kinds.{WalksTell};
-ghost use Rattle.wasm_module_validator_progress.specs.Progress.{AddsShortIn, FullIn, Grows, HasTypes, IsOver, IsRead, Reads, TellsRead};
-ghost use Rattle.wasm_module_validator_progress.specs.laws.Growing.{full_before, grows_by_nothing, grows_further};
+ghost use Rattle.wasm_module_validator_progress.specs.Progress.{AddsShortIn, FullIn, Grows, IsOver, IsRead, Reads, TellsRead};
+ghost use Rattle.wasm_module_validator_progress.specs.laws.Growing.{grows_by_nothing, grows_further};
 
 use crate::Collected;
 use std::alloc::Global;
@@ -143,7 +143,7 @@ impl<'a, T: SectionItem<'a>> AddItem<'a, T> for Collected {
 
     ghost grows = { λ k l. Grows k l };
 
-    ghost full = { λ k x e. FullIn T.section k.groups k.items (HasTypes T.section x) e };
+    ghost full = { λ k x e. FullIn T.section k.groups k.items x e };
 
     fn add(&mut self, item: T, offset: u64) -> Result<()> {
         add_or_forget(
@@ -165,6 +165,4 @@ impl<'a, T: SectionItem<'a>> AddItem<'a, T> for Collected {
     ghost grows_by_nothing = { grows_by_nothing };
 
     ghost grows_further = { grows_further };
-
-    ghost full_before = { full_before T.section };
 }

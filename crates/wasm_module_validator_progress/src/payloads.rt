@@ -128,7 +128,7 @@ impl InProgress {
         payload: Payload<'a>,
         bodies: &mut Vec<Body<'a>>,
     ) -> Result<()>
-        ensures answer { UnlessFull (FullBy payload.entry self.old.kept) result
+        ensures answer { UnlessFull (FullBy payload.entry self.old bodies.old.items) result
             ((z : Settings) (p : SoFar) (f : Frame) → IsAt z self.old bodies.old.items p → HasSettings z f
             → IsPayloadOf f payload.entry
             → Tells result ((q : SoFar) × JudgesShape z p (shape_of f) q)) }

@@ -20,13 +20,14 @@ IsReadAs z text q = (xs : List Shape) × IsModule z text xs × JudgesShapes z no
 abbrev pub first_parser : Settings → Parser
 first_parser z = record { offset = 0; settings = z; progress = fresh }
 
--- Of these bytes a parser gives some frames, of which the last is a section of types; and one of its groups has so many types.
-pub record HasGroupIn (z : Settings) (text : List ℕ) (n : ℕ) : Type 0 where
-  pub before : List Frame
+-- Of these bytes a parser gives some frames, of which the last is a section of types. After groups with so many types it has a group of so
+-- many.
+pub record HasGroupIn (z : Settings) (text : List ℕ) (before own : ℕ) : Type 0 where
+  pub frames : List Frame
   pub last : Frame
   pub section : Payload
   pub parser : Parser
   pub rest : List ℕ
-  pub calls : Calls (first_parser z) text (before ++ last ∷ []) parser rest
+  pub calls : Calls (first_parser z) text (frames ++ last ∷ []) parser rest
   pub is : IsPayloadOf last section
-  pub has : HasGroup section n
+  pub has : HasGroup section before own

@@ -83,7 +83,7 @@ bodies_stay z p q (frames.End place) x whole is j = ap (λ (s : SoFar). s.bodies
 -- ---- a payload of a module that is not shared
 
 module _ (r : Reached) (own : Progress) (same : r.progress ≡ own) (none : r.code ≡ None) (x : Payload) where
-  own_at : (z : Settings) (p : SoFar) → IsReached z r p → IsAt z own [] p
+  pub own_at : (z : Settings) (p : SoFar) → IsReached z r p → IsAt z own [] p
   own_at z p (bodies, count, at) =
       let e : bodies ≡ [] = no_items bodies (count ∙ ap body_count none) in
       subst (λ (s : Progress). IsAt z s [] p) same (subst (λ (bs : List Body). IsAt z r.progress bs p) e at)

@@ -13,11 +13,12 @@ use Rattle.wasm_sections_payloads.specs.Payloads.{IsPayloadOf}
 use Rattle.wasm_module_validator_module.specs.declared.module.Function.{Function}
 use Rattle.wasm_module_validator_reading.specs.judging.functions.declared.beginning.FuncToValidate.{FuncToValidate}
 use Rattle.wasm_module_validator_reading.specs.progress.adding.Adding.{UnlessFull}
+use Rattle.wasm_module_validator_reading.specs.progress.declaring.Total.{IsPastTotal}
 use Rattle.wasm_module_validator_reading.specs.progress.adding.declared.bodies.Body.{Body}
 use Rattle.wasm_module_validator_reading.specs.progress.fronts.Walks.{HasSettings}
 use Rattle.wasm_module_validator_reading.specs.progress.standing.steps.Sections.{code_place}
 use Rattle.wasm_module_validator_reading.specs.progress.standing.steps.Steps.{SoFar, JudgesShape, JudgesBody}
-use Rattle.wasm_module_validator_reading.specs.progress.Progress.{Kept, Progress, FullBy, IsAt, nothing_kept, renewed, next_over}
+use Rattle.wasm_module_validator_reading.specs.progress.Progress.{Kept, Progress, HasGroup, IsAt, nothing_kept, renewed, next_over}
 use Rattle.wasm_module_validator_sharing.specs.declared.resources.ValidatorResources.{ValidatorResources}
 
 -- ---- what is kept
@@ -91,9 +92,13 @@ abbrev pub TellsFrame : {X : Type 0} → Reached → Payload → Result X ErrorV
 TellsFrame r x answer = (z : Settings) (p : SoFar) (f : Frame) → IsReached z r p → HasSettings z f → IsPayloadOf f x
     → Tells answer ((q : SoFar) × JudgesShape z p (shape_of f) q)
 
--- It does so unless the payload is a type section, with which the total of types would be passed.
+-- the payload is a type section, of which one group would pass the total of types
+abbrev pub FullNext : Reached → Payload → ErrorValue → Type 0
+FullNext r x e = (z : Settings) (p : SoFar) → IsReached z r p → IsPastTotal r.progress.kept.groups r.progress.kept.items (HasGroup x) e
+
+-- It does so unless the total of types would be passed.
 abbrev pub TellsNext : {X : Type 0} → Reached → Payload → Result X ErrorValue → Type 0
-TellsNext r x answer = UnlessFull (FullBy x r.progress.kept) answer (TellsFrame r x answer)
+TellsNext r x answer = UnlessFull (FullNext r x) answer (TellsFrame r x answer)
 
 -- What is kept then stands for whatever was judged with that frame.
 abbrev pub Follows : Reached → Payload → Reached → Type 0

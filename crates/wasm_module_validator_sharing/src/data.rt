@@ -54,7 +54,7 @@ impl<'a, 'b> AddItem<'a, Data<'a>> for DataCheck<'b> {
 
     ghost grows = { λ c d. c.«module».now ≡ d.«module».now };
 
-    ghost full = { λ c e. ⊥ };
+    ghost full = { λ c x e. ⊥ };
 
     fn add(&mut self, item: Data<'a>, offset: u64) -> Result<()> {
         let module = self.module;
@@ -88,8 +88,6 @@ impl<'a, 'b> AddItem<'a, Data<'a>> for DataCheck<'b> {
     ghost grows_by_nothing = { λ c. refl };
 
     ghost grows_further = { λ c d e h k. h ∙ k };
-
-    ghost full_before = { λ c d e h full. full };
 }
 
 /// Checks a data section that comes behind the section of this place.

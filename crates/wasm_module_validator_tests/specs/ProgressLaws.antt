@@ -144,7 +144,7 @@ no_version z p q (frames.CodeEntry a) r i j = absurd cc
 no_version z p q (frames.End a) r i j = absurd cc
 
 end_refused : (groups : List Group) (bits n : ℕ) → TellsNext {X = ℕ} (fresh groups bits) (payloads.End n) (Err at_seven) → ⊥
-end_refused groups bits n (inl full) = full.has
+end_refused groups bits n (inl full) = (full (under bits) nothing (at_nothing groups bits)).has
 end_refused groups bits n (inr t) = t (under bits) nothing (frames.End n) (at_nothing groups bits) tt refl (nothing, refl)
 
 pub next_told : (groups : List Group) (bits : ℕ) → NextTold groups bits

@@ -12,7 +12,7 @@ use Rattle.wasm_module_validator_standing.specs.steps.Between.{IsBetween}
 use Rattle.wasm_module_validator_standing.specs.steps.Sections as section
 use Rattle.wasm_module_validator_elements.specs.segments.Short.{IsShortData}
 use Rattle.wasm_module_validator_sharing.specs.reading.progress.adding.Adding.{AddsShort, IsItemOf}
-use Rattle.wasm_module_validator_sharing.specs.reading.progress.Progress.{HasTypes}
+use Rattle.wasm_module_validator_sharing.specs.reading.progress.Progress.{HasItem}
 
 abbrev pub three : List ℕ
 three = 1 ∷ 2 ∷ 3 ∷ []
@@ -47,20 +47,25 @@ pub record ShortDataRows : Type 0 where
 
 -- ---- an item that has no room
 
--- a byte is one of so many items, which begin where these bytes do
-abbrev pub IsByteOf : List ℕ → ℕ → ℕ → Type 0
-IsByteOf text n x = IsItemOf {T = ℕ} {V = ℕ} {A = ℕ} (λ y. y) (λ y. y) (λ z. byte) n
-    (record { rest = text; place = 9; settings = no_features; start = 5 }) x
+-- after these a byte is one of so many items, which begin where these bytes do
+abbrev pub IsByteOf : List ℕ → ℕ → List ℕ → ℕ → Type 0
+IsByteOf text n front x = IsItemOf {T = ℕ} {V = ℕ} {A = ℕ} (λ y. y) (λ y. y) (λ z. byte) n
+    (record { rest = text; place = 9; settings = no_features; start = 5 }) front x
 
 -- a group of this type alone
 abbrev pub alone : SubtypeOf ℕ → Written
 alone t = record { is_explicit = false; types = t ∷ [] }
 
+-- the group comes after itself
+abbrev pub Twice : SubtypeOf ℕ → List Written → Written → Type 0
+Twice t front x = (front ≡ alone t ∷ []) × (x ≡ alone t)
+
 pub record RoomRows (t : SubtypeOf ℕ) : Type 0 where
-  pub first : IsByteOf three 3 1
-  pub second : IsByteOf three 3 2
-  pub not_of_one : IsByteOf three 1 2 → ⊥
-  pub of_none : IsByteOf three 0 1 → ⊥
-  pub one_type : HasTypes section.types (alone t) 1
-  pub two_types : HasTypes section.types (alone t) 2 → ⊥
-  pub function : HasTypes section.functions 0 1 → ⊥
+  pub first : IsByteOf three 3 [] 1
+  pub second : IsByteOf three 3 (1 ∷ []) 2
+  pub not_first : IsByteOf three 3 [] 2 → ⊥
+  pub not_of_one : IsByteOf three 1 (1 ∷ []) 2 → ⊥
+  pub one_and_one : HasItem section.types (Twice t) 1 1
+  pub none_before : HasItem section.types (Twice t) 0 1 → ⊥
+  pub two_types : HasItem section.types (Twice t) 1 2 → ⊥
+  pub function : HasItem section.functions (λ front x. Unit {0}) 0 1 → ⊥

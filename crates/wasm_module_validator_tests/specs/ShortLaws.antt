@@ -6,13 +6,15 @@ use Rattle.wasm_types.specs.decoding.Leb.{IsUnsigned, last}
 use Rattle.wasm_types.specs.limits.declared.Limits.{Limits}
 use Rattle.wasm_types.specs.limits.Settings.{no_features}
 use Rattle.wasm_types.specs.trees.Types.{SubtypeOf}
+use Rattle.wasm_types.specs.trees.ValidGroup.{Written}
 use Rattle.wasm_operators_bodies.specs.declared.short.ShortConstant.TheVariants as short
 use Rattle.wasm_operators_bodies.specs.Short.{SpellsShort}
 use Rattle.wasm_operators_bodies.specs.ShortLaws.{short_is_constant}
 use Rattle.wasm_module_validator_standing.specs.steps.Between.{IsBetween}
+use Rattle.wasm_module_validator_standing.specs.steps.contexts.rules.Spaces.{types_behind}
 use Rattle.wasm_module_validator_elements.specs.segments.Short.{IsShortData}
-use Rattle.wasm_module_validator_sharing.specs.reading.progress.adding.Adding.{AddsEach, IsRead}
-use Rattle.wasm_module_validator_tests.specs.Short.{BetweenRows, AddsByte, AddsRows, ShortDataRows, RoomRows, IsByteOf, IsTwo, three}
+use Rattle.wasm_module_validator_sharing.specs.reading.progress.adding.Adding.{IsRead}
+use Rattle.wasm_module_validator_tests.specs.Short.{BetweenRows, AddsByte, AddsRows, ShortDataRows, RoomRows, IsByteOf, IsTwo, alone, three}
 
 -- ---- bytes between two offsets
 
@@ -120,27 +122,33 @@ abbrev Reads : State → ℕ → State → Type 0
 Reads = IsRead {T = ℕ} {V = ℕ} {A = ℕ} (λ y. y) (λ y. y) byte
 
 -- the first of three is no two
-not_two : (front : List ℕ) (here there : State) → AddsEach Reads (at three 9) front here → length front < 1 → Reads here 2 there → ⊥
-not_two [] here there is fewer (x, same, read) =
+not_two : (here there : State) → at three 9 ≡ here → Reads here 2 there → ⊥
+not_two here there is (x, same, read) =
     let one : Done 1 (at (2 ∷ 3 ∷ []) 10) ≡ Done x there = subst (λ (s : State). byte s ≡ Done x there) (sym is) read in
     let both = value_is 1 x (at (2 ∷ 3 ∷ []) 10) there one in
     omega (arith, both, same)
-not_two (y ∷ ys) here there each fewer (x, same, read) = omega (arith, fewer)
+
+-- a group of one type comes after one type
+one_before : (t : SubtypeOf ℕ) (n : ℕ) (front : List Written) → front ≡ alone t ∷ [] → n ≡ length (types_behind [] front) → n ≡ 1
+one_before t n front is counted = counted ∙ ap (λ (gs : List Written). length (types_behind [] gs)) is
+
+one_own : (t : SubtypeOf ℕ) (n : ℕ) (x : Written) → x ≡ alone t → n ≡ length x.types → n ≡ 1
+one_own t n x is size = size ∙ ap (λ (g : Written). length g.types) is
 
 pub room_rows : (t : SubtypeOf ℕ) → RoomRows t
 room_rows t = record {
-  first = record { front = []; here = at three 9; there = at (2 ∷ 3 ∷ []) 10; read = refl; fewer = omega arith; is = (1, refl, refl) };
+  first = record { here = at three 9; there = at (2 ∷ 3 ∷ []) 10; read = refl; fewer = omega arith; is = (1, refl, refl) };
   second = record {
-    front = 1 ∷ [];
     here = at (2 ∷ 3 ∷ []) 10;
     there = at (3 ∷ []) 11;
     read = (at (2 ∷ 3 ∷ []) 10, (1, refl, refl), refl);
     fewer = omega arith;
     is = (2, refl, refl);
   };
-  not_of_one = λ h. not_two h.front h.here h.there h.read h.fewer h.is;
-  of_none = λ h. let fewer = h.fewer in omega (arith, fewer);
-  one_type = refl;
-  two_types = λ e. omega (arith, e);
+  not_first = λ h. not_two h.here h.there h.read h.is;
+  not_of_one = λ h. let fewer = h.fewer in omega (arith, fewer);
+  one_and_one = (alone t ∷ [], alone t, (refl, refl), refl, refl);
+  none_before = λ h. let one = one_before t 0 h.0 h.2.0 h.3 in omega (arith, one);
+  two_types = λ h. let one = one_own t 2 h.1 h.2.1 h.4 in omega (arith, one);
   function = λ h. h;
 }

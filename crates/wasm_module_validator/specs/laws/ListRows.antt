@@ -32,7 +32,7 @@ not_empty : (v : Verdict) → (v ∷ []) ≡ [] → ⊥
 not_empty v e = cc
 
 -- over a list with no types the total is not passed
-not_past : {z : Settings} {Has : ℕ → Type 0} {e : ErrorValue} {P : Type 0} → IsPastTotal [] (no_items z) Has e ⊎ (P → ⊥) → IsWithinCeilings z.limits → P → ⊥
+not_past : {z : Settings} {Has : ℕ → ℕ → Type 0} {e : ErrorValue} {P : Type 0} → IsPastTotal [] (no_items z) Has e ⊎ (P → ⊥) → IsWithinCeilings z.limits → P → ⊥
 not_past {z} {Has} {e} (inl past) within p = none_past z within Has e past
 not_past (inr none) within p = none p
 

@@ -22,7 +22,7 @@ use Rattle.wasm_module_validator.specs.declared.lists.Verdict.TheVariants.{Accep
 use Rattle.wasm_module_validator.specs.declared.validator.State.{State}
 use Rattle.wasm_module_validator.specs.declared.validator.State.TheVariants.{Unparsed, Ended, Failed}
 use Rattle.wasm_module_validator.specs.declared.validator.Validator.{Validator}
-use Rattle.wasm_module_validator.specs.Lists.{IsValidOutsideBodies, IsVerdict, goes_on, IsHeldBehind, AreVerdicts, state_behind, state_after, AreTold, AreToldUnder, KeepsAll, ShareIds, LeavesGroups}
+use Rattle.wasm_module_validator.specs.Lists.{IsValidOutsideBodies, IsVerdict, goes_on, IsHeldBehind, TakesNoMore, AreVerdicts, state_behind, state_after, AreTold, AreToldUnder, KeepsAll, ShareIds, LeavesGroups}
 use Rattle.wasm_module_validator.specs.Methods.{can_reset}
 use Rattle.wasm_module_validator.specs.Shown.{Learned}
 use Rattle.wasm_module_validator.specs.States.{Keeps, KeepsWhere, Leaves, held_by}
@@ -54,23 +54,23 @@ module _ (z : Settings) (id : ValidatorId) (held : List Group) (xs : List (List 
   goes_first ws h = h
 
   -- what follows a verdict
-  abbrev Follows : ℕ → List Group → Verdict → List Verdict → Bool → Type 0
-  Follows i now v ws goes = one_of goes ((next : List Group) × IsHeldBehind now v next × AreVerdicts z id next (drop (suc i) xs) ws) (ws ≡ [])
+  abbrev Follows : ℕ → List Group → List ℕ → Verdict → List Verdict → Bool → Type 0
+  Follows i now x v ws goes = one_of goes ((next : List Group) × IsHeldBehind z now x v next × AreVerdicts z id next (drop (suc i) xs) ws) (ws ≡ [])
 
-  behind : (i : ℕ) (now : List Group) (x : List ℕ) (v : Verdict) (ws : List Verdict) → slice_get xs i ≡ Some x → IsVerdict z id now x v → Follows i now v ws (goes_on v)
+  behind : (i : ℕ) (now : List Group) (x : List ℕ) (v : Verdict) (ws : List Verdict) → slice_get xs i ≡ Some x → IsVerdict z id now x v → Follows i now x v ws (goes_on v)
       → AreVerdicts z id now (drop i xs) (v ∷ ws)
   behind i now x v ws at is rest = subst (λ (ys : List (List ℕ)). AreVerdicts z id now ys (v ∷ ws)) (sym (drop_there xs i x at)) (is, rest)
 
   pub goes_further : (i : ℕ) (now next : List Group) (vs : List Verdict) (x : List ℕ) (v : Verdict) → Goes i now vs → slice_get xs i ≡ Some x → IsVerdict z id now x v
-      → goes_on v ≡ true → IsHeldBehind now v next → Goes (i + 1) next (vs ++ v ∷ [])
+      → goes_on v ≡ true → IsHeldBehind z now x v next → Goes (i + 1) next (vs ++ v ∷ [])
   goes_further i now next vs x v g at is on left ws h =
       let further : AreVerdicts z id next (drop (suc i) xs) ws = subst (λ (n : ℕ). AreVerdicts z id next (drop n xs) ws) (add-one i) h in
-      let rest : Follows i now v ws (goes_on v) = subst (Follows i now v ws) (sym on) (next, left, further) in
+      let rest : Follows i now x v ws (goes_on v) = subst (Follows i now x v ws) (sym on) (next, left, further) in
       subst (AreVerdicts z id held xs) (sym (append_assoc vs (v ∷ []) ws)) (g (v ∷ ws) (behind i now x v ws at is rest))
 
   pub goes_to_last : (i : ℕ) (now : List Group) (vs : List Verdict) (x : List ℕ) (v : Verdict) → Goes i now vs → slice_get xs i ≡ Some x → IsVerdict z id now x v
       → goes_on v ≡ false → AreVerdicts z id held xs (vs ++ v ∷ [])
-  goes_to_last i now vs x v g at is off = g (v ∷ []) (behind i now x v [] at is (subst (Follows i now v []) (sym off) refl))
+  goes_to_last i now vs x v g at is off = g (v ∷ []) (behind i now x v [] at is (subst (Follows i now x v []) (sym off) refl))
 
   pub goes_to_end : (i : ℕ) (now : List Group) (vs : List Verdict) → Goes i now vs → length xs ≤ i → AreVerdicts z id held xs vs
   goes_to_end i now vs g h =
@@ -131,9 +131,17 @@ module _ (v r w : Validator) (reset : r ≡ record v { state = Unparsed; reached
       let same = sym (groups_kept k.1) in
       (subst (λ (gs : List Group). IsGrown gs (held_by w)) groups_begun (subst (IsGrown (held_by r)) same k.0), same)
 
-  pub refused_leaves : (e : ErrorValue) (b : Bool) → Keeps r w → w.state ≡ state_behind (Refused e b) → LeavesGroups v (Refused e b) w
-  refused_leaves e true keeps is = (groups_grown is keeps).0
-  refused_leaves e false keeps is = tt
+  -- and takes no more types than it has
+  module _ (bytes : List ℕ) (few : w.state ≡ Ended → TakesNoMore r.settings (held_by r) bytes w.reached.progress.kept.groups) where
+    pub takes_no_more : w.state ≡ Ended → Keeps r w → TakesNoMore v.settings (held_by v) bytes (held_by w)
+    takes_no_more is keeps =
+        subst (λ (z : Settings). TakesNoMore z (held_by v) bytes (held_by w)) (ap (λ (u : Validator). u.settings) reset)
+        (subst (λ (gs : List Group). TakesNoMore r.settings gs bytes (held_by w)) groups_begun
+        (subst (TakesNoMore r.settings (held_by r) bytes) (groups_grown is keeps).1 (few is)))
+
+    pub refused_leaves : (e : ErrorValue) (b : Bool) → Keeps r w → w.state ≡ state_behind (Refused e b) → LeavesGroups v bytes (Refused e b) w
+    refused_leaves e true keeps is = ((groups_grown is keeps).0, takes_no_more is keeps)
+    refused_leaves e false keeps is = tt
 
 -- ---- ids
 
@@ -203,31 +211,31 @@ module _ (v w : Validator) (vs : List Verdict) (ids : ShareIds v.settings vs) (k
   later_groups : (g : List Group) → IsGrown (held_by w) g → AreKnown vs g
   later_groups g grown t c = grown_further t.kept.groups (held_by w) g (known t c) grown
 
-  pub ids_further : (d : Verdict) (u : Validator) → LeavesGroups w d u → ShareIds v.settings (vs ++ d ∷ [])
-  ids_further (Accepted n) u ((grown, same), own) =
+  pub ids_further : (x : List ℕ) (d : Verdict) (u : Validator) → LeavesGroups w x d u → ShareIds v.settings (vs ++ d ∷ [])
+  ids_further x (Accepted n) u ((grown, same, more), own) =
       ids_accepted v.settings vs ids n (later_groups n.kept.groups (subst (IsGrown (held_by w)) (sym same) grown))
       (subst (λ (z : Settings). AreToldUnder z n.kept.groups n.kept.groups) settings own)
-  ids_further (Refused e b) u left = ids_refused v.settings vs ids e b
+  ids_further x (Refused e b) u left = ids_refused v.settings vs ids e b
 
-  pub known_further : (d : Verdict) (u : Validator) → LeavesGroups w d u → goes_on d ≡ true → AreKnown (vs ++ d ∷ []) (held_by u)
-  known_further (Accepted n) u ((grown, same), own) on t (i, l, at) = go (contains_push vs (Accepted n) (Accepted t) i l at)
+  pub known_further : (x : List ℕ) (d : Verdict) (u : Validator) → LeavesGroups w x d u → goes_on d ≡ true → AreKnown (vs ++ d ∷ []) (held_by u)
+  known_further x (Accepted n) u ((grown, same, more), own) on t (i, l, at) = go (contains_push vs (Accepted n) (Accepted t) i l at)
     where
       go : Contains vs (Accepted t) ⊎ (Accepted n ≡ Accepted t) → IsGrown t.kept.groups (held_by u)
       go (inl c) = later_groups (held_by u) grown t c
       go (inr c) = ([], sym same ∙ ap (λ (x : Learned). x.kept.groups) (accepted_is n t c))
-  known_further (Refused e true) u grown on t (i, l, at) = go (contains_push vs (Refused e true) (Accepted t) i l at)
+  known_further x (Refused e true) u (grown, more) on t (i, l, at) = go (contains_push vs (Refused e true) (Accepted t) i l at)
     where
       go : Contains vs (Accepted t) ⊎ (Refused e true ≡ Accepted t) → IsGrown t.kept.groups (held_by u)
       go (inl c) = later_groups (held_by u) grown t c
       go (inr c) = absurd (not_accepted e true t c)
-  known_further (Refused e false) u left on t c = absurd cc
+  known_further x (Refused e false) u left on t c = absurd cc
 
 -- ---- all of them
 
 -- the list grows over a verdict that another may follow
-grown_over : (held next : List Group) (d : Verdict) → IsHeldBehind held d next → IsGrown held next
-grown_over held next (Accepted t) h = h.0
-grown_over held next (Refused e b) h = h
+grown_over : (z : Settings) (held next : List Group) (x : List ℕ) (d : Verdict) → IsHeldBehind z held x d next → IsGrown held next
+grown_over z held next x (Accepted t) h = h.0
+grown_over z held next x (Refused e b) h = h.0
 
 -- none may follow one that was refused before its end
 stops_there : (d : Verdict) → goes_on d ≡ false → can_reset (state_behind d) ≡ true → ⊥
@@ -261,7 +269,7 @@ module _ (v : Validator) (xs : List (List ℕ)) where
   }
 
   module _ (i : ℕ) (w u : Validator) (vs : List Verdict) (x : List ℕ) (d : Verdict) (s : Stands i w vs) (at : slice_get xs i ≡ Some x)
-      (is : IsVerdict w.settings w.id (held_by w) x d) (left : LeavesGroups w d u) (next : u ≡ record w { state = u.state; reached = u.reached }) where
+      (is : IsVerdict w.settings w.id (held_by w) x d) (left : LeavesGroups w x d u) (next : u ≡ record w { state = u.state; reached = u.reached }) where
     same_settings_as : w.settings ≡ v.settings
     same_settings_as = ap (λ (y : Validator). y.settings) s.others
 
@@ -269,7 +277,7 @@ module _ (v : Validator) (xs : List (List ℕ)) where
     verdict = subst (λ (y : Validator). IsVerdict y.settings y.id (held_by w) x d) s.others is
 
     -- where another may come, the list has further groups
-    held_behind : (e : Verdict) → LeavesGroups w e u → goes_on e ≡ true → IsHeldBehind (held_by w) e (held_by u)
+    held_behind : (e : Verdict) → LeavesGroups w x e u → goes_on e ≡ true → IsHeldBehind w.settings (held_by w) x e (held_by u)
     held_behind (Accepted t) (behind, own) on = behind
     held_behind (Refused k true) behind on = behind
     held_behind (Refused k false) behind on = absurd cc
@@ -278,7 +286,7 @@ module _ (v : Validator) (xs : List (List ℕ)) where
     others_stay = next ∙ ap (λ (y : Validator). record y { state = u.state; reached = u.reached }) s.others
 
     pub ids_are : ShareIds v.settings (vs ++ d ∷ [])
-    ids_are = ids_further v w vs s.ids s.known same_settings_as d u left
+    ids_are = ids_further v w vs s.ids s.known same_settings_as x d u left
 
     pub verdicts_are : goes_on d ≡ false → AreVerdicts v.settings v.id (held_by v) xs (vs ++ d ∷ [])
     verdicts_are off = goes_to_last v.settings v.id (held_by v) xs i (held_by w) vs x d s.verdicts at verdict off
@@ -288,10 +296,11 @@ module _ (v : Validator) (xs : List (List ℕ)) where
       ready = ap can_reset st ∙ may_go_on d on;
       state = st ∙ sym (last_counts vs d);
       others = others_stay;
-      verdicts = goes_further v.settings v.id (held_by v) xs i (held_by w) (held_by u) vs x d s.verdicts at verdict on (held_behind d left on);
+      verdicts = goes_further v.settings v.id (held_by v) xs i (held_by w) (held_by u) vs x d s.verdicts at verdict on
+          (subst (λ (z : Settings). IsHeldBehind z (held_by w) x d (held_by u)) same_settings_as (held_behind d left on));
       ids = ids_are;
-      known = known_further v w vs s.ids s.known same_settings_as d u left on;
-      grown = grown_further (held_by v) (held_by w) (held_by u) s.grown (grown_over (held_by w) (held_by u) d (held_behind d left on));
+      known = known_further v w vs s.ids s.known same_settings_as x d u left on;
+      grown = grown_further (held_by v) (held_by w) (held_by u) s.grown (grown_over w.settings (held_by w) (held_by u) x d (held_behind d left on));
     }
 
     -- after the last there is no other

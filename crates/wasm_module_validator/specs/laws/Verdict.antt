@@ -1,19 +1,22 @@
 -- A module is accepted exactly where it is read and each of its bodies is judged valid.
-use Rattle.std.proofs.Common.{◌≡◌, ◌⊎◌, ℕ, Bool, true, false, if◌then◌else◌, List, [], length, Result, Ok, Err, refl, sym, subst, inl, inr}
+use Rattle.std.proofs.Common.{◌≡◌, ◌∙◌, ◌⊎◌, ◌≤◌, ◌+◌, ℕ, Bool, true, false, if◌then◌else◌, List, [], length, Result, Ok, Err, refl, sym, ap, subst, arith, inl, inr}
+use Rattle.std.proofs.lemmas.List.{length-map}
 use Rattle.wasm_types.specs.error.Denials.{Denies, Tells}
 use Rattle.wasm_types.specs.error.ErrorValue.{ErrorValue}
 use Rattle.wasm_types.specs.error.declared.error.ErrorKind.{ErrorKind}
 use Rattle.wasm_types.specs.error.declared.error.ErrorKind.TheVariants.{EndOfData, MissingFeature, OutOfMemory, Failed, Other}
+use Rattle.wasm_types.specs.indices.declared.index.CoreTypeId.{CoreTypeId}
 use Rattle.wasm_types.specs.limits.Limits.{IsWithinCeilings}
 use Rattle.wasm_types.specs.limits.Settings.{Settings}
 use Rattle.wasm_types.specs.reader.Reading.{IsNotMemory}
 use Rattle.wasm_module_validator_sharing.specs.reading.progress.adding.declared.bodies.Body.{Body}
 use Rattle.wasm_module_validator_sharing.specs.reading.progress.standing.steps.contexts.rules.Accepts.{AcceptsUnder, Judges}
+use Rattle.wasm_module_validator_sharing.specs.reading.progress.standing.steps.contexts.rules.Spaces.{types_behind}
 use Rattle.wasm_module_validator_sharing.specs.reading.progress.standing.steps.contexts.rules.Syntax.{ModuleTree}
 use Rattle.wasm_module_validator_sharing.specs.reading.progress.standing.steps.Steps.{SoFar}
 use Rattle.wasm_module_validator_sharing.specs.reading.progress.standing.Standing.{Stands}
 use Rattle.wasm_module_validator_sharing.specs.reading.progress.standing.items.Items.{no_items}
-use Rattle.wasm_module_validator_sharing.specs.reading.progress.standing.type_trees.Groups.{Group}
+use Rattle.wasm_module_validator_sharing.specs.reading.progress.standing.type_trees.Groups.{Group, count, tree_of}
 use Rattle.wasm_module_validator_sharing.specs.reading.progress.declaring.Total.{TellsWithinTotal}
 use Rattle.wasm_module_validator_sharing.specs.reading.progress.declaring.TotalLaws.{within_total}
 use Rattle.wasm_module_validator_fronts.specs.framed.laws.Complete.{module_comes}
@@ -22,6 +25,7 @@ use Rattle.wasm_module_validator_sharing.specs.reading.progress.Progress.{Kept, 
 use Rattle.wasm_module_validator_sharing.specs.reading.Reading.{IsReadAs}
 use Rattle.wasm_module_validator_sharing.specs.reading.judging.Bodies.{AreBodies}
 use Rattle.wasm_module_validator.specs.declared.validator.State.{State}
+use Rattle.wasm_module_validator.specs.Lists.{TakesNoMore}
 use Rattle.wasm_module_validator.specs.States.{IsLeft, Leaves}
 
 -- what implies one of many things, each of which is denied, is denied
@@ -80,7 +84,7 @@ none_held z k e = go (are_same k.items.spaces.settings z)
     go false = refl
 
 -- so it passes no total
-pub alone_told : {X : Type 0} (z : Settings) (k : Kept) → k.groups ≡ [] → IsWithinCeilings z.limits → (Has : ℕ → Type 0) (r : Result X ErrorValue)
+pub alone_told : {X : Type 0} (z : Settings) (k : Kept) → k.groups ≡ [] → IsWithinCeilings z.limits → (Has : ℕ → ℕ → Type 0) (r : Result X ErrorValue)
     (P : Type 0) → TellsWithinTotal (kept_groups z k) (no_items z) Has r P → Tells r P
 alone_told z k none w Has r P h =
     within_total z w Has r P (subst (λ (gs : List Group). TellsWithinTotal gs (no_items z) Has r P) (none_held z k none) h)
@@ -91,3 +95,12 @@ pub left_behind : (X : Type 0) (groups : List Group) (z : Settings) (bytes : Lis
 left_behind X groups z bytes e s (inl (is, n)) read d = inl (is, n, read, denied e.kind (AcceptsUnder z bytes) n d)
 left_behind X groups z bytes e s (inr (is, memory)) read d =
     inr (is, inr (subst (λ (k : ErrorKind). Denies k ((q : SoFar) × IsReadAs z bytes q)) (sym memory) tt))
+
+-- of what was read the list of types has taken no more types than the bytes have
+pub no_more_read : (z : Settings) (text : List ℕ) (held : List Group) (r : Progress) (bodies : List Body) → ((q : SoFar) → IsReadAs z text q → IsAt z r bodies q)
+    → count r.kept.groups + 0 ≤ count held + length r.kept.items.spaces.types → TakesNoMore z held text r.kept.groups
+no_more_read z text held r bodies stands grown q h =
+    let at = stands q h in
+    let counted : length r.kept.items.spaces.types ≡ length (types_behind [] q.tree.types) =
+    sym (length-map r.kept.items.spaces.types (λ (i : CoreTypeId). tree_of r.kept.groups i.0)) ∙ ap length at.stands.read.types in
+    omega (arith, grown, counted)

@@ -19,10 +19,10 @@ use Rattle.wasm_sections_payloads.specs.Payloads.{IsSectionOf, IsPayloadOf, is_u
 use Rattle.wasm_operator_validator_stacks.specs.state.Refusals.{refused_by}
 use Rattle.wasm_module_validator_module.specs.declared.module.Function.{Function}
 use Rattle.wasm_module_validator_resources.specs.Reading.{context_of}
-use Rattle.wasm_module_validator_sharing.specs.Sharing.{Handed, IsHandedOut, IsReached, TellsFrame, has_no_code, body_count, renewed_behind}
+use Rattle.wasm_module_validator_sharing.specs.Sharing.{FullNext, Handed, IsHandedOut, IsReached, Reached, TellsFrame, has_no_code, body_count, renewed_behind}
 use Rattle.wasm_module_validator_sharing.specs.reading.judging.functions.code.Code.{IsFunctionOf}
 use Rattle.wasm_module_validator_sharing.specs.reading.progress.adding.Bodies.{IsReadBy}
-use Rattle.wasm_module_validator_sharing.specs.reading.progress.Progress.{Kept, Grows, FullBy, HasGroup, nothing_over, nothing_kept, kept_groups}
+use Rattle.wasm_module_validator_sharing.specs.reading.progress.Progress.{Kept, Grows, HasGroup, nothing_over, nothing_kept, kept_groups}
 use Rattle.wasm_module_validator_sharing.specs.reading.progress.declaring.Total.{IsPastTotal}
 use Rattle.wasm_module_validator_sharing.specs.reading.progress.fronts.Walks.{HasSettings}
 use Rattle.wasm_module_validator_sharing.specs.reading.progress.laws.Bodies.{function_is}
@@ -136,9 +136,10 @@ not_some : {A : Type 0} (x : A) → None ≡ Some x → ⊥
 not_some x e = cc
 
 -- where the list of types is not full it is told
-not_full : (x : Payload) (k : Kept) (e : ErrorValue) (P : Type 0) → ((Has : ℕ → Type 0) → IsPastTotal k.groups k.items Has e → ⊥) → FullBy x k e ⊎ P → P
-not_full x k e P none (inl full) = absurd (none (HasGroup x) full)
-not_full x k e P none (inr p) = p
+not_full : (x : Payload) (r : Reached) (e : ErrorValue) (P : Type 0) (z : Settings) (p : SoFar) → IsReached z r p
+    → ((Has : ℕ → ℕ → Type 0) → IsPastTotal r.progress.kept.groups r.progress.kept.items Has e → ⊥) → FullNext r x e ⊎ P → P
+not_full x r e P z p at none (inl full) = absurd (none (HasGroup x) (full z p at))
+not_full x r e P z p at none (inr told) = told
 
 same_kept : (k l : Kept) → l ≡ k → Grows k l
 same_kept k l e = subst (λ (j : Kept). Grows k j) (sym e) (grows_by_nothing k)
@@ -163,7 +164,7 @@ is_known section.data_segments e = cc
 module _ (z : Settings) (v w : Validator) (going : v.state ≡ Module) where
   -- the list of types is not full because of this
   abbrev pub NotFull : ErrorValue → Type 0
-  NotFull e = (Has : ℕ → Type 0) → IsPastTotal v.reached.progress.kept.groups v.reached.progress.kept.items Has e → ⊥
+  NotFull e = (Has : ℕ → ℕ → Type 0) → IsPastTotal v.reached.progress.kept.groups v.reached.progress.kept.items Has e → ⊥
 
   before_code : v.reached.code ≡ None → refusal v.state (has_no_code v.reached.code) ≡ None
   before_code c = ap (λ (s : State). refusal s (has_no_code v.reached.code)) going ∙ ap (λ (o : Option ℕ). refusal Module (has_no_code o)) c
@@ -198,7 +199,7 @@ module _ (z : Settings) (v w : Validator) (going : v.state ≡ Module) where
           late k c n = of_section (λ (g : Frame). JudgesShape z m (shape_of g) n.0 → ⊥) f x none (λ id b h j. too_late k c id b.rest n.0 j.0 j.1 j.2 (other id b h)) is n.1
 
           go : (o : Option ℕ) → v.reached.code ≡ o → Denies e.kind (Next z m f)
-          go None c = not_full x v.reached.progress.kept e (TellsFrame {X = Unit {0}} v.reached x (Err e)) few (t.told (before_code c)) z m f s.reached has is
+          go None c = not_full x v.reached e (TellsFrame {X = Unit {0}} v.reached x (Err e)) z m s.reached few (t.told (before_code c)) z m f s.reached has is
           go (Some k) c = denies e.kind (Next z m f) (late k c)
 
       -- what is left behind a section that was taken
@@ -219,7 +220,7 @@ module _ (z : Settings) (v w : Validator) (going : v.state ≡ Module) where
           go (Some k) c = absurd (not_some kinds.Other (t.out kinds.Other (behind_code k c)).0)
 
       data_denied : (e : ErrorValue) → NotFull e → TakesData {X = Unit {0}} x v (Err e) w → Denies e.kind (Next z m f)
-      data_denied e few t = not_full x v.reached.progress.kept e (TellsFrame {X = Unit {0}} v.reached x (Err e)) few (t.told at_any_time) z m f s.reached has is
+      data_denied e few t = not_full x v.reached e (TellsFrame {X = Unit {0}} v.reached x (Err e)) z m s.reached few (t.told at_any_time) z m f s.reached has is
 
       data_taken : TakesData {X = Unit {0}} x v (Ok tt) w → IsLeft z v m f w
       data_taken t = let left = t.left at_any_time in (left.0, t.told at_any_time z m f s.reached has is, section_left left, left.3)

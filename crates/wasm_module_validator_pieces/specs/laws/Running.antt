@@ -411,7 +411,7 @@ module _ (z : Settings) (id : ValidatorId) where
               absurd (late_header v w st i l s (subst (λ (y : Payload). TakesPayload y v (Ok valid.Ok) w) (subst (λ (h : Frame). IsPayloadOf h x) e is) t))
 
       -- the list of types is not full because of this module alone
-      not_past : Grows (nothing_kept z).kept v.reached.progress.kept → (e : ErrorValue) (Has : ℕ → Type 0)
+      not_past : Grows (nothing_kept z).kept v.reached.progress.kept → (e : ErrorValue) (Has : ℕ → ℕ → Type 0)
           → IsPastTotal v.reached.progress.kept.groups v.reached.progress.kept.items Has e → ⊥
       not_past grown e Has p = none_past z g.within Has e (total_before (nothing_kept z).kept v.reached.progress.kept Has e grown p)
 

@@ -7,12 +7,9 @@ use Rattle.wasm_module_validator_type_trees.specs.Groups.{Group}
 use Rattle.wasm_module_validator_module.specs.Spaces.{Spaces}
 use Rattle.wasm_module_validator_standing.specs.Standing.{IsGrown, GrowsWith}
 use Rattle.wasm_module_validator_standing.specs.laws.Growing.{grows_by_none}
-use Rattle.wasm_module_validator_standing.specs.steps.Sections.{Section}
-use Rattle.wasm_module_validator_standing.specs.steps.Texts.{ItemRead}
-use Rattle.wasm_module_validator_adding.specs.Adding.{IsFullFor}
 use Rattle.wasm_module_validator_declaring.specs.Total.{IsPastTotal}
-use Rattle.wasm_module_validator_declaring.specs.TotalLaws.{past_before, past_by}
-use Rattle.wasm_module_validator_progress.specs.Progress.{Kept, Grows, FullIn, HasItem, HasTypes}
+use Rattle.wasm_module_validator_declaring.specs.TotalLaws.{past_before}
+use Rattle.wasm_module_validator_progress.specs.Progress.{Kept, Grows}
 
 pub grows_by_nothing : (k : Kept) → Grows k k
 grows_by_nothing k = record { groups = ([], refl); types = omega arith; settings = refl }
@@ -44,14 +41,5 @@ grown_one (Err x) first k after e s g = tt
 -- ---- a list that is full
 
 -- was so before
-pub total_before : (k l : Kept) (Has : ℕ → Type 0) (e : ErrorValue) → Grows k l → IsPastTotal l.groups l.items Has e → IsPastTotal k.groups k.items Has e
+pub total_before : (k l : Kept) (Has : ℕ → ℕ → Type 0) (e : ErrorValue) → Grows k l → IsPastTotal l.groups l.items Has e → IsPastTotal k.groups k.items Has e
 total_before k l Has e g p = past_before k.groups l.groups k.items l.items Has e (g.groups, g.types) g.settings p
-
-pub full_before : (s : Section) (k l : Kept) (x : ItemRead s) (e : ErrorValue) → Grows k l → FullIn s l.groups l.items (HasTypes s x) e
-    → FullIn s k.groups k.items (HasTypes s x) e
-full_before s k l x e g f = (f.0, total_before k l (HasTypes s x) e g f.1)
-
--- it is full for one of some items
-pub full_for : (s : Section) (k : Kept) (Is : ItemRead s → Type 0) (e : ErrorValue)
-    → IsFullFor Is (λ x f. FullIn s k.groups k.items (HasTypes s x) f) e → FullIn s k.groups k.items (HasItem s Is) e
-full_for s k Is e (x, is, full) = (full.0, past_by k.groups k.items (HasTypes s x) (HasItem s Is) e (λ n h. (x, is, h)) full.1)

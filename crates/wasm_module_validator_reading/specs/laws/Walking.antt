@@ -91,9 +91,9 @@ module _ (p : Parser) (text : List ℕ) where
           }
 
       -- a group of the payload is one of the bytes
-      pub group_in : (n : ℕ) → p ≡ first_parser z → HasGroup x n → HasGroupIn z text n
-      group_in n at h = record {
-        before = g.frames;
+      pub group_in : (b n : ℕ) → p ≡ first_parser z → HasGroup x b n → HasGroupIn z text b n
+      group_in b n at h = record {
+        frames = g.frames;
         last = taken.0;
         section = x;
         parser = t.parser;

@@ -4,7 +4,7 @@ use Rattle.wasm_types.specs.error.ErrorValue.{ErrorValue}
 use Rattle.wasm_types.specs.reader.Reading.{Fails}
 use Rattle.wasm_sections_limited.specs.Walking.{Walk, NextIn, fresh}
 use Rattle.wasm_sections_limited.specs.Runs.{place_with_offsets, with_offset}
-use Rattle.wasm_module_validator_adding.specs.AddingLaws.{Stands, stands_first, stands_behind, refused_item, refused_bytes, stops_at_bytes, stops_at_an_item, are_added_at_the_end, stands_at_the_end, is_item}
+use Rattle.wasm_module_validator_adding.specs.AddingLaws.{Stands, stands_first, stands_behind, refused_item, refused_bytes, stops_at_bytes, stops_at_an_item, are_added_at_the_end, stands_at_the_end, is_item, leads_here}
 use Rattle.wasm_module_validator_adding.specs.FullLaws.{either_from}
 use Rattle.wasm_module_validator_adding.proofs.add.add_items.Goals as goal
 
@@ -121,7 +121,16 @@ returns-in-Err-clause-answer g c =
     let x = a.of c.in-Some-Ok.item.1 in
     let met = is_item i.view a.of law.alike i.decoder i.grammar (g.met.T.FromReader c.lifetimes (assumption c)).exact a.adds b.settings a.reads n b s
     w v c.pass_front.new.state c.in-Some-Ok.item refl standing step in
-    either_from (λ full. (x, met, law.full_before s c.pass_front.new.state x c.in-Err.error grown full))
+    either_from (λ full. record {
+      front = standing.front;
+      item = x;
+      is = met;
+      state = c.pass_front.new.state;
+      grown = grown;
+      some = leads_here i.view a.of law.alike i.decoder i.grammar (g.met.T.FromReader c.lifetimes (assumption c)).exact a.adds b.settings a.reads n b s w
+          c.pass_front.new.state standing;
+      full = full;
+    })
     (λ told. refused_item i.view a.of law.alike i.decoder i.grammar (g.met.T.FromReader c.lifetimes (assumption c)).exact a.adds b.settings a.reads n b s
     w v c.pass_front.new.state c.in-Some-Ok.item c.in-Err.error.kind standing step told) c.in-Err.ensures.answer
 
@@ -142,6 +151,15 @@ returns-in-Err-clause-refused g c =
     let x = a.of c.in-Some-Ok.item.1 in
     let met = is_item i.view a.of law.alike i.decoder i.grammar (g.met.T.FromReader c.lifetimes (assumption c)).exact a.adds b.settings a.reads n b s
     w v c.pass_front.new.state c.in-Some-Ok.item refl standing step in
-    either_from (λ full. (x, met, law.full_before s c.pass_front.new.state x c.in-Err.error grown full))
+    either_from (λ full. record {
+      front = standing.front;
+      item = x;
+      is = met;
+      state = c.pass_front.new.state;
+      grown = grown;
+      some = leads_here i.view a.of law.alike i.decoder i.grammar (g.met.T.FromReader c.lifetimes (assumption c)).exact a.adds b.settings a.reads n b s w
+          c.pass_front.new.state standing;
+      full = full;
+    })
     (λ told. stops_at_an_item i.view a.of law.alike i.decoder i.grammar (g.met.T.FromReader c.lifetimes (assumption c)).exact a.adds b.settings a.reads n b s
     a.refuses w v c.pass_front.new.state c.in-Some-Ok.item c.in-Err.error standing step told) c.in-Err.ensures.refused

@@ -11,7 +11,7 @@ use Rattle.wasm_module_validator_standing.specs.interning.Interned.{written_grou
 use Rattle.wasm_module_validator_standing.specs.laws.Growing.{most_types, list_grown, types_grown}
 use Rattle.wasm_module_validator_declaring.proofs.Telling.{group_refused, group_told}
 use Rattle.wasm_module_validator_declaring.proofs.Leaving.{always, on_ok, on_ok_both, group_left}
-use Rattle.wasm_module_validator_declaring.specs.Total.{IsPastTotal, IsSizeOf}
+use Rattle.wasm_module_validator_declaring.specs.Total.{HasGroupNext, IsPastTotal}
 use Rattle.wasm_module_validator_declaring.proofs.groups.add_group.Goals as goal
 
 pub returns-in-Err-clause-answer : goal.returns-in-Err-clause-answer
@@ -34,10 +34,12 @@ returns-then-not-is_within_total-clause-answer c =
       kind = ap (λ (e : ErrorValue). e.kind) c.past_total.ensures;
       text = ap (λ (e : ErrorValue). e.message) c.past_total.ensures;
       held = count c.args.types.now.groups;
+      before = length c.args.state.now.spaces.types;
       own = n;
-      has = same ∙ sym (length-map ds written_type);
+      has = (refl, same ∙ sym (length-map ds written_type));
       past = c.is_within_total.ensures.past c.if-not-is_within_total.true;
-      few = omega (arith, fits);
+      few = omega arith;
+      within = omega (arith, fits);
     })
 
 pub returns-clause-answer : goal.returns-clause-answer
@@ -48,7 +50,7 @@ returns-clause-answer c =
     let fits = subst (λ (n : ℕ). (c.args.groups < s.settings.limits.types) × (length s.types + n ≤ s.settings.limits.types)) same c.in-Ok.ensures.answer in
     let within = subst (λ (n : ℕ). count c.args.types.now.groups + n ≤ max_types) same (c.is_within_total.ensures.within c.if-not-is_within_total.false) in
     let room : HasRoom c.args.types.now.groups (length ds) = record { types = within; numbers = c.has_number.ensures.0 c.if-not-has_number.false } in
-    unless_full (IsPastTotal c.args.types.now.groups c.args.state.now (IsSizeOf (written_group c.args.rec_group))) c.add_types.result _
+    unless_full (IsPastTotal c.args.types.now.groups c.args.state.now (HasGroupNext c.args.state.now (written_group c.args.rec_group))) c.add_types.result _
     (group_told c.args.types.now.groups c.args.state.now c.args.groups (written_group c.args.rec_group) (length ds) (sym (length-map ds written_type)) c.add_types.result fits room
     c.add_types.ensures.answer)
 

@@ -1,4 +1,4 @@
-use Rattle.wasm_module_validator_declaring.specs.TotalLaws.{full_is_past, none_past, not_otherwise, not_unsaid, not_without}
+use Rattle.wasm_module_validator_declaring.specs.TotalLaws.{full_is_past, none_past, not_otherwise, not_unsaid, not_with_room}
 use Rattle.wasm_module_validator_declaring.proofs.laws.totals_are_worked.Goals as goal
 
 pub returns-clause-full : goal.returns-clause-full
@@ -13,5 +13,5 @@ returns-clause-otherwise c = not_otherwise
 pub returns-clause-unsaid : goal.returns-clause-unsaid
 returns-clause-unsaid c = not_unsaid
 
-pub returns-clause-without : goal.returns-clause-without
-returns-clause-without c = not_without
+pub returns-clause-room : goal.returns-clause-room
+returns-clause-room c = not_with_room

@@ -62,8 +62,9 @@ returns-in-Err-take_payload-clause-answer c =
     let Has = HasGroupIn c.args.settings.now c.args.bytes.now in
     either_from (λ full. total_before c.args.progress.now.kept here Has error c.loop-payload.invariant.1
     (past_by here.groups here.items (HasGroup x) Has error
-    (λ n. group_in p c.args.bytes.now refl room c.loop-payload.payload-iterator c.next.new.self c.loop-payload.progress c.loop-payload.bodies.items x
-    c.loop-payload.invariant.0 next n refl) full))
+    (λ b n. group_in p c.args.bytes.now refl room c.loop-payload.payload-iterator c.next.new.self c.loop-payload.progress c.loop-payload.bodies.items x
+    c.loop-payload.invariant.0 next b n refl)
+    (let g = c.loop-payload.invariant.0 in full c.args.settings.now g.some.0 (g.stands g.some.0 g.some.1))))
     (λ told. refused_payload p c.args.bytes.now refl room c.loop-payload.payload-iterator c.next.new.self c.loop-payload.progress c.loop-payload.bodies.items c.in-Ok.payload c.loop-payload.invariant.0 next
     c.in-Err-take_payload.error.kind told) c.in-Err-take_payload.ensures.answer
 

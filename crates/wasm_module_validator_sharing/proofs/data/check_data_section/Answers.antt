@@ -40,7 +40,7 @@ returns-clause-answer c = λ z p bodies b at same counts.
     (λ y q bs w o. subst (λ (n : ℕ). MayBegin y s × Fits y s q.tree n) c.count.ensures
     (c.in-Ok.ensures.answer r.kept.groups y q.tree (subst (λ (i : Items). Stands r.kept.groups i y q.tree) (sym c.state.ensures) w.stands) (unread y q r bs w s o)))
     z p bodies at c.add_items.result b same counts
-    (never_full _ (λ e full. full) c.add_items.result _ c.add_items.ensures.answer) (never_full _ (λ e full. full) c.add_items.result _ c.add_items.ensures.refused)
+    (never_full _ (λ e full. full.full) c.add_items.result _ c.add_items.ensures.answer) (never_full _ (λ e full. full.full) c.add_items.result _ c.add_items.ensures.refused)
 
 pub returns-clause-added : goal.returns-clause-added
 returns-clause-added c =

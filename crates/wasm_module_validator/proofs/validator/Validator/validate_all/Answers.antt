@@ -10,11 +10,12 @@ use Rattle.wasm_module_validator_sharing.specs.reading.progress.standing.steps.c
 use Rattle.wasm_module_validator_sharing.specs.reading.progress.standing.steps.Steps.{SoFar}
 use Rattle.wasm_module_validator_sharing.specs.reading.progress.Progress.{Kept, Progress, IsAt}
 use Rattle.wasm_module_validator_sharing.specs.reading.judging.Bodies.{AreBodies}
+use Rattle.wasm_module_validator_sharing.specs.Sharing.{Reached}
 use Rattle.wasm_module_validator_sharing.specs.reading.Reading.{IsReadAs}
 use Rattle.wasm_module_validator.specs.Accepts.{IsShown}
-use Rattle.wasm_module_validator.specs.Lists.{AreToldUnder}
+use Rattle.wasm_module_validator.specs.Lists.{AreToldUnder, TakesNoMore}
 use Rattle.wasm_module_validator.specs.States.{IsLeft, held_by}
-use Rattle.wasm_module_validator.specs.laws.Verdict.{accepted_is_read, alone_told, left_behind, tells_accepted, stands_for_module}
+use Rattle.wasm_module_validator.specs.laws.Verdict.{accepted_is_read, alone_told, left_behind, no_more_read, tells_accepted, stands_for_module}
 use Rattle.wasm_module_validator_runs.proofs.Validity.{accepted_sound}
 use Rattle.wasm_module_validator.proofs.validator.Validator.validate_all.Goals as goal
 
@@ -78,3 +79,18 @@ pub returns-in-Ok-finish-clause-told : goal.returns-in-Ok-finish-clause-told
 returns-in-Ok-finish-clause-told c =
     let k : Kept = c.in-Ok-finish.«module».value in
     subst (λ (z : Settings). AreToldUnder z k.groups k.groups) (returns-in-Ok-finish-clause-shown c).2.settings c.tell_ids.ensures
+
+pub returns-in-Err-clause-few : goal.returns-in-Err-clause-few
+returns-in-Err-clause-few c = λ e. absurd cc
+
+pub returns-in-Err-judge-clause-few : goal.returns-in-Err-judge-clause-few
+returns-in-Err-judge-clause-few c = λ e.
+    no_more_read c.args.self.now.settings c.args.bytes.now (held_by c.args.self.now) c.read.new.self.progress c.in-Ok.bodies.items c.in-Ok.ensures.stands c.in-Ok.ensures.grown.types
+
+pub returns-in-Ok-finish-clause-few : goal.returns-in-Ok-finish-clause-few
+returns-in-Ok-finish-clause-few c = λ e.
+    subst (λ (r : Reached). TakesNoMore c.args.self.now.settings (held_by c.args.self.now) c.args.bytes.now r.progress.kept.groups) (sym c.in-Ok-finish.ensures.next)
+    (no_more_read c.args.self.now.settings c.args.bytes.now (held_by c.args.self.now) c.read.new.self.progress c.in-Ok.bodies.items c.in-Ok.ensures.stands c.in-Ok.ensures.grown.types)
+
+pub returns-in-Err-finish-clause-few : goal.returns-in-Err-finish-clause-few
+returns-in-Err-finish-clause-few c = λ e. absurd cc

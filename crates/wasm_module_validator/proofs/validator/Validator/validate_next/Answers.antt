@@ -10,7 +10,7 @@ use Rattle.wasm_module_validator.specs.declared.validator.Validator.{Validator}
 use Rattle.wasm_module_validator.specs.Lists.{AreToldUnder, IsVerdict, LeavesGroups}
 use Rattle.wasm_module_validator.specs.Methods.{can_reset}
 use Rattle.wasm_module_validator.specs.States.{held_by}
-use Rattle.wasm_module_validator.specs.laws.Lists.{groups_begun, groups_grown, refused_leaves, refused_state, refused_verdict}
+use Rattle.wasm_module_validator.specs.laws.Lists.{groups_begun, groups_grown, refused_leaves, refused_state, refused_verdict, takes_no_more}
 use Rattle.wasm_module_validator.proofs.validator.Validator.validate_next.Goals as goal
 
 pub returns-in-Ok-clause-verdict : goal.returns-in-Ok-clause-verdict
@@ -42,8 +42,8 @@ returns-else-is_memory-clause-groups c =
     let known : IsNotMemory c.kind.result =
     subst (λ (b : Bool). one_of b (c.kind.result ≡ kinds.OutOfMemory) (IsNotMemory c.kind.result)) c.if-is_memory.false c.is_memory.ensures in
     let state = refused_state u.settings (held_by u) c.args.bytes.now e w.state (subst IsNotMemory c.kind.ensures known) c.in-Err.ensures.state in
-    subst (λ (b : Bool). LeavesGroups v (Refused e b) w) (sym c.can_reset-ended.ensures)
-    (refused_leaves v u w c.reset.ensures c.validate_all.ensures.others e (can_reset w.state) c.validate_all.ensures.kept state)
+    subst (λ (b : Bool). LeavesGroups v c.args.bytes.now (Refused e b) w) (sym c.can_reset-ended.ensures)
+    (refused_leaves v u w c.reset.ensures c.validate_all.ensures.others c.args.bytes.now c.validate_all.ensures.few e (can_reset w.state) c.validate_all.ensures.kept state)
 
 pub returns-in-Ok-clause-groups : goal.returns-in-Ok-clause-groups
 returns-in-Ok-clause-groups c =
@@ -51,4 +51,6 @@ returns-in-Ok-clause-groups c =
     let gs : List Group = c.in-Ok.types.kept.groups in
     let grown = groups_grown v c.reset.new.self c.validate_all.new.self c.reset.ensures c.in-Ok.ensures.others c.in-Ok.ensures.state c.in-Ok.ensures.kept in
     let settings : c.in-Ok.types.kept.items.spaces.settings ≡ v.settings = c.in-Ok.ensures.shown.2.settings ∙ ap (λ (u : Validator). u.settings) c.reset.ensures in
-    ((grown.0, c.in-Ok.ensures.types ∙ grown.1), subst (λ (z : Settings). AreToldUnder z gs gs) settings c.tell_ids.ensures)
+    let no_more = takes_no_more v c.reset.new.self c.validate_all.new.self c.reset.ensures c.in-Ok.ensures.others c.args.bytes.now c.in-Ok.ensures.few c.in-Ok.ensures.state
+    c.in-Ok.ensures.kept in
+    ((grown.0, c.in-Ok.ensures.types ∙ grown.1, no_more), subst (λ (z : Settings). AreToldUnder z gs gs) settings c.tell_ids.ensures)

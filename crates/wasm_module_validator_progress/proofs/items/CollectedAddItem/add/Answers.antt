@@ -1,13 +1,13 @@
 use Rattle.std.proofs.Common.{sym, subst}
 use Rattle.wasm_module_validator_adding.specs.FullLaws.{unless_full_from}
-use Rattle.wasm_module_validator_progress.specs.Progress.{Kept, FullIn, HasTypes, IsRead}
+use Rattle.wasm_module_validator_progress.specs.Progress.{Kept, FullIn, IsRead}
 use Rattle.wasm_module_validator_progress.proofs.Adding.{added_one, told_one, refused_one}
 use Rattle.wasm_module_validator_progress.specs.laws.Growing.{grown_one}
 use Rattle.wasm_module_validator_progress.proofs.items.CollectedAddItem.add.Goals as goal
 
 pub returns-clause-answer : goal.returns-clause-answer
 returns-clause-answer g c =
-    unless_full_from _ _ c.add_or_forget.result _ _ (λ e. subst (λ (k : Kept). FullIn g.T.SectionItem.section k.groups k.items (HasTypes g.T.SectionItem.section (g.T.SectionItem.of c.args.item)) e) c.self.view_is)
+    unless_full_from _ _ c.add_or_forget.result _ _ (λ e. subst (λ (k : Kept). FullIn g.T.SectionItem.section k.groups k.items (g.T.SectionItem.of c.args.item) e) c.self.view_is)
     (λ told m h. told_one m.settings m.tree g.T.SectionItem.section (g.T.SectionItem.of c.args.item) c.add_or_forget.result
     (told m.settings m.tree (subst (λ (k : Kept). IsRead g.T.SectionItem.section k m) (sym c.self.view_is) h))) c.add_or_forget.ensures.answer
 
@@ -17,7 +17,7 @@ returns-clause-added g c =
 
 pub returns-clause-refused : goal.returns-clause-refused
 returns-clause-refused g c =
-    unless_full_from _ _ c.add_or_forget.result _ _ (λ e. subst (λ (k : Kept). FullIn g.T.SectionItem.section k.groups k.items (HasTypes g.T.SectionItem.section (g.T.SectionItem.of c.args.item)) e) c.self.view_is)
+    unless_full_from _ _ c.add_or_forget.result _ _ (λ e. subst (λ (k : Kept). FullIn g.T.SectionItem.section k.groups k.items (g.T.SectionItem.of c.args.item) e) c.self.view_is)
     (refused_one g.T.SectionItem.section (g.T.SectionItem.of c.args.item) c.add_or_forget.result _ _ c.self.view_is c.args.offset) c.add_or_forget.ensures.answer
 
 pub returns-clause-grown : goal.returns-clause-grown

@@ -7,7 +7,8 @@ use Rattle.wasm_sections_parser.specs.Parsing.{shape_of}
 use Rattle.wasm_sections_payloads.specs.Payloads.{Counts, only_number, IsPayloadOf}
 use Rattle.wasm_module_validator_standing.specs.steps.Steps.{SoFar, JudgesShape}
 use Rattle.wasm_module_validator_adding.specs.FullLaws.{unless_full, unless_full_from, never_full}
-use Rattle.wasm_module_validator_progress.specs.Progress.{FullBy}
+use Rattle.wasm_module_validator_declaring.specs.Total.{IsPastTotal}
+use Rattle.wasm_module_validator_progress.specs.Progress.{HasGroup}
 use Rattle.wasm_module_validator_progress.specs.laws.Shapes.{of_frame}
 use Rattle.wasm_module_validator_standing.specs.steps.Sections as section
 use Rattle.wasm_module_validator_progress.proofs.Arms.{same_told, section_answer, frame_answer, section_added}
@@ -41,7 +42,8 @@ returns-in-End-clause-answer c = λ z p f at has is.
 pub returns-in-TypeSection-clause-answer : goal.returns-in-TypeSection-clause-answer
 returns-in-TypeSection-clause-answer c =
     let x = payloads.TypeSection c.in-TypeSection.section in
-    unless_full_from _ _ c.take_section.result _ _ (λ e full. subst (λ (y : Payload). FullBy y c.args.self.now.kept e) (sym c.in-TypeSection.is) full.1)
+    unless_full_from _ _ c.take_section.result _ _ (λ e full z p at. subst (λ (y : Payload). IsPastTotal c.args.self.now.kept.groups c.args.self.now.kept.items (HasGroup y) e) (sym c.in-TypeSection.is)
+    (full.1 z p c.args.bodies.now.items at))
     (λ told z p f at.
     section_answer c.take_section.result x c.args.payload c.in-TypeSection.is z p f section.types refl
     (λ id b h. (h.0, λ st. told z p c.args.bodies.now.items b at st h.1))) c.take_section.ensures.answer

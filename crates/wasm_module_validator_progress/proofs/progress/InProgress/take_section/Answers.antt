@@ -6,9 +6,9 @@ use Rattle.wasm_module_validator_adding.specs.Adding.{IsItemOf}
 use Rattle.wasm_module_validator_adding.specs.FullLaws.{unless_full_both}
 use Rattle.wasm_module_validator_texts.specs.Sections.{MayBegin}
 use Rattle.wasm_module_validator_standing.specs.Standing.{Stands}
-use Rattle.wasm_module_validator_progress.specs.Progress.{Kept, Progress, FullIn, Grows, HasItem}
+use Rattle.wasm_module_validator_progress.specs.Progress.{Kept, Progress, Grows}
 use Rattle.wasm_module_validator_progress.specs.laws.Taking.{is_behind, not_behind, unread, too_many, answered, all_added}
-use Rattle.wasm_module_validator_progress.specs.laws.Growing.{full_for}
+use Rattle.wasm_module_validator_progress.specs.laws.Totals.{full_where}
 use Rattle.wasm_module_validator_progress.proofs.progress.InProgress.take_section.Goals as goal
 
 pub returns-in-Err-clause-answer : goal.returns-in-Err-clause-answer
@@ -38,8 +38,7 @@ returns-clause-answer g c =
     let kept = ap (λ x. x.collected) c.self-inside.view_is ∙ collected in
     let order = subst (λ (n : ℕ). r.last < n) c.place.ensures c.in-Ok.ensures.answer in
     let Is = IsItemOf g.T.FromReader.view g.T.SectionItem.of g.T.FromReader.decoder c.args.section.count c.args.section.reader in
-    unless_full_both _ _ c.add_items.result _ _ _ (λ e full. subst (λ (k : Kept). FullIn s k.groups k.items (HasItem s Is) e) collected
-    (full_for s _ Is e full))
+    unless_full_both _ _ c.add_items.result _ _ _ (full_where s r Is _ collected order)
     (λ told stops z p bodies b at same counts.
     answered r s g.T.FromReader.view g.T.SectionItem.of g.T.FromReader.decoder g.T.FromReader.grammar law.tells c.args.section.reader c.args.section.count _ collected order
     (λ y q bs w o. subst (λ (n : ℕ). MayBegin y s × Fits y s q.tree n) c.count.ensures

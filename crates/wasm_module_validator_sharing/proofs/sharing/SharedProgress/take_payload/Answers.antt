@@ -2,10 +2,11 @@ use Rattle.std.proofs.Common.{List, sym, ap, subst}
 use Rattle.std.specs.Prelude.{OnOk, option_map}
 use Rattle.wasm_module_validator_reading.specs.progress.adding.FullLaws.{unless_full_from}
 use Rattle.wasm_module_validator_reading.specs.progress.adding.declared.bodies.Body.{Body}
-use Rattle.wasm_module_validator_reading.specs.progress.Progress.{Progress, FullBy, Grows, IsAt}
+use Rattle.wasm_module_validator_reading.specs.progress.declaring.Total.{IsPastTotal}
+use Rattle.wasm_module_validator_reading.specs.progress.Progress.{Progress, Grows, HasGroup, IsAt}
 use Rattle.wasm_module_validator_reading.proofs.Counting.{on_ok}
 use Rattle.wasm_module_validator_sharing.specs.Sharing.{Reached}
-use Rattle.wasm_module_validator_sharing.proofs.Keeping.{not_shared, own_progress, own_reached, told_next, payload_follows}
+use Rattle.wasm_module_validator_sharing.proofs.Keeping.{own_at, not_shared, own_progress, own_reached, told_next, payload_follows}
 use Rattle.wasm_module_validator_sharing.proofs.sharing.SharedProgress.take_payload.Goals as goal
 
 pub returns-clause-answer : goal.returns-clause-answer
@@ -14,7 +15,8 @@ returns-clause-answer c =
     let i = c.self.inside in
     let o = option_map (λ p. p.value) i.shared in
     let own = own_progress v i.own i.last i.bodies o c.self.view_is c.requires.own in
-    unless_full_from _ _ c.take_payload.result _ _ (λ e. subst (λ (p : Progress). FullBy c.args.payload p.kept e) (sym own))
+    unless_full_from _ _ c.take_payload.result _ _ (λ e full z p at. subst (λ (q : Progress). IsPastTotal q.kept.groups q.kept.items (HasGroup c.args.payload) e) (sym own)
+    (full z p (subst (λ (bs : List Body). IsAt z i.own bs p) (sym c.new-bodies.ensures.items) (own_at v i.own own c.requires.own c.args.payload z p at))))
     (λ told. told_next v i.own own c.requires.own c.args.payload c.take_payload.result
     (λ z p f at has is. told z p f (subst (λ (bs : List Body). IsAt z i.own bs p) (sym c.new-bodies.ensures.items) at) has is)) c.take_payload.ensures.answer
 
