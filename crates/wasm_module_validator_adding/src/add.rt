@@ -119,8 +119,8 @@ pub fn add_items<'a, T: FromReader<'a>, S: AddItem<'a, T>>(
     section: SectionLimited<'a, T>,
 ) -> Result<()>
     ensures answer { UnlessFull
-        (IsFullFor (IsItemOf T.view S.of T.decoder section.entry.count section.entry.reader) S.adds S.reads S.grows S.full
-        state.old) result
+        (IsFullFor (IsItemOf T.view S.of T.decoder section.entry.count section.entry.reader) S.adds S.reads S.grows
+        S.full state.old) result
         ((m : S.Tree) → S.reads state.old m → Tells result ((t : S.Tree)
         × AreAdded (Spelled T.view S.of (T.grammar section.entry.reader.settings)) S.adds section.entry.count
         section.entry.reader.rest m t)) }
@@ -129,8 +129,8 @@ pub fn add_items<'a, T: FromReader<'a>, S: AddItem<'a, T>>(
         section.entry.reader.rest m t
         → S.reads state.new t) }
     ensures refused { UnlessFull
-        (IsFullFor (IsItemOf T.view S.of T.decoder section.entry.count section.entry.reader) S.adds S.reads S.grows S.full
-        state.old) result
+        (IsFullFor (IsItemOf T.view S.of T.decoder section.entry.count section.entry.reader) S.adds S.reads S.grows
+        S.full state.old) result
         ((m : S.Tree) → S.reads state.old m
         → IfErr result (StopsAdding T.view S.of (T.decoder section.entry.reader.settings) S.adds S.refuses
         section.entry.count

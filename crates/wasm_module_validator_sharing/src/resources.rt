@@ -55,7 +55,8 @@ impl WasmModuleResources for ValidatorResources {
     fn table_at(&self, at: u32) -> Option<TableType>
         ensures meaning { option_map (table_in (meaning_of self.now.shared.value.groups
             self.now.shared.value.items.spaces)) result
-            ≡ slice_get (meaning_of self.now.shared.value.groups self.now.shared.value.items.spaces).«module».tables at }
+            ≡ slice_get (meaning_of self.now.shared.value.groups self.now.shared.value.items.spaces).«module».tables
+            at }
         ensures exact { result ≡ slice_get self.now.shared.value.items.spaces.tables at }
     {
         self.shared.state().module().table_at(at)
