@@ -1,13 +1,13 @@
 -- On files that are judged one after another.
-use Rattle.std.proofs.Common.{◌≡◌, ℕ, suc, ◌<◌, ◌≤◌, List, [], ◌∷◌, ◌++◌, Bool, true, false, IfOk, IfErr, Some, Option, Result, Ok, Err, inl, inr}
+use Rattle.std.proofs.Common.{◌≡◌, ℕ, suc, ◌<◌, ◌≤◌, List, [], ◌∷◌, ◌++◌, Bool, true, false, IfOk, IfErr, Some, None, Option, Result, Ok, Err, ◌⊎◌, inl, inr}
 use Rattle.std.proofs.Common.{length, take, map, min, slice_get, get_or, option_map, refl, sym, ap, subst, ◌+◌, ◌∙◌, arith}
 use Rattle.std.specs.Borrow.{Bor}
 use Rattle.std.specs.Prelude.{Contains}
 use Rattle.std.specs.Io.KnownBytes.{Keeps}
-use Rattle.std.proofs.KnownBytes.{Appends-kept, Keeps-trans}
+use Rattle.std.proofs.KnownBytes.{Appends-kept, Keeps-refl, Keeps-trans}
 use Rattle.std.proofs.Math.Seq.{take-suc, take-append_seam, get_or-append_seam}
 use Rattle.std.proofs.lemmas.List.{length-map, length-take, length-take-le, length_push, map-append, map-id, take-map, take-take, take_all, take_min, get_or-take}
-use Rattle.std.proofs.lemmas.List.Elements.{Contains-append_left, Contains-append_right}
+use Rattle.std.proofs.lemmas.List.Elements.{Contains-get_or, Contains-append_left, Contains-append_right}
 use Rattle.std.proofs.lemmas.Option.{slice_get-map, slice_get_read, slice_get_within, get_or_from_slice_get}
 use Rattle.wasm_check_command.specs.declared.error.CheckError.{CheckError}
 use Rattle.wasm_check_command.specs.declared.error.CheckError.TheVariants.{Read, TooLong, OutOfMemory, Write}
@@ -17,10 +17,9 @@ use Rattle.wasm_check_command.specs.declared.judging.Status.TheVariants.{AllVali
 use Rattle.wasm_check_command.specs.declared.command.Fault.{Fault}
 use Rattle.wasm_check_command.specs.declared.command.Fault.TheVariants as faults
 use Rattle.wasm_check_command.specs.Modes.{Ruling}
-use Rattle.wasm_check_command.specs.Opened.{kept_open}
-use Rattle.wasm_check_command.specs.Verdict.{IsJudged, FailsAt}
-use Rattle.wasm_check_command.specs.Reports.{Source, IsReported}
-use Rattle.wasm_check_command.specs.Files.{texts, joined, IsNamed, FailsOpening, JudgesFile, FailsFile, ReportsFiles, StopsChecking, StopsFiles}
+use Rattle.wasm_check_command.specs.Verdict.{FailsAt}
+use Rattle.wasm_check_command.specs.Reports.{Source}
+use Rattle.wasm_check_command.specs.Files.{texts, joined, IsNamed, CannotOpen, FailsOpening, JudgesFile, FailsFile, FailsAgain, ReportsFiles, StopsChecking, StopsFiles}
 use Rattle.wasm_check_command.proofs.ReportLemmas.{IsReported-none, IsReported-valid, IsReported-invalid, Stops-after, Stops-kept, flush_failed}
 
 -- a file as a contract sees it
@@ -81,6 +80,19 @@ fails_among some all (faults.UnknownFeature word) among h = absurd h
 fails_among some all (faults.WrongPieces word) among h = absurd h
 fails_among some all (faults.WrongLimit wrong word) among h = absurd h
 
+-- a file that is one of these cannot be opened
+fails_named : (names : List (List ℕ)) (name : List ℕ) (f : Fault) → Contains names name → CannotOpen name f → FailsOpening names f
+fails_named names name (faults.CannotOpen told reason) has h = rw h has
+fails_named names name (faults.Stopped error told reason) has h = absurd h
+fails_named names name faults.OutOfMemory has h = absurd h
+fails_named names name (faults.UnknownFeature word) has h = absurd h
+fails_named names name (faults.WrongPieces word) has h = absurd h
+fails_named names name (faults.WrongLimit wrong word) has h = absurd h
+
+pub fails_at : (names : List (List ℕ)) (place : ℕ) (name : List ℕ) (f : Fault) → slice_get names place ≡ Some name → CannotOpen name f → FailsOpening names f
+fails_at names place name f found h = fails_named names name f (subst (Contains names) (get_or_from_slice_get names place name name found)
+    (Contains-get_or names place name (slice_get_within names place name found))) h
+
 -- the same of the first and of the other ones
 pub fails_first : (first others all : List (Bor (List ℕ))) (f : Fault) → all ≡ first ++ others → FailsOpening (texts first) f → FailsOpening (texts all) f
 fails_first first others all f e = fails_among (texts first) (texts all) f (λ name h.
@@ -95,6 +107,34 @@ fails_others first others all f e = fails_among (texts others) (texts all) f (λ
 -- the texts of the first names
 pub first_texts : (first all : List (Bor (List ℕ))) (n : ℕ) → first ≡ take (min n (length all)) all → texts first ≡ take n (texts all)
 first_texts first all n e = ap texts (e ∙ take_min n all) ∙ sym (take-map (λ (n : Bor (List ℕ)). n.now) n all)
+
+-- a front of a list, by how many there are
+front_of : (xs all : List (List ℕ)) (n : ℕ) → xs ≡ take n all → xs ≡ take (length xs) all
+front_of xs all n e = e ∙ sym (take_min n all) ∙ ap (λ k. take k all) (sym (ap length e ∙ length-take n all))
+
+-- the inputs that are kept open so far, by how many they are
+pub kept_front : {R : Type 0} (inputs : List (Input R)) (names : List (Bor (List ℕ))) (n : ℕ) → map (λ (i : Input R). i.name.now) inputs ≡ texts (take n names)
+    → map (λ (i : Input R). i.name.now) inputs ≡ take (length inputs) (texts names)
+kept_front inputs names n e = subst (λ k. map name_of inputs ≡ take k (texts names)) (length-map inputs name_of)
+    (front_of (map name_of inputs) (texts names) n (e ∙ sym (take-map (λ (m : Bor (List ℕ)). m.now) n names)))
+
+-- if they are the front of some first names, they are that of all names
+pub kept_first : {R : Type 0} (inputs : List (Input R)) (first all : List (Bor (List ℕ))) (n : ℕ)
+    → map (λ (i : Input R). i.name.now) inputs ≡ take (length inputs) (texts first) → texts first ≡ take n (texts all) → length inputs ≤ n
+    → map (λ (i : Input R). i.name.now) inputs ≡ take (length inputs) (texts all)
+kept_first inputs first all n e f few = e ∙ ap (take (length inputs)) f ∙ take-take (length inputs) n (texts all) few
+
+-- they stay, or none is kept open
+pub kept_or_none : {R : Type 0} (old new : List (Input R)) (all : List (List ℕ)) → (new ≡ old) ⊎ (new ≡ [])
+    → map (λ (i : Input R). i.name.now) old ≡ take (length old) all → map (λ (i : Input R). i.name.now) new ≡ take (length new) all
+kept_or_none old new all (inl same) e = rw same e
+kept_or_none old new all (inr none) e = rw none refl
+
+-- and so after one file more
+pub still_kept : {X : Type 0} (old mid new : List X) → (mid ≡ old) ⊎ (mid ≡ []) → (new ≡ mid) ⊎ (new ≡ []) → (new ≡ old) ⊎ (new ≡ [])
+still_kept old mid new (inl e) (inl f) = inl (f ∙ e)
+still_kept old mid new (inr e) (inl f) = inr (f ∙ e)
+still_kept old mid new h (inr f) = inr f
 
 -- ---- over any judge of bytes
 module _ (ruling : Ruling) where
@@ -188,6 +228,16 @@ module _ (ruling : Ruling) where
   stops_at all name index old mid new status (faults.UnknownFeature word) r found h = absurd h
   stops_at all name index old mid new status (faults.WrongPieces word) r found h = absurd h
   stops_at all name index old mid new status (faults.WrongLimit wrong word) r found h = absurd h
+
+  -- a file that could not be opened again: nothing was written of it
+  pub fails_again : (index : ℕ) (name : List ℕ) (old : Option (List ℕ)) (f : Fault) → FailsAgain index name f → FailsFile ruling index name old old f
+  fails_again index name old (faults.CannotOpen told reason) h = (h.0, h.1, Keeps-refl old)
+  fails_again index name old (faults.Stopped e told reason) h =
+      (h.0, (None, subst (λ x. FailsAt ruling index name None old old x) (sym h.1) (refl, Keeps-refl old)))
+  fails_again index name old faults.OutOfMemory h = absurd h
+  fails_again index name old (faults.UnknownFeature word) h = absurd h
+  fails_again index name old (faults.WrongPieces word) h = absurd h
+  fails_again index name old (faults.WrongLimit wrong word) h = absurd h
 
   -- ---- a flush
   -- a flush that fails after files were judged

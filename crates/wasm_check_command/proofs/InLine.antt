@@ -4,12 +4,11 @@ use Rattle.std.proofs.lemmas.Bool.{cases_lt}
 use Rattle.std.proofs.lemmas.Grind.{common_steps}
 use Rattle.std.specs.List.{list_all}
 use Rattle.std.proofs.lemmas.List.Sums.{AllPass-from_list_all}
-use Rattle.std.specs.Char.{is_control}
 use Rattle.std.specs.Fmt.{digits, digits_onto, digit_glyph}
 use Rattle.std.specs.Str.{chars}
 use Rattle.std.proofs.lemmas.Str.{inside_one}
 use Rattle.std.proofs.lemmas.List.Elements.{All-weaker, All-append, All-cons, All-nil, All-from_get_or}
-use Rattle.wasm_check_command.specs.Shown.{shown, shown_char, escape}
+use Rattle.wasm_check_command.specs.Shown.{shown, shown_char, is_unshown, escape}
 use Rattle.wasm_check_command.specs.ShownRows.{ShownRows}
 use Rattle.wasm_check_command.specs.LineLaws.{StaysInLine, IsOneLine, LinesEndOnce}
 use Rattle.wasm_check_command.specs.Lines.{valid_line, invalid_line}
@@ -55,27 +54,27 @@ pub digits_stay : (base n : ℕ) → StaysInLine (digits base false n)
 unfolding digits
 digits_stay base n = onto 64 base n [] nothing
 
--- a character that is no control character
-below_space : (c : ℕ) → c < 32 → is_control c ≡ true
+-- a character that is shown
+below_space : (c : ℕ) → c < 32 → is_unshown c ≡ true
 below_space c h = grind (arith, common_steps)
 
-other_stays : (c : ℕ) → is_control c ≡ false → StaysInLine (encode_utf8 c)
+other_stays : (c : ℕ) → is_unshown c ≡ false → StaysInLine (encode_utf8 c)
 other_stays c e = All-from_get_or (λ b. 32 ≤ b) (encode_utf8 c) 0 (λ k h. at k h (cases_lt (get_or (encode_utf8 c) k 0) 32))
   where
     at : (k : ℕ) → k < length (encode_utf8 c) → (get_or (encode_utf8 c) k 0 < 32) ⊎ (32 ≤ get_or (encode_utf8 c) k 0) → 32 ≤ get_or (encode_utf8 c) k 0
     at k h (inr p) = p
     at k h (inl p) =
         let same : c ≡ get_or (encode_utf8 c) k 0 = inside_one c [] (encode_utf8 c) k (sym (append-nil (encode_utf8 c))) h (omega (arith, p)) in
-        let low : is_control c ≡ true = below_space c (omega (arith, p, same)) in
+        let low : is_unshown c ≡ true = below_space c (omega (arith, p, same)) in
         absurd cc
 
 escape_stays : (c : ℕ) → StaysInLine (escape c)
 escape_stays c = both (codes "\\u{" ++ digits 16 false c) (codes "}") (both (codes "\\u{") (digits 16 false c) (search rules) (digits_stay 16 c)) (search rules)
 
 char_stays : (c : ℕ) → StaysInLine (shown_char c)
-char_stays c = by_kind (is_control c) refl
+char_stays c = by_kind (is_unshown c) refl
   where
-    by_kind : (b : Bool) → is_control c ≡ b → StaysInLine (cond b (escape c) (encode_utf8 c))
+    by_kind : (b : Bool) → is_unshown c ≡ b → StaysInLine (cond b (escape c) (encode_utf8 c))
     by_kind true e = escape_stays c
     by_kind false e = other_stays c e
 
@@ -155,6 +154,10 @@ shown_rows = record {
   first_and_last = refl;
   escape = refl;
   past_ascii = refl;
+  separators = refl;
+  order = refl;
+  marks = refl;
+  isolates = refl;
   letters = refl;
   backslash = refl;
   named = refl;

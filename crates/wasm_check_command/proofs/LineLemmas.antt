@@ -1,15 +1,15 @@
 -- On the line of one input.
-use Rattle.std.proofs.Common.{◌≡◌, ℕ, ◌+◌, ◌-◌, List, ◌++◌, IfOk, IfErr, IfSome, Some, Option, Result, Ok, Err, inr, sym, subst, take, drop, length, append_assoc, take-append-drop}
+use Rattle.std.proofs.Common.{◌≡◌, ◌≤◌, ◌^◌, ℕ, ◌+◌, ◌-◌, List, ◌++◌, IfOk, IfErr, IfSome, Some, Option, Result, Ok, Err, inr, sym, subst, take, drop, length, append_assoc, take-append-drop, length-append, arith}
 use Rattle.std.specs.Fmt.{◌++?◌}
 use Rattle.std.proofs.lemmas.Result.{IfOk-weaker}
-use Rattle.std.specs.Io.KnownBytes.{Appends, Keeps}
+use Rattle.std.specs.Io.KnownBytes.{Appends, Consumes, Keeps}
 use Rattle.std.proofs.Math.Seq.{take-add}
-use Rattle.std.proofs.lemmas.List.{take_rest}
-use Rattle.std.proofs.KnownBytes.{Keeps-refl, Appends-kept, Appends-trans}
+use Rattle.std.proofs.lemmas.List.{take_rest, length-take}
+use Rattle.std.proofs.KnownBytes.{Keeps-refl, Appends-kept, Appends-trans, Consumes-trans}
 use Rattle.wasm_check_command.specs.declared.error.CheckError.{CheckError}
 use Rattle.wasm_check_command.specs.declared.error.CheckError.TheVariants.{Read, TooLong, OutOfMemory, Write}
 use Rattle.wasm_check_command.specs.Faults.{FailsReading}
-use Rattle.wasm_check_command.specs.Modes.{Ruling}
+use Rattle.wasm_check_command.specs.Modes.{Ruling, ReadsWithin}
 use Rattle.wasm_check_command.specs.Lines.{HasBytes}
 use Rattle.wasm_check_command.specs.Verdict.{WritesFront, FailsWriting, FailsAt}
 
@@ -18,6 +18,15 @@ pub text_of_parts : {S E : Type 0} (bytes : S → List ℕ) (r : Result S E) (u 
     → IfOk r (λ s. IfSome (Some u ++? Some v ++? Some w ++? Some x ++? Some y ++? Some z) (λ bs. bytes s ≡ bs))
     → IfOk r (λ s. bytes s ≡ u ++ v ++ w ++ x ++ y ++ z)
 text_of_parts bytes r u v w x y z h = IfOk-weaker r _ _ (λ s e. simp append_assoc e) h
+
+-- what a reader gave so far, and what one read more gave
+pub reads_within : (a b c : Option (List ℕ)) (got chunk : List ℕ) (count : ℕ) → Consumes a b got → Consumes b c (take count chunk) → length got + count ≤ 2 ^ 30 + 1
+    → ReadsWithin a c
+reads_within a b c got chunk count before more short = (
+  got ++ take count chunk,
+  Consumes-trans a b c got (take count chunk) before more,
+  omega (arith, short, length-append got (take count chunk), length-take count chunk),
+)
 
 -- ---- over any judge of bytes
 module _ (ruling : Ruling) where

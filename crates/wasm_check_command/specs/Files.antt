@@ -77,6 +77,16 @@ FailsFile ruling index name old new (faults.UnknownFeature word) = ⊥
 FailsFile ruling index name old new (faults.WrongPieces word) = ⊥
 FailsFile ruling index name old new (faults.WrongLimit wrong word) = ⊥
 
+-- The file of this name, at this place, could not be opened again in its turn. That each of the first ones can be opened is known before the
+-- first is judged; if the system lets too few be open at once, it is told of one that it cannot be read.
+abbrev pub FailsAgain : ℕ → List ℕ → Fault → Type 0
+FailsAgain index name (faults.CannotOpen told reason) = (told.now ≡ name) × (kept_open ≤ index)
+FailsAgain index name (faults.Stopped error told reason) = (told.now ≡ name) × (error ≡ Read index)
+FailsAgain index name faults.OutOfMemory = ⊥
+FailsAgain index name (faults.UnknownFeature word) = ⊥
+FailsAgain index name (faults.WrongPieces word) = ⊥
+FailsAgain index name (faults.WrongLimit wrong word) = ⊥
+
 -- this file could not be opened
 abbrev pub CannotOpen : List ℕ → Fault → Type 0
 CannotOpen name (faults.CannotOpen told reason) = told.now ≡ name

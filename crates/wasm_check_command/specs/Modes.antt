@@ -1,6 +1,7 @@
 -- How inputs are read: whole, or in pieces as they come. An input that comes in pieces is judged while it is read, so it may be refused long
 -- before its end; and none is read past 2^30 bytes.
-use Rattle.std.specs.Prelude.{◌≡◌, ℕ, ◌≤◌, ◌<◌, ◌^◌, List, length, IfSome, Option}
+use Rattle.std.specs.Prelude.{◌≡◌, ℕ, ◌≤◌, ◌<◌, ◌+◌, ◌^◌, List, length, IfSome, Option}
+use Rattle.std.specs.Io.KnownBytes.{Consumes}
 use Rattle.wasm_types.specs.error.Denials.{UnlessMemory}
 use Rattle.wasm_types.specs.limits.Limits.{IsWithinCeilings}
 use Rattle.wasm_types.specs.limits.declared.Limits.{Limits}
@@ -19,6 +20,10 @@ IsShort bytes = length bytes ≤ 2 ^ 30
 -- a reader whose bytes are known has more than an input may have
 abbrev pub IsTooLong : Option (List ℕ) → Type 0
 IsTooLong said = IfSome said (λ xs. 2 ^ 30 < length xs)
+
+-- between these two moments a reader gave at most one byte more than an input may have
+abbrev pub ReadsWithin : Option (List ℕ) → Option (List ℕ) → Type 0
+ReadsWithin before after = (got : List ℕ) × Consumes before after got × (length got ≤ 2 ^ 30 + 1)
 
 -- By what lines are written: which bytes are valid, and which an input may have of which a line is written.
 pub record Ruling : Type 1 where

@@ -18,6 +18,7 @@ is_stdin (Stdin i) = true
 abbrev pub names_stdin : List ℕ → Bool
 names_stdin name = bytes_eq name (codes "-")
 
--- as many files are kept open from when all are opened to their turn, the first ones; each other one is closed at once, and opened again
+-- at most as many files are kept open from when all are opened to their turn, the first ones; each other one is closed at once, and opened
+-- again
 abbrev pub kept_open : ℕ
 kept_open = 100

@@ -299,6 +299,19 @@ fn shown_words<S: AsStr>(alloc: Global, words: &[S]) -> Result<Vec<String>, Allo
     Ok(shown)
 }
 
+/// The help or the version, as the words ask for, in `clap`'s text over the words as they are shown: the help has the program's own
+/// name. The words as they are shown ask for the same; if `clap` answers otherwise, memory ran out.
+fn help_text<S: AsStr>(alloc: Global, words: &[S]) -> Result<String, AllocError> {
+    let shown = shown_words(alloc, words)?;
+    let Err(answer) = parse(alloc, shown.as_slice()) else {
+        return Err(AllocError);
+    };
+    if answer.use_stderr() {
+        return Err(AllocError);
+    }
+    format!(in alloc; "{answer}")
+}
+
 /// Tells what is wrong with the words, in `clap`'s text. That has words as they are, so `clap` is asked for it over the
 /// words as they are shown: these have no control character, and where they differ no word is one that `clap` knows.
 fn tell_usage<S: AsStr, E: Write>(alloc: Global, words: &[S], err: &mut E) -> u8
@@ -335,7 +348,7 @@ fn show<S: AsStr, W: Write, E: Write>(
     if answer.use_stderr() {
         return tell_usage(alloc, words, err);
     }
-    let Ok(text) = format!(in alloc; "{answer}") else {
+    let Ok(text) = help_text(alloc, words) else {
         return report(&Fault::OutOfMemory, err);
     };
     if show_help(text.as_str(), out).is_err() {
@@ -376,8 +389,8 @@ fn conclude<E: Write>(judged: &Result<Status, Fault<'_>>, err: &mut E) -> u8
 /// 0 if all files are valid, or if `clap` answers the words with the help or the version and it was shown; 1 if some file is invalid; 2 if
 /// the words name no files by `clap`'s reading or have a list that is refused, and then nothing is written to `out`, or if a
 /// fault stopped the judging or the help. The files are judged by the features and limits that the words ask for. All files
-/// are opened before the first is judged; those past the first hundred are then closed, and opened again in their turn. The
-/// file `-` is standard input.
+/// are opened before the first is judged; those past the first hundred are then closed, and opened again in their turn, and so are
+/// all if the system does not let so many be open. The file `-` is standard input.
 pub fn run_by<'a, J, F, S, W, E>(judge: &J, rt: &F, words: &'a [S], out: &mut W, err: &mut E) -> u8
 where
     J: Judge,

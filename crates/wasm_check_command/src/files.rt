@@ -1,8 +1,8 @@
 //! The files that the words name are opened, and judged one after another.
-ghost use Rattle.std.specs.Prelude.{◌≡◌, ℕ, ◌<◌, ◌≤◌, IsTrue, false, List, length, min, map, take, slice_get, Some, IfOk, IfErr};
+ghost use Rattle.std.specs.Prelude.{◌≡◌, ◌⊎◌, ℕ, ◌<◌, ◌≤◌, IsTrue, false, List, [], length, min, map, take, slice_get, Some, IfOk, IfErr};
 ghost use Rattle.wasm_check_command.specs.Modes.{CanJudge, ruling_of};
 ghost use Rattle.wasm_check_command.specs.Opened.{is_stdin, names_stdin, kept_open};
-ghost use Rattle.wasm_check_command.specs.Files.{texts, joined, CannotOpen, FailsOpening, JudgesFile, FailsFile, ReportsFiles, StopsFiles};
+ghost use Rattle.wasm_check_command.specs.Files.{texts, joined, CannotOpen, FailsOpening, JudgesFile, FailsFile, FailsAgain, ReportsFiles, StopsFiles};
 
 use crate::command::Fault;
 use crate::error::CheckError;
@@ -13,8 +13,11 @@ use std::fs::{File, OpenFile};
 use std::io::{self, Input as Standard, Read, Write};
 use std::rt::Files;
 
-/// How many files are kept open until their turn.
+/// How many files are kept open until their turn, if the system lets so many be open.
 const KEPT: usize = 100;
+
+/// A file of no bytes; what is opened to read it takes none.
+const NULL: &str = "/dev/null";
 
 /// What a file's bytes are read from.
 #[derive(Debug, Drop)]
@@ -35,6 +38,25 @@ impl<F: Read, I: Read> Read for Opened<F, I> {
             Opened::File(file) => file.read(buf),
             Opened::Stdin(stdin) => stdin.read(buf),
         }
+    }
+}
+
+/// Files that are open and not read.
+#[derive(Debug, Drop)]
+struct Held<F> {
+    first: io::Result<F>,
+    second: io::Result<F>,
+    third: io::Result<F>,
+}
+
+/// Opens `/dev/null` three times, as far as it can be opened. The system gives a file the least number that is free. So a program
+/// that was started with standard input, output or error closed has `/dev/null` there, for as long as these are held, and no input:
+/// `-` would read a file in place of standard input.
+fn hold_streams<F: Files>(rt: &F) -> Held<F::File> {
+    Held {
+        first: File::open(rt, NULL),
+        second: File::open(rt, NULL),
+        third: File::open(rt, NULL),
     }
 }
 
@@ -68,18 +90,22 @@ fn open_named<'a, F: Files + Standard>(
     }
 }
 
-/// Opens these files in order, and keeps them open.
+/// Opens these files in order and keeps them open, up to the first that cannot be opened.
 fn open_kept<'a, F: Files + Standard>(
     alloc: Global,
     rt: &F,
     names: &[&'a str],
 ) -> Result<Vec<Input<'a, Opened<F::File, F::Reader>>>, Fault<'a>>
-    ensures ok { IfOk result (λ inputs. map (λ i. i.name.now) inputs.items ≡ texts names.now) }
+    ensures ok { IfOk result (λ inputs. map (λ i. i.name.now) inputs.items
+        ≡ take (length inputs.items) (texts names.now)) }
+    ensures few { IfOk result (λ inputs. length inputs.items ≤ length names.now) }
     ensures err { IfErr result (FailsOpening (texts names.now)) }
 {
     let mut inputs = Vec::new(alloc);
     for name in names {
-        let reader = open_named(rt, *name)?;
+        let Ok(reader) = open(rt, *name) else {
+            return Ok(inputs);
+        };
         if inputs
             .push(Input {
                 name: *name,
@@ -93,12 +119,45 @@ fn open_kept<'a, F: Files + Standard>(
     Ok(inputs)
 }
 
-/// Opens these files in order, and closes each at once.
-fn try_to_open<'a, F: Files + Standard>(rt: &F, names: &[&'a str]) -> Result<(), Fault<'a>>
-    ensures { IfErr result (FailsOpening (texts names.now)) }
+/// Whether the file of this name can be opened; it is closed at once.
+fn can_open<F: Files + Standard>(rt: &F, name: &str) -> bool {
+    open(rt, name).is_ok()
+}
+
+/// Opens a file, and closes it at once. If it cannot be opened, too many may be open: those that are kept open are closed, and it
+/// is tried again.
+fn try_one<'a, F: Files + Standard>(
+    rt: &F,
+    name: &'a str,
+    inputs: &mut Vec<Input<'a, Opened<F::File, F::Reader>>>,
+) -> Result<(), Fault<'a>>
+    ensures kept { (inputs.new.items ≡ inputs.old.items) ⊎ (inputs.new.items ≡ []) }
+    ensures err { IfErr result (CannotOpen name.entry.now) }
 {
-    for name in names {
-        let _closed = open_named(rt, *name)?;
+    if can_open(rt, name) {
+        return Ok(());
+    }
+    inputs.clear();
+    match open_named(rt, name) {
+        Ok(_closed) => Ok(()),
+        Err(fault) => Err(fault),
+    }
+}
+
+/// Opens these files in order, and closes each at once. The inputs are kept open, or all closed if too many are open.
+fn try_to_open<'a, F: Files + Standard>(
+    rt: &F,
+    names: &[&'a str],
+    inputs: &mut Vec<Input<'a, Opened<F::File, F::Reader>>>,
+) -> Result<(), Fault<'a>>
+    ensures kept { (inputs.new.items ≡ inputs.old.items) ⊎ (inputs.new.items ≡ []) }
+    ensures err { IfErr result (FailsOpening (texts names.now)) }
+{
+    for place in 0..names.len() {
+        match try_one(rt, name_at(names, place), inputs) {
+            Ok(()) => (),
+            Err(fault) => return Err(fault),
+        }
     }
     Ok(())
 }
@@ -113,21 +172,24 @@ fn kept_of(count: usize) -> usize
     KEPT
 }
 
-/// Opens all files in order, and keeps the first hundred open.
+/// Opens all files in order, and keeps the first hundred open; none, if the system does not let so many be open.
 fn open_all<'a, F: Files + Standard>(
     alloc: Global,
     rt: &F,
     names: &[&'a str],
 ) -> Result<Vec<Input<'a, Opened<F::File, F::Reader>>>, Fault<'a>>
-    ensures ok { IfOk result (λ inputs. map (λ i. i.name.now) inputs.items ≡ take kept_open (texts names.now)) }
+    ensures ok { IfOk result (λ inputs. map (λ i. i.name.now) inputs.items
+        ≡ take (length inputs.items) (texts names.now)) }
+    ensures few { IfOk result (λ inputs. length inputs.items ≤ kept_open) }
     ensures err { IfErr result (FailsOpening (texts names.now)) }
 {
-    let (first, others) = names.split_at(kept_of(names.len()));
-    let inputs = match open_kept(alloc, rt, first) {
+    let (first, _others) = names.split_at(kept_of(names.len()));
+    let mut inputs = match open_kept(alloc, rt, first) {
         Ok(inputs) => inputs,
         Err(fault) => return Err(fault),
     };
-    match try_to_open(rt, others) {
+    let (_kept, others) = names.split_at(inputs.len());
+    match try_to_open(rt, others, &mut inputs) {
         Ok(()) => Ok(inputs),
         Err(fault) => Err(fault),
     }
@@ -190,6 +252,21 @@ fn judge_opened<'a, J: Judge, R: Read + OpenFile + Drop, I: Read + Drop, W: Writ
     }
 }
 
+/// The fault of a file that could not be opened again in its turn. That the first hundred can be opened is known before the first is
+/// judged, so of one of them it is told that it cannot be read.
+fn unopened_again<'a>(index: usize, name: &'a str, reason: Reason) -> Fault<'a>
+    ensures { FailsAgain index name.entry.now result }
+{
+    if index < KEPT {
+        return Fault::Stopped {
+            error: CheckError::Read(index),
+            name,
+            reason,
+        };
+    }
+    Fault::CannotOpen { name, reason }
+}
+
 /// Opens a file again, judges it, writes its line, and says whether it is a valid module.
 fn judge_again<'a, J: Judge, F: Files + Standard, W: Write>(
     judge: &J,
@@ -202,13 +279,15 @@ fn judge_again<'a, J: Judge, F: Files + Standard, W: Write>(
     out: &mut W,
 ) -> Result<bool, Fault<'a>>
     requires within { CanJudge chosen }
-    requires past { kept_open ≤ index }
     ensures ok { IfOk result (JudgesFile (ruling_of J.accepts chosen) name.entry.now
         (W.contents out.old) (W.contents out.new)) }
     ensures err { IfErr result (FailsFile (ruling_of J.accepts chosen) index name.entry.now
         (W.contents out.old) (W.contents out.new)) }
 {
-    let reader = open_named(rt, name)?;
+    let reader = match open(rt, name) {
+        Ok(reader) => reader,
+        Err(error) => return Err(unopened_again(index, name, Reason::of(&error))),
+    };
     let input = Input { name, reader };
     judge_opened(judge, alloc, chosen, index, input, buffer, out)
 }
@@ -243,7 +322,8 @@ fn judge_kept<'a, J: Judge, R: Read + OpenFile + Drop, I: Read + Drop, W: Write>
     requires within { CanJudge chosen }
     ensures ok { IfOk result (ReportsFiles (ruling_of J.accepts chosen) (map (λ i. i.name.now) inputs.entry.items)
         (W.contents out.old) (W.contents out.new)) }
-    ensures err { (all : List (List ℕ)) → map (λ i. i.name.now) inputs.entry.items ≡ take kept_open all
+    ensures err { (all : List (List ℕ))
+        → map (λ i. i.name.now) inputs.entry.items ≡ take (length inputs.entry.items) all
         → IfErr result (StopsFiles (ruling_of J.accepts chosen) all (W.contents out.old) (W.contents out.new)) }
 {
     let mut status = Status::AllValid;
@@ -270,18 +350,19 @@ fn judge_in_turn<'a, J: Judge, F: Files + Standard, W: Write>(
     out: &mut W,
 ) -> Result<Status, Fault<'a>>
     requires within { CanJudge chosen }
-    requires kept { map (λ i. i.name.now) inputs.items ≡ take kept_open (texts names.now) }
+    requires kept { map (λ i. i.name.now) inputs.items ≡ take (length inputs.items) (texts names.now) }
     ensures ok { IfOk result (ReportsFiles (ruling_of J.accepts chosen) (texts names.now)
         (W.contents out.old) (W.contents out.new)) }
     ensures err { IfErr result (StopsFiles (ruling_of J.accepts chosen) (texts names.now)
         (W.contents out.old) (W.contents out.new)) }
 {
     let mut buffer = Vec::new(alloc);
+    let kept = inputs.len();
     let mut status = match judge_kept(judge, alloc, chosen, inputs, &mut buffer, out) {
         Ok(status) => status,
         Err(fault) => return Err(fault),
     };
-    for place in KEPT..names.len() {
+    for place in kept..names.len() {
         let name = name_at(names, place);
         let is_valid = match judge_again(judge, alloc, rt, chosen, place, name, &mut buffer, out) {
             Ok(is_valid) => is_valid,
@@ -307,6 +388,7 @@ pub(crate) fn judge_files<'a, J: Judge, F: Files + Standard, W: Write>(
     ensures err { IfErr result (StopsFiles (ruling_of J.accepts chosen) (texts names.now)
         (W.contents out.old) (W.contents out.new)) }
 {
+    let _held = hold_streams(rt);
     let inputs = match open_all(alloc, rt, names) {
         Ok(inputs) => inputs,
         Err(fault) => return Err(fault),

@@ -1,12 +1,12 @@
 //! Inputs are judged one after another, and a line is written for each.
-ghost use Rattle.std.specs.Prelude.{◌≡◌, ◌≤◌, ℕ, List, IfOk, IfErr, OnOk, string_bytes};
-ghost use Rattle.std.specs.Io.KnownBytes.{Appends};
+ghost use Rattle.std.specs.Prelude.{◌≡◌, ◌≤◌, ℕ, List, length, IfOk, IfErr, OnOk, string_bytes};
+ghost use Rattle.std.specs.Io.KnownBytes.{Appends, ReadConsumes};
 ghost use Rattle.wasm_types.specs.error.Denials.{Tells};
 ghost use Rattle.wasm_types.specs.limits.Settings.{Settings};
 ghost use Rattle.wasm_types.specs.limits.Limits.{IsWithinCeilings};
 ghost use Rattle.wasm_check_command.specs.Settings.{settings_by, settings_of};
 ghost use Rattle.wasm_check_command.specs.Lines.{invalid_line, valid_line};
-ghost use Rattle.wasm_check_command.specs.Modes.{AreLeft, CanJudge, FailsJudging, HasPieces, HasValid, IsShort, ruled, ruling_by, ruling_of};
+ghost use Rattle.wasm_check_command.specs.Modes.{AreLeft, CanJudge, FailsJudging, HasPieces, HasValid, IsShort, ReadsWithin, ruled, ruling_by, ruling_of};
 ghost use Rattle.wasm_check_command.specs.Faults.{FailsReading};
 ghost use Rattle.wasm_check_command.specs.Verdict.{WritesFront, IsVerdict, WritesLine, IsJudged, FailsWriting, FailsAt};
 ghost use Rattle.wasm_check_command.specs.declared.error.CheckError.TheVariants.{Write as TheWrite};
@@ -138,7 +138,19 @@ pub(crate) fn without_reason(error: CheckError) -> Unread
     }
 }
 
-/// Puts what a reader has left into the buffer, in place of what stood there.
+/// One read, of at most so many bytes and no more than the chunk has: how many came, at its front.
+fn read_some<R: Read>(reader: &mut R, chunk: &mut [u8], most: usize) -> io::Result<usize>
+    requires chunk { 1 ≤ length chunk.old }
+    requires most { 1 ≤ most }
+    ensures gives { ReadConsumes (R.remaining reader.old) (R.remaining reader.new) result chunk.new }
+    ensures within { IfOk result (λ count. (count ≤ most) × (count ≤ length chunk.new)) }
+    ensures same { length chunk.new ≡ length chunk.old }
+{
+    let room = chunk.len().min(most);
+    reader.read(&mut chunk[..room])
+}
+
+/// Puts what a reader has left into the buffer, in place of what stood there. No more is read than shows that it is too much.
 pub(crate) fn read_whole<R: Read>(
     index: usize,
     reader: &mut R,
@@ -146,11 +158,13 @@ pub(crate) fn read_whole<R: Read>(
 ) -> Result<(), Unread>
     ensures ok { OnOk result (AreLeft (R.remaining reader.old) buffer.new.items × IsShort buffer.new.items) }
     ensures err { IfErr result (λ u. FailsReading index (R.remaining reader.old) u.error) }
+    ensures most { ReadsWithin (R.remaining reader.old) (R.remaining reader.new) }
 {
     buffer.clear();
     let mut chunk = [0u8; CHUNK];
     for _turn in 0..=MAX_BYTES {
-        let count = match reader.read(&mut chunk) {
+        let left = MAX_BYTES - buffer.len();
+        let count = match read_some(reader, &mut chunk, left + 1) {
             Ok(count) => count,
             Err(error) => {
                 return Err(Unread {
@@ -162,7 +176,7 @@ pub(crate) fn read_whole<R: Read>(
         if count == 0 {
             return Ok(());
         }
-        if count > MAX_BYTES - buffer.len() {
+        if count > left {
             return Err(without_reason(CheckError::TooLong(index)));
         }
         if buffer.extend_from_slice(&chunk[..count]).is_err() {
@@ -291,6 +305,7 @@ fn judge_whole<J: Judge, R: Read, W: Write>(
         (R.remaining reader.old) valid (W.contents out.old) (W.contents out.new)) }
     ensures err { IfErr result (λ u. FailsAt (ruled whole (J.accepts (settings_of chosen))) index name.now
         (R.remaining reader.old) (W.contents out.old) (W.contents out.new) u.error) }
+    ensures most { ReadsWithin (R.remaining reader.old) (R.remaining reader.new) }
 {
     match read_whole(index, reader, buffer) {
         Ok(()) => (),

@@ -1,13 +1,14 @@
 //! Texts that others chose, written so that each stays within its line.
 ghost use Rattle.std.specs.Fmt.{WritesOnOk};
-ghost use Rattle.wasm_check_command.specs.Shown.{shown_char};
+ghost use Rattle.std.specs.Prelude.{◌≡◌};
+ghost use Rattle.wasm_check_command.specs.Shown.{is_unshown, shown_char, turns};
 ghost use Rattle.wasm_check_command.specs.LineLaws.{LinesEndOnce};
 ghost use Rattle.wasm_check_command.specs.ShownRows.{ShownRows};
 
 use std::fmt;
 
-/// A text that others chose, as a file's name. Each control character in it is written as its code, so that the text
-/// begins no line and moves no cursor.
+/// A text that others chose, as a file's name. Each control character in it is written as its code, and so is each that ends a
+/// line for some readers or turns the order of a line: so the text begins no line, moves no cursor and hides nothing that follows.
 #[derive(Debug, Drop)]
 pub(crate) struct Shown<'a>(pub(crate) &'a str);
 
@@ -25,11 +26,30 @@ impl fmt::Display for Shown<'_> {
     }
 }
 
+// Whether a character changes the order in which a line is shown.
+fn turns(code: u32) -> bool
+    ensures { result ≡ turns code }
+{
+    code == 0x61c
+        || code == 0x200e
+        || code == 0x200f
+        || (0x202a <= code && code <= 0x202e)
+        || (0x2066 <= code && code <= 0x2069)
+}
+
+// Whether a character is written as its code.
+fn is_unshown(c: char) -> bool
+    ensures { result ≡ is_unshown c }
+{
+    let code = c as u32;
+    c.is_control() || code == 0x2028 || code == 0x2029 || turns(code)
+}
+
 // A character as it is shown.
 fn write_shown<W: fmt::Write>(f: &mut fmt::Formatter<W>, c: char) -> fmt::Result
     ensures { WritesOnOk W.write_str_gives f.old result (shown_char c) f.new }
 {
-    if c.is_control() {
+    if is_unshown(c) {
         write!(f, "\\u{{{:x}}}", c as u32)
     } else {
         f.write_char(c)

@@ -1,4 +1,3 @@
-use Rattle.std.proofs.Common.{inl}
 use Rattle.wasm_check_command.specs.Modes.{ruling_of}
 use Rattle.wasm_check_command.specs.Files.{texts}
 use Rattle.wasm_check_command.proofs.FileReports.{files_flushed, faults_flushed, files_unflushed}

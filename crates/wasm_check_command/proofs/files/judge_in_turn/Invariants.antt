@@ -1,12 +1,9 @@
-use Rattle.std.proofs.Common.{◌≤◌, take}
+use Rattle.std.proofs.Common.{take}
 use Rattle.wasm_check_command.specs.Modes.{ruling_of}
-use Rattle.wasm_check_command.specs.Opened.{kept_open}
 use Rattle.wasm_check_command.specs.Files.{texts, ReportsFiles}
 use Rattle.wasm_check_command.proofs.files.judge_in_turn.Given as goal
 
 -- the files before this place were judged
 abbrev pub invariant-loop-place : goal.invariant-loop-place
-invariant-loop-place g l = record {
-  past : kept_open ≤ l.place;
-  reported : ReportsFiles (ruling_of g.J.Judge.accepts l.chosen) (take l.place (texts l.names)) (g.W.Write.contents l.fn.out) (g.W.Write.contents l.out) l.status;
-}
+invariant-loop-place g l =
+    ReportsFiles (ruling_of g.J.Judge.accepts l.chosen) (take l.place (texts l.names)) (g.W.Write.contents l.fn.out) (g.W.Write.contents l.out) l.status

@@ -1,9 +1,8 @@
-use Rattle.std.proofs.Common.{[], ◌∷◌, ◌∙◌, refl, subst, sym, map, take, arith}
+use Rattle.std.proofs.Common.{[], ◌∷◌, ◌∙◌, refl, subst, length, map, arith}
 use Rattle.std.proofs.lemmas.Iterator.Adapters.{YieldsList-from_vec}
 use Rattle.std.proofs.lemmas.Iterator.Consumers.{YieldsList-so_far, YieldsList-turn}
 use Rattle.std.proofs.lemmas.List.{map-append, length_push}
 use Rattle.wasm_check_command.specs.Modes.{ruling_of}
-use Rattle.wasm_check_command.specs.Opened.{kept_open}
 use Rattle.wasm_check_command.specs.Files.{ReportsFiles}
 use Rattle.wasm_check_command.proofs.FileReports.{reports_none, reports_more, names_so_far, name_at, stops_at}
 use Rattle.wasm_check_command.proofs.files.judge_kept.Goals as goal
@@ -20,8 +19,8 @@ returns-in-Err-clause-err g c = λ all kept.
     stops_at (ruling_of g.J.Judge.accepts c.args.chosen) all c.in-Some.input.name.now c.loop-input.index (g.W.Write.contents c.args.out.now)
     (g.W.Write.contents c.loop-input.out) (g.W.Write.contents c.judge_opened.new.out) c.loop-input.status c.in-Err.fault
     (subst (λ ns. ReportsFiles (ruling_of g.J.Judge.accepts c.args.chosen) ns (g.W.Write.contents c.args.out.now) (g.W.Write.contents c.loop-input.out) c.loop-input.status)
-    (names_so_far c.loop-input.yielded c.args.inputs.items all kept_open c.loop-input.index c.loop-input.invariant.counted so_far turn.0 kept) c.loop-input.invariant.reported)
-    (name_at c.loop-input.yielded c.args.inputs.items all kept_open c.loop-input.index c.in-Some.input c.loop-input.invariant.counted turn kept)
+    (names_so_far c.loop-input.yielded c.args.inputs.items all (length c.args.inputs.items) c.loop-input.index c.loop-input.invariant.counted so_far turn.0 kept) c.loop-input.invariant.reported)
+    (name_at c.loop-input.yielded c.args.inputs.items all (length c.args.inputs.items) c.loop-input.index c.in-Some.input c.loop-input.invariant.counted turn kept)
     c.in-Err.ensures.err
 
 pub loop-input-preserved : goal.loop-input-preserved
