@@ -137,7 +137,6 @@ pub fn refused_items_are_worked()
 
 /// Which bytes are between two offsets, which items their bytes alone tell, and which group a refusal for the total of types is of
 /// (WebAssembly 3.0, binary format and validation, modules).
-#[tactic(auto, using(crate::specs::ShortLaws::between_rows, crate::specs::ShortLaws::adds_rows, crate::specs::ShortLaws::short_data_rows, crate::specs::ShortLaws::room_rows))]
 pub fn short_items_are_worked()
     ensures between { BetweenRows }
     ensures adds { (l : Limits) → AddsRows l }
