@@ -6,7 +6,7 @@ use Rattle.wasm_types.specs.decoding.Leb.{IsUnsigned, last}
 use Rattle.wasm_types.specs.limits.declared.Limits.{Limits}
 use Rattle.wasm_types.specs.limits.Settings.{no_features}
 use Rattle.wasm_types.specs.trees.Types.{SubtypeOf}
-use Rattle.wasm_types.specs.trees.ValidGroup.{Written}
+use Rattle.wasm_types.specs.trees.ValidGroup.{Written, types_from}
 use Rattle.wasm_operators_bodies.specs.declared.short.ShortConstant.TheVariants as short
 use Rattle.wasm_operators_bodies.specs.Short.{SpellsShort}
 use Rattle.wasm_operators_bodies.specs.ShortLaws.{short_is_constant}
@@ -130,12 +130,14 @@ not_two here there is (x, same, read) =
 
 -- a group of one type comes after one type
 one_before : (t : SubtypeOf ℕ) (n : ℕ) (front : List Written) → front ≡ alone t ∷ [] → n ≡ length (types_behind [] front) → n ≡ 1
+unfolding types_from
 one_before t n front is counted = counted ∙ ap (λ (gs : List Written). length (types_behind [] gs)) is
 
 one_own : (t : SubtypeOf ℕ) (n : ℕ) (x : Written) → x ≡ alone t → n ≡ length x.types → n ≡ 1
 one_own t n x is size = size ∙ ap (λ (g : Written). length g.types) is
 
 pub room_rows : (t : SubtypeOf ℕ) → RoomRows t
+unfolding types_from
 room_rows t = record {
   first = record { here = at three 9; there = at (2 ∷ 3 ∷ []) 10; read = refl; fewer = omega arith; is = (1, refl, refl) };
   second = record {
