@@ -32,6 +32,10 @@ pub record IsPastTotal (groups : List Group) (s : Items) (Has : ℕ → ℕ → 
   pub few : held + length s.spaces.types ≤ count groups + before
   pub within : before + own ≤ s.spaces.settings.limits.types
 
+-- a module that has one group, of so many types after so many, and no other
+abbrev pub OneGroup : ℕ → ℕ → ℕ → ℕ → Type 0
+OneGroup b n before own = (before ≡ b) × (own ≡ n)
+
 -- Ok exactly where the fact holds, unless memory ran out; or the total was passed.
 abbrev pub TellsWithinTotal : {X : Type 0} → List Group → Items → (ℕ → ℕ → Type 0) → Result X ErrorValue → Type 0 → Type 0
 TellsWithinTotal groups s Has result P = UnlessFull (IsPastTotal groups s Has) result (Tells result P)

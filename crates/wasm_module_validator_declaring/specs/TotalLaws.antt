@@ -13,7 +13,7 @@ use Rattle.wasm_module_validator_standing.specs.type_trees.Groups.{Group, count}
 use Rattle.wasm_module_validator_standing.specs.items.Items.{Items, no_items}
 use Rattle.wasm_module_validator_standing.specs.Standing.{GrowsWith}
 use Rattle.wasm_module_validator_standing.specs.laws.Growing.{most_types}
-use Rattle.wasm_module_validator_declaring.specs.Total.{IsPastTotal, TellsWithinTotal}
+use Rattle.wasm_module_validator_declaring.specs.Total.{IsPastTotal, OneGroup, TellsWithinTotal}
 
 -- what was read since counts
 pub past_before : (old new : List Group) (s t : Items) (Has : ℕ → ℕ → Type 0) (e : ErrorValue) → GrowsWith old s.spaces new t.spaces
@@ -66,30 +66,34 @@ within_total z w Has r P h = never_full (IsPastTotal [] (no_items z) Has) (none_
 
 -- ---- worked rows
 
-pub full_is_past : (groups : List Group) (z : Settings) (Has : ℕ → ℕ → Type 0) → Has 0 1 → count groups ≡ max_types → 1 ≤ z.limits.types
-    → IsPastTotal groups (no_items z) Has (record { kind = Other; offset = 7; message = codes "implementation limit: too many core types" })
-full_is_past groups z Has one full some = record {
+pub full_is_past : (groups : List Group) (z : Settings) → count groups ≡ max_types → 1 ≤ z.limits.types → IsPastTotal groups (no_items z)
+    (OneGroup 0 1) (record { kind = Other; offset = 7; message = codes "implementation limit: too many core types" })
+full_is_past groups z full some = record {
   kind = refl;
   text = refl;
   held = count groups;
   before = 0;
   own = 1;
-  has = one;
+  has = (refl, refl);
   past = omega (arith, full);
   few = omega arith;
   within = omega (arith, some);
 }
 
-pub not_with_room : (groups : List Group) (z : Settings) (Has : ℕ → ℕ → Type 0) (e : ErrorValue) → ((b n : ℕ) → Has b n → count groups + b + n ≤ max_types)
-    → IsPastTotal groups (no_items z) Has e → ⊥
-not_with_room groups z Has e room p =
+pub not_with_room : (groups : List Group) (z : Settings) (b n : ℕ) (e : ErrorValue) → count groups + b + n ≤ max_types
+    → IsPastTotal groups (no_items z) (OneGroup b n) e → ⊥
+not_with_room groups z b n e room p =
     let past = p.past in
     let few = p.few in
-    let there = room p.before p.own p.has in
-    omega (arith, past, few, there)
+    let first = p.has.0 in
+    let second = p.has.1 in
+    omega (arith, past, few, room, first, second)
 
-pub not_otherwise : (groups : List Group) (s : Items) (Has : ℕ → ℕ → Type 0) (e : ErrorValue) → e.kind ≡ Failed → IsPastTotal groups s Has e → ⊥
-not_otherwise groups s Has e k p = let both : Failed ≡ Other = sym k ∙ p.kind in absurd cc
+pub none_of_one : (z : Settings) → IsWithinCeilings z.limits → (b n : ℕ) (e : ErrorValue) → IsPastTotal [] (no_items z) (OneGroup b n) e → ⊥
+none_of_one z w b n = none_past z w (OneGroup b n)
 
-pub not_unsaid : (groups : List Group) (s : Items) (Has : ℕ → ℕ → Type 0) (e : ErrorValue) → e.message ≡ [] → IsPastTotal groups s Has e → ⊥
-not_unsaid groups s Has e m p = let none : 41 ≡ 0 = ap length (sym p.text ∙ m) in omega (arith, none)
+pub not_otherwise : (groups : List Group) (s : Items) (b n : ℕ) (e : ErrorValue) → e.kind ≡ Failed → IsPastTotal groups s (OneGroup b n) e → ⊥
+not_otherwise groups s b n e k p = let both : Failed ≡ Other = sym k ∙ p.kind in absurd cc
+
+pub not_unsaid : (groups : List Group) (s : Items) (b n : ℕ) (e : ErrorValue) → e.message ≡ [] → IsPastTotal groups s (OneGroup b n) e → ⊥
+not_unsaid groups s b n e m p = let none : 41 ≡ 0 = ap length (sym p.text ∙ m) in omega (arith, none)

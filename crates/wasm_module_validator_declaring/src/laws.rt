@@ -15,7 +15,7 @@ ghost use Rattle.wasm_module_validator_standing.specs.canonical.Written.{AreModu
 ghost use Rattle.wasm_module_validator_standing.specs.interning.Interned.{written_group};
 ghost use Rattle.wasm_module_validator_standing.specs.items.Items.{Items, no_items};
 ghost use Rattle.wasm_module_validator_standing.specs.type_trees.Groups.{Group as Interned, count};
-ghost use Rattle.wasm_module_validator_declaring.specs.Total.{IsPastTotal};
+ghost use Rattle.wasm_module_validator_declaring.specs.Total.{IsPastTotal, OneGroup};
 
 /// Groups whose bytes are read alike are the same groups for the rules, and have indices of their module alone, as [`crate::add_group`]
 /// asks for.
@@ -25,18 +25,18 @@ pub fn groups_are_read_alike()
         → AreModuleIndices (declared_types g) }
 {}
 
-/// The total of types: over a list that is full a module may pass it with its first group, of one type, and a module whose groups the list
+/// The total of types: over a list that is full a module may pass it with its first group, of one type, and a module whose group the list
 /// has room for may not, nor any module over a list with none; and no refusal of another kind or text is of it.
 pub fn totals_are_worked()
-    ensures full { (groups : List Interned) (z : Settings) (Has : ℕ → ℕ → Type 0) → Has 0 1 → count groups ≡ max_types
-        → 1 ≤ z.limits.types → IsPastTotal groups (no_items z) Has
+    ensures full { (groups : List Interned) (z : Settings) → count groups ≡ max_types → 1 ≤ z.limits.types
+        → IsPastTotal groups (no_items z) (OneGroup 0 1)
         (record { kind = Other; offset = 7; message = codes "implementation limit: too many core types" }) }
-    ensures room { (groups : List Interned) (z : Settings) (Has : ℕ → ℕ → Type 0) (e : ErrorValue)
-        → ((b n : ℕ) → Has b n → count groups + b + n ≤ max_types) → IsPastTotal groups (no_items z) Has e → ⊥ }
-    ensures none { (z : Settings) → IsWithinCeilings z.limits → (Has : ℕ → ℕ → Type 0) (e : ErrorValue)
-        → IsPastTotal [] (no_items z) Has e → ⊥ }
-    ensures otherwise { (groups : List Interned) (s : Items) (Has : ℕ → ℕ → Type 0) (e : ErrorValue) → e.kind ≡ Failed
-        → IsPastTotal groups s Has e → ⊥ }
-    ensures unsaid { (groups : List Interned) (s : Items) (Has : ℕ → ℕ → Type 0) (e : ErrorValue) → e.message ≡ []
-        → IsPastTotal groups s Has e → ⊥ }
+    ensures room { (groups : List Interned) (z : Settings) (b n : ℕ) (e : ErrorValue) → count groups + b + n ≤ max_types
+        → IsPastTotal groups (no_items z) (OneGroup b n) e → ⊥ }
+    ensures none { (z : Settings) → IsWithinCeilings z.limits → (b n : ℕ) (e : ErrorValue)
+        → IsPastTotal [] (no_items z) (OneGroup b n) e → ⊥ }
+    ensures otherwise { (groups : List Interned) (s : Items) (b n : ℕ) (e : ErrorValue) → e.kind ≡ Failed
+        → IsPastTotal groups s (OneGroup b n) e → ⊥ }
+    ensures unsaid { (groups : List Interned) (s : Items) (b n : ℕ) (e : ErrorValue) → e.message ≡ []
+        → IsPastTotal groups s (OneGroup b n) e → ⊥ }
 {}

@@ -137,8 +137,8 @@ not_some x e = cc
 
 -- where the list of types is not full it is told
 not_full : (x : Payload) (r : Reached) (e : ErrorValue) (P : Type 0) (z : Settings) (p : SoFar) → IsReached z r p
-    → ((Has : ℕ → ℕ → Type 0) → IsPastTotal r.progress.kept.groups r.progress.kept.items Has e → ⊥) → FullNext r x e ⊎ P → P
-not_full x r e P z p at none (inl full) = absurd (none (HasGroup x) (full z p at))
+    → (IsPastTotal r.progress.kept.groups r.progress.kept.items (HasGroup x) e → ⊥) → FullNext r x e ⊎ P → P
+not_full x r e P z p at none (inl full) = absurd (none (full z p at))
 not_full x r e P z p at none (inr told) = told
 
 same_kept : (k l : Kept) → l ≡ k → Grows k l
@@ -163,8 +163,8 @@ is_known section.data_segments e = cc
 
 module _ (z : Settings) (v w : Validator) (going : v.state ≡ Module) where
   -- the list of types is not full because of this
-  abbrev pub NotFull : ErrorValue → Type 0
-  NotFull e = (Has : ℕ → ℕ → Type 0) → IsPastTotal v.reached.progress.kept.groups v.reached.progress.kept.items Has e → ⊥
+  abbrev pub NotFull : Payload → ErrorValue → Type 0
+  NotFull x e = IsPastTotal v.reached.progress.kept.groups v.reached.progress.kept.items (HasGroup x) e → ⊥
 
   before_code : v.reached.code ≡ None → refusal v.state (has_no_code v.reached.code) ≡ None
   before_code c = ap (λ (s : State). refusal s (has_no_code v.reached.code)) going ∙ ap (λ (o : Option ℕ). refusal Module (has_no_code o)) c
@@ -192,7 +192,7 @@ module _ (z : Settings) (v w : Validator) (going : v.state ≡ Module) where
     -- ---- sections
 
     module _ (x : Payload) (none : frame_back x ≡ None) (is : IsPayloadOf f x) where
-      section_denied : (e : ErrorValue) → NotFull e → ((id : ℕ) (b : Bytes) → IsSectionOf id b x → id ≡ 11 → ⊥) → Takes {X = Unit {0}} x v (Err e) w → Denies e.kind (Next z m f)
+      section_denied : (e : ErrorValue) → NotFull x e → ((id : ℕ) (b : Bytes) → IsSectionOf id b x → id ≡ 11 → ⊥) → Takes {X = Unit {0}} x v (Err e) w → Denies e.kind (Next z m f)
       section_denied e few other t = go v.reached.code refl
         where
           late : (k : ℕ) → v.reached.code ≡ Some k → Next z m f → ⊥
@@ -219,7 +219,7 @@ module _ (z : Settings) (v w : Validator) (going : v.state ≡ Module) where
           go None c = let left = t.left (before_code c) in (left.0, t.told (before_code c) z m f s.reached has is, section_left left, left.3)
           go (Some k) c = absurd (not_some kinds.Other (t.out kinds.Other (behind_code k c)).0)
 
-      data_denied : (e : ErrorValue) → NotFull e → TakesData {X = Unit {0}} x v (Err e) w → Denies e.kind (Next z m f)
+      data_denied : (e : ErrorValue) → NotFull x e → TakesData {X = Unit {0}} x v (Err e) w → Denies e.kind (Next z m f)
       data_denied e few t = not_full x v.reached e (TellsFrame {X = Unit {0}} v.reached x (Err e)) z m s.reached few (t.told at_any_time) z m f s.reached has is
 
       data_taken : TakesData {X = Unit {0}} x v (Ok tt) w → IsLeft z v m f w
@@ -364,7 +364,7 @@ module _ (z : Settings) (v w : Validator) (going : v.state ≡ Module) where
     -- ---- any payload
 
     module _ (later : IsNoHeader f) where
-      pub denied : (x : Payload) (e : ErrorValue) → NotFull e → IsPayloadOf f x → TakesPayload x v (Err e) w → Denies e.kind (Next z m f)
+      pub denied : (x : Payload) (e : ErrorValue) → NotFull x e → IsPayloadOf f x → TakesPayload x v (Err e) w → Denies e.kind (Next z m f)
       denied (payloads.Version n l r) e none is t = absurd (subst IsNoHeader (frame_is f (payloads.Version n l r) (frames.Version n l r) refl is) later)
       denied (payloads.TypeSection c) e none is (p, same, t) =
           section_denied (payloads.TypeSection c) refl is e none (λ id b h k. omega (arith, h.0, k)) (subst (λ (a : Result (Unit {0}) ErrorValue). Takes (payloads.TypeSection c) v a w) (passed_err p e same) t)

@@ -38,7 +38,7 @@ use Rattle.wasm_module_validator_sharing.specs.Sharing.{Handed}
 use Rattle.wasm_module_validator_sharing.specs.reading.Reading.{IsReadAs}
 use Rattle.wasm_module_validator_sharing.specs.reading.judging.functions.code.Code.{IsFunctionOf}
 use Rattle.wasm_module_validator_sharing.specs.reading.progress.adding.Bodies.{IsReadBy}
-use Rattle.wasm_module_validator_sharing.specs.reading.progress.Progress.{Grows, nothing_kept}
+use Rattle.wasm_module_validator_sharing.specs.reading.progress.Progress.{Grows, HasGroup, nothing_kept}
 use Rattle.wasm_module_validator_sharing.specs.reading.progress.declaring.Total.{IsPastTotal}
 use Rattle.wasm_module_validator_sharing.specs.reading.progress.declaring.TotalLaws.{none_past}
 use Rattle.wasm_module_validator_sharing.specs.reading.progress.laws.Growing.{grows_further, total_before}
@@ -433,7 +433,7 @@ module _ (z : Settings) (id : ValidatorId) where
           go (inr (st, some, fits, grown)) (inl later) =
               denies_each {X = (m : SoFar) × AreJudged g.frames m} e.kind (λ m. Next z m.0 f) (AcceptsUnder z (got ++ more))
               (λ a. let c = comes more last room a in ((c.before, c.judged), (c.behind, c.next)))
-              (λ m. denied z v w st m.0 f (fits m.0 m.1) has later x e (not_past grown e) is t)
+              (λ m. denied z v w st m.0 f (fits m.0 m.1) has later x e (not_past grown e (HasGroup x)) is t)
           go (inr (st, some, fits, grown)) (inr (i, l, s, h)) = denies e.kind (AcceptsUnder z (got ++ more)) (λ a.
               let c = comes more last room a in
               no_second_header z (got ++ more) c.all c.others g.frames _ c.is some (subst (λ (y : Frame). c.all ++ the_end ∷ [] ≡ shapes_of g.frames ++ shape_of y ∷ c.others) h c.front))
