@@ -1,17 +1,22 @@
 -- What each arm of a payload tells, from what the call in it promises of the section or the frame.
-use Rattle.std.proofs.Common.{◌≡◌, ℕ, List, subst, None, Some, Result, Ok, Err}
+use Rattle.std.proofs.Common.{◌≡◌, ℕ, true, List, refl, subst, None, Some, Result, Ok, Err}
 use Rattle.std.specs.Prelude.{OnOk}
+use Rattle.std.specs.Borrow.{Bor}
+use Rattle.std.specs.declared.ops.Range.{Range}
 use Rattle.wasm_types.specs.decoding.Decoder.{State}
-use Rattle.wasm_types.specs.error.Denials.{Tells}
+use Rattle.wasm_types.specs.error.Denials.{Denies, Tells}
+use Rattle.wasm_types.specs.error.declared.error.ErrorKind.{ErrorKind}
 use Rattle.wasm_types.specs.error.ErrorValue.{ErrorValue}
-use Rattle.wasm_types.specs.error.DenialLaws.{denies_from}
+use Rattle.wasm_types.specs.error.DenialLaws.{denies, denies_from}
 use Rattle.wasm_types.specs.limits.Settings.{Settings}
 use Rattle.wasm_sections_parser.specs.declared.frame.Frame.{Frame}
 use Rattle.wasm_sections_parser.specs.Parsing.{shape_of}
 use Rattle.wasm_sections_payloads.specs.declared.payload.Payload.{Payload}
-use Rattle.wasm_sections_payloads.specs.Payloads.{IsSectionOf, IsPayloadOf}
+use Rattle.wasm_sections_payloads.specs.declared.payload.Payload.TheVariants as payloads
+use Rattle.wasm_sections_payloads.specs.Payloads.{IsSectionOf, IsPayloadOf, is_unknown}
 use Rattle.wasm_module_validator_adding.specs.declared.bodies.Body.{Body}
 use Rattle.wasm_module_validator_standing.specs.steps.Sections.{Section, number}
+use Rattle.wasm_module_validator_standing.specs.steps.Sections as section
 use Rattle.wasm_module_validator_standing.specs.steps.Steps.{SoFar, JudgesSection, JudgesShape}
 use Rattle.wasm_module_validator_fronts.specs.Walks.{HasSettings}
 use Rattle.wasm_module_validator_progress.specs.Progress.{Progress, IsAt}
@@ -44,3 +49,25 @@ section_added (Ok u) x payload same none r after bodies s G given h = λ z p q f
     of_section (λ g. HasSettings z g → JudgesShape z p (shape_of g) q → IsAt z after bodies q) f x none
     (λ id b k st w. let m = given id b k in h z p q bodies b at st m.1 (of_shape z p s b.rest id m.0 q w)) (subst (IsPayloadOf f) same is) has j
 section_added (Err e) x payload same none r after bodies s G given h = tt
+
+-- each section has an id that is known
+is_known : (s : Section) → is_unknown (number s) ≡ true → ⊥
+is_known section.types e = cc
+is_known section.imports e = cc
+is_known section.functions e = cc
+is_known section.tables e = cc
+is_known section.memories e = cc
+is_known section.tags e = cc
+is_known section.globals e = cc
+is_known section.exports e = cc
+is_known section.start e = cc
+is_known section.element_segments e = cc
+is_known section.data_count e = cc
+is_known section.data_segments e = cc
+
+-- so a section of another id is none
+pub unknown_answer : (k : ErrorKind) (payload : Payload) (i : ℕ) (c : Bor (List ℕ)) (r : Range ℕ) → payload ≡ payloads.UnknownSection i c r
+    → (z : Settings) (p : SoFar) (f : Frame) → IsPayloadOf f payload → Denies k ((q : SoFar) × JudgesShape z p (shape_of f) q)
+unknown_answer k payload i c r same z p f is = denies k _ (λ h.
+    of_section (λ g. JudgesShape z p (shape_of g) h.0 → ⊥) f (payloads.UnknownSection i c r) refl
+    (λ id b u j. is_known j.0 (subst (λ (n : ℕ). is_unknown n ≡ true) j.1 u.1)) (subst (IsPayloadOf f) same is) h.1)

@@ -1,4 +1,4 @@
-use Rattle.std.proofs.Common.{◌≡◌, refl, sym, subst}
+use Rattle.std.proofs.Common.{◌≡◌, refl, sym, subst, inr}
 use Rattle.wasm_types.specs.decoding.Decoder.{State, Done}
 use Rattle.wasm_sections_parser.specs.declared.frame.Frame.TheVariants as frames
 use Rattle.wasm_sections_payloads.specs.declared.payload.Payload.{Payload}
@@ -11,7 +11,7 @@ use Rattle.wasm_module_validator_declaring.specs.Total.{IsPastTotal}
 use Rattle.wasm_module_validator_progress.specs.Progress.{HasGroup}
 use Rattle.wasm_module_validator_progress.specs.laws.Shapes.{of_frame}
 use Rattle.wasm_module_validator_standing.specs.steps.Sections as section
-use Rattle.wasm_module_validator_progress.proofs.Arms.{same_told, section_answer, frame_answer, section_added}
+use Rattle.wasm_module_validator_progress.proofs.Arms.{same_told, section_answer, frame_answer, section_added, unknown_answer}
 use Rattle.wasm_module_validator_progress.specs.laws.Growing.{grows_by_nothing, stays}
 use Rattle.wasm_module_validator_progress.proofs.progress.InProgress.take_payload.Goals as goal
 
@@ -177,3 +177,7 @@ returns-in-CodeSectionStart-clause-grown c = stays c.take_code_start.result _ _ 
 
 pub returns-in-CodeSectionEntry-clause-grown : goal.returns-in-CodeSectionEntry-clause-grown
 returns-in-CodeSectionEntry-clause-grown c = stays c.take_body.result _ _ c.take_body.ensures.kept
+
+pub returns-in-UnknownSection-clause-answer : goal.returns-in-UnknownSection-clause-answer
+returns-in-UnknownSection-clause-answer c = inr (λ z p f at has is.
+    unknown_answer c.unknown_section.result.kind c.args.payload _ _ _ c.in-UnknownSection.is z p f is)
