@@ -23,6 +23,14 @@ number_of OutOfMemory = 3
 number_of Failed = 4
 number_of Other = 5
 
+-- what a kind carries: how many bytes more would be wanted at least, or the bits of the missing feature
+abbrev pub detail_of : ErrorKind → ℕ
+detail_of (EndOfData h) = h
+detail_of (MissingFeature f) = f.0
+detail_of OutOfMemory = 0
+detail_of Failed = 0
+detail_of Other = 0
+
 -- the text has at most 256 bytes, and a 0 after them
 pub record IsEnded (f : DurskeylFault) : Type 0 where
   pub short : f.text_length ≤ 256

@@ -1,7 +1,7 @@
 //! Why bytes were refused, as C sees it.
 
 ghost use Rattle.std.specs.Prelude.{◌≡◌, ◌≤◌, length, slice_index_or};
-ghost use Rattle.durskeyl_c.specs.Told.{number_of, IsEnded};
+ghost use Rattle.durskeyl_c.specs.Told.{detail_of, number_of, IsEnded};
 
 use bitflags::Flags;
 use wasm_types::{Error, ErrorKind};
@@ -29,6 +29,7 @@ pub struct DurskeylFault {
 fn number(kind: ErrorKind) -> (u32, u64)
     ensures kind { result.0 ≡ number_of kind }
     ensures few { result.0 ≤ 5 }
+    ensures detail { result.1 ≡ detail_of kind }
 {
     match kind {
         ErrorKind::EndOfData { needed_hint } => (1, needed_hint as u64),
@@ -42,6 +43,7 @@ fn number(kind: ErrorKind) -> (u32, u64)
 /// The fault of bytes that are valid: none.
 pub(crate) fn no_fault() -> DurskeylFault
     ensures kind { result.kind ≡ 0 }
+    ensures detail { result.detail ≡ 0 }
     ensures text { IsEnded result }
 {
     DurskeylFault {
@@ -56,6 +58,7 @@ pub(crate) fn no_fault() -> DurskeylFault
 /// The fault of settings that are none: a feature that is not known, or a limit above its ceiling.
 pub(crate) fn bad_settings(fault: &mut DurskeylFault)
     ensures kind { fault.new.kind ≡ 6 }
+    ensures detail { fault.new.detail ≡ 0 }
     ensures text { IsEnded fault.new }
 {
     *fault = no_fault();
@@ -65,6 +68,7 @@ pub(crate) fn bad_settings(fault: &mut DurskeylFault)
 /// Writes an error as a fault.
 pub(crate) fn write_error(error: &Error, fault: &mut DurskeylFault)
     ensures kind { fault.new.kind ≡ number_of error.now.kind }
+    ensures detail { fault.new.detail ≡ detail_of error.now.kind }
     ensures offset { fault.new.offset ≡ error.now.offset }
     ensures text { IsEnded fault.new }
 {

@@ -33,11 +33,12 @@ pub record TellsImport (text : List ℕ) (row : ImportRow) (i : ImportTree) : Ty
   pub named : IsNameAt text row.name_offset row.name_length i.field_name
   pub kind : row.kind ≡ import_kind i
 
--- name, kind and index
+-- name, kind and index; what is kept for later is 0
 pub record TellsExport (text : List ℕ) (row : ExportRow) (e : ExportTree) : Type 0 where
   pub named : IsNameAt text row.name_offset row.name_length e.name
   pub kind : row.kind ≡ kind_number e.kind
   pub index : row.index ≡ e.index
+  pub later : row.later ≡ 0
 
 -- imports with the indices that they get, where so many of each kind were taken before
 abbrev pub numbered : List ℕ → List ImportTree → List (ImportTree × ℕ)

@@ -1,4 +1,4 @@
-use Rattle.std.proofs.Common.{◌++◌, ◌∙◌, ap, append_assoc}
+use Rattle.std.proofs.Common.{◌++◌, ◌∙◌, refl, ap, append_assoc}
 use Rattle.wasm_module_entries.proofs.entries.export_at.Goals as goal
 
 pub returns-in_default-clause-found : goal.returns-in_default-clause-found
@@ -29,4 +29,4 @@ returns-clause-found c z x front rest h e =
     let s1 = c.in-Some.ensures.found z x.name h.name_text (tail ++ rest) h.named e1 in
     let s2 = c.in-Some-kind_at.ensures.found z x.kind h.kind_text (h.index_text ++ rest) h.of_kind (s1.1 ∙ append_assoc h.kind_text h.index_text rest) in
     let s3 = c.in-Some-number_at.ensures.found z x.index h.index_text rest h.indexed s2.1 in
-    (record { named = s1.0; kind = s2.0; index = s3.0 }, s3.1)
+    (record { named = s1.0; kind = s2.0; index = s3.0; later = refl }, s3.1)
