@@ -1,7 +1,8 @@
 //! The files that the words name are opened, and judged one after another.
 ghost use Rattle.std.specs.Prelude.{◌≡◌, ◌⊎◌, ℕ, ◌<◌, ◌≤◌, IsTrue, false, List, [], length, min, map, take, slice_get, Some, IfOk, IfErr};
 ghost use Rattle.wasm_check_command.specs.Modes.{CanJudge, ruling_of};
-ghost use Rattle.wasm_check_command.specs.Opened.{is_stdin, names_stdin, kept_open};
+ghost use Rattle.wasm_check_command.specs.Verdict.{IsJudged};
+ghost use Rattle.wasm_check_command.specs.Opened.{is_stdin, names_stdin, kept_open, said_by};
 ghost use Rattle.wasm_check_command.specs.Files.{texts, joined, CannotOpen, FailsOpening, JudgesFile, FailsFile, FailsAgain, ReportsFiles, StopsFiles};
 
 use crate::command::Fault;
@@ -224,6 +225,8 @@ fn judge_opened<'a, J: Judge, R: Read + OpenFile + Drop, I: Read + Drop, W: Writ
         (W.contents out.old) (W.contents out.new)) }
     ensures err { IfErr result (FailsFile (ruling_of J.accepts chosen) index input.entry.name.now
         (W.contents out.old) (W.contents out.new)) }
+    ensures said { IfOk result (λ valid. IsJudged (ruling_of J.accepts chosen) input.entry.name.now
+        (said_by R.remaining I.remaining input.entry.reader) valid (W.contents out.old) (W.contents out.new)) }
 {
     let name = input.name;
     if is_too_long(&input.reader) {
