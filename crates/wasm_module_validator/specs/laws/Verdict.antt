@@ -25,6 +25,7 @@ use Rattle.wasm_module_validator_sharing.specs.reading.progress.Progress.{Kept, 
 use Rattle.wasm_module_validator_sharing.specs.reading.Reading.{IsReadAs}
 use Rattle.wasm_module_validator_sharing.specs.reading.judging.Bodies.{AreBodies}
 use Rattle.wasm_module_validator.specs.declared.validator.State.{State}
+use Rattle.wasm_module_validator.specs.declared.validator.State.TheVariants.{Ended, Failed}
 use Rattle.wasm_module_validator.specs.Lists.{TakesNoMore}
 use Rattle.wasm_module_validator.specs.States.{IsLeft, Leaves}
 
@@ -95,6 +96,10 @@ pub left_behind : (X : Type 0) (groups : List Group) (z : Settings) (bytes : Lis
 left_behind X groups z bytes e s (inl (is, n)) read d = inl (is, n, read, denied e.kind (AcceptsUnder z bytes) n d)
 left_behind X groups z bytes e s (inr (is, memory)) read d =
     inr (is, inr (subst (λ (k : ErrorKind). Denies k ((q : SoFar) × IsReadAs z bytes q)) (sym memory) tt))
+
+-- a validator that has failed has not ended
+pub failed_not_ended : Failed ≡ Ended → ⊥
+failed_not_ended e = cc
 
 -- of what was read the list of types has taken no more types than the bytes have
 pub no_more_read : (z : Settings) (text : List ℕ) (held : List Group) (r : Progress) (bodies : List Body) → ((q : SoFar) → IsReadAs z text q → IsAt z r bodies q)

@@ -15,7 +15,7 @@ use Rattle.wasm_module_validator_sharing.specs.reading.Reading.{IsReadAs}
 use Rattle.wasm_module_validator.specs.Accepts.{IsShown}
 use Rattle.wasm_module_validator.specs.Lists.{AreToldUnder, TakesNoMore}
 use Rattle.wasm_module_validator.specs.States.{IsLeft, held_by}
-use Rattle.wasm_module_validator.specs.laws.Verdict.{accepted_is_read, alone_told, left_behind, no_more_read, tells_accepted, stands_for_module}
+use Rattle.wasm_module_validator.specs.laws.Verdict.{accepted_is_read, alone_told, failed_not_ended, left_behind, no_more_read, tells_accepted, stands_for_module}
 use Rattle.wasm_module_validator_runs.proofs.Validity.{accepted_sound}
 use Rattle.wasm_module_validator.proofs.validator.Validator.validate_all.Goals as goal
 
@@ -81,7 +81,7 @@ returns-in-Ok-finish-clause-told c =
     subst (λ (z : Settings). AreToldUnder z k.groups k.groups) (returns-in-Ok-finish-clause-shown c).2.settings c.tell_ids.ensures
 
 pub returns-in-Err-clause-few : goal.returns-in-Err-clause-few
-returns-in-Err-clause-few c = λ e. absurd cc
+returns-in-Err-clause-few c = λ e. absurd (failed_not_ended e)
 
 pub returns-in-Err-judge-clause-few : goal.returns-in-Err-judge-clause-few
 returns-in-Err-judge-clause-few c = λ e.
@@ -91,6 +91,3 @@ pub returns-in-Ok-finish-clause-few : goal.returns-in-Ok-finish-clause-few
 returns-in-Ok-finish-clause-few c = λ e.
     subst (λ (r : Reached). TakesNoMore c.args.self.now.settings (held_by c.args.self.now) c.args.bytes.now r.progress.kept.groups) (sym c.in-Ok-finish.ensures.next)
     (no_more_read c.args.self.now.settings c.args.bytes.now (held_by c.args.self.now) c.read.new.self.progress c.in-Ok.bodies.items c.in-Ok.ensures.stands c.in-Ok.ensures.grown.types)
-
-pub returns-in-Err-finish-clause-few : goal.returns-in-Err-finish-clause-few
-returns-in-Err-finish-clause-few c = λ e. absurd cc
