@@ -25,7 +25,7 @@ use Rattle.wasm_module_validator_sharing.specs.reading.progress.Progress.{Kept, 
 use Rattle.wasm_module_validator_sharing.specs.reading.Reading.{IsReadAs}
 use Rattle.wasm_module_validator_sharing.specs.reading.judging.Bodies.{AreBodies}
 use Rattle.wasm_module_validator.specs.declared.validator.State.{State}
-use Rattle.wasm_module_validator.specs.declared.validator.State.TheVariants.{Ended, Failed}
+use Rattle.wasm_module_validator.specs.declared.validator.State.TheVariants as states
 use Rattle.wasm_module_validator.specs.Lists.{TakesNoMore}
 use Rattle.wasm_module_validator.specs.States.{IsLeft, Leaves}
 
@@ -98,7 +98,7 @@ left_behind X groups z bytes e s (inr (is, memory)) read d =
     inr (is, inr (subst (λ (k : ErrorKind). Denies k ((q : SoFar) × IsReadAs z bytes q)) (sym memory) tt))
 
 -- a validator that has failed has not ended
-pub failed_not_ended : Failed ≡ Ended → ⊥
+pub failed_not_ended : states.Failed ≡ states.Ended → ⊥
 failed_not_ended e = cc
 
 -- of what was read the list of types has taken no more types than the bytes have
