@@ -1,5 +1,6 @@
 -- Worked rows of items that their bytes alone tell.
 use Rattle.std.proofs.Common.{◌≡◌, ◌∙◌, ◌+◌, ◌<◌, ℕ, List, [], ◌∷◌, ◌++◌, length, drop, refl, sym, ap, subst, arith, inl}
+use Rattle.std.proofs.lemmas.List.{length-append}
 use Rattle.wasm_types.specs.decoding.Decoder.{State, Done, byte}
 use Rattle.wasm_types.specs.decoding.ExactLaws.{value_is}
 use Rattle.wasm_types.specs.decoding.Leb.{IsUnsigned, last}
@@ -101,13 +102,9 @@ short_data_rows = record {
       let spelled = b.such no_features in
       let place = b.place in
       let long = ap length spelled.whole in
-      flag_has_bytes spelled.flag spelled.flag_text spelled.behind spelled.flagged (omega (arith, place, long, length_both spelled.flag_text spelled.behind));
+      flag_has_bytes spelled.flag spelled.flag_text spelled.behind spelled.flagged (omega (arith, place, long, length-append spelled.flag_text spelled.behind));
 }
   where
-    length_both : (xs ys : List ℕ) → length (xs ++ ys) ≡ length xs + length ys
-    length_both [] ys = refl
-    length_both (x ∷ xs) ys = omega (arith, length_both xs ys)
-
     flag_has_bytes : (n : ℕ) (text behind : List ℕ) → IsUnsigned 32 n text → length text + length behind ≡ 0 → ⊥
     flag_has_bytes n [] behind (last N v m a b c) e = omega (arith, e)
     flag_has_bytes n (x ∷ text) behind u e = omega (arith, e)
