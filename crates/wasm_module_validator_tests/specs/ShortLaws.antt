@@ -3,7 +3,7 @@ use Rattle.std.proofs.Common.{◌≡◌, ◌∙◌, ◌+◌, ◌<◌, ℕ, List,
 use Rattle.std.proofs.lemmas.List.{length-append}
 use Rattle.wasm_types.specs.decoding.Decoder.{State, Done, byte}
 use Rattle.wasm_types.specs.decoding.ExactLaws.{value_is}
-use Rattle.wasm_types.specs.decoding.Leb.{IsUnsigned, last}
+use Rattle.wasm_types.specs.decoding.Leb.{IsUnsigned, last, more}
 use Rattle.wasm_types.specs.limits.declared.Limits.{Limits}
 use Rattle.wasm_types.specs.limits.Settings.{no_features}
 use Rattle.wasm_types.specs.trees.Types.{SubtypeOf}
@@ -59,6 +59,10 @@ adds_rows l = record {
   no_bytes = λ a. let long = ap length (spelled_so l 7 7 1 1 a) in let place = a.place in omega (arith, long, place);
 }
 
+no_number : (n : ℕ) (text : List ℕ) → text ≡ [] → IsUnsigned 32 n text → ⊥
+no_number n text e (last N v k a b c) = absurd cc
+no_number n text e (more N v k m rest a b c d) = absurd cc
+
 zero_is : IsUnsigned 32 0 (0 ∷ [])
 zero_is = last 32 0 0 (omega arith) (omega arith) refl
 
@@ -102,12 +106,12 @@ short_data_rows = record {
       let spelled = b.such no_features in
       let place = b.place in
       let long = ap length spelled.whole in
-      flag_has_bytes spelled.flag spelled.flag_text spelled.behind spelled.flagged (omega (arith, place, long, length-append spelled.flag_text spelled.behind));
+      no_number spelled.flag spelled.flag_text (none_there spelled.flag_text (omega (arith, place, long, length-append spelled.flag_text spelled.behind))) spelled.flagged;
 }
   where
-    flag_has_bytes : (n : ℕ) (text behind : List ℕ) → IsUnsigned 32 n text → length text + length behind ≡ 0 → ⊥
-    flag_has_bytes n [] behind (last N v m a b c) e = omega (arith, e)
-    flag_has_bytes n (x ∷ text) behind u e = omega (arith, e)
+    none_there : (text : List ℕ) → length text ≡ 0 → text ≡ []
+    none_there [] e = refl
+    none_there (x ∷ text) e = absurd (omega (arith, e))
 
 -- ---- an item that has no room
 
